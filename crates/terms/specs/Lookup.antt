@@ -1,0 +1,38 @@
+-- What stands at a place of a piece (document 01, "Places and tests").
+use Prim.Native.Nat.{ℕ, zero, suc, pred, _-_}
+use mathlib.Core.Bool.{true, false}
+use lib.Dec.{ltb}
+use Rattle.places.specs.Numbering.{stride}
+use Rattle.terms.specs.Term.{Term, Terms, unknown, symbol, number, compound, nil, cons}
+
+-- A piece lacks a place, or has a term there.
+pub data Found : Type 0 where
+  lacking : Found
+  found : Term → Found
+
+-- find t r n: what stands n places after the place of t, which has r levels. finds: the same for a row of terms.
+-- "A place below an unknown is unknown."
+abbrev mutual
+  pub find : Term → ℕ → ℕ → Found
+  find unknown r n = found unknown
+  find (symbol a) r zero = found (symbol a)
+  find (symbol a) r (suc n) = lacking
+  find (number a) r zero = found (number a)
+  find (number a) r (suc n) = lacking
+  find (compound a ts) r zero = found (compound a ts)
+  find (compound a ts) r (suc n) = finds ts (pred r) n
+
+  pub finds : Terms → ℕ → ℕ → Found
+  finds nil r n = lacking
+  finds (cons t ts) r n = elim (ltb n (stride r)) [ true ↦ find t r n | false ↦ finds ts r (n - stride r) ]
+
+-- In a piece: its arguments have 4 levels and begin at place 0.
+abbrev pub termAt : Terms → ℕ → Found
+termAt piece n = finds piece 4 n
+
+abbrev pub IsUnknown : Found → Type 0
+IsUnknown lacking = ⊥
+IsUnknown (found unknown) = Unit
+IsUnknown (found (symbol a)) = ⊥
+IsUnknown (found (number a)) = ⊥
+IsUnknown (found (compound a ts)) = ⊥

@@ -1,0 +1,23 @@
+-- Terms (document 01, "Records", "Piece").
+use Prim.Native.Nat.{ℕ, suc, _<_}
+
+-- "Terms: 30 unknown; 31 symbol (wide id); 32 number (wide); 33 compound (wide id, arity), then its arguments." The arity is
+-- the number of arguments. A piece is the list of its argument terms.
+mutual
+  pub data Term : Type 0 where
+    unknown : Term
+    symbol : ℕ → Term
+    number : ℕ → Term
+    compound : ℕ → Terms → Term
+
+  pub data Terms : Type 0 where
+    nil : Terms
+    cons : Term → Terms → Terms
+
+abbrev pub count : Terms → ℕ
+count nil = 0
+count (cons t ts) = suc (count ts)
+
+-- What "a wide field" of two bytes can hold: 0 to 65,535.
+abbrev pub Wide : ℕ → Type 0
+Wide n = n < 65536
