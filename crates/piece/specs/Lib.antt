@@ -1,0 +1,5 @@
+pub mod Piece
+pub mod TermRecord
+pub mod ReadPiece
+pub mod WritePiece
+pub mod Cells

@@ -1,0 +1,30 @@
+-- The record of a term that a list of bytes begins with (document 01, "Records", "Piece"; question 14).
+use Prim.Native.Nat.{ℕ}
+use mathlib.Core.Bool.{Bool, true, false}
+use mathlib.Core.List.{List}
+use lib.ListN.{length, getD}
+use lib.Dec.{leb, eqb}
+use Rattle.records.specs.Fields.{wideAt}
+use Rattle.piece.specs.declared.TermRecord.{TermRecord}
+use Rattle.piece.specs.declared.TermRecord.the-variants.{Unknown, Symbol, Number, Compound}
+use Rattle.piece.specs.declared.TermHead.{TermHead}
+use Rattle.piece.specs.declared.TermHead.the-variants.{Whole, Refused}
+
+-- "A record is one kind byte and a body whose length the kind fixes": whole where so many bytes are there.
+abbrev pub wholeIf : Bool → TermRecord → TermHead
+wholeIf true r = Whole r
+wholeIf false r = Refused 14
+
+abbrev pub isKind : Bool → TermHead → TermHead → TermHead
+isKind true this others = this
+isKind false this others = others
+
+-- "14 Is each term a whole record of kinds 30 to 33?"
+abbrev pub termHead : List ℕ → TermHead
+termHead s =
+    isKind (eqb (length s) 0) (Refused 14)
+    (isKind (eqb (getD s 0 0) 0x30) (Whole Unknown)
+    (isKind (eqb (getD s 0 0) 0x31) (wholeIf (leb 3 (length s)) (Symbol (wideAt s 1)))
+    (isKind (eqb (getD s 0 0) 0x32) (wholeIf (leb 3 (length s)) (Number (wideAt s 1)))
+    (isKind (eqb (getD s 0 0) 0x33) (wholeIf (leb 4 (length s)) (Compound (wideAt s 1) (getD s 3 0)))
+    (Refused 14)))))

@@ -1,0 +1,4 @@
+pub mod Rows
+pub mod Levels
+pub mod Parents
+pub mod TableRule

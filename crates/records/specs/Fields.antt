@@ -1,0 +1,26 @@
+-- The fields of records (document 01, "Records").
+use Prim.Native.Nat.{ℕ, _+_, _*_, _/_, _%_, _<_}
+use mathlib.Core.List.{List, [], _∷_}
+use lib.ListN.{length, getD}
+
+-- Bytes are numbers below 256.
+abbrev pub IsByte : ℕ → Type 0
+IsByte b = b < 256
+
+-- "A wide field is two bytes, high byte first."
+abbrev pub wideOf : ℕ → ℕ → ℕ
+wideOf high low = high * 256 + low
+
+-- The wide field of which the high byte stands at i.
+abbrev pub wideAt : List ℕ → ℕ → ℕ
+wideAt bytes i = wideOf (getD bytes i 0) (getD bytes (i + 1) 0)
+
+-- The two bytes of a wide field, and what follows it.
+abbrev pub highOf : ℕ → ℕ
+highOf x = x / 256 % 256
+
+abbrev pub lowOf : ℕ → ℕ
+lowOf x = x % 256
+
+abbrev pub wideThen : ℕ → List ℕ → List ℕ
+wideThen x bytes = highOf x ∷ lowOf x ∷ bytes

@@ -1,0 +1,17 @@
+// Reads sheets.
+
+// A whole record of a pattern.
+pub enum PatternRecord {
+    Anything,
+    Symbol(u16),
+    Range(u16, u16),
+    Compound(u16, u8),
+    Variable(u8),
+    Ranged(u8, u16, u16),
+}
+
+// The record that the input begins with, or the number of the question that it got a no from.
+pub enum PatternHead {
+    Whole(PatternRecord),
+    Refused(u8),
+}
