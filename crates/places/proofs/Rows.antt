@@ -1,6 +1,6 @@
 -- Rows of neighbours with r levels each: the strides of their places, and induction over the places of a row.
 use mathlib.Core.Path.{_≡_, refl, ap, sym, subst, _∙_}
-use Prim.Native.Nat.{ℕ, zero, suc, _+_, _*_, _/_, _%_, _≤_, _<_}
+use Prim.Native.Nat.{ℕ, zero, suc, _+_, _*_, _-_, _/_, _%_, _≤_, _<_}
 use native.Mathlib.Nat.{add-zero, mod-lt, mod-eq-of-lt, div-add-mod', mul-add-mod-self-right, mul-le-mul-right, lt-of-mul-lt-mul-right, suc-mul}
 use native.Mathlib.Omega.{arith}
 use Rattle.places.specs.Numbering.{stride}
@@ -44,3 +44,7 @@ row-induction P none first below (suc r) n =
     (div-add-mod' n s)
     (through-neighbour (P (suc r)) (4 * stride r) (n / s * s) (first r (n / s))
     (λ m h. below r (n / s) m h (row-induction P none first below r m)) (n % s) (mod-lt n (omega arith)))
+
+-- No step is more than that from argument to argument.
+pub step-most : (d : ℕ) → stride (4 - d) ≤ 85
+step-most d = stride-grows (4 - d) 4 (omega arith)

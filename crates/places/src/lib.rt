@@ -40,7 +40,7 @@ pub fn argument(a: usize) -> usize
     requires { ⌜ (1 ≤ a) × (a ≤ 8) ⌝ }
     ensures { λ r. ⌜ r ≡ argumentPlace a ⌝ }
 {
-    step(0) * (a - 1)
+    85 * (a - 1)
 }
 
 // The place of child j, counted from 1, of place p, which is at depth d.

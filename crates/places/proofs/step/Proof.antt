@@ -1,24 +1,22 @@
 use borrow.Author.Needs.{needs}
+use mathlib.Core.Path.{_≡_, refl, ap, sym}
+use Prim.Native.Nat.{_-_}
+use native.Mathlib.Omega.{arith}
+use Rattle.places.specs.Numbering.{stride}
 use Rattle.places.proofs.step.Statement.{statement}
 use Rattle.places.proofs.step.Tie as tie
-use Rattle.places.proofs.step.Reads as reads
-use Rattle.places.proofs.step.Lts as lts
 
--- src/lib.rt:19:1
 returns : tie.Need-returns
-returns c = ?
+returns c = rw (c .match .keys1)
 
--- src/lib.rt:19:1
 returns-2 : tie.Need-returns-2
-returns-2 c = ?
+returns-2 c = rw (c .match .keys2)
 
--- src/lib.rt:19:1
 returns-3 : tie.Need-returns-3
-returns-3 c = ?
+returns-3 c = rw (c .match .keys3)
 
--- src/lib.rt:19:1
 returns-4 : tie.Need-returns-4
-returns-4 c = ?
+returns-4 c = let deepest : c .before .args .d ≡ 3 = omega arith in rw deepest
 
 pub step-spec : {M : Type 1} → statement M
 step-spec = tie.close (tie.spec returns returns-2 returns-3 returns-4)

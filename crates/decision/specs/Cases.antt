@@ -1,0 +1,81 @@
+-- The cases of a switch (document 01, "Nodes").
+use Prim.Native.Nat.{ℕ, suc, pred}
+use mathlib.Core.Bool.{Bool, true, false, _&&_, _||_}
+use mathlib.Core.List.{List, [], _∷_, _++_, map}
+use mathlib.Core.Option.{Option, some, none}
+use lib.Dec.{leb, ltb, eqb}
+use Rattle.terms.specs.Lists.{filter, insertBy, pairBefore}
+use Rattle.terms.specs.Term.{Term, count, unknown, symbol, number, compound}
+use Rattle.terms.specs.RuleTests.{Want, aSymbol, aNumber, aCompound}
+use Rattle.decision.specs.Rules.{anyOf}
+
+-- "44 symbol (id), 45 compound (id, arity), 46 numbers (low, high)".
+pub data Case : Type 0 where
+  symbolCase : ℕ → Case
+  compoundCase : ℕ → ℕ → Case
+  numbersCase : ℕ → ℕ → Case
+
+-- The case takes a term.
+abbrev pub takes : Case → Term → Bool
+takes c unknown = false
+takes (symbolCase a) (symbol b) = eqb a b
+takes (symbolCase a) (number b) = false
+takes (symbolCase a) (compound b ts) = false
+takes (compoundCase a n) (symbol b) = false
+takes (compoundCase a n) (number b) = false
+takes (compoundCase a n) (compound b ts) = eqb a b && eqb n (count ts)
+takes (numbersCase l h) (symbol b) = false
+takes (numbersCase l h) (number b) = leb l b && leb b h
+takes (numbersCase l h) (compound b ts) = false
+
+-- "A case drops the rules that want something else": what it takes is what is wanted.
+abbrev pub isWanted : Case → Want → Bool
+isWanted (symbolCase a) (aSymbol b) = eqb a b
+isWanted (symbolCase a) (aNumber l h) = false
+isWanted (symbolCase a) (aCompound b n) = false
+isWanted (compoundCase a n) (aSymbol b) = false
+isWanted (compoundCase a n) (aNumber l h) = false
+isWanted (compoundCase a n) (aCompound b m) = eqb a b && eqb n m
+isWanted (numbersCase x y) (aSymbol b) = false
+isWanted (numbersCase x y) (aNumber l h) = leb l x && leb y h
+isWanted (numbersCase x y) (aCompound b m) = false
+
+-- "A case for each symbol and compound that a live rule wants there", "symbols ascend by id, then compounds by id and arity".
+abbrev pub symbolsOf : List Want → List ℕ
+symbolsOf [] = []
+symbolsOf (aSymbol a ∷ ws) = insertBy ltb a (symbolsOf ws)
+symbolsOf (aNumber l h ∷ ws) = symbolsOf ws
+symbolsOf (aCompound a n ∷ ws) = symbolsOf ws
+
+pub record Functor : Type 0 where
+  pub name : ℕ
+  pub arity : ℕ
+
+abbrev pub functorBefore : Functor → Functor → Bool
+functorBefore f g = pairBefore (f .name) (f .arity) (g .name) (g .arity)
+
+abbrev pub functorsOf : List Want → List Functor
+functorsOf [] = []
+functorsOf (aSymbol a ∷ ws) = functorsOf ws
+functorsOf (aNumber l h ∷ ws) = functorsOf ws
+functorsOf (aCompound a n ∷ ws) = insertBy functorBefore (record { name = a; arity = n }) (functorsOf ws)
+
+-- "One for each maximal run of numbers accepted by the same non-empty set of those rules." Numbers are cut at each low and after
+-- each high: from one cut to the next the same rules accept, and at each cut another set does.
+abbrev pub cutsOf : List Want → List ℕ
+cutsOf [] = []
+cutsOf (aSymbol a ∷ ws) = cutsOf ws
+cutsOf (aNumber l h ∷ ws) = insertBy ltb l (insertBy ltb (suc h) (cutsOf ws))
+cutsOf (aCompound a n ∷ ws) = cutsOf ws
+
+abbrev pub runsOf : List ℕ → List Case
+runsOf [] = []
+runsOf (x ∷ []) = []
+runsOf (x ∷ (y ∷ ys)) = numbersCase x (pred y) ∷ runsOf (y ∷ ys)
+
+-- The cases for what the live rules want at a place, in the order of the records.
+abbrev pub casesOf : List Want → List Case
+casesOf ws =
+    map symbolCase (symbolsOf ws)
+    ++ map (λ (f : Functor). compoundCase (f .name) (f .arity)) (functorsOf ws)
+    ++ filter (λ (c : Case). anyOf (isWanted c) ws) (runsOf (cutsOf ws))

@@ -1,0 +1,11 @@
+pub mod Rules
+pub mod Key
+pub mod Cases
+pub mod Node
+pub mod Edges
+pub mod Graph
+pub mod GraphBytes
+pub mod AcceptedGraph
+pub mod Path
+pub mod Walk
+pub mod AskingOrder

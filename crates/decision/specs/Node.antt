@@ -1,0 +1,39 @@
+-- Nodes (document 01, "Records", "Graph").
+use Prim.Native.Nat.{ℕ}
+use mathlib.Core.Bool.{true, false}
+use mathlib.Core.List.{List, [], _∷_, _++_, map}
+use Rattle.terms.specs.Term.{Term}
+use Rattle.decision.specs.Key.{Leaf}
+use Rattle.decision.specs.Cases.{Case, takes}
+
+-- A case of a switch and where it leads.
+pub record CaseEdge (A : Type 0) : Type 0 where
+  pub case : Case
+  pub target : A
+
+-- "40 fail, 41 suspend, 42 execute (rule, from 1), 43 switch (place, cases, neither, unknown), 47 pair (p, q, no, other)".
+-- Edges lead to an A: to a vertex while the graph is laid out, to a node's number in the graph.
+pub data Node (A : Type 0) : Type 0 where
+  end : Leaf → Node A
+  switch : ℕ → List (CaseEdge A) → A → A → Node A
+  pairNode : ℕ → ℕ → A → A → Node A
+
+-- "A switch's edges are taken as cases, neither, unknown, a pair's as no, other."
+abbrev pub edges : {A : Type 0} → Node A → List A
+edges (end l) = []
+edges {A} (switch n cs x y) = map (λ (c : CaseEdge A). c .target) cs ++ x ∷ y ∷ []
+edges (pairNode p q x y) = x ∷ y ∷ []
+
+-- The same node with other targets.
+abbrev pub mapCase : {A B : Type 0} → (A → B) → CaseEdge A → CaseEdge B
+mapCase f c = record { case = c .case; target = f (c .target) }
+
+abbrev pub mapNode : {A B : Type 0} → (A → B) → Node A → Node B
+mapNode f (end l) = end l
+mapNode f (switch n cs x y) = switch n (map (mapCase f) cs) (f x) (f y)
+mapNode f (pairNode p q x y) = pairNode p q (f x) (f y)
+
+-- Where a known term leads at a switch: by the first case that takes it, or by neither.
+abbrev pub follow : {A : Type 0} → List (CaseEdge A) → A → Term → A
+follow [] neither t = neither
+follow (c ∷ cs) neither t = elim (takes (c .case) t) [ true ↦ c .target | false ↦ follow cs neither t ]

@@ -1,0 +1,92 @@
+-- What the walk answers (document 01, "The walk").
+use Prim.Native.Nat.{ℕ, pred}
+use mathlib.Core.Bool.{Bool, true, false, _&&_, not}
+use mathlib.Core.List.{List}
+use mathlib.Core.Option.{Option, some, none}
+use lib.ListN.{length}
+use Rattle.terms.specs.Term.{Term, Terms, unknown, symbol, number, compound}
+use Rattle.terms.specs.Pattern.{Patterns}
+use Rattle.terms.specs.RuleTests.{Want}
+use Rattle.terms.specs.Lookup.{Found, lacking, found, termAt}
+use Rattle.terms.specs.Outcome.{Outcome, holds, notKnown, contradicted, atPlaces, fits, atPlace, ruleOutcome}
+use Rattle.terms.specs.Answer.{Answer, ruleAt, onlyRule}
+use Rattle.terms.specs.Answer as answers
+use Rattle.tests.specs.SheetTests.{Test, place, pair}
+use Rattle.decision.specs.Rules.{anyOf, sameTest, testAt, hasTest, wantAt, testsWhere}
+use Rattle.decision.specs.Key.{Leaf, fail, suspend, execute}
+use Rattle.decision.specs.Node.{Node, end, switch, pairNode}
+use Rattle.decision.specs.Path.{Path, ends, refusedAt, nodeAt, path}
+
+-- "An answer .. with the rule, edges walked, and a wait list: a set of tests, test t being bit t of 64."
+pub record Walk : Type 0 where
+  pub answer : Answer
+  pub edges : ℕ
+  pub waits : ℕ
+
+pub data Reply : Type 0 where
+  answered : Walk → Reply
+  refused : ℕ → Reply
+
+abbrev pub isNotKnown : Outcome → Bool
+isNotKnown holds = false
+isNotKnown notKnown = true
+isNotKnown contradicted = false
+
+abbrev pub isUnknown : Found → Bool
+isUnknown lacking = false
+isUnknown (found unknown) = true
+isUnknown (found (symbol a)) = false
+isUnknown (found (number a)) = false
+isUnknown (found (compound a ts)) = false
+
+-- A test is not known in the piece, whatever a rule wants at its place.
+abbrev pub testNotKnown : Terms → Test → Bool
+testNotKnown piece (place n) = isUnknown (termAt piece n)
+testNotKnown piece (pair p q) = isNotKnown (atPlaces (termAt piece p) (termAt piece q))
+
+-- The node asks the test.
+abbrev pub asksTest : Test → Node ℕ → Bool
+asksTest t (end l) = false
+asksTest t (switch n cs x y) = sameTest t (place n)
+asksTest t (pairNode p q x y) = sameTest t (pair p q)
+
+module _ (rules : List Patterns) (nodes : List (Node ℕ)) (piece : Terms) where
+  -- "A walk meets the tests that its nodes ask."
+  abbrev pub isMet : List ℕ → ℕ → Bool
+  isMet walked t = anyOf (λ (n : ℕ). asksTest (testAt rules t) (nodeAt nodes piece n)) walked
+
+  -- "For suspend it holds the tests met not known on the walk, for execute those of rule i not known, else none."
+  abbrev pub suspendWaits : List ℕ → ℕ
+  suspendWaits walked = testsWhere rules (λ t. isMet walked t && testNotKnown piece (testAt rules t))
+
+  abbrev pub executeWaits : ℕ → Outcome → ℕ
+  executeWaits i holds = 0
+  executeWaits i notKnown = testsWhere rules (λ t. hasTest rules (pred i) t && testNotKnown piece (testAt rules t))
+  executeWaits i contradicted = 0
+
+  -- "At execute i all tests of rule i are made: one contradicted gives fail, all holding gives commit i, else execute i."
+  abbrev pub atLeaf : List ℕ → Leaf → Walk
+  atLeaf walked fail = record { answer = answers.fail; edges = pred (length walked); waits = 0 }
+  atLeaf walked suspend = record { answer = answers.suspend; edges = pred (length walked); waits = suspendWaits walked }
+  atLeaf walked (execute i) =
+      record {
+        answer = onlyRule i (ruleOutcome (ruleAt rules i) piece);
+        edges = pred (length walked);
+        waits = executeWaits i (ruleOutcome (ruleAt rules i) piece);
+      }
+
+  abbrev pub atEnd : Path → Reply
+  atEnd (ends walked l) = answered (atLeaf walked l)
+  atEnd (refusedAt q) = refused q
+
+  abbrev pub walk : Reply
+  walk = atEnd (path nodes piece)
+
+  -- The outcome of the sheet's test t for rule i, which has it.
+  abbrev pub wantOutcome : Option Want → Found → Outcome
+  wantOutcome none x = holds
+  wantOutcome (some w) x = atPlace (fits w) x
+
+  abbrev pub testOutcome : ℕ → Test → Outcome
+  testOutcome i (place n) = wantOutcome (wantAt rules i n) (termAt piece n)
+  testOutcome i (pair p q) = atPlaces (termAt piece p) (termAt piece q)

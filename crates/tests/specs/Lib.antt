@@ -1,0 +1,2 @@
+pub mod SheetTests
+pub mod CheckSheet
