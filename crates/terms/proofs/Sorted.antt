@@ -30,7 +30,7 @@ module _ {A : Type 0} {before : A → A → Bool} (order : StrictOrder before) w
   insert-has x (y ∷ ys) = go (before x y) refl (before y x) refl (insert-has x ys)
     where
       go : (b : Bool) → before x y ≡ b → (c : Bool) → before y x ≡ c → Mem x (insertBy before x ys)
-         → Mem x (elim b as (λ _. List A) [ true ↦ x ∷ y ∷ ys | false ↦ elim c as (λ _. List A) [ true ↦ y ∷ insertBy before x ys | false ↦ y ∷ ys ] ])
+          → Mem x (elim b as (λ _. List A) [ true ↦ x ∷ y ∷ ys | false ↦ elim c as (λ _. List A) [ true ↦ y ∷ insertBy before x ys | false ↦ y ∷ ys ] ])
       go true d c e m = here
       go false d true e m = there m
       go false d false e m = subst (λ (z : A). Mem x (z ∷ ys)) (order .total x y (not-true d) (not-true e)) here
@@ -41,7 +41,7 @@ module _ {A : Type 0} {before : A → A → Bool} (order : StrictOrder before) w
   insert-keeps x (y ∷ ys) {z} m = go (before x y) (before y x) (mem-cases m) (λ k. insert-keeps x ys k)
     where
       go : (b c : Bool) → (z ≡ y) ⊎ Mem z ys → (Mem z ys → Mem z (insertBy before x ys))
-         → Mem z (elim b as (λ _. List A) [ true ↦ x ∷ y ∷ ys | false ↦ elim c as (λ _. List A) [ true ↦ y ∷ insertBy before x ys | false ↦ y ∷ ys ] ])
+          → Mem z (elim b as (λ _. List A) [ true ↦ x ∷ y ∷ ys | false ↦ elim c as (λ _. List A) [ true ↦ y ∷ insertBy before x ys | false ↦ y ∷ ys ] ])
       go true c (inl e) h = there (subst (λ (w : A). Mem w (y ∷ ys)) (sym e) here)
       go true c (inr k) h = there (there k)
       go false true (inl e) h = subst (λ (w : A). Mem w (y ∷ insertBy before x ys)) (sym e) here
@@ -55,13 +55,14 @@ module _ {A : Type 0} {before : A → A → Bool} (order : StrictOrder before) w
   insert-mem x (y ∷ ys) {z} m = go (before x y) (before y x) (λ k. insert-mem x ys k) m
     where
       go : (b c : Bool) → (Mem z (insertBy before x ys) → (z ≡ x) ⊎ Mem z ys)
-         → Mem z (elim b as (λ _. List A) [ true ↦ x ∷ y ∷ ys | false ↦ elim c as (λ _. List A) [ true ↦ y ∷ insertBy before x ys | false ↦ y ∷ ys ] ])
-         → (z ≡ x) ⊎ Mem z (y ∷ ys)
+          → Mem z (elim b as (λ _. List A) [ true ↦ x ∷ y ∷ ys | false ↦ elim c as (λ _. List A) [ true ↦ y ∷ insertBy before x ys | false ↦ y ∷ ys ] ])
+          → (z ≡ x) ⊎ Mem z (y ∷ ys)
       go true c h k = mem-cases k
       go false true h k =
-          elim (mem-cases k)
-            [ inl e ↦ inr (subst (λ (w : A). Mem w (y ∷ ys)) (sym e) here)
-            | inr l ↦ elim (h l) [ inl e ↦ inl e | inr q ↦ inr (there q) ] ]
+          elim (mem-cases k) [
+            | inl e ↦ inr (subst (λ (w : A). Mem w (y ∷ ys)) (sym e) here)
+            | inr l ↦ elim (h l) [ inl e ↦ inl e | inr q ↦ inr (there q) ]
+          ]
       go false false h k = inr k
 
   -- The list ascends as before.
@@ -71,13 +72,16 @@ module _ {A : Type 0} {before : A → A → Bool} (order : StrictOrder before) w
     where
       rest : before y x ≡ true → (z : A) → Mem z (insertBy before x ys) → T (before y z)
       rest e z m =
-          elim (insert-mem x ys m)
-            [ inl d ↦ subst (λ (w : A). T (before y w)) (sym d) (subst T (sym e) tt)
-            | inr k ↦ all-at (λ (w : A). T (before y w)) k (a .0) ]
+          elim (insert-mem x ys m) [
+            | inl d ↦ subst (λ (w : A). T (before y w)) (sym d) (subst T (sym e) tt)
+            | inr k ↦ all-at (λ (w : A). T (before y w)) k (a .0)
+          ]
+
       later : before x y ≡ true → (z : A) → Mem z ys → T (before x z)
       later e z m = order .transitive x y z (subst T (sym e) tt) (all-at (λ (w : A). T (before y w)) m (a .0))
+
       go : (b : Bool) → before x y ≡ b → (c : Bool) → before y x ≡ c → Ascending before (insertBy before x ys)
-         → Ascending before (elim b as (λ _. List A) [ true ↦ x ∷ y ∷ ys | false ↦ elim c as (λ _. List A) [ true ↦ y ∷ insertBy before x ys | false ↦ y ∷ ys ] ])
+          → Ascending before (elim b as (λ _. List A) [ true ↦ x ∷ y ∷ ys | false ↦ elim c as (λ _. List A) [ true ↦ y ∷ insertBy before x ys | false ↦ y ∷ ys ] ])
       go true d c e i = ((subst T (sym d) tt, all-from (λ (w : A). T (before x w)) ys (later d)), a)
       go false d true e i = (all-from (λ (w : A). T (before y w)) (insertBy before x ys) (rest e), i)
       go false d false e i = a
@@ -89,18 +93,21 @@ module _ {A : Type 0} {before : A → A → Bool} (order : StrictOrder before) w
   same-first : (x y : A) (xs ys : List A) → Ascending before (x ∷ xs) → Ascending before (y ∷ ys)
       → Mem x (y ∷ ys) → Mem y (x ∷ xs) → x ≡ y
   same-first x y xs ys a b m k =
-      elim (below-first x y xs ys b m)
-        [ inl e ↦ e
-        | inr p ↦ elim (below-first y x ys xs a k)
-            [ inl e ↦ sym e
-            | inr q ↦ absurd (order .irreflexive x (order .transitive x y x q p)) ] ]
+      elim (below-first x y xs ys b m) [
+        | inl e ↦ e
+        | inr p ↦ elim (below-first y x ys xs a k) [
+          | inl e ↦ sym e
+          | inr q ↦ absurd (order .irreflexive x (order .transitive x y x q p))
+        ]
+      ]
 
   -- A member of the rest is not the first thing.
   in-rest : (x z : A) (xs ys : List A) → Ascending before (x ∷ xs) → Mem z xs → Mem z (x ∷ ys) → Mem z ys
   in-rest x z xs ys a m k =
-      elim (mem-cases k)
-        [ inl e ↦ absurd (order .irreflexive x (subst (λ (w : A). T (before x w)) e (all-at (λ (w : A). T (before x w)) m (a .0))))
-        | inr l ↦ l ]
+      elim (mem-cases k) [
+        | inl e ↦ absurd (order .irreflexive x (subst (λ (w : A). T (before x w)) e (all-at (λ (w : A). T (before x w)) m (a .0))))
+        | inr l ↦ l
+      ]
 
   -- There is one ascending list for each set of members.
   pub same-members : (xs ys : List A) → Ascending before xs → Ascending before ys
@@ -112,9 +119,9 @@ module _ {A : Type 0} {before : A → A → Bool} (order : StrictOrder before) w
       let e : x ≡ y = same-first x y xs ys a b (f x here) (g y here) in
       let b′ : Ascending before (x ∷ ys) = subst (λ (w : A). Ascending before (w ∷ ys)) (sym e) b in
       let forth : (z : A) → Mem z xs → Mem z ys =
-            λ z m. in-rest x z xs ys a m (subst (λ (w : A). Mem z (w ∷ ys)) (sym e) (f z (there m))) in
+      λ z m. in-rest x z xs ys a m (subst (λ (w : A). Mem z (w ∷ ys)) (sym e) (f z (there m))) in
       let back : (z : A) → Mem z ys → Mem z xs =
-            λ z m. in-rest x z ys xs b′ m (g z (there m)) in
+      λ z m. in-rest x z ys xs b′ m (g z (there m)) in
       let d : xs ≡ ys = same-members xs ys (a .1) (b .1) forth back in
       λ i. e i ∷ d i
 

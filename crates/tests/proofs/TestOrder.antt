@@ -20,6 +20,7 @@ before-order = record { irreflexive = irreflexive; transitive = transitive; tota
     irreflexive : (t : Test) → T (before t t) → ⊥
     irreflexive (place n) h = omega (arith, ltb→lt n n h)
     irreflexive (pair p q) h = elim (pair-before p q p q h) [ inl l ↦ omega arith | inr r ↦ omega (arith, r .1) ]
+
     transitive : (t u v : Test) → T (before t u) → T (before u v) → T (before t v)
     transitive (place l) (place m) (place n) h k = lt→ltb l n (omega (arith, ltb→lt l m h, ltb→lt m n k))
     transitive (place l) (place m) (pair p q) h k = tt
@@ -34,6 +35,7 @@ before-order = record { irreflexive = irreflexive; transitive = transitive; tota
         go (inl f) (inr g) = inl (omega (arith, g .0))
         go (inr f) (inl g) = inl (omega (arith, f .0))
         go (inr f) (inr g) = inr (omega (arith, f .0, g .0), omega (arith, f .1, g .1))
+
     total : (t u : Test) → (T (before t u) → ⊥) → (T (before u t) → ⊥) → t ≡ u
     total (place m) (place n) h k =
         let e : m ≡ n = equal m n (λ l. h (lt→ltb m n l)) (λ l. k (lt→ltb n m l)) in
@@ -52,13 +54,15 @@ ascending-ascends (t ∷ ts) = insert-ascends before-order t (ascending ts) (asc
 
 pub ascending-has : (ts : List Test) {t : Test} → Mem t ts → Mem t (ascending ts)
 ascending-has (u ∷ ts) {t} m =
-    elim (mem-cases m)
-      [ inl e ↦ subst (λ (x : Test). Mem x (ascending (u ∷ ts))) (sym e) (insert-has before-order u (ascending ts))
-      | inr k ↦ insert-keeps before-order u (ascending ts) (ascending-has ts k) ]
+    elim (mem-cases m) [
+      | inl e ↦ subst (λ (x : Test). Mem x (ascending (u ∷ ts))) (sym e) (insert-has before-order u (ascending ts))
+      | inr k ↦ insert-keeps before-order u (ascending ts) (ascending-has ts k)
+    ]
 
 pub ascending-mem : (ts : List Test) {t : Test} → Mem t (ascending ts) → Mem t ts
 ascending-mem [] m = m
 ascending-mem (u ∷ ts) {t} m =
-    elim (insert-mem before-order u (ascending ts) m)
-      [ inl e ↦ subst (λ (x : Test). Mem x (u ∷ ts)) (sym e) here
-      | inr k ↦ there (ascending-mem ts k) ]
+    elim (insert-mem before-order u (ascending ts) m) [
+      | inl e ↦ subst (λ (x : Test). Mem x (u ∷ ts)) (sym e) here
+      | inr k ↦ there (ascending-mem ts k)
+    ]
