@@ -1,1 +1,3 @@
+pub mod AnyOf
+pub mod BreadthFirst
 pub mod Example
