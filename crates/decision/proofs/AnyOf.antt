@@ -25,9 +25,10 @@ or-right false b h = h
 pub any-mem : {A : Type 0} (f : A → Bool) (xs : List A) → T (anyOf f xs) → (x : A) × Mem x xs × T (f x)
 any-mem f [] h = absurd h
 any-mem f (x ∷ xs) h =
-    elim (or-cases (f x) (anyOf f xs) h)
-      [ inl k ↦ (x, here, k)
-      | inr k ↦ (let r = any-mem f xs k in (r .0, there (r .1), r .2)) ]
+    elim (or-cases (f x) (anyOf f xs) h) [
+      | inl k ↦ (x, here, k)
+      | inr k ↦ (let r = any-mem f xs k in (r .0, there (r .1), r .2))
+    ]
 
 -- Where a member passes, some thing does.
 pub mem-any : {A : Type 0} (f : A → Bool) {x : A} {xs : List A} → Mem x xs → T (f x) → T (anyOf f xs)

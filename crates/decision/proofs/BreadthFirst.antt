@@ -19,9 +19,10 @@ use Rattle.decision.proofs.AnyOf.{any-mem, mem-any}
 pub mem-join : {A : Type 0} {x : A} (xs ys : List A) → Mem x (xs ++ ys) → Mem x xs ⊎ Mem x ys
 mem-join [] ys m = inr m
 mem-join {x = x} (y ∷ xs) ys m =
-    elim (mem-cases m)
-      [ inl e ↦ inl (subst (λ z. Mem z (y ∷ xs)) (sym e) here)
-      | inr k ↦ elim (mem-join xs ys k) [ inl a ↦ inl (there a) | inr b ↦ inr b ] ]
+    elim (mem-cases m) [
+      | inl e ↦ inl (subst (λ z. Mem z (y ∷ xs)) (sym e) here)
+      | inr k ↦ elim (mem-join xs ys k) [ inl a ↦ inl (there a) | inr b ↦ inr b ]
+    ]
 
 pub mem-left : {A : Type 0} {x : A} {xs : List A} (ys : List A) → Mem x xs → Mem x (xs ++ ys)
 mem-left ys here = here
@@ -31,7 +32,7 @@ pub mem-right : {A : Type 0} {x : A} (xs : List A) {ys : List A} → Mem x ys �
 mem-right [] m = m
 mem-right (y ∷ xs) m = there (mem-right xs m)
 
-some-none : {A B : Type 0} {x : A} → _≡_ {A = Option A} none (some x) → B
+pub some-none : {A B : Type 0} {x : A} → _≡_ {A = Option A} none (some x) → B
 some-none e = let z : _≡_ {A = ℕ} 0 1 = cc in absurd (let y : ⊥ = omega arith in y)
 
 module _ {A : Type 0} (same : A → A → Bool) (next : A → List A)
@@ -51,8 +52,8 @@ module _ {A : Type 0} (same : A → A → Bool) (next : A → List A)
       go (anyOf (same y) met) (any-mem (same y) met) (mem-cases m) (new-met met xs x) (new-met (met ++ y ∷ []) xs x)
     where
       go : (b : Bool) → (T b → (z : A) × Mem z met × T (same y z)) → (x ≡ y) ⊎ Mem x xs
-         → (Mem x xs → Mem x (met ++ newOnes met xs)) → (Mem x xs → Mem x ((met ++ y ∷ []) ++ newOnes (met ++ y ∷ []) xs))
-         → Mem x (met ++ (elim b as (λ _. List A) [ true ↦ newOnes met xs | false ↦ y ∷ newOnes (met ++ y ∷ []) xs ]))
+          → (Mem x xs → Mem x (met ++ newOnes met xs)) → (Mem x xs → Mem x ((met ++ y ∷ []) ++ newOnes (met ++ y ∷ []) xs))
+          → Mem x (met ++ (elim b as (λ _. List A) [ true ↦ newOnes met xs | false ↦ y ∷ newOnes (met ++ y ∷ []) xs ]))
       go true f (inl d) g h =
           let r = f tt in
           mem-left (newOnes met xs) (subst (λ (z : A). Mem z met) (sym (d ∙ sound y (r .0) (r .2))) (r .1))
@@ -61,12 +62,12 @@ module _ {A : Type 0} (same : A → A → Bool) (next : A → List A)
       go false f (inr n) g h = subst (Mem x) (append-assoc met (y ∷ []) (newOnes (met ++ y ∷ []) xs)) (h n)
 
   -- Nothing else is new.
-  new-from : (met xs : List A) (x : A) → Mem x (newOnes met xs) → Mem x xs
+  pub new-from : (met xs : List A) (x : A) → Mem x (newOnes met xs) → Mem x xs
   new-from met [] x m = m
   new-from met (y ∷ xs) x m = go (anyOf (same y) met) (new-from met xs x) (new-from (met ++ y ∷ []) xs x) m
     where
       go : (b : Bool) → (Mem x (newOnes met xs) → Mem x xs) → (Mem x (newOnes (met ++ y ∷ []) xs) → Mem x xs)
-         → Mem x (elim b as (λ _. List A) [ true ↦ newOnes met xs | false ↦ y ∷ newOnes (met ++ y ∷ []) xs ]) → Mem x (y ∷ xs)
+          → Mem x (elim b as (λ _. List A) [ true ↦ newOnes met xs | false ↦ y ∷ newOnes (met ++ y ∷ []) xs ]) → Mem x (y ∷ xs)
       go true f g k = there (f k)
       go false f g k = elim (mem-cases k) [ inl e ↦ subst (λ (z : A). Mem z (y ∷ xs)) (sym e) here | inr q ↦ there (g q) ]
 
@@ -76,13 +77,16 @@ module _ {A : Type 0} (same : A → A → Bool) (next : A → List A)
 
   covered-step : (met queue : List A) (x : A) → Covered met (x ∷ queue) → Covered (met ++ newOnes met (next x)) (queue ++ newOnes met (next x))
   covered-step met queue x c z m =
-      elim (mem-join met (newOnes met (next x)) m)
-        [ inr n ↦ inl (mem-right queue n)
-        | inl n ↦ elim (c z n)
-            [ inr f ↦ inr (λ y h. mem-left (newOnes met (next x)) (f y h))
-            | inl q ↦ elim (mem-cases q)
-                [ inl d ↦ inr (λ y h. new-met met (next x) y (subst (λ (w : A). Mem y (next w)) d h))
-                | inr r ↦ inl (mem-left (newOnes met (next x)) r) ] ] ]
+      elim (mem-join met (newOnes met (next x)) m) [
+        | inr n ↦ inl (mem-right queue n)
+        | inl n ↦ elim (c z n) [
+          | inr f ↦ inr (λ y h. mem-left (newOnes met (next x)) (f y h))
+          | inl q ↦ elim (mem-cases q) [
+            | inl d ↦ inr (λ y h. new-met met (next x) y (subst (λ (w : A). Mem y (next w)) d h))
+            | inr r ↦ inl (mem-left (newOnes met (next x)) r)
+          ]
+        ]
+      ]
 
   covered-all : (met all : List A) → Covered met [] → some met ≡ some all → (x : A) → Mem x all → (y : A) → Mem y (next x) → Mem y all
   covered-all met all c e x m y k =

@@ -1,3 +1,4 @@
 pub mod AnyOf
 pub mod BreadthFirst
+pub mod MetOnce
 pub mod Example

@@ -8,3 +8,4 @@ pub mod Filling
 pub mod Accepted
 pub mod Answer
 pub mod Right
+pub mod Marked

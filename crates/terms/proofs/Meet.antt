@@ -1,0 +1,193 @@
+-- The meet of terms that do not differ: their most general common instance. Terms that pairwise do not differ have a
+-- common filling, because every unknown stands at one place only.
+use Prim.Native.Nat.{ℕ, suc}
+use mathlib.Core.Path.{_≡_, refl, ap, subst}
+use mathlib.Core.List.{List, [], _∷_}
+use native.Mathlib.Omega.{arith}
+use lib.Dec.{eqb, eqb→eq}
+use Rattle.terms.specs.Lists.{All}
+use Rattle.terms.specs.Term.{Term, Terms, count, unknown, symbol, number, compound, nil, cons}
+use Rattle.terms.specs.RuleTests.{aNumber}
+use Rattle.terms.specs.Outcome.{known, fits, compare, compares}
+use Rattle.terms.specs.Filling.{WellFormed, WellFormeds, putUnknown, putSymbol, putNumber, putCompound, putNil, putCons, Fills, Filling}
+use Rattle.terms.proofs.Outcomes.{Open, and-open, open-and, open-true}
+use Rattle.terms.proofs.WellFormed.{fills-ground}
+
+-- The meet of two terms: where one is unknown, the other; of two compounds, the compound of their arguments' meets.
+abbrev mutual
+  pub meet : Term → Term → Term
+  meet unknown u = u
+  meet (symbol a) u = symbol a
+  meet (number a) u = number a
+  meet (compound a ts) unknown = compound a ts
+  meet (compound a ts) (symbol b) = compound a ts
+  meet (compound a ts) (number b) = compound a ts
+  meet (compound a ts) (compound b us) = compound a (meets ts us)
+
+  pub meets : Terms → Terms → Terms
+  meets nil us = nil
+  meets (cons t ts) nil = cons t ts
+  meets (cons t ts) (cons u us) = cons (meet t u) (meets ts us)
+
+mutual
+  -- A filling of the meet of two terms that do not differ fills both,
+  pub meet-fills
+      : (t u : Term) {g : Term} → WellFormed t → WellFormed u → Open (compare t u) → Fills (meet t u) g
+      → Fills t g × Fills u g
+  meet-fills unknown u okt oku p f = (putUnknown (fills-ground oku f), f)
+  meet-fills (symbol a) unknown okt oku p f = (f, putUnknown (fills-ground okt f))
+  meet-fills (symbol a) (symbol b) {g} okt oku p f =
+      let e : a ≡ b = eqb→eq a b (open-true (eqb a b) p) in
+      (f, subst (λ c. Fills (symbol c) g) e f)
+  meet-fills (symbol a) (number b) okt oku p f = absurd p
+  meet-fills (symbol a) (compound b us) okt oku p f = absurd p
+  meet-fills (number a) unknown okt oku p f = (f, putUnknown (fills-ground okt f))
+  meet-fills (number a) (symbol b) okt oku p f = absurd p
+  meet-fills (number a) (number b) {g} okt oku p f =
+      let e : a ≡ b = eqb→eq a b (open-true (eqb a b) p) in
+      (f, subst (λ c. Fills (number c) g) e f)
+  meet-fills (number a) (compound b us) okt oku p f = absurd p
+  meet-fills (compound a ts) unknown okt oku p f = (f, putUnknown (fills-ground okt f))
+  meet-fills (compound a ts) (symbol b) okt oku p f = absurd p
+  meet-fills (compound a ts) (number b) okt oku p f = absurd p
+  meet-fills (compound a ts) (compound b us) okt oku p (putCompound {gs = gs} fs) =
+      let x = and-open (known (eqb a b)) (compares ts us) p in
+      let e : a ≡ b = eqb→eq a b (open-true (eqb a b) (x .0)) in
+      let y = meets-fills ts us (okt .3) (oku .3) (x .1) fs in
+      (putCompound (y .0), subst (λ c. Fills (compound c us) (compound a gs)) e (putCompound (y .1)))
+
+  -- and so for rows of terms.
+  pub meets-fills
+      : (ts us : Terms) {gs : Terms} → WellFormeds ts → WellFormeds us → Open (compares ts us) → Filling (meets ts us) gs
+      → Filling ts gs × Filling us gs
+  meets-fills nil nil okt oku p f = (f, f)
+  meets-fills nil (cons u us) okt oku p f = absurd p
+  meets-fills (cons t ts) nil okt oku p f = absurd p
+  meets-fills (cons t ts) (cons u us) okt oku p (putCons f fs) =
+      let x = and-open (compare t u) (compares ts us) p in
+      let y = meet-fills t u (okt .0) (oku .0) (x .0) f in
+      let ys = meets-fills ts us (okt .1) (oku .1) (x .1) fs in
+      (putCons (y .0) (ys .0), putCons (y .1) (ys .1))
+
+mutual
+  -- What fills both of two terms fills their meet: no common instance is more general,
+  pub fills-meet : {t u g : Term} → Fills t g → Fills u g → Fills (meet t u) g
+  fills-meet (putUnknown h) k = k
+  fills-meet putSymbol k = putSymbol
+  fills-meet putNumber k = putNumber
+  fills-meet (putCompound fs) (putUnknown k) = putCompound fs
+  fills-meet (putCompound fs) (putCompound ks) = putCompound (filling-meets fs ks)
+
+  -- and so for rows of terms.
+  pub filling-meets : {ts us gs : Terms} → Filling ts gs → Filling us gs → Filling (meets ts us) gs
+  filling-meets putNil putNil = putNil
+  filling-meets (putCons f fs) (putCons k ks) = putCons (fills-meet f k) (filling-meets fs ks)
+
+mutual
+  -- Of three terms that pairwise do not differ, the meet of two does not differ from the third,
+  pub meet-open
+      : (t u v : Term) → Open (compare t u) → Open (compare t v) → Open (compare u v) → Open (compare (meet t u) v)
+  meet-open unknown u v tu tv uv = uv
+  meet-open (symbol a) u v tu tv uv = tv
+  meet-open (number a) u v tu tv uv = tv
+  meet-open (compound a ts) unknown v tu tv uv = tv
+  meet-open (compound a ts) (symbol b) v tu tv uv = tv
+  meet-open (compound a ts) (number b) v tu tv uv = tv
+  meet-open (compound a ts) (compound b us) unknown tu tv uv = tt
+  meet-open (compound a ts) (compound b us) (symbol c) tu tv uv = tv
+  meet-open (compound a ts) (compound b us) (number c) tu tv uv = tv
+  meet-open (compound a ts) (compound b us) (compound c vs) tu tv uv =
+      let x = and-open (known (eqb a b)) (compares ts us) tu in
+      let y = and-open (known (eqb a c)) (compares ts vs) tv in
+      let z = and-open (known (eqb b c)) (compares us vs) uv in
+      open-and (known (eqb a c)) (compares (meets ts us) vs) (y .0) (meets-open ts us vs (x .1) (y .1) (z .1))
+
+  -- and so for rows of terms.
+  pub meets-open
+      : (ts us vs : Terms) → Open (compares ts us) → Open (compares ts vs) → Open (compares us vs)
+      → Open (compares (meets ts us) vs)
+  meets-open nil us vs tu tv uv = tv
+  meets-open (cons t ts) nil vs tu tv uv = tv
+  meets-open (cons t ts) (cons u us) nil tu tv uv = tv
+  meets-open (cons t ts) (cons u us) (cons v vs) tu tv uv =
+      let x = and-open (compare t u) (compares ts us) tu in
+      let y = and-open (compare t v) (compares ts vs) tv in
+      let z = and-open (compare u v) (compares us vs) uv in
+      open-and (compare (meet t u) v) (compares (meets ts us) vs) (meet-open t u v (x .0) (y .0) (z .0))
+      (meets-open ts us vs (x .1) (y .1) (z .1))
+
+-- The meet of two rows is as long as the first.
+pub meets-count : (ts us : Terms) → count (meets ts us) ≡ count ts
+meets-count nil us = refl
+meets-count (cons t ts) nil = refl
+meets-count (cons t ts) (cons u us) = ap suc (meets-count ts us)
+
+mutual
+  -- The meet of well-formed terms is well-formed,
+  pub meet-well-formed : (t u : Term) → WellFormed t → WellFormed u → WellFormed (meet t u)
+  meet-well-formed unknown u okt oku = oku
+  meet-well-formed (symbol a) u okt oku = okt
+  meet-well-formed (number a) u okt oku = okt
+  meet-well-formed (compound a ts) unknown okt oku = okt
+  meet-well-formed (compound a ts) (symbol b) okt oku = okt
+  meet-well-formed (compound a ts) (number b) okt oku = okt
+  meet-well-formed (compound a ts) (compound b us) okt oku =
+      let e = meets-count ts us in
+      (okt .0, omega (arith, okt .1), omega (arith, okt .2), meets-well-formed ts us (okt .3) (oku .3))
+
+  -- and so for rows of terms.
+  pub meets-well-formed : (ts us : Terms) → WellFormeds ts → WellFormeds us → WellFormeds (meets ts us)
+  meets-well-formed nil us okt oku = tt
+  meets-well-formed (cons t ts) nil okt oku = okt
+  meets-well-formed (cons t ts) (cons u us) okt oku =
+      (meet-well-formed t u (okt .0) (oku .0), meets-well-formed ts us (okt .1) (oku .1))
+
+-- A range that is ruled out by neither of two terms is not ruled out by their meet.
+meet-number
+    : (l h : ℕ) (t u : Term) → Open (fits (aNumber l h) t) → Open (fits (aNumber l h) u)
+    → Open (fits (aNumber l h) (meet t u))
+meet-number l h unknown u x y = y
+meet-number l h (symbol a) u x y = x
+meet-number l h (number a) u x y = x
+meet-number l h (compound a ts) u x y = absurd x
+
+-- The meet of t with each of a list.
+abbrev pub meetAll : Term → List Term → Term
+meetAll t [] = t
+meetAll t (u ∷ us) = meetAll (meet t u) us
+
+-- t differs from none of the list; and no two of a list differ.
+abbrev pub OpenTo : Term → List Term → Type 0
+OpenTo t us = All (λ (u : Term). Open (compare t u)) us
+
+abbrev pub Pairwise : List Term → Type 0
+Pairwise [] = Unit
+Pairwise (t ∷ ts) = OpenTo t ts × Pairwise ts
+
+-- The meet of two terms that differ from none of a list, nor from one another, differs from none of the list.
+meet-open-to : (t u : Term) (vs : List Term) → Open (compare t u) → OpenTo t vs → OpenTo u vs → OpenTo (meet t u) vs
+meet-open-to t u [] p ts us = tt
+meet-open-to t u (v ∷ vs) p ts us = (meet-open t u v p (ts .0) (us .0), meet-open-to t u vs p (ts .1) (us .1))
+
+-- A filling of the meet of terms of which no two differ fills each of them.
+pub meet-all-fills
+    : (t : Term) (us : List Term) {g : Term} → WellFormed t → All WellFormed us → OpenTo t us → Pairwise us
+    → Fills (meetAll t us) g → Fills t g × All (λ (u : Term). Fills u g) us
+meet-all-fills t [] okt oku p pairs f = (f, tt)
+meet-all-fills t (u ∷ us) okt oku p pairs f =
+    let others = meet-open-to t u us (p .0) (p .1) (pairs .0) in
+    let x = meet-all-fills (meet t u) us (meet-well-formed t u okt (oku .0)) (oku .1) others (pairs .1) f in
+    let y = meet-fills t u okt (oku .0) (p .0) (x .0) in
+    (y .0, (y .1, x .1))
+
+-- The meet of well-formed terms is well-formed.
+pub meet-all-well-formed : (t : Term) (us : List Term) → WellFormed t → All WellFormed us → WellFormed (meetAll t us)
+meet-all-well-formed t [] okt oku = okt
+meet-all-well-formed t (u ∷ us) okt oku = meet-all-well-formed (meet t u) us (meet-well-formed t u okt (oku .0)) (oku .1)
+
+-- A range that none of the terms rules out is not ruled out by their meet.
+pub meet-all-number
+    : (l h : ℕ) (t : Term) (us : List Term) → Open (fits (aNumber l h) t)
+    → All (λ (u : Term). Open (fits (aNumber l h) u)) us → Open (fits (aNumber l h) (meetAll t us))
+meet-all-number l h t [] x y = x
+meet-all-number l h t (u ∷ us) x y = meet-all-number l h (meet t u) us (meet-number l h t u x (y .0)) (y .1)

@@ -1,0 +1,150 @@
+-- A test that holds, or is contradicted, in a piece does so in every filling of it and in every piece filled in
+-- further. Both put terms in unknowns, so there is one law for both, whatever is asked of those terms.
+use Prim.Native.Nat.{ℕ, zero, suc, pred, _-_}
+use mathlib.Core.Path.{_≡_, refl, ap, subst}
+use mathlib.Core.Bool.{_&&_}
+use lib.Dec.{leb, ltb, eqb}
+use Rattle.places.specs.Numbering.{stride}
+use Rattle.terms.specs.Term.{Term, Terms, count, unknown, symbol, number, compound}
+use Rattle.terms.specs.Pattern.{Patterns}
+use Rattle.terms.specs.RuleTests.{Want, aSymbol, aNumber, aCompound, PlaceTest, PairTest, placeTests, pairTests}
+use Rattle.terms.specs.Lookup.{Found, lacking, found, find, finds}
+use Rattle.terms.specs.Outcome.{known, fits, compare, compares, atPlace, atPlaces, placeOutcome, pairOutcome, together, ruleOutcome}
+use Rattle.terms.specs.Filling.{Puts, Putss, putUnknown, putSymbol, putNumber, putCompound, putNil, putCons, Filling, FilledFurther}
+use Rattle.terms.proofs.Booleans.{choose-related}
+use Rattle.terms.proofs.Outcomes.{Stays, Kept, stays-kept, known-stays, and-stays, together-stays}
+
+-- Filling in keeps the number of terms.
+pub puts-count : {P : Term → Type 0} {ts gs : Terms} → Putss P ts gs → count ts ≡ count gs
+puts-count putNil = refl
+puts-count (putCons f fs) = ap suc (puts-count fs)
+
+-- What filling in makes of what stands at a place: an unknown there, or above it, may give way to anything.
+pub data Becomes (P : Term → Type 0) : Found → Found → Type 0 where
+  staysLacking : Becomes P lacking lacking
+  filledIn : {t g : Term} → Puts P t g → Becomes P (found t) (found g)
+  wasUnknown : {y : Found} → Becomes P (found unknown) y
+
+module _ {P : Term → Type 0} where
+  mutual
+    -- What stands at a place of a term, and of the term filled in.
+    pub find-becomes : {t g : Term} → Puts P t g → (r n : ℕ) → Becomes P (find t r n) (find g r n)
+    find-becomes (putUnknown h) r n = wasUnknown
+    find-becomes putSymbol r zero = filledIn putSymbol
+    find-becomes putSymbol r (suc n) = staysLacking
+    find-becomes putNumber r zero = filledIn putNumber
+    find-becomes putNumber r (suc n) = staysLacking
+    find-becomes (putCompound fs) r zero = filledIn (putCompound fs)
+    find-becomes (putCompound fs) r (suc n) = finds-becomes fs (pred r) n
+
+    -- The same for a row of terms.
+    pub finds-becomes : {ts gs : Terms} → Putss P ts gs → (r n : ℕ) → Becomes P (finds ts r n) (finds gs r n)
+    finds-becomes putNil r n = staysLacking
+    finds-becomes (putCons f fs) r n =
+        choose-related (Becomes P) (ltb n (stride r)) (find-becomes f r n) (finds-becomes fs r (n - stride r))
+
+  -- What a place test says of a term stays when the term is filled in.
+  fits-stays : {t g : Term} (w : Want) → Puts P t g → Stays (fits w t) (fits w g)
+  fits-stays w (putUnknown x) = tt
+  fits-stays (aSymbol a) (putSymbol {a = b}) = known-stays (eqb a b)
+  fits-stays (aNumber l h) putSymbol = tt
+  fits-stays (aCompound a n) putSymbol = tt
+  fits-stays (aSymbol a) putNumber = tt
+  fits-stays (aNumber l h) (putNumber {a = b}) = known-stays (leb l b && leb b h)
+  fits-stays (aCompound a n) putNumber = tt
+  fits-stays (aSymbol a) (putCompound fs) = tt
+  fits-stays (aNumber l h) (putCompound fs) = tt
+  fits-stays (aCompound a n) (putCompound {a = b} {ts = ts} fs) =
+      subst (λ c. Stays (known (eqb a b && eqb n (count ts))) (known (eqb a b && eqb n c))) (puts-count fs)
+      (known-stays (eqb a b && eqb n (count ts)))
+
+  mutual
+    -- What is said of two terms side by side stays when both are filled in.
+    pub compare-stays : {t g u h : Term} → Puts P t g → Puts P u h → Stays (compare t u) (compare g h)
+    compare-stays (putUnknown x) e = tt
+    compare-stays putSymbol (putUnknown y) = tt
+    compare-stays (putSymbol {a = a}) (putSymbol {a = b}) = known-stays (eqb a b)
+    compare-stays putSymbol putNumber = tt
+    compare-stays putSymbol (putCompound ys) = tt
+    compare-stays putNumber (putUnknown y) = tt
+    compare-stays putNumber putSymbol = tt
+    compare-stays (putNumber {a = a}) (putNumber {a = b}) = known-stays (eqb a b)
+    compare-stays putNumber (putCompound ys) = tt
+    compare-stays (putCompound xs) (putUnknown y) = tt
+    compare-stays (putCompound xs) putSymbol = tt
+    compare-stays (putCompound xs) putNumber = tt
+    compare-stays (putCompound {a = a} {ts = ts} {gs = gs} xs) (putCompound {a = b} {ts = us} {gs = hs} ys) =
+        and-stays (known (eqb a b)) (compares ts us) (known (eqb a b)) (compares gs hs) (known-stays (eqb a b))
+        (compares-stays xs ys)
+
+    -- The same for two rows of terms.
+    pub compares-stays
+        : {ts gs us hs : Terms} → Putss P ts gs → Putss P us hs → Stays (compares ts us) (compares gs hs)
+    compares-stays putNil putNil = tt
+    compares-stays putNil (putCons y ys) = tt
+    compares-stays (putCons x xs) putNil = tt
+    compares-stays (putCons {t = t} {g = g} {ts = ts} {gs = gs} x xs) (putCons {t = u} {g = h} {ts = us} {gs = hs} y ys) =
+        and-stays (compare t u) (compares ts us) (compare g h) (compares gs hs) (compare-stays x y) (compares-stays xs ys)
+
+  -- What a place test says of what stands there stays when that is filled in.
+  at-place-stays : {x y : Found} (w : Want) → Becomes P x y → Stays (atPlace (fits w) x) (atPlace (fits w) y)
+  at-place-stays w staysLacking = tt
+  at-place-stays w wasUnknown = tt
+  at-place-stays w (filledIn f) = fits-stays w f
+
+  -- What an equality test says of what stands at two places stays when both are filled in.
+  at-places-stays : {x y u v : Found} → Becomes P x y → Becomes P u v → Stays (atPlaces x u) (atPlaces y v)
+  at-places-stays staysLacking q = tt
+  at-places-stays (filledIn f) staysLacking = tt
+  at-places-stays (wasUnknown {y = lacking}) staysLacking = tt
+  at-places-stays (wasUnknown {y = found g}) staysLacking = tt
+  at-places-stays (filledIn f) (filledIn g) = compare-stays f g
+  at-places-stays wasUnknown (filledIn g) = tt
+  at-places-stays wasUnknown wasUnknown = tt
+  at-places-stays (filledIn {t = unknown} f) wasUnknown = tt
+  at-places-stays (filledIn {t = symbol a} f) wasUnknown = tt
+  at-places-stays (filledIn {t = number a} f) wasUnknown = tt
+  at-places-stays (filledIn {t = compound a ts} f) wasUnknown = tt
+
+  -- A place test stays when the piece is filled in,
+  pub place-stays
+      : {piece more : Terms} → Putss P piece more → (x : PlaceTest) → Stays (placeOutcome piece x) (placeOutcome more x)
+  place-stays fill x = at-place-stays (x .want) (finds-becomes fill 4 (x .place))
+
+  -- an equality test does,
+  pub pair-stays
+      : {piece more : Terms} → Putss P piece more → (x : PairTest) → Stays (pairOutcome piece x) (pairOutcome more x)
+  pair-stays fill x = at-places-stays (finds-becomes fill 4 (x .first)) (finds-becomes fill 4 (x .second))
+
+  -- and so do all tests of a rule together.
+  pub rule-stays
+      : {piece more : Terms} → Putss P piece more → (rule : Patterns) → Stays (ruleOutcome rule piece) (ruleOutcome rule more)
+  rule-stays {piece} {more} fill rule =
+      and-stays (together (placeOutcome piece) (placeTests rule)) (together (pairOutcome piece) (pairTests rule))
+      (together (placeOutcome more) (placeTests rule)) (together (pairOutcome more) (pairTests rule))
+      (together-stays (placeOutcome piece) (placeOutcome more) (place-stays fill) (placeTests rule))
+      (together-stays (pairOutcome piece) (pairOutcome more) (pair-stays fill) (pairTests rule))
+
+-- A place test that holds (is contradicted) in a piece holds (is contradicted) in every filling of it.
+pub place-in-filling
+    : {piece filled : Terms} → Filling piece filled → (x : PlaceTest)
+    → Kept (placeOutcome piece x) (placeOutcome filled x)
+place-in-filling {piece} {filled} fill x = stays-kept (placeOutcome piece x) (placeOutcome filled x) (place-stays fill x)
+
+-- A place test that holds (is contradicted) in a piece holds (is contradicted) in every piece filled in further.
+pub place-in-further
+    : {piece further : Terms} → FilledFurther piece further → (x : PlaceTest)
+    → Kept (placeOutcome piece x) (placeOutcome further x)
+place-in-further {piece} {further} more x = stays-kept (placeOutcome piece x) (placeOutcome further x) (place-stays more x)
+
+-- An equality test that holds (is contradicted) in a piece holds (is contradicted) in every filling of it.
+pub pair-in-filling
+    : {piece filled : Terms} → Filling piece filled → (x : PairTest)
+    → Kept (pairOutcome piece x) (pairOutcome filled x)
+pair-in-filling {piece} {filled} fill x = stays-kept (pairOutcome piece x) (pairOutcome filled x) (pair-stays fill x)
+
+-- An equality test that holds (is contradicted) in a piece holds (is contradicted) in every piece filled in further.
+pub pair-in-further
+    : {piece further : Terms} → FilledFurther piece further → (x : PairTest)
+    → Kept (pairOutcome piece x) (pairOutcome further x)
+pair-in-further {piece} {further} more x = stays-kept (pairOutcome piece x) (pairOutcome further x) (pair-stays more x)
