@@ -1,5 +1,4 @@
 -- The three values of a test in a piece, and of all tests of a rule (document 01, "Places and tests").
-use Prim.Native.Nat.{ℕ}
 use mathlib.Core.Bool.{Bool, true, false, _&&_}
 use mathlib.Core.List.{List, [], _∷_}
 use lib.Dec.{leb, eqb}
