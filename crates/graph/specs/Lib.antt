@@ -1,0 +1,2 @@
+pub mod NodeRecord
+pub mod ReadGraph
