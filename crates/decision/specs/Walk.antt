@@ -11,7 +11,8 @@ use Rattle.terms.specs.Lookup.{Found, lacking, found, termAt}
 use Rattle.terms.specs.Outcome.{Outcome, holds, notKnown, contradicted, atPlaces, fits, atPlace, ruleOutcome}
 use Rattle.terms.specs.Answer.{Answer, ruleAt, onlyRule}
 use Rattle.terms.specs.Answer as answers
-use Rattle.tests.specs.SheetTests.{Test, place, pair}
+use Rattle.masks.specs.Mask.{anyBelow}
+use Rattle.tests.specs.SheetTests.{Test, place, pair, sheetTests}
 use Rattle.decision.specs.Rules.{anyOf, sameTest, testAt, hasTest, wantAt, testsWhere}
 use Rattle.decision.specs.Key.{Leaf, fail, suspend, execute}
 use Rattle.decision.specs.Node.{Node, end, switch, pairNode}
@@ -82,7 +83,7 @@ module _ (rules : List Patterns) (nodes : List (Node ℕ)) (piece : Terms) where
   abbrev pub walk : Reply
   walk = atEnd (path nodes piece)
 
-  -- The outcome of the sheet's test t for rule i, which has it.
+  -- The outcome for rule i of a test that it has.
   abbrev pub wantOutcome : Option Want → Found → Outcome
   wantOutcome none x = holds
   wantOutcome (some w) x = atPlace (fits w) x
@@ -90,3 +91,15 @@ module _ (rules : List Patterns) (nodes : List (Node ℕ)) (piece : Terms) where
   abbrev pub testOutcome : ℕ → Test → Outcome
   testOutcome i (place n) = wantOutcome (wantAt rules i n) (termAt piece n)
   testOutcome i (pair p q) = atPlaces (termAt piece p) (termAt piece q)
+
+  -- "On it a rule is live until a test of it met there is contradicted."
+  abbrev pub isContradicted : Outcome → Bool
+  isContradicted holds = false
+  isContradicted notKnown = false
+  isContradicted contradicted = true
+
+  abbrev pub liveOn : List ℕ → ℕ → Bool
+  liveOn walked i =
+      not
+      (anyBelow (length (sheetTests rules))
+      (λ t. isMet walked t && hasTest rules i t && isContradicted (testOutcome i (testAt rules t))))
