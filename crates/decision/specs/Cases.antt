@@ -4,7 +4,8 @@ use mathlib.Core.Bool.{Bool, true, false, _&&_, _||_}
 use mathlib.Core.List.{List, [], _∷_, _++_, map}
 use mathlib.Core.Option.{Option, some, none}
 use lib.Dec.{leb, ltb, eqb}
-use Rattle.terms.specs.Lists.{filter, insertBy, pairBefore}
+use Rattle.terms.specs.Lists.{filter}
+use Rattle.terms.specs.Order.{insertBy, pairBefore}
 use Rattle.terms.specs.Term.{Term, count, unknown, symbol, number, compound}
 use Rattle.terms.specs.RuleTests.{Want, aSymbol, aNumber, aCompound}
 use Rattle.decision.specs.Rules.{anyOf}

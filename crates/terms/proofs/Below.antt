@@ -7,7 +7,8 @@ use lib.Dec.{leb, ltb, T, leb→le, ltb→lt}
 use Rattle.places.specs.Numbering.{stride, levelsIn, levelsAt, atOrBelow}
 use Rattle.places.proofs.Levels.{levels-next, levels-below, levels-fit}
 use Rattle.terms.specs.Term.{Term, Terms, unknown, symbol, number, compound, nil, cons}
-use Rattle.terms.specs.Lookup.{find, finds, termAt, IsUnknown}
+use Rattle.terms.specs.Lookup.{find, finds, termAt}
+use Rattle.terms.proofs.Unknown.{IsUnknown}
 use Rattle.terms.proofs.Booleans.{both-true}
 use Rattle.terms.proofs.TermPlaces.{finds-here, finds-there}
 

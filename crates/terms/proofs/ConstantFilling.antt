@@ -4,8 +4,9 @@ use native.Mathlib.Omega.{arith}
 use lib.Dec.{ltb}
 use Rattle.places.specs.Numbering.{stride}
 use Rattle.terms.specs.Term.{Term, Terms, unknown, symbol, number, compound, nil, cons}
-use Rattle.terms.specs.Lookup.{Found, find, finds, IsUnknown}
+use Rattle.terms.specs.Lookup.{Found, find, finds}
 use Rattle.terms.specs.Filling.{Ground, putUnknown, putSymbol, putNumber, putCompound, putNil, putCons, Fills, Filling}
+use Rattle.terms.proofs.Unknown.{IsUnknown}
 use Rattle.terms.proofs.Booleans.{choose-related}
 
 -- The term with c in every unknown.

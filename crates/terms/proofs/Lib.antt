@@ -4,6 +4,7 @@ pub mod Sorted
 pub mod Outcomes
 pub mod RuleOutcomes
 pub mod Booleans
+pub mod Unknown
 pub mod Stays
 pub mod TermPlaces
 pub mod WellFormed

@@ -9,10 +9,11 @@ use lib.Dec.{leb, eqb}
 use Rattle.terms.specs.Term.{Term, Terms, count, unknown, symbol, number, compound}
 use Rattle.terms.specs.Pattern.{Patterns}
 use Rattle.terms.specs.RuleTests.{Want, aSymbol, aNumber, aCompound, PlaceTest, PairTest, placeTests, pairTests}
-use Rattle.terms.specs.Lookup.{Found, lacking, found, find, termAt, IsUnknown}
+use Rattle.terms.specs.Lookup.{Found, lacking, found, find, termAt}
 use Rattle.terms.specs.Outcome.{Holds, NotKnown, fits, atPlace, placeOutcome, pairOutcome, together, ruleOutcome, Meets}
 use Rattle.terms.specs.Filling.{Ground, Filling}
 use Rattle.terms.specs.Accepted.{AcceptedRule, AcceptedPiece}
+use Rattle.terms.proofs.Unknown.{IsUnknown}
 use Rattle.terms.proofs.ListLaws.{all-at}
 use Rattle.terms.proofs.Outcomes.{known-decided, not-known-open, and-not-known, together-not-known}
 use Rattle.terms.proofs.RuleOutcomes.{outcome-open}

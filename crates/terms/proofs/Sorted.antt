@@ -6,7 +6,8 @@ use mathlib.Core.Bool.{Bool, true, false, _&&_, _||_}
 use mathlib.Core.Logic.{_⊎_, inl, inr}
 use mathlib.Core.List.{List, [], _∷_}
 use lib.Dec.{T, ltb, eqb, lt→ltb, ltb→lt, eqb→eq, eqb-refl}
-use Rattle.terms.specs.Lists.{All, Mem, here, there, insertBy, pairBefore}
+use Rattle.terms.specs.Lists.{All, Mem, here, there}
+use Rattle.terms.specs.Order.{insertBy, pairBefore}
 use Rattle.terms.proofs.ListLaws.{all-at, all-from, mem-cases, mem-none}
 
 -- What is asked of an order.

@@ -9,3 +9,4 @@ pub mod Accepted
 pub mod Answer
 pub mod Right
 pub mod Marked
+pub mod Order

@@ -29,10 +29,3 @@ abbrev mutual
 -- In a piece: its arguments have 4 levels and begin at place 0.
 abbrev pub termAt : Terms → ℕ → Found
 termAt piece n = finds piece 4 n
-
-abbrev pub IsUnknown : Found → Type 0
-IsUnknown lacking = ⊥
-IsUnknown (found unknown) = Unit
-IsUnknown (found (symbol a)) = ⊥
-IsUnknown (found (number a)) = ⊥
-IsUnknown (found (compound a ts)) = ⊥
