@@ -1,4 +1,15 @@
-pub mod AnyOf
+pub mod Truth
+pub mod Filters
 pub mod BreadthFirst
 pub mod MetOnce
+pub mod Ascent
+pub mod FunctorOrder
+pub mod Insertion
+pub mod Intervals
+pub mod RangeRuns
+pub mod WantedRanges
+pub mod Runs
+pub mod CaseList
+pub mod CasesLaws
+pub mod CasesAccepted
 pub mod Example

@@ -1,0 +1,132 @@
+-- Ranges of numbers between ascending cuts: from each cut to the number before the next.
+use Prim.Native.Nat.{ℕ, suc, pred, _≤_, _<_}
+use mathlib.Core.Path.{_≡_}
+use mathlib.Core.Bool.{Bool, true, false, _&&_, not}
+use mathlib.Core.Logic.{_↔_, _⊎_, inl, inr}
+use mathlib.Core.List.{List, [], _∷_}
+use native.Mathlib.Omega.{arith}
+use lib.Dec.{T, leb, leb→le, le→leb, nleb→lt}
+use Rattle.terms.specs.Lists.{Mem, here, there, All}
+use Rattle.terms.specs.RuleTests.{Range}
+use Rattle.terms.proofs.ListLaws.{all-at, all-map, mem-cases, mem-none}
+use Rattle.terms.proofs.Booleans.{both-true, true-both}
+use Rattle.terms.proofs.Sorted.{AscendingBy as Ascending}
+use Rattle.decision.proofs.Ascent.{ascending-two}
+
+-- Two comparisons are true together exactly when both hold.
+pub both-le : (a b c d : ℕ) → T (leb a b && leb c d) ↔ ((a ≤ b) × (c ≤ d))
+both-le a b c d = (
+  λ h. let s = both-true (leb a b) (leb c d) h in (leb→le a b (s .0), leb→le c d (s .1)),
+  λ h. true-both (leb a b) (leb c d) (le→leb a b (h .0)) (le→leb c d (h .1)),
+)
+
+-- One of two numbers is at most the other, or above it.
+le-or-lt : (m n : ℕ) → (m ≤ n) ⊎ (n < m)
+le-or-lt m n = go (leb m n) (leb→le m n) (nleb→lt m n)
+  where
+    go : (b : Bool) → (T b → m ≤ n) → (T (not b) → n < m) → (m ≤ n) ⊎ (n < m)
+    go true f g = inl (f tt)
+    go false f g = inr (g tt)
+
+-- The number lies in the range.
+abbrev pub Contains : Range → ℕ → Type 0
+Contains r v = (r .low ≤ v) × (v ≤ r .high)
+
+-- The first range ends before the second begins.
+abbrev pub EndsBefore : Range → Range → Type 0
+EndsBefore r s = r .high < s .low
+
+-- The cut does not fall inside the range.
+abbrev pub Uncut : Range → ℕ → Type 0
+Uncut r z = (z ≤ r .low) ⊎ (r .high < z)
+
+abbrev pub between : List ℕ → List Range
+between [] = []
+between (x ∷ []) = []
+between (x ∷ (y ∷ ys)) = record { low = x; high = pred y } ∷ between (y ∷ ys)
+
+-- The range goes from a cut to the number before another, and no cut falls inside.
+pub record Between (cuts : List ℕ) (r : Range) : Type 0 where
+  pub begins : Mem (r .low) cuts
+  pub ends : Mem (suc (r .high)) cuts
+  pub ordered : r .low ≤ r .high
+  pub uncut : All (Uncut r) cuts
+
+-- The first of ascending cuts is the lowest,
+first-lowest : (x : ℕ) (xs : List ℕ) → Ascending _<_ (x ∷ xs) → (z : ℕ) → Mem z (x ∷ xs) → x ≤ z
+first-lowest x xs a z m =
+    elim (mem-cases m) [ inl e ↦ omega arith | inr k ↦ omega (arith, all-at (λ (y : ℕ). x < y) k (a .0)) ]
+
+-- and a cut above it is one of the others.
+above-first : (x : ℕ) (xs : List ℕ) (z : ℕ) → Mem z (x ∷ xs) → x < z → Mem z xs
+above-first x xs z m h = elim (mem-cases m) [ inl e ↦ (let never : ⊥ = omega arith in absurd never) | inr k ↦ k ]
+
+-- The range between the first two cuts is between cuts,
+first-between
+    : (x y : ℕ) (ys : List ℕ) → Ascending _<_ (x ∷ y ∷ ys) → Between (x ∷ y ∷ ys) (record { low = x; high = pred y })
+first-between x y ys a =
+    let r : Range = record { low = x; high = pred y } in
+    let next : suc (pred y) ≡ y = omega (arith, a .0 .0) in
+    let later : All (Uncut r) ys = all-map (λ (z : ℕ). y < z) (Uncut r) (λ z h. inr (omega arith)) ys (a .1 .0) in
+    record {
+      begins = here;
+      ends = rw next (there here);
+      ordered = omega (arith, a .0 .0);
+      uncut = (inl (omega arith), (inr (omega arith), later));
+    }
+
+-- and so is each range between the later cuts.
+later-between
+    : (x y : ℕ) (ys : List ℕ) → Ascending _<_ (x ∷ y ∷ ys) → (r : Range) → Between (y ∷ ys) r → Between (x ∷ y ∷ ys) r
+later-between x y ys a r b = record {
+  begins = there (b .begins);
+  ends = there (b .ends);
+  ordered = b .ordered;
+  uncut = (inl (omega (arith, a .0 .0, first-lowest y ys (a .1) (r .low) (b .begins))), b .uncut);
+}
+
+-- Each range between ascending cuts goes from a cut to the number before another, and no cut falls inside.
+pub between-cuts : (cuts : List ℕ) → Ascending _<_ cuts → All (Between cuts) (between cuts)
+between-cuts [] a = tt
+between-cuts (x ∷ []) a = tt
+between-cuts (x ∷ (y ∷ ys)) a =
+    let rest = between-cuts (y ∷ ys) (a .1) in
+    let later = all-map (Between (y ∷ ys)) (Between (x ∷ y ∷ ys)) (later-between x y ys a) (between (y ∷ ys)) rest in
+    (first-between x y ys a, later)
+
+-- The ranges between ascending cuts ascend and do not overlap.
+pub between-ascends : (cuts : List ℕ) → Ascending _<_ cuts → Ascending EndsBefore (between cuts)
+between-ascends [] a = tt
+between-ascends (x ∷ []) a = tt
+between-ascends (x ∷ (y ∷ ys)) a =
+    let first : Range = record { low = x; high = pred y } in
+    let apart : (r : Range) → Between (y ∷ ys) r → EndsBefore first r =
+    λ r b. omega (arith, a .0 .0, first-lowest y ys (a .1) (r .low) (b .begins)) in
+    let rest = between-cuts (y ∷ ys) (a .1) in
+    (all-map (Between (y ∷ ys)) (EndsBefore first) apart (between (y ∷ ys)) rest, between-ascends (y ∷ ys) (a .1))
+
+-- A number at or above one cut and below another lies in a range between cuts.
+pub between-covers
+    : (cuts : List ℕ) → Ascending _<_ cuts → (x z v : ℕ) → Mem x cuts → x ≤ v → Mem z cuts → v < z
+    → (r : Range) × Mem r (between cuts) × Contains r v
+between-covers [] a x z v m h n k = absurd (mem-none m)
+between-covers (c ∷ []) a x z v m h n k =
+    absurd (mem-none (above-first c [] z n (omega (arith, first-lowest c [] a x m))))
+between-covers (c ∷ (d ∷ ds)) a x z v m h n k =
+    let first : c ≤ x = first-lowest c (d ∷ ds) a x m in
+    elim (le-or-lt d v) [
+      | inl p ↦ (let above = above-first c (d ∷ ds) z n (omega arith) in
+          let r = between-covers (d ∷ ds) (a .1) d z v here p above k in
+          (r .0, there (r .1), r .2))
+      | inr p ↦ (record { low = c; high = pred d }, here, (omega arith, omega arith))
+    ]
+
+-- A number lies in one only of ranges that ascend and do not overlap.
+pub in-one-only
+    : (rs : List Range) → Ascending EndsBefore rs → (r s : Range) (v : ℕ) → Mem r rs → Mem s rs
+    → Contains r v → Contains s v → r ≡ s
+in-one-only rs a r s v m n h k =
+    elim (ascending-two EndsBefore r s rs a m n) [
+      | inl e ↦ e
+      | inr d ↦ (let never : ⊥ = elim d [ inl p ↦ omega arith | inr p ↦ omega arith ] in absurd never)
+    ]
