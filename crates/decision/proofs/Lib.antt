@@ -2,6 +2,8 @@ pub mod Truth
 pub mod Filters
 pub mod BreadthFirst
 pub mod MetOnce
+pub mod ExploreSteps
+pub mod ExploreMap
 pub mod Ascent
 pub mod FunctorOrder
 pub mod Insertion
