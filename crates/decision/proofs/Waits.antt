@@ -1,0 +1,124 @@
+-- The wait list of a walk that suspends: the walk ends at a suspend node, each test met on it that is not known is
+-- listed, and each test that a node of an accepted graph asks has a number, by which it is met.
+use Prim.Native.Nat.{ℕ, zero, suc, _<_}
+use mathlib.Core.Path.{_≡_, refl, ap, sym, subst, _∙_}
+use mathlib.Core.Bool.{Bool, true, false, _&&_}
+use mathlib.Core.List.{List, [], _∷_}
+use lib.Dec.{T}
+use lib.ListN.{length, getD}
+use Rattle.masks.specs.Mask.{has}
+use Rattle.masks.proofs.Extensionality.{maskOf-same}
+use Rattle.terms.specs.Term.{Terms}
+use Rattle.terms.specs.Lists.{All, Mem}
+use Rattle.terms.specs.Pattern.{Patterns}
+use Rattle.terms.specs.Outcome.{Outcome, holds, notKnown, contradicted, ruleOutcome}
+use Rattle.terms.specs.Answer.{ruleAt, onlyRule}
+use Rattle.terms.specs.Answer as answers
+use Rattle.terms.proofs.Booleans.{true-both}
+use Rattle.tests.specs.SheetTests.{Test, place, pair, sheetTests}
+use Rattle.decision.specs.Rules.{sameTest, testAt}
+use Rattle.decision.specs.Key.{fail, suspend, execute}
+use Rattle.decision.specs.Node.{Node, end, switch, pairNode}
+use Rattle.decision.specs.Path.{Path, ends, refusedAt, nodeAt, path}
+use Rattle.decision.specs.Walk.{Walk, answered, testNotKnown, asksTest, isMet, suspendWaits, atLeaf, atEnd, walk}
+use Rattle.decision.specs.AcceptedGraph.{AcceptedNode}
+use Rattle.decision.proofs.Clash.{clash}
+use Rattle.decision.proofs.Filters.{mem-any}
+use Rattle.decision.proofs.Sets.{in-where}
+use Rattle.decision.proofs.TestNumbers.{number-of}
+use Rattle.decision.proofs.TestsOfRules.{test-same}
+use Rattle.decision.proofs.SameStep.{StillNotKnown, StillNotKnownAt}
+
+-- The answer at an execute node is never suspend.
+execute-not-suspend : {C : Type 0} (i : ℕ) (x : Outcome) → onlyRule i x ≡ answers.suspend → C
+execute-not-suspend i holds e = clash (cc)
+execute-not-suspend i notKnown e = clash (cc)
+execute-not-suspend i contradicted e = clash (cc)
+
+-- Two truth values, of which the second implies the first, and the first the second where c is true, are the same
+-- beside c.
+same-beside : (c a b : Bool) → (T c → T a → T b) → (T b → T a) → c && a ≡ c && b
+same-beside false a b f g = refl
+same-beside true true true f g = refl
+same-beside true true false f g = absurd (f tt tt)
+same-beside true false true f g = absurd (g tt)
+same-beside true false false f g = refl
+
+-- What is looked for in an accepted graph is accepted, past its end too.
+pub accepted-at
+    : (rules : List Patterns) (count : ℕ) (nodes : List (Node ℕ)) → All (AcceptedNode rules count) nodes → (n : ℕ)
+    → AcceptedNode rules count (getD nodes n (end fail))
+accepted-at rules count [] h n = tt
+accepted-at rules count (x ∷ xs) h zero = h .0
+accepted-at rules count (x ∷ xs) h (suc n) = accepted-at rules count xs (h .1) n
+
+module _ (rules : List Patterns) where
+  -- t is the number of a test of the sheet.
+  abbrev pub IsTest : ℕ → Type 0
+  IsTest t = t < length (sheetTests rules)
+
+  -- The test that an accepted node asks has a number, so what is said of the numbered tests that it asks is said of it.
+  pub asked-numbered
+      : (count : ℕ) (piece further : Terms) (node : Node ℕ) → AcceptedNode rules count node
+      → ((t : ℕ) → IsTest t → T (asksTest (testAt rules t) node) → StillNotKnown piece further (testAt rules t))
+      → StillNotKnownAt piece further node
+  asked-numbered count piece further (end l) a f = tt
+  asked-numbered count piece further (switch n cs x y) a f =
+      let r = number-of (place 0) (sheetTests rules) (a .tested) in
+      let asked = subst (λ (t : Test). T (sameTest t (place n))) (sym (r .2)) (test-same (place n)) in
+      subst (StillNotKnown piece further) (r .2) (f (r .0) (r .1) asked)
+  asked-numbered count piece further (pairNode p q x y) a f =
+      let r = number-of (place 0) (sheetTests rules) (a .0) in
+      let asked = subst (λ (t : Test). T (sameTest t (pair p q))) (sym (r .2)) (test-same (pair p q)) in
+      subst (StillNotKnown piece further) (r .2) (f (r .0) (r .1) asked)
+
+  module _ (nodes : List (Node ℕ)) (piece : Terms) where
+    -- A walk that suspends, by the path that it takes.
+    pub record Suspended (w : Walk) : Type 0 where
+      pub walked : List ℕ
+      pub taken : path nodes piece ≡ ends walked suspend
+      pub told : atLeaf rules nodes piece walked suspend ≡ w
+
+    -- The path of a walk that suspends ends at a suspend node.
+    pub suspended : (w : Walk) → walk rules nodes piece ≡ answered w → w .answer ≡ answers.suspend → Suspended w
+    suspended w e suspends = go (path nodes piece) refl e
+      where
+        go : (p : Path) → path nodes piece ≡ p → atEnd rules nodes piece p ≡ answered w → Suspended w
+        go (refusedAt q) d k = clash (cc)
+        go (ends walked fail) d k =
+            let same : atLeaf rules nodes piece walked fail ≡ w = cc in
+            let fails = ap (λ (v : Walk). v .answer) same ∙ suspends in
+            clash (cc)
+        go (ends walked suspend) d k = record { walked = walked; taken = d; told = cc }
+        go (ends walked (execute i)) d k =
+            let same : atLeaf rules nodes piece walked (execute i) ≡ w = cc in
+            execute-not-suspend i (ruleOutcome (ruleAt rules i) piece) (ap (λ (v : Walk). v .answer) same ∙ suspends)
+
+    module _ (walked : List ℕ) where
+      abbrev Met : ℕ → Type 0
+      Met t = T (isMet rules nodes piece walked t)
+
+      -- The test that a node walked asks is met.
+      pub asked-met : (n t : ℕ) → Mem n walked → T (asksTest (testAt rules t) (nodeAt nodes piece n)) → Met t
+      asked-met n t m h = mem-any (λ (k : ℕ). asksTest (testAt rules t) (nodeAt nodes piece k)) m h
+
+      -- A test met that is not known is listed.
+      pub met-listed
+          : (t : ℕ) → IsTest t → Met t → T (testNotKnown piece (testAt rules t))
+          → T (has (suspendWaits rules nodes piece walked) t)
+      met-listed t h met unsure =
+          in-where (length (sheetTests rules))
+          (λ u. isMet rules nodes piece walked u && testNotKnown piece (testAt rules u)) t h
+          (true-both (isMet rules nodes piece walked t) (testNotKnown piece (testAt rules t)) met unsure)
+
+      -- On the same path the wait list is the same in a piece in which the tests met that are not known are the same.
+      pub same-waits
+          : (further : Terms) → ((t : ℕ) → IsTest t → Met t → StillNotKnown piece further (testAt rules t))
+          → ((t : ℕ) → T (testNotKnown further (testAt rules t)) → T (testNotKnown piece (testAt rules t)))
+          → suspendWaits rules nodes piece walked ≡ suspendWaits rules nodes further walked
+      same-waits further still earlier =
+          maskOf-same (length (sheetTests rules))
+          (λ t. isMet rules nodes piece walked t && testNotKnown piece (testAt rules t))
+          (λ t. isMet rules nodes further walked t && testNotKnown further (testAt rules t))
+          (λ t h. same-beside (isMet rules nodes piece walked t) (testNotKnown piece (testAt rules t))
+          (testNotKnown further (testAt rules t)) (still t h) (earlier t))
