@@ -44,15 +44,3 @@ abbrev mutual
   pub storeTerms : Terms → ℕ → ℕ → List ℕ → List ℕ
   storeTerms nil below p cells = cells
   storeTerms (cons t ts) below p cells = storeTerms ts below (p + stride (suc below)) (storeTerm t below p cells)
-
--- What stands at place p: its cell; where that is 0, unknown if the nearest place above it with a cell is.
-abbrev pub lookAbove : ℕ → List ℕ → ℕ → ℕ
-lookAbove zero cells p = 0
-lookAbove (suc k) cells p =
-    elim (eqb (getD cells p 0) 0) [
-      | false ↦ elim (eqb (getD cells p 0) unknownCode) [ true ↦ unknownCode | false ↦ 0 ]
-      | true ↦ lookAbove k cells (parentAt p)
-    ]
-
-abbrev pub look : List ℕ → ℕ → ℕ
-look cells p = elim (eqb (getD cells p 0) 0) [ false ↦ getD cells p 0 | true ↦ lookAbove 3 cells (parentAt p) ]

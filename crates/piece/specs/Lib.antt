@@ -3,3 +3,4 @@ pub mod TermRecord
 pub mod ReadPiece
 pub mod WritePiece
 pub mod Cells
+pub mod LaidOut

@@ -38,13 +38,16 @@ readTerm (suc below) s =
 abbrev pub readTerms : ℕ → ℕ → List ℕ → Reading Terms
 readTerms below n s = readRow nil cons (readTerm below) n s
 
--- "12 Does it begin with a whole 11 record? 13 Is its arity 1 to 8?", then the terms, which stand at depth 1 with 3 levels
--- below. The piece ends with its last term: bytes may follow it.
+-- "12 Does it begin with a whole 11 record? 13 Is its arity 1 to 8?": the arity.
+abbrev pub readArity : List ℕ → Reading ℕ
+readArity s =
+    ask 12 (leb 2 (length s) && eqb (getD s 0 0) 0x11)
+    (ask 13 (leb 1 (getD s 1 0) && leb (getD s 1 0) 8) (took 2 (getD s 1 0)))
+
+-- Then the terms, which stand at depth 1 with 3 levels below. The piece ends with its last term: bytes may follow it.
 unfoldable pub readPrefix : List ℕ → Reading Piece
 readPrefix s =
-    ask 12 (leb 2 (length s) && eqb (getD s 0 0) 0x11)
-    (ask 13 (leb 1 (getD s 1 0) && leb (getD s 1 0) 8)
-    (after 2 (λ ts. record { arity = getD s 1 0; terms = ts }) (readTerms 3 (getD s 1 0) (drop 2 s))))
+    andThen (readArity s) (λ a n. after a (λ ts. record { arity = n; terms = ts }) (readTerms 3 n (drop a s)))
 
 -- "17 Are no bytes left?"
 unfoldable pub readPiece : List ℕ → Reading Piece

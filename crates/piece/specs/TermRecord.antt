@@ -28,3 +28,8 @@ termHead s =
     (isKind (eqb (getD s 0 0) 0x32) (wholeIf (leb 3 (length s)) (Number (wideAt s 1)))
     (isKind (eqb (getD s 0 0) 0x33) (wholeIf (leb 4 (length s)) (Compound (wideAt s 1) (getD s 3 0)))
     (Refused 14)))))
+
+-- The number of the question that a head got a no from, 0 for a whole record.
+abbrev pub headRefusal : TermHead → ℕ
+headRefusal (Whole r) = 0
+headRefusal (Refused q) = q

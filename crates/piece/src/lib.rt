@@ -1,4 +1,13 @@
-// Reads pieces.
+// Reads pieces: checks their bytes and lays their terms out by place, one number a place.
+ghost use mathlib.Core.Path.{_≡_};
+ghost use Prim.Native.Nat.{suc, _+_, _*_, _≤_, _<_};
+ghost use lib.ListN.{length};
+ghost use Rattle.places.specs.Numbering.{stride};
+ghost use Rattle.records.specs.Reading.{mapReading};
+ghost use Rattle.piece.specs.TermRecord.{termHead, headRefusal};
+ghost use Rattle.piece.specs.ReadPiece.{readArity, readPrefix, readPiece};
+ghost use Rattle.piece.specs.Cells.{symbolCode, compoundCode, numberCode};
+ghost use Rattle.piece.specs.LaidOut.{tookCells, termCells, termsCells, layOut, arityRead, prefixRead, prefixBytes, pieceRead, pieceResult, checkedPiece};
 
 // A whole record of a term.
 pub enum TermRecord {
@@ -12,4 +21,216 @@ pub enum TermRecord {
 pub enum TermHead {
     Whole(TermRecord),
     Refused(u8),
+}
+
+// How reading terms ended: the number of bytes that they took, or the number of the question that got a no.
+pub enum Taken {
+    Bytes(usize),
+    Refused(u8),
+}
+
+// How reading the piece that the input begins with ended: its arity and the number of bytes that it took, or the number of
+// the question that got a no.
+pub enum Prefix {
+    Read(u8, usize),
+    Refused(u8),
+}
+
+// How a check of a piece ended: its arity, or the number of the question that got a no.
+pub enum PieceCheck {
+    Accepted(u8),
+    Refused(u8),
+}
+
+// The cells of symbols, compounds and numbers begin here, and the cell of an unknown is this.
+pub const SYMBOLS: u32 = 0x100_0000;
+
+pub const COMPOUNDS: u32 = 0x200_0000;
+
+pub const NUMBERS: u32 = 0x300_0000;
+
+pub const UNKNOWN: u32 = 0x400_0000;
+
+// The cell of a symbol.
+pub fn symbol_code(id: u16) -> u32
+    ensures { λ r. ⌜ r ≡ symbolCode id ⌝ }
+{
+    SYMBOLS + (id as u32) * 256
+}
+
+// The cell of a compound.
+pub fn compound_code(id: u16, arity: u8) -> u32
+    ensures { λ r. ⌜ r ≡ compoundCode id arity ⌝ }
+{
+    COMPOUNDS + (id as u32) * 256 + (arity as u32)
+}
+
+// The cell of a number.
+pub fn number_code(value: u16) -> u32
+    ensures { λ r. ⌜ r ≡ numberCode value ⌝ }
+{
+    NUMBERS + (value as u32) * 256
+}
+
+// The record of a term that the input begins with.
+pub fn term_head(s: &[u8]) -> TermHead
+    ensures { λ r. ⌜ r ≡ termHead (now (s .entry)) ⌝ }
+{
+    if s.len() == 0 {
+        return TermHead::Refused(14);
+    }
+    let kind = s[0];
+    match kind {
+        0x30 => TermHead::Whole(TermRecord::Unknown),
+        0x31 => {
+            if s.len() < 3 {
+                return TermHead::Refused(14);
+            }
+            TermHead::Whole(TermRecord::Symbol(records::wide(s[1], s[2])))
+        }
+        0x32 => {
+            if s.len() < 3 {
+                return TermHead::Refused(14);
+            }
+            TermHead::Whole(TermRecord::Number(records::wide(s[1], s[2])))
+        }
+        0x33 => {
+            if s.len() < 4 {
+                return TermHead::Refused(14);
+            }
+            TermHead::Whole(TermRecord::Compound(records::wide(s[1], s[2]), s[3]))
+        }
+        0..=0x2f | 0x34..=255 => TermHead::Refused(14),
+    }
+}
+
+// The number of the question that a head got a no from, 0 for a whole record.
+fn head_refusal(head: TermHead) -> u8
+    ensures { λ r. ⌜ r ≡ headRefusal head ⌝ }
+{
+    match head {
+        TermHead::Whole(_) => 0,
+        TermHead::Refused(question) => question,
+    }
+}
+
+// Reads the term that the input begins with, which stands at place p with so many levels below it, into its cells.
+fn term(s: &[u8], below: usize, p: usize, cells: &mut [u32; 680]) -> Taken
+    requires { ⌜ (below < 4) × (p + stride (suc below) ≤ 680) ⌝ }
+    ensures { λ r. ⌜ tookCells (now (cells .exit)) r ≡ termCells below p (now (cells .entry)) (now (s .entry)) ⌝ }
+{
+    let head = term_head(s);
+    let TermHead::Whole(record) = head else {
+        return Taken::Refused(head_refusal(head));
+    };
+    match record {
+        TermRecord::Unknown => {
+            cells[p] = UNKNOWN;
+            Taken::Bytes(1)
+        }
+        TermRecord::Symbol(id) => {
+            cells[p] = symbol_code(id);
+            Taken::Bytes(3)
+        }
+        TermRecord::Number(value) => {
+            cells[p] = number_code(value);
+            Taken::Bytes(3)
+        }
+        TermRecord::Compound(id, arity) => {
+            if below == 0 {
+                return Taken::Refused(15);
+            }
+            if arity < 1 || 4 < arity {
+                return Taken::Refused(16);
+            }
+            cells[p] = compound_code(id, arity);
+            let arguments = terms(&s[4..], below - 1, arity as usize, p + 1, cells);
+            let Taken::Bytes(bytes) = arguments else {
+                return arguments;
+            };
+            Taken::Bytes(4 + bytes)
+        }
+    }
+}
+
+// Reads the n terms that the input begins with, of which the first stands at place p, into their cells.
+fn terms(s: &[u8], below: usize, n: usize, p: usize, cells: &mut [u32; 680]) -> Taken
+    requires { ⌜ (below < 4) × (p + n * stride (suc below) ≤ 680) ⌝ }
+    ensures { λ r. ⌜ tookCells (now (cells .exit)) r ≡ termsCells below n p (now (cells .entry)) (now (s .entry)) ⌝ }
+{
+    if n == 0 {
+        return Taken::Bytes(0);
+    }
+    let first = term(s, below, p, cells);
+    let Taken::Bytes(bytes) = first else {
+        return first;
+    };
+    let others = terms(
+        &s[bytes..],
+        below,
+        n - 1,
+        p + places::step(3 - below),
+        cells,
+    );
+    let Taken::Bytes(more) = others else {
+        return others;
+    };
+    Taken::Bytes(bytes + more)
+}
+
+// The record that a piece begins with: its arity, in 2 bytes.
+fn piece_head(s: &[u8]) -> Prefix
+    ensures { λ r. ⌜ arityRead r ≡ readArity (now (s .entry)) ⌝ }
+{
+    if s.len() < 2 {
+        return Prefix::Refused(12);
+    }
+    if s[0] != 0x11 {
+        return Prefix::Refused(12);
+    }
+    let arity = s[1];
+    if arity < 1 || 8 < arity {
+        return Prefix::Refused(13);
+    }
+    Prefix::Read(arity, 2)
+}
+
+// Reads the piece that the input begins with. Bytes may follow it.
+pub fn read_prefix(s: &[u8], cells: &mut [u32; 680]) -> Prefix
+    ensures { λ r. ⌜ (prefixRead (now (cells .exit)) r ≡ mapReading layOut (readPrefix (now (s .entry)))) × (prefixBytes r ≤ length (now (s .entry))) ⌝ }
+{
+    let head = piece_head(s);
+    let Prefix::Read(arity, _) = head else {
+        return head;
+    };
+    *cells = [0; 680];
+    let taken = terms(&s[2..], 3, arity as usize, 0, cells);
+    match taken {
+        Taken::Bytes(bytes) => Prefix::Read(arity, 2 + bytes),
+        Taken::Refused(question) => Prefix::Refused(question),
+    }
+}
+
+// Reads a piece that is the whole input.
+pub fn read_piece(s: &[u8], cells: &mut [u32; 680]) -> PieceCheck
+    ensures { λ r. ⌜ pieceRead (length (now (s .entry))) (now (cells .exit)) r ≡ mapReading layOut (readPiece (now (s .entry))) ⌝ }
+{
+    let prefix = read_prefix(s, cells);
+    match prefix {
+        Prefix::Read(arity, bytes) => {
+            if bytes != s.len() {
+                return PieceCheck::Refused(17);
+            }
+            PieceCheck::Accepted(arity)
+        }
+        Prefix::Refused(question) => PieceCheck::Refused(question),
+    }
+}
+
+// Checks a piece.
+pub fn check_piece(s: &[u8]) -> PieceCheck
+    ensures { λ r. ⌜ pieceResult r ≡ checkedPiece (readPiece (now (s .entry))) ⌝ }
+{
+    let mut cells = [0; 680];
+    read_piece(s, &mut cells)
 }

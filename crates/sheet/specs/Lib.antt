@@ -1,5 +1,11 @@
+-- The definitions that the contracts of this crate cite: sheets, how they are read and written, and the notes of a rule.
 pub mod Sheet
 pub mod PatternRecord
 pub mod ReadSheet
 pub mod WriteSheet
+pub mod HeaderRead
 pub mod Noted
+pub mod NoteCode
+pub mod NoteArray
+pub mod NotesBehind
+pub mod NoteRanges

@@ -1,11 +1,11 @@
--- A rule as the reader notes it: its records other than anything, each with its place, in preorder. All that is asked of a rule
--- later, its ranges, tests and pairs, is read off this list.
+-- A rule as the reader notes it: its records other than anything, each with its place, in preorder. All that is asked of a
+-- rule later, its ranges, tests and pairs, is read off this list.
 use Prim.Native.Nat.{ℕ, pred, suc, _+_}
 use mathlib.Core.List.{List, [], _∷_, _++_}
 use Rattle.places.specs.Numbering.{stride}
 use Rattle.terms.specs.Pattern.{Pattern, Patterns, countPatterns, anything, theSymbol, theRange, theCompound, variable, rangedVariable, pnil, pcons}
 use Rattle.sheet.specs.declared.PatternRecord.{PatternRecord}
-use Rattle.sheet.specs.declared.PatternRecord.the-variants.{Anything, Symbol, Range, Compound, Variable, Ranged}
+use Rattle.sheet.specs.declared.PatternRecord.the-variants.{Symbol, Range, Compound, Variable, Ranged}
 
 pub record Note : Type 0 where
   pub place : ℕ

@@ -10,14 +10,31 @@ use Rattle.sheet.specs.declared.PatternRecord.the-variants.{Anything, Sy
 use Rattle.sheet.specs.declared.PatternHead.{PatternHead}
 use Rattle.sheet.specs.declared.PatternHead.the-variants.{Whole, Refused}
 
--- "A record is one kind byte and a body whose length the kind fixes": whole where n bytes are there.
+-- "A record is one kind byte and a body whose length the kind fixes": so many bytes.
+abbrev pub recordBytes : PatternRecord → ℕ
+recordBytes Anything = 1
+recordBytes (Symbol a) = 3
+recordBytes (Range l h) = 5
+recordBytes (Compound a n) = 4
+recordBytes (Variable v) = 2
+recordBytes (Ranged v l h) = 6
+
+-- Whole where its bytes are there.
 abbrev pub wholeIf : Bool → PatternRecord → PatternHead
 wholeIf true r = Whole r
 wholeIf false r = Refused 4
 
-abbrev pub isKind : Bool → PatternHead → PatternHead → PatternHead
+-- This where the answer is yes, else the others.
+abbrev pub isKind : {A : Type 0} → Bool → A → A → A
 isKind true this others = this
 isKind false this others = others
+
+-- A record of kind 22 or 25, by the bytes that are there.
+abbrev pub rangeHead : List ℕ → PatternHead
+rangeHead s = wholeIf (leb 5 (length s)) (Range (wideAt s 1) (wideAt s 3))
+
+abbrev pub rangedHead : List ℕ → PatternHead
+rangedHead s = wholeIf (leb 6 (length s)) (Ranged (getD s 1 0) (wideAt s 2) (wideAt s 4))
 
 -- "4 Is it a whole record of kinds 20 to 25?"
 abbrev pub patternHead : List ℕ → PatternHead
@@ -25,8 +42,8 @@ patternHead s =
     isKind (eqb (length s) 0) (Refused 4)
     (isKind (eqb (getD s 0 0) 0x20) (Whole Anything)
     (isKind (eqb (getD s 0 0) 0x21) (wholeIf (leb 3 (length s)) (Symbol (wideAt s 1)))
-    (isKind (eqb (getD s 0 0) 0x22) (wholeIf (leb 5 (length s)) (Range (wideAt s 1) (wideAt s 3)))
+    (isKind (eqb (getD s 0 0) 0x22) (rangeHead s)
     (isKind (eqb (getD s 0 0) 0x23) (wholeIf (leb 4 (length s)) (Compound (wideAt s 1) (getD s 3 0)))
     (isKind (eqb (getD s 0 0) 0x24) (wholeIf (leb 2 (length s)) (Variable (getD s 1 0)))
-    (isKind (eqb (getD s 0 0) 0x25) (wholeIf (leb 6 (length s)) (Ranged (getD s 1 0) (wideAt s 2) (wideAt s 4)))
+    (isKind (eqb (getD s 0 0) 0x25) (rangedHead s)
     (Refused 4)))))))

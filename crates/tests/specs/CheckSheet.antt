@@ -14,10 +14,12 @@ use Rattle.tests.specs.declared.SheetCheck.the-variants.{Accepted, Refus
 abbrev pub mostTests : ℕ
 mostTests = 64
 
+abbrev pub askTests : Reading Sheet → Reading Sheet
+askTests read = andThen read (λ a sheet. ask 11 (leb (length (sheetTests (sheet .rules))) mostTests) (took a sheet))
+
 -- How bytes are read as a sheet, all questions of the sheet asked.
 unfoldable pub acceptSheet : List ℕ → Reading Sheet
-acceptSheet s =
-    andThen (readSheet s) (λ a sheet. ask 11 (leb (length (sheetTests (sheet .rules))) mostTests) (took a sheet))
+acceptSheet s = askTests (readSheet s)
 
 -- "A sheet is accepted when none of its own questions gets a no."
 pub record AcceptedSheet (sheet : Sheet) : Type 0 where

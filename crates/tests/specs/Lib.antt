@@ -1,2 +1,7 @@
 pub mod SheetTests
 pub mod CheckSheet
+pub mod TestedPlaces
+pub mod KeptPairs
+pub mod Slot
+pub mod NoteTests
+pub mod Gathered

@@ -1,7 +1,25 @@
 // The tests of a sheet.
+pub mod pairs; // pairs of places, kept ascending
+pub mod rule; // the tests of a rule
+pub mod sheets; // the check of a sheet
+pub mod tested; // the set of tested places
+
+pub use sheets::check_sheet;
 
 // What the check of a sheet answers: its arity, rules and tests, or the number of the question that got a no.
 pub enum SheetCheck {
     Accepted(u8, u8, u8),
+    Refused(u8),
+}
+
+// The variable of a record, if it is one.
+pub enum Name {
+    Nameless,
+    Of(u8),
+}
+
+// How reading the rules went: so many bytes were used and there are so many pairs, or the number of the question that got a no.
+pub enum Scan {
+    Done(usize, usize),
     Refused(u8),
 }

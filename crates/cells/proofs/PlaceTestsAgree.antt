@@ -1,0 +1,96 @@
+-- In the cells of an accepted piece, a place test has the outcome that it has in the piece.
+use Prim.Native.Nat.{ℕ, _+_, _*_, _≤_, _<_}
+use mathlib.Core.Path.{_≡_, refl, ap, sym, _∙_}
+use mathlib.Core.Bool.{Bool, true, false, _&&_, and-eq-true-iff}
+use native.Mathlib.Omega.{arith}
+use lib.Dec.{leb, eqb}
+use borrow.Author.Tests.{leb-true, eqb-true, le-leb, lt-leb, eq-eqb}
+use Rattle.terms.specs.Term.{Term, Terms, count, unknown, symbol, number, compound, Wide}
+use Rattle.terms.specs.RuleTests.{Want, aSymbol, aNumber, aCompound, at}
+use Rattle.terms.specs.Lookup.{Found, lacking, found, termAt}
+use Rattle.terms.specs.Outcome.{Outcome, notKnown, known, fits, atPlace, placeOutcome}
+use Rattle.terms.specs.Accepted.{AcceptedPiece}
+use Rattle.terms.specs.Filling.{WellFormed}
+use Rattle.terms.proofs.TermPlaces.{IfFound}
+use Rattle.terms.proofs.WellFormed.{finds-well-formed}
+use Rattle.piece.specs.Cells.{symbolCode, numberCode, compoundCode, unknownCode, foundCode}
+use Rattle.piece.specs.LaidOut.{pieceCells}
+use Rattle.cells.specs.Choice.{choose}
+use Rattle.cells.specs.CellOutcome.{wantLow, wantHigh, codeOutcome, placeCells}
+use Rattle.cells.proofs.TwoTests.{same-truth}
+use Rattle.cells.proofs.Hidden.{isUnknown}
+use Rattle.cells.proofs.Codes.{code-unknown, in-order}
+use Rattle.cells.proofs.LookFinds.{look-finds}
+
+-- A want of an accepted rule: its id fits a record, and so does its arity.
+abbrev pub SoundWant : Want → Type 0
+SoundWant (aSymbol a) = Wide a
+SoundWant (aNumber l h) = Unit
+SoundWant (aCompound a n) = Wide a × (n < 256)
+
+-- Outside the codes from low to high nothing holds: below them,
+under : (low high code : ℕ) → code < low → known (leb low code && leb code high) ≡ known false
+under low high code h = rw (lt-leb low code h)
+
+-- and above them.
+over : (low high code : ℕ) → low ≤ code → high < code → known (leb low code && leb code high) ≡ known false
+over low high code l h = rw (le-leb low code l, lt-leb code high h)
+
+-- A code is from c to c exactly where it is c.
+only : (c code : ℕ) (y : Bool) → (c ≡ code → y ≡ true) → (y ≡ true → c ≡ code) → leb c code && leb code c ≡ y
+only c code y to from =
+    same-truth (leb c code && leb code c) y
+    (λ h.
+    let both = and-eq-true-iff (leb c code) (leb code c) .0 h in
+    let up = leb-true c code (both .0) in
+    let down = leb-true code c (both .1) in
+    to (omega arith))
+    (λ h.
+    let same = from h in
+    and-eq-true-iff (leb c code) (leb code c) .1 (le-leb c code (omega arith), le-leb code c (omega arith)))
+
+-- A want of known things at a code.
+abbrev Between : Want → ℕ → Outcome
+Between w code = known (leb (wantLow w) code && leb code (wantHigh w))
+
+want-agrees : (w : Want) (f : Found) → SoundWant w → IfFound WellFormed f → choose (isUnknown f) notKnown (Between w (foundCode f)) ≡ atPlace (fits w) f
+want-agrees (aSymbol a) lacking sound ok = under (symbolCode a) (symbolCode a) 0 (omega arith)
+want-agrees (aNumber l h) lacking sound ok = under (numberCode l) (numberCode h) 0 (omega arith)
+want-agrees (aCompound a n) lacking sound ok = under (compoundCode a n) (compoundCode a n) 0 (omega arith)
+want-agrees (aSymbol a) (found unknown) sound ok = refl
+want-agrees (aNumber l h) (found unknown) sound ok = refl
+want-agrees (aCompound a n) (found unknown) sound ok = refl
+want-agrees (aSymbol a) (found (symbol b)) sound ok =
+    ap known (only (symbolCode a) (symbolCode b) (eqb a b) (λ e. eq-eqb a b (omega arith)) (λ e. let same = eqb-true a b e in omega arith))
+want-agrees (aSymbol a) (found (number b)) sound ok = over (symbolCode a) (symbolCode a) (numberCode b) (omega arith) (omega arith)
+want-agrees (aSymbol a) (found (compound b ts)) sound ok =
+    over (symbolCode a) (symbolCode a) (compoundCode b (count ts)) (omega arith) (omega arith)
+want-agrees (aNumber l h) (found (symbol b)) sound ok = under (numberCode l) (numberCode h) (symbolCode b) (omega arith)
+want-agrees (aNumber l h) (found (number b)) sound ok = rw (in-order 0x3000000 l b, in-order 0x3000000 b h)
+want-agrees (aNumber l h) (found (compound b ts)) sound ok =
+    under (numberCode l) (numberCode h) (compoundCode b (count ts)) (omega (arith, ok .0, ok .2))
+want-agrees (aCompound a n) (found (symbol b)) sound ok = under (compoundCode a n) (compoundCode a n) (symbolCode b) (omega arith)
+want-agrees (aCompound a n) (found (number b)) sound ok =
+    over (compoundCode a n) (compoundCode a n) (numberCode b) (omega (arith, sound .0, sound .1)) (omega (arith, sound .0, sound .1))
+want-agrees (aCompound a n) (found (compound b ts)) sound ok =
+    ap known
+    (only (compoundCode a n) (compoundCode b (count ts)) (eqb a b && eqb n (count ts))
+    (λ e.
+    let few = ok .2 in
+    let least = sound .1 in
+    and-eq-true-iff (eqb a b) (eqb n (count ts)) .1 (eq-eqb a b (omega arith), eq-eqb n (count ts) (omega arith)))
+    (λ e.
+    let both = and-eq-true-iff (eqb a b) (eqb n (count ts)) .0 e in
+    let same = eqb-true a b (both .0) in
+    let same-arity = eqb-true n (count ts) (both .1) in
+    omega arith))
+
+-- A place test on the cells of an accepted piece is the place test of the piece.
+pub place-test-agrees
+    : (arity : ℕ) (piece : Terms) → AcceptedPiece arity piece → arity ≤ 8 → (w : Want) → SoundWant w → (n : ℕ) → n < 680
+    → placeCells (pieceCells piece) n (wantLow w) (wantHigh w) ≡ placeOutcome piece (at n w)
+place-test-agrees arity piece accepted few w sound n inside =
+    let ok = finds-well-formed piece (accepted .wellFormed) 4 n in
+    ap (codeOutcome (wantLow w) (wantHigh w)) (look-finds arity piece accepted few n inside)
+    ∙ ap (λ b. choose b notKnown (Between w (foundCode (termAt piece n)))) (code-unknown (termAt piece n) ok)
+    ∙ want-agrees w (termAt piece n) sound ok

@@ -1,0 +1,32 @@
+-- Laws of two tests: one of them is true, both are, or one exactly where the other is.
+use Prim.Native.Nat.{ℕ}
+use mathlib.Core.Path.{_≡_, refl, sym}
+use mathlib.Core.Bool.{Bool, true, false, _&&_, _||_}
+use mathlib.Core.Logic.{_⊎_, inl, inr}
+use lib.Dec.{eqb}
+use borrow.Author.Tests.{eq-eqb, ne-eqb}
+
+-- Two tests are not both true where the first or the second is not.
+pub not-both : (x y : Bool) → (x ≡ false) ⊎ (y ≡ false) → x && y ≡ false
+not-both x y (inl h) = rw h
+not-both true y (inr h) = h
+not-both false y (inr h) = refl
+
+either : (x y : Bool) → y ≡ true → x || y ≡ true
+either true y h = refl
+either false y h = h
+
+-- One of two numbers is k,
+pub one-is : (a b k : ℕ) → (a ≡ k) ⊎ (eqb b k ≡ true) → eqb a k || eqb b k ≡ true
+one-is a b k (inl h) = rw (eq-eqb a k h)
+one-is a b k (inr h) = either (eqb a k) (eqb b k) h
+
+-- or neither is.
+pub none-is : (a b k : ℕ) → (a ≡ k → ⊥) → eqb b k ≡ false → eqb a k || eqb b k ≡ false
+none-is a b k h other = rw (ne-eqb a k h, other)
+
+-- Two truth values are the same where each follows from the other.
+pub same-truth : (x y : Bool) → (x ≡ true → y ≡ true) → (y ≡ true → x ≡ true) → x ≡ y
+same-truth true y h k = sym (h refl)
+same-truth false true h k = k refl
+same-truth false false h k = refl

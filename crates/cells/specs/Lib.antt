@@ -1,0 +1,4 @@
+pub mod Choice
+pub mod Look
+pub mod CompareCells
+pub mod CellOutcome

@@ -1,0 +1,184 @@
+-- `term` and `terms` meet their contracts: each return by a law of reading terms into cells.
+mod Places
+use Prim.Native.Nat.{ℕ, suc, _≤_}
+use mathlib.Core.Path.{sym, ap, _∙_}
+use mathlib.Core.Logic.{inl, inr, ⊎-elim}
+use native.Mathlib.Omega.{arith}
+use lib.ListN.{set}
+use denote.Ref.{now}
+use borrow.Author.Needs.{needs}
+use borrow.Author.Tests.{ltb-true, ltb-false}
+use Rattle.places.specs.Numbering.{stride}
+use Rattle.records.specs.Reading.{took, refused}
+use Rattle.piece.specs.TermRecord.{headRefusal}
+use Rattle.piece.proofs.Rooms.{row-room, arguments-room, step-of}
+use Rattle.piece.proofs.TermCells.{went-on, stopped, by-record, deep-refused, arity-refused, none-read, first-refused}
+use Rattle.piece.proofs.term.Reads as term
+use Rattle.piece.proofs.terms.Reads as terms
+use Rattle.piece.proofs.+term+terms.Lts-term as term-lts
+use Rattle.piece.proofs.+term+terms.Lts-terms as terms-lts
+use Rattle.piece.proofs.+term+terms.Tie.{close}
+use Rattle.piece.proofs.+term+terms.{statement}
+use Rattle.piece.proofs.+term+terms.Proof.Places.{μ-term, μ-terms, term-at, terms-at, term-calls, terms-calls, head-start, whole-head, compound-start, id, arity, compound-head, compound-there, arguments-start, compound-read, arguments-fit, row-start, first-fits, row-fits, others-start, row-read, others-fit}
+
+term-returns : (t : ℕ) → term-lts.Need-returns (term-calls t) (term-at t) term.Post
+term-returns t c =
+    let a = c .before .before .before .before .before .args in
+    let told = c .before .enum-told .given .1 in
+    ap refused (c .head-refusal .ensures ∙ ap headRefusal told)
+    ∙ by-record (a .below) (now (a .s)) (a .p) (now (a .cells)) (sym (c .before .before .before .term-head .ensures) ∙ told)
+
+term-returns-2 : (t : ℕ) → term-lts.Need-returns-2 (term-calls t) (term-at t) term.Post
+term-returns-2 t c =
+    let k = c .before in
+    let a = compound-start k .args in
+    deep-refused (a .below) (now (a .s)) (a .p) (now (a .cells)) (id k) (arity k) (compound-head k) (c .if1 .taken)
+
+term-returns-3 : (t : ℕ) → term-lts.Need-returns-3 (term-calls t) (term-at t) term.Post
+term-returns-3 t c =
+    let k = c .before .before in
+    let a = compound-start k .args in
+    arity-refused (a .below) (now (a .s)) (a .p) (now (a .cells)) (id k) (arity k) (compound-head k) (c .before .if1 .left)
+    (⊎-elim (λ w. inl (w .taken)) (λ w. inr (ltb-true _ _ (w .1 .taken))) (c .if2 .came))
+
+term-sub-terms : (t : ℕ) → term-lts.Need-sub-terms (term-calls t) (term-at t) term.Post
+term-sub-terms t c = omega (arith, compound-there (c .before .before .before .before))
+
+term-part-terms-start : (t : ℕ) → term-lts.Need-part-terms-start (term-calls t) (term-at t) term.Post
+term-part-terms-start t c = omega (arith, compound-there (c .before .before .before .before))
+
+term-terms-requires : (t : ℕ) → term-lts.Need-terms-requires (term-calls t) (term-at t) term.Post
+term-terms-requires t c κs =
+    let k = c .before .before .before .before .before .before in
+    let most : arity k ≤ 4 = ltb-false _ _ (c .before .before .before .if3 .left) in
+    omega (arith, arguments-room (compound-start k .args .below) (arity k) (c .before .before .before .before .before .if1 .left) most)
+
+term-returns-4 : (t : ℕ) → term-lts.Need-returns-4 (term-calls t) (term-at t) term.Post
+term-returns-4 t c = stopped 4 _ _ (compound-read (c .before .before)) (c .enum-told3 .given .1)
+
+term-add-t30 : (t : ℕ) → term-lts.Need-add-t30 (term-calls t) (term-at t) term.Post
+term-add-t30 t c =
+    omega (arith, arguments-fit (c .before .before .before) (c .before .arguments .given .1), arguments-start (c .before .before .before) .good .0 .0)
+
+term-returns-5 : (t : ℕ) → term-lts.Need-returns-5 (term-calls t) (term-at t) term.Post
+term-returns-5 t c =
+    let a = head-start (c .before .before) .args in
+    by-record (a .below) (now (a .s)) (a .p) (now (a .cells)) (whole-head (c .before .before) (c .enum-told2 .given .1))
+
+term-returns-6 : (t : ℕ) → term-lts.Need-returns-6 (term-calls t) (term-at t) term.Post
+term-returns-6 t c =
+    let a = head-start (c .before .before .before .before) .args in
+    ap (λ x. took 3 (set (now (a .cells)) (a .p) x)) (c .symbol-code .ensures)
+    ∙ by-record (a .below) (now (a .s)) (a .p) (now (a .cells)) (whole-head (c .before .before .before .before) (c .before .before .«record» .given .1))
+
+term-returns-7 : (t : ℕ) → term-lts.Need-returns-7 (term-calls t) (term-at t) term.Post
+term-returns-7 t c =
+    let a = head-start (c .before .before .before .before) .args in
+    ap (λ x. took 3 (set (now (a .cells)) (a .p) x)) (c .number-code .ensures)
+    ∙ by-record (a .below) (now (a .s)) (a .p) (now (a .cells)) (whole-head (c .before .before .before .before) (c .before .before .record2 .given .1))
+
+term-returns-8 : (t : ℕ) → term-lts.Need-returns-8 (term-calls t) (term-at t) term.Post
+term-returns-8 t c = went-on 4 _ _ (compound-read (c .before .before .before)) (c .before .arguments .given .1)
+
+terms-returns : (t : ℕ) → terms-lts.Need-returns (terms-calls t) (terms-at t) terms.Post
+terms-returns t c =
+    let a = c .before .before .args in none-read (a .below) (now (a .s)) (a .p) (now (a .cells)) (a .n) (c .if1 .taken)
+
+terms-term-requires : (t : ℕ) → terms-lts.Need-term-requires (terms-calls t) (terms-at t) terms.Post
+terms-term-requires t c κs =
+    let a = c .before .before .before .args in omega (arith, row-room (a .n) (stride (suc (a .below))) (c .before .if1 .left))
+
+terms-returns-2 : (t : ℕ) → terms-lts.Need-returns-2 (terms-calls t) (terms-at t) terms.Post
+terms-returns-2 t c =
+    let a = c .before .before .before .before .before .before .args in
+    first-refused (a .below) (now (a .s)) (a .p) (now (a .cells)) (a .n) (c .before .before .before .before .if1 .left) (c .before .before .term .result)
+    (c .before .before .term .last .1 .1 .1 .0) (c .before .before .term .ensures) (c .enum-told .given .1)
+
+terms-sub-terms : (t : ℕ) → terms-lts.Need-sub-terms (terms-calls t) (terms-at t) terms.Post
+terms-sub-terms t c = omega (arith, first-fits c)
+
+terms-part-terms-start : (t : ℕ) → terms-lts.Need-part-terms-start (terms-calls t) (terms-at t) terms.Post
+terms-part-terms-start t c = omega (arith, first-fits c)
+
+terms-add-terms : (t : ℕ) → terms-lts.Need-add-terms (terms-calls t) (terms-at t) terms.Post
+terms-add-terms t c =
+    let k = c .before .before in
+    omega (arith, row-fits k, step-of (row-start k .args .below) (search needs) (c .step .ensures))
+
+terms-terms-requires : (t : ℕ) → terms-lts.Need-terms-requires (terms-calls t) (terms-at t) terms.Post
+terms-terms-requires t c κs =
+    let k = c .before .before .before in
+    omega (arith, row-fits k, step-of (row-start k .args .below) (search needs) (c .before .step .ensures))
+
+terms-returns-3 : (t : ℕ) → terms-lts.Need-returns-3 (terms-calls t) (terms-at t) terms.Post
+terms-returns-3 t c = stopped _ _ _ (row-read (c .before .before)) (c .enum-told2 .given .1)
+
+terms-add-t13 : (t : ℕ) → terms-lts.Need-add-t13 (terms-calls t) (terms-at t) terms.Post
+terms-add-t13 t c =
+    omega (arith, others-fit (c .before .before .before) (c .before .others .given .1), others-start (c .before .before .before) .good .0 .0)
+
+terms-returns-4 : (t : ℕ) → terms-lts.Need-returns-4 (terms-calls t) (terms-at t) terms.Post
+terms-returns-4 t c = went-on _ _ _ (row-read (c .before .before .before)) (c .before .others .given .1)
+
+pub +term+terms-spec : {M : Type 1} → statement M
++term+terms-spec = close μ-term μ-terms (λ t. term-lts.spec (term-calls t)
+    (term-at t)
+    term.Post
+    (λ c κs. search needs)
+    (λ c. search needs)
+    (λ c. search needs)
+    (λ c κs. search needs)
+    (term-returns t)
+    (λ c. search needs)
+    (λ c. search needs)
+    (λ c. search needs)
+    (λ c. search needs)
+    (λ c κs. search needs)
+    (λ c. search needs)
+    (λ c. search needs)
+    (λ c. search needs)
+    (λ c κs. search needs)
+    (λ c. search needs)
+    (λ c. search needs)
+    (λ c. search needs)
+    (term-returns-2 t)
+    (term-returns-3 t)
+    (λ c κs. search needs)
+    (λ c. search needs)
+    (λ c. search needs)
+    (term-sub-terms t)
+    (term-part-terms-start t)
+    (λ c. search needs)
+    (λ c. search needs)
+    (λ c. search needs)
+    (λ c. search needs)
+    (term-terms-requires t)
+    (λ c. search needs)
+    (λ c. search needs)
+    (term-returns-4 t)
+    (term-add-t30 t)
+    (term-returns-5 t)
+    (term-returns-6 t)
+    (term-returns-7 t)
+    (term-returns-8 t))
+    λ t. terms-lts.spec (terms-calls t)
+    (terms-at t)
+    terms.Post
+    (terms-returns t)
+    (terms-term-requires t)
+    (λ c. search needs)
+    (λ c. search needs)
+    (terms-returns-2 t)
+    (terms-sub-terms t)
+    (terms-part-terms-start t)
+    (λ c. search needs)
+    (λ c. search needs)
+    (λ c. search needs)
+    (λ c κs. search needs)
+    (terms-add-terms t)
+    (terms-terms-requires t)
+    (λ c. search needs)
+    (λ c. search needs)
+    (terms-returns-3 t)
+    (terms-add-t13 t)
+    (terms-returns-4 t)

@@ -1,0 +1,181 @@
+-- What is known at the places of `term` and `terms`. The levels below fall from a term to its arguments, and the number of
+-- terms along a row: a compound has at most 4 arguments, so 6 for each level and 1 for each term still to come are enough.
+use Prim.Native.Nat.{ℕ, suc, _+_, _-_, _*_, _≤_, _<_}
+use mathlib.Core.Path.{_≡_, _∙_}
+use mathlib.Core.List.{List}
+use native.Mathlib.Omega.{arith}
+use lib.ListN.{length}
+use denote.Ref.{now}
+use borrow.Author.Needs.{needs}
+use borrow.Author.Tests.{ltb-false}
+use borrow.Fn.Kinds.{In}
+use borrow.Fn.PlainCycle.{Measures, is, falls, and}
+use Rattle.places.specs.Numbering.{stride}
+use Rattle.records.specs.Reading.{refused}
+use Rattle.records.proofs.Parts.{rest, rest-length}
+use Rattle.piece.specs.declared.Taken.the-variants.{Bytes}
+use Rattle.piece.specs.declared.TermRecord.{TermRecord}
+use Rattle.piece.specs.declared.TermRecord.the-variants.{Compound}
+use Rattle.piece.specs.declared.TermHead.the-variants.{Whole}
+use Rattle.piece.specs.TermRecord.{termHead}
+use Rattle.piece.specs.LaidOut.{tookCells, termCells, termsCells}
+use Rattle.piece.proofs.Rooms.{row-room, step-of}
+use Rattle.piece.proofs.Heads.{record-within}
+use Rattle.piece.proofs.TermCells.{begins, later, arguments-read, others-read, term-fits, terms-fit}
+use Rattle.places.proofs.step.Reads as step-reads
+use Rattle.piece.proofs.compound_code.Reads as compound-code-reads
+use Rattle.piece.proofs.head_refusal.Reads as head-refusal-reads
+use Rattle.piece.proofs.number_code.Reads as number-code-reads
+use Rattle.piece.proofs.symbol_code.Reads as symbol-code-reads
+use Rattle.piece.proofs.term_head.Reads as term-head-reads
+use Rattle.piece.proofs.term.Reads as term
+use Rattle.piece.proofs.term.Kinds as term-kinds
+use Rattle.piece.proofs.terms.Reads as terms
+use Rattle.piece.proofs.terms.Kinds as terms-kinds
+use Rattle.piece.proofs.+term+terms.Lts-term as term-lts
+use Rattle.piece.proofs.+term+terms.Lts-terms as terms-lts
+
+abbrev pub μ-term : Measures 2 term-kinds.ps ℕ
+μ-term κs a = 6 * a .1 .0
+
+abbrev pub μ-terms : Measures 2 terms-kinds.ps ℕ
+μ-terms κs a = 6 * a .1 .0 + a .1 .1 .0 + 1
+
+abbrev pub term-at : ℕ → In 2 term-kinds.ps
+term-at t = and 2 term-kinds.ps (is 2 term-kinds.ps μ-term t) term.Pre
+
+abbrev pub term-below : ℕ → In 2 term-kinds.ps
+term-below t = and 2 term-kinds.ps (falls 2 term-kinds.ps _<_ μ-term t) term.Pre
+
+abbrev pub terms-at : ℕ → In 2 terms-kinds.ps
+terms-at t = and 2 terms-kinds.ps (is 2 terms-kinds.ps μ-terms t) terms.Pre
+
+abbrev pub terms-below : ℕ → In 2 terms-kinds.ps
+terms-below t = and 2 terms-kinds.ps (falls 2 terms-kinds.ps _<_ μ-terms t) terms.Pre
+
+abbrev pub term-calls : ℕ → term-lts.Claims
+term-calls t = (
+  term-head-reads.Asked,
+  term-head-reads.Learnt,
+  head-refusal-reads.Asked,
+  head-refusal-reads.Learnt,
+  symbol-code-reads.Asked,
+  symbol-code-reads.Learnt,
+  number-code-reads.Asked,
+  number-code-reads.Learnt,
+  compound-code-reads.Asked,
+  compound-code-reads.Learnt,
+  terms-below t,
+  terms.Post,
+)
+
+abbrev pub terms-calls : ℕ → terms-lts.Claims
+terms-calls t = (term-below t, term.Post, step-reads.Asked, step-reads.Learnt, terms-below t, terms.Post)
+
+module _ {t : ℕ} where
+  -- Where the head of the input is known to be whole.
+  abbrev pub head-start
+      : term-lts.After-known-told (term-calls t) (term-at t) term.Post → term-lts.Start (term-calls t) (term-at t) term.Post
+  head-start c = c .before .before .before .before .before
+
+  pub whole-head
+      : (c : term-lts.After-known-told (term-calls t) (term-at t) term.Post) {r : TermRecord} → c .before .head .given .0 .0 ≡ r
+      → termHead (now (head-start c .args .s)) ≡ Whole r
+  whole-head c known = begins (now (head-start c .args .s)) (c .before .before .before .term-head .ensures) (c .before .head .given .1) known
+
+  -- Where the record is known to be a compound's: its id, its arity, and that the input begins with it.
+  module _ (c : term-lts.After-known-told4 (term-calls t) (term-at t) term.Post) where
+    abbrev pub compound-start : term-lts.Start (term-calls t) (term-at t) term.Post
+    compound-start = head-start (c .before .before .before)
+
+    abbrev pub id : ℕ
+    id = c .before .record3 .given .0 .0
+
+    abbrev pub arity : ℕ
+    arity = c .before .record3 .given .0 .1 .0
+
+    pub compound-head : termHead (now (compound-start .args .s)) ≡ Whole (Compound id arity)
+    compound-head = whole-head (c .before .before .before) (c .before .record3 .given .1)
+
+    pub compound-there : 4 ≤ length (now (compound-start .args .s))
+    compound-there = record-within (now (compound-start .args .s)) compound-head
+
+  -- Where a compound's arguments were read or refused.
+  module _ (c : term-lts.After-terms (term-calls t) (term-at t) term.Post) where
+    abbrev pub arguments-start : term-lts.Start (term-calls t) (term-at t) term.Post
+    arguments-start = compound-start (c .before .before .before .before .before .before .before)
+
+    abbrev pub arguments-cells : List ℕ
+    arguments-cells = c .terms .last .1 .1 .1 .1 .0
+
+    pub compound-read
+        : later 4 (tookCells arguments-cells (c .terms .result))
+        ≡ termCells (arguments-start .args .below) (arguments-start .args .p) (now (arguments-start .args .cells))
+        (now (arguments-start .args .s))
+    compound-read =
+        let a = arguments-start .args in
+        let s = now (a .s) in
+        let k = c .before .before .before .before .before .before .before in
+        arguments-read (a .below) s (a .p) (now (a .cells)) (id k) (arity k) (compound-head k) (c .before .before .before .before .before .before .if1 .left)
+        (c .before .before .before .before .before .if2 .left) (ltb-false _ _ (c .before .before .before .before .if3 .left))
+        (c .terms .ensures ∙ (simp (rest s 4, c .before .before .before .compound-code .ensures)))
+
+    pub arguments-fit : {k : ℕ} → c .terms .result ≡ Bytes k → 4 + k ≤ length (now (arguments-start .args .s))
+    arguments-fit told =
+        let s = now (arguments-start .args .s) in
+        omega (
+          arith,
+          terms-fit _ _ _ _ _ arguments-cells (c .terms .result) (c .terms .ensures) told,
+          rest-length s 4,
+          compound-there (c .before .before .before .before .before .before .before),
+        )
+
+  -- Where the first term of a row was read.
+  module _ (c : terms-lts.After-known-told (terms-calls t) (terms-at t) terms.Post) where
+    abbrev pub row-start : terms-lts.Start (terms-calls t) (terms-at t) terms.Post
+    row-start = c .before .before .before .before .before .before .before
+
+    abbrev pub first-bytes : ℕ
+    first-bytes = c .before .first .given .0 .0
+
+    pub first-fits : first-bytes ≤ length (now (row-start .args .s))
+    first-fits =
+        let a = row-start .args in
+        term-fits (a .below) (now (a .s)) (a .p) (now (a .cells)) (c .before .before .before .term .last .1 .1 .1 .0) (c .before .before .before .term .result)
+        (c .before .before .before .term .ensures) (c .before .first .given .1)
+
+    pub row-fits
+        : row-start .args .n * stride (suc (row-start .args .below))
+        ≡ stride (suc (row-start .args .below)) + (row-start .args .n - 1) * stride (suc (row-start .args .below))
+    row-fits = row-room (row-start .args .n) (stride (suc (row-start .args .below))) (c .before .before .before .before .before .if1 .left)
+
+  -- Where the others were read or refused.
+  module _ (c : terms-lts.After-terms (terms-calls t) (terms-at t) terms.Post) where
+    abbrev pub others-start : terms-lts.Start (terms-calls t) (terms-at t) terms.Post
+    others-start = row-start (c .before .before .before .before)
+
+    abbrev pub others-cells : List ℕ
+    others-cells = c .terms .last .1 .1 .1 .1 .0
+
+    pub row-read
+        : later (first-bytes (c .before .before .before .before)) (tookCells others-cells (c .terms .result))
+        ≡ termsCells (others-start .args .below) (others-start .args .n) (others-start .args .p) (now (others-start .args .cells))
+        (now (others-start .args .s))
+    row-read =
+        let a = others-start .args in
+        let s = now (a .s) in
+        let step = step-of (a .below) (search needs) (c .before .before .step .ensures) in
+        others-read (a .below) s (a .p) (now (a .cells)) (a .n) (c .before .before .before .before .before .before .before .before .before .if1 .left) (c .before .before .before .before .before .before .before .term .result)
+        (c .before .before .before .before .before .before .before .term .last .1 .1 .1 .0) (c .before .before .before .before .before .before .before .term .ensures) (c .before .before .before .before .before .first .given .1)
+        (c .terms .ensures ∙ (simp (rest s (first-bytes (c .before .before .before .before)), step)))
+
+    pub others-fit
+        : {k : ℕ} → c .terms .result ≡ Bytes k → first-bytes (c .before .before .before .before) + k ≤ length (now (others-start .args .s))
+    others-fit told =
+        let s = now (others-start .args .s) in
+        omega (
+          arith,
+          terms-fit _ _ _ _ _ others-cells (c .terms .result) (c .terms .ensures) told,
+          rest-length s (first-bytes (c .before .before .before .before)),
+          first-fits (c .before .before .before .before),
+        )

@@ -1,0 +1,69 @@
+-- The record of a term that bytes begin with: what is known of the bytes in each case.
+use Prim.Native.Nat.{ℕ, _≤_}
+use mathlib.Core.Path.{_≡_, refl, subst}
+use mathlib.Core.Bool.{Bool, true, false}
+use mathlib.Core.List.{List}
+use native.Mathlib.Omega.{arith}
+use lib.ListN.{length, getD}
+use lib.Dec.{leb, eqb}
+use borrow.Author.Tests.{leb-true, eqb-true, eqb-false}
+use Rattle.records.specs.Fields.{wideAt}
+use Rattle.piece.specs.declared.TermRecord.{TermRecord}
+use Rattle.piece.specs.declared.TermRecord.the-variants.{Unknown, Symbol, Number, Compound}
+use Rattle.piece.specs.declared.TermHead.{TermHead}
+use Rattle.piece.specs.declared.TermHead.the-variants.{Whole, Refused}
+use Rattle.piece.specs.TermRecord.{termHead, wholeIf, isKind}
+
+kind-cases
+    : (P : TermHead → Type 0) (b : Bool) (this others : TermHead) → (b ≡ true → P this) → (b ≡ false → P others)
+    → P (isKind b this others)
+kind-cases P true this others h k = h refl
+kind-cases P false this others h k = k refl
+
+whole-cases : (P : TermHead → Type 0) (b : Bool) (r : TermRecord) → P (Refused 14) → (b ≡ true → P (Whole r)) → P (wholeIf b r)
+whole-cases P true r h k = k refl
+whole-cases P false r h k = h
+
+module _ (P : TermHead → Type 0) (s : List ℕ) (none : P (Refused 14)) where
+  -- A record of that kind, whole where its k bytes are there.
+  of-kind
+      : (kind k : ℕ) (r : TermRecord) (others : TermHead) → (k ≤ length s → getD s 0 0 ≡ kind → P (Whole r)) → P others
+      → P (isKind (eqb (getD s 0 0) kind) (wholeIf (leb k (length s)) r) others)
+  of-kind kind k r others whole rest =
+      kind-cases P (eqb (getD s 0 0) kind) (wholeIf (leb k (length s)) r) others
+      (λ is. whole-cases P (leb k (length s)) r none (λ there.
+      whole (leb-true k (length s) there) (eqb-true (getD s 0 0) kind is)))
+      (λ _. rest)
+
+  -- What holds of a refusal, and of each record where its kind and its bytes are there, holds of the head.
+  pub head-cases
+      : (1 ≤ length s → getD s 0 0 ≡ 0x30 → P (Whole Unknown))
+      → (3 ≤ length s → getD s 0 0 ≡ 0x31 → P (Whole (Symbol (wideAt s 1))))
+      → (3 ≤ length s → getD s 0 0 ≡ 0x32 → P (Whole (Number (wideAt s 1))))
+      → (4 ≤ length s → getD s 0 0 ≡ 0x33 → P (Whole (Compound (wideAt s 1) (getD s 3 0))))
+      → P (termHead s)
+  head-cases an-unknown a-symbol a-number a-compound =
+      kind-cases P (eqb (length s) 0) _ _ (λ _. none) (λ some.
+      kind-cases P (eqb (getD s 0 0) 0x30) _ _
+      (λ is. an-unknown (omega (arith, eqb-false (length s) 0 some)) (eqb-true (getD s 0 0) 0x30 is)) (λ _.
+      of-kind 0x31 3 (Symbol (wideAt s 1)) _ a-symbol
+      (of-kind 0x32 3 (Number (wideAt s 1)) _ a-number
+      (of-kind 0x33 4 (Compound (wideAt s 1) (getD s 3 0)) _ a-compound none))))
+
+-- The bytes of a record.
+abbrev pub recordBytes : TermRecord → ℕ
+recordBytes Unknown = 1
+recordBytes (Symbol a) = 3
+recordBytes (Number a) = 3
+recordBytes (Compound a n) = 4
+
+abbrev headBytes : TermHead → ℕ
+headBytes (Whole r) = recordBytes r
+headBytes (Refused q) = 0
+
+-- The bytes of a whole record are there.
+pub record-within : (s : List ℕ) {r : TermRecord} → termHead s ≡ Whole r → recordBytes r ≤ length s
+record-within s e =
+    subst (λ h. headBytes h ≤ length s) e
+    (head-cases (λ h. headBytes h ≤ length s) s (omega arith) (λ there _. there) (λ there _. there) (λ there _. there)
+    (λ there _. there))

@@ -1,0 +1,10 @@
+pub mod Rooms
+pub mod Readings
+pub mod Heads
+pub mod TermsRead
+pub mod TermCells
+pub mod PiecesRead
+pub mod HeadSpelled
+pub mod TermSpelled
+pub mod WrittenBytes
+pub mod Spelled

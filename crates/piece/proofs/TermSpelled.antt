@@ -1,0 +1,206 @@
+-- Bytes are read as a term exactly where they spell an accepted one, for any number of levels below it; and so for terms in a
+-- row, any number of them.
+use Prim.Native.Nat.{ℕ, zero, suc, _+_, _*_, _≤_, _<_}
+use mathlib.Core.Path.{_≡_, refl, ap, ap₂, sym, subst, _∙_}
+use mathlib.Core.Bool.{Bool, true, false, _&&_, and-eq-true-iff}
+use mathlib.Core.List.{List, [], _∷_, _++_, append-assoc}
+use native.Mathlib.Omega.{arith}
+use lib.ListN.{length, getD, drop, length-append}
+use lib.Seq.{drop-drop, drop-append-seam, getD-drop}
+use lib.Dec.{leb}
+use borrow.Author.Tests.{leb-true}
+use Rattle.records.specs.Fields.{wideThen}
+use Rattle.records.specs.Reading.{Reading, took, refused, ask, after, andThen, readRow}
+use Rattle.terms.specs.Term.{Term, Terms, count, unknown, symbol, number, compound, nil, cons, Wide}
+use Rattle.terms.specs.Filling.{WellFormed, WellFormeds}
+use Rattle.terms.specs.Accepted.{Shallow, Shallows}
+use Rattle.piece.specs.declared.TermRecord.the-variants.{Unknown, Symbol, Number, Compound}
+use Rattle.piece.specs.declared.TermHead.{TermHead}
+use Rattle.piece.specs.declared.TermHead.the-variants.{Whole, Refused}
+use Rattle.piece.specs.TermRecord.{termHead}
+use Rattle.piece.specs.ReadPiece.{onHead, readTerm, readTerms}
+use Rattle.piece.specs.WritePiece.{termBytes, termsBytes}
+use Rattle.piece.proofs.Rooms.{no-arguments}
+use Rattle.piece.proofs.Readings.{inside}
+use Rattle.piece.proofs.TermsRead.{readCompound, by-head}
+use Rattle.piece.proofs.HeadSpelled.{AreBytes, recordThen, HeadSpells, head-spells, spelled-head}
+
+-- The bytes s begin with the k bytes of the term t, which is accepted where so many levels are below it;
+pub record TermSpelled (s : List ℕ) (below k : ℕ) (t : Term) : Type 0 where
+  pub wellFormed : WellFormed t
+  pub shallow : Shallow t (suc below)
+  pub size : k ≡ length (termBytes t)
+  pub bytes : s ≡ termBytes t ++ drop k s
+
+-- and with those of n terms.
+pub record TermsSpelled (s : List ℕ) (below n k : ℕ) (ts : Terms) : Type 0 where
+  pub counted : count ts ≡ n
+  pub wellFormed : WellFormeds ts
+  pub shallow : Shallows ts (suc below)
+  pub size : k ≡ length (termsBytes ts)
+  pub bytes : s ≡ termsBytes ts ++ drop k s
+
+-- What was read, if anything, is spelled.
+abbrev pub TermRead : List ℕ → ℕ → Reading Term → Type 0
+TermRead s below (took k t) = TermSpelled s below k t
+TermRead s below (refused q) = Unit
+
+abbrev pub TermsRead : List ℕ → ℕ → ℕ → Reading Terms → Type 0
+TermsRead s below n (took k ts) = TermsSpelled s below n k ts
+TermsRead s below n (refused q) = Unit
+
+-- What follows bytes are bytes.
+pub drop-bytes : (s : List ℕ) (a : ℕ) → AreBytes s → AreBytes (drop a s)
+drop-bytes s a bytes i = rw (getD-drop a s i 0) (bytes (a + i))
+
+-- One term and then the others are spelled one after another.
+cons-spelled
+    : (s : List ℕ) (below n a b : ℕ) (t : Term) (ts : Terms) → TermSpelled s below a t → TermsSpelled (drop a s) below n b ts
+    → TermsSpelled s below (suc n) (a + b) (cons t ts)
+cons-spelled s below n a b t ts first others = record {
+  counted = ap suc (others .counted);
+  wellFormed = (first .wellFormed, others .wellFormed);
+  shallow = (first .shallow, others .shallow);
+  size =
+      let size-first = first .size in
+      let size-others = others .size in
+      omega (arith, length-append (termBytes t) (termsBytes ts));
+  bytes =
+      first .bytes ∙ ap (λ l. termBytes t ++ l) (others .bytes ∙ ap (λ l. termsBytes ts ++ l) (drop-drop b a s))
+      ∙ sym (append-assoc (termBytes t) (termsBytes ts) (drop (a + b) s));
+}
+
+-- Terms in a row are spelled where each one is.
+row-spelled
+    : (below : ℕ) → ((s : List ℕ) → AreBytes s → TermRead s below (readTerm below s))
+    → (n : ℕ) (s : List ℕ) → AreBytes s → TermsRead s below n (readTerms below n s)
+unfolding readRow
+row-spelled below one zero s bytes = record { counted = refl; wellFormed = tt; shallow = tt; size = refl; bytes = refl }
+row-spelled below one (suc n) s bytes =
+    first (readTerm below s) (one s bytes) (λ a. row-spelled below one n (drop a s) (drop-bytes s a bytes))
+  where
+    others
+        : (a : ℕ) (t : Term) → TermSpelled s below a t → (r : Reading Terms) → TermsRead (drop a s) below n r
+        → TermsRead s below (suc n) (after a (cons t) r)
+    others a t spelled (took b ts) row = cons-spelled s below n a b t ts spelled row
+    others a t spelled (refused q) row = tt
+
+    first
+        : (r : Reading Term) → TermRead s below r
+        → ((a : ℕ) → TermsRead (drop a s) below n (readTerms below n (drop a s)))
+        → TermsRead s below (suc n) (andThen r (λ a t. after a (cons t) (readTerms below n (drop a s))))
+    first (took a t) spelled rows = others a t spelled (readTerms below n (drop a s)) (rows a)
+    first (refused q) spelled rows = tt
+
+-- A compound is spelled where its record and its arguments are.
+compound-spelled
+    : (s : List ℕ) (below a n k : ℕ) (ts : Terms) → s ≡ recordThen (Compound a n) (drop 4 s) → Wide a → 1 ≤ n → n ≤ 4
+    → TermsSpelled (drop 4 s) below n k ts → TermSpelled s (suc below) (4 + k) (compound a ts)
+compound-spelled s below a n k ts head wide least most arguments =
+    let counted = arguments .counted in
+    record {
+      wellFormed = (wide, omega arith, omega arith, arguments .wellFormed);
+      shallow = (omega arith, arguments .shallow);
+      size = let size = arguments .size in omega arith;
+      bytes =
+          head
+          ∙ ap₂ (λ m l. 0x33 ∷ wideThen a (m ∷ l)) (sym counted)
+          (arguments .bytes ∙ ap (λ l. termsBytes ts ++ l) (drop-drop k 4 s));
+    }
+
+compound-read
+    : (s : List ℕ) (below a n : ℕ) → s ≡ recordThen (Compound a n) (drop 4 s) → Wide a
+    → TermsRead (drop 4 s) below n (readTerms below n (drop 4 s)) → TermRead s (suc below) (readCompound (suc below) s a n)
+unfolding readCompound
+compound-read s below a n head wide row = go (leb 1 n && leb n 4) (and-eq-true-iff (leb 1 n) (leb n 4) .0) (readTerms below n (drop 4 s)) row
+  where
+    go
+        : (b : Bool) → (b ≡ true → (leb 1 n ≡ true) × (leb n 4 ≡ true)) → (r : Reading Terms) → TermsRead (drop 4 s) below n r
+        → TermRead s (suc below) (ask 16 b (after 4 (compound a) r))
+    go true asked (took k ts) spelled =
+        let answers = asked refl in
+        compound-spelled s below a n k ts head wide (leb-true 1 n (answers .0)) (leb-true n 4 (answers .1)) spelled
+    go true asked (refused q) spelled = tt
+    go false asked r spelled = tt
+
+-- A term is spelled by its record, and a compound as its arguments are.
+by-head-spelled
+    : (s : List ℕ) (below : ℕ)
+    → ((a n : ℕ) → s ≡ recordThen (Compound a n) (drop 4 s) → Wide a → TermRead s below (readCompound below s a n))
+    → (h : TermHead) → HeadSpells s h → TermRead s below (onHead (readCompound below s) h)
+by-head-spelled s below compounds (Whole Unknown) spelled =
+    record { wellFormed = tt; shallow = omega arith; size = refl; bytes = spelled .0 }
+by-head-spelled s below compounds (Whole (Symbol a)) spelled =
+    record { wellFormed = spelled .1; shallow = omega arith; size = refl; bytes = spelled .0 }
+by-head-spelled s below compounds (Whole (Number a)) spelled =
+    record { wellFormed = spelled .1; shallow = omega arith; size = refl; bytes = spelled .0 }
+by-head-spelled s below compounds (Whole (Compound a n)) spelled = compounds a n (spelled .0) (spelled .1)
+by-head-spelled s below compounds (Refused q) spelled = tt
+
+-- What is read as a term is accepted and spelled,
+pub term-spelled : (below : ℕ) (s : List ℕ) → AreBytes s → TermRead s below (readTerm below s)
+unfolding readCompound
+term-spelled zero s bytes =
+    rw (by-head zero s) (by-head-spelled s zero (λ a n head wide. tt) (termHead s) (head-spells s bytes))
+term-spelled (suc below) s bytes =
+    rw (by-head (suc below) s)
+    (by-head-spelled s (suc below) (λ a n head wide.
+    compound-read s below a n head wide (row-spelled below (term-spelled below) n (drop 4 s) (drop-bytes s 4 bytes)))
+    (termHead s) (head-spells s bytes))
+
+-- and so is what is read as a row of terms.
+pub terms-spelled : (below n : ℕ) (s : List ℕ) → AreBytes s → TermsRead s below n (readTerms below n s)
+terms-spelled below n s bytes = row-spelled below (term-spelled below) n s bytes
+
+-- Bytes that spell a record are read by it.
+read-head
+    : (below : ℕ) (s : List ℕ) {h : TermHead} → termHead s ≡ h → readTerm below s ≡ onHead (readCompound below s) h
+read-head below s head = by-head below s ∙ ap (onHead (readCompound below s)) head
+
+compound-reads
+    : (below : ℕ) (s : List ℕ) (a n : ℕ) → 1 ≤ n → n ≤ 4
+    → readCompound (suc below) s a n ≡ after 4 (compound a) (readTerms below n (drop 4 s))
+unfolding readCompound
+compound-reads below s a n least most = rw (inside n 4 least most)
+
+none-read : (below : ℕ) (s : List ℕ) → readTerms below 0 s ≡ took 0 nil
+unfolding readRow
+none-read below s = refl
+
+one-reads
+    : (below n : ℕ) (s : List ℕ) {a : ℕ} {t : Term} → readTerm below s ≡ took a t
+    → readTerms below (suc n) s ≡ after a (cons t) (readTerms below n (drop a s))
+unfolding readRow
+one-reads below n s read = rw read
+
+mutual
+  -- The bytes of an accepted term are read as the term, whatever follows them,
+  pub term-reads
+      : (t : Term) (below : ℕ) (rest : List ℕ) → WellFormed t → Shallow t (suc below)
+      → readTerm below (termBytes t ++ rest) ≡ took (length (termBytes t)) t
+  term-reads unknown below rest ok shallow = read-head below (termBytes unknown ++ rest) (spelled-head Unknown rest tt)
+  term-reads (symbol a) below rest ok shallow =
+      read-head below (termBytes (symbol a) ++ rest) (spelled-head (Symbol a) rest ok)
+  term-reads (number a) below rest ok shallow =
+      read-head below (termBytes (number a) ++ rest) (spelled-head (Number a) rest ok)
+  term-reads (compound a ts) zero rest ok shallow = absurd (no-arguments ts (ok .1) (shallow .1))
+  term-reads (compound a ts) (suc below) rest ok shallow =
+      let s = termBytes (compound a ts) ++ rest in
+      let size : 4 + length (termsBytes ts) ≡ length (termBytes (compound a ts)) = omega arith in
+      read-head (suc below) s (spelled-head (Compound a (count ts)) (termsBytes ts ++ rest) (ok .0))
+      ∙ compound-reads below s a (count ts) (ok .1) (ok .2)
+      ∙ ap (after 4 (compound a)) (terms-read ts below rest (ok .3) (shallow .1))
+      ∙ ap (λ k. took k (compound a ts)) size
+
+  -- and so are the bytes of a row of accepted terms.
+  pub terms-read
+      : (ts : Terms) (below : ℕ) (rest : List ℕ) → WellFormeds ts → Shallows ts (suc below)
+      → readTerms below (count ts) (termsBytes ts ++ rest) ≡ took (length (termsBytes ts)) ts
+  terms-read nil below rest ok shallow = none-read below rest
+  terms-read (cons t ts) below rest ok shallow =
+      let s = termBytes t ++ (termsBytes ts ++ rest) in
+      ap (readTerms below (suc (count ts))) (append-assoc (termBytes t) (termsBytes ts) rest)
+      ∙ one-reads below (count ts) s (term-reads t below (termsBytes ts ++ rest) (ok .0) (shallow .0))
+      ∙ ap (λ l. after (length (termBytes t)) (cons t) (readTerms below (count ts) l)) (drop-append-seam (termBytes t) (termsBytes ts ++ rest))
+      ∙ ap (after (length (termBytes t)) (cons t)) (terms-read ts below rest (ok .1) (shallow .1))
+      ∙ ap (λ k. took k (cons t ts)) (sym (length-append (termBytes t) (termsBytes ts)))

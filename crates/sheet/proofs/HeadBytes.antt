@@ -1,0 +1,136 @@
+-- The bytes of a record: those that a list begins with, and those that spell the record.
+use Prim.Native.Nat.{ℕ, zero, suc, _+_, _≤_, _<_}
+use mathlib.Core.Path.{_≡_, sym, ap, subst, _∙_}
+use mathlib.Core.List.{List, [], _∷_, _++_, map}
+use native.Mathlib.Omega.{arith}
+use lib.ListN.{length, getD, drop}
+use lib.Seq.{drop-cons}
+use borrow.Author.Tests.{ne-eqb, le-leb}
+use Rattle.records.specs.Fields.{IsByte, wideAt, wideThen}
+use Rattle.records.proofs.WideFields.{wide-bound, high-of, low-of, wide-of}
+use Rattle.terms.specs.Lists.{All, countFrom}
+use Rattle.terms.specs.Term.{Wide}
+use Rattle.sheet.specs.declared.PatternRecord.{PatternRecord}
+use Rattle.sheet.specs.declared.PatternRecord.the-variants.{Anything, Symbol, Range, Compound, Variable, Ranged}
+use Rattle.sheet.specs.declared.PatternHead.{PatternHead}
+use Rattle.sheet.specs.declared.PatternHead.the-variants.{Whole, Refused}
+use Rattle.sheet.specs.PatternRecord.{recordBytes, patternHead}
+use Rattle.sheet.proofs.Heads.{head-cases}
+
+-- The bytes of a list behind its first a are bytes too.
+pub bytes-rest : (a : ℕ) (s : List ℕ) → All IsByte s → All IsByte (drop a s)
+bytes-rest zero s h = h
+bytes-rest (suc a) [] h = h
+bytes-rest (suc a) (x ∷ s) h = bytes-rest a s (h .1)
+
+-- Each is a byte.
+pub byte-at : (s : List ℕ) → All IsByte s → (i : ℕ) → IsByte (getD s i 0)
+byte-at [] h i = omega arith
+byte-at (x ∷ s) h zero = h .0
+byte-at (x ∷ s) h (suc i) = byte-at s (h .1) i
+
+-- A list of which each element is a byte is one of bytes.
+pub bytes-all : (s : List ℕ) → ((i : ℕ) → i < length s → IsByte (getD s i 0)) → All IsByte s
+bytes-all [] each = tt
+bytes-all (x ∷ s) each = (each 0 (omega arith), bytes-all s (λ i inside. each (suc i) (omega arith)))
+
+-- The bytes that spell a record.
+abbrev pub recordSpelling : PatternRecord → List ℕ
+recordSpelling Anything = 0x20 ∷ []
+recordSpelling (Symbol a) = 0x21 ∷ wideThen a []
+recordSpelling (Range l h) = 0x22 ∷ wideThen l (wideThen h [])
+recordSpelling (Compound a n) = 0x23 ∷ wideThen a (n ∷ [])
+recordSpelling (Variable v) = 0x24 ∷ v ∷ []
+recordSpelling (Ranged v l h) = 0x25 ∷ v ∷ wideThen l (wideThen h [])
+
+-- The wide fields of a record are wide.
+abbrev pub WideFields : PatternRecord → Type 0
+WideFields Anything = Unit
+WideFields (Symbol a) = Wide a
+WideFields (Range l h) = Wide l × Wide h
+WideFields (Compound a n) = Wide a
+WideFields (Variable v) = Unit
+WideFields (Ranged v l h) = Wide l × Wide h
+
+-- The k elements of a list from element i on.
+abbrev pub part : List ℕ → ℕ → ℕ → List ℕ
+part s i k = map (λ (j : ℕ). getD s j 0) (countFrom i k)
+
+bytes-from : (k i : ℕ) (s : List ℕ) → i + k ≤ length s → drop i s ≡ part s i k ++ drop (i + k) s
+bytes-from zero i s h = let e : i ≡ i + 0 = omega arith in ap (λ (j : ℕ). drop j s) e
+bytes-from (suc k) i s h =
+    let e : suc i + k ≡ i + suc k = omega arith in
+    drop-cons s i 0 (omega arith)
+    ∙ ap (getD s i 0 ∷_) (bytes-from k (suc i) s (omega arith) ∙ ap (λ (j : ℕ). part s (suc i) k ++ drop j s) e)
+
+-- A list of k elements or more begins with its first k.
+pub first-bytes : (k : ℕ) (s : List ℕ) → k ≤ length s → s ≡ part s 0 k ++ drop k s
+first-bytes k s h =
+    let e : 0 + k ≡ k = omega arith in bytes-from k 0 s (omega arith) ∙ ap (λ (j : ℕ). part s 0 k ++ drop j s) e
+
+module _ (s : List ℕ) (bytes : All IsByte s) where
+  abbrev wide : (i : ℕ) → Wide (wideAt s i)
+  wide i = wide-bound (getD s i 0) (getD s (i + 1) 0) (byte-at s bytes i) (byte-at s bytes (i + 1))
+
+  -- Two bytes are those of the wide field that they make.
+  two-bytes : (i : ℕ) (rest : List ℕ) → getD s i 0 ∷ getD s (i + 1) 0 ∷ rest ≡ wideThen (wideAt s i) rest
+  two-bytes i rest =
+      let high = getD s i 0 in
+      let low = getD s (i + 1) 0 in
+      λ j. sym (high-of high low (byte-at s bytes i) (byte-at s bytes (i + 1))) j
+      ∷ sym (low-of high low (byte-at s bytes i) (byte-at s bytes (i + 1))) j ∷ rest
+
+  abbrev Spells : PatternHead → Type 0
+  Spells (Whole r) = WideFields r × (s ≡ recordSpelling r ++ drop (recordBytes r) s)
+  Spells (Refused q) = Unit
+
+  head-spells : Spells (patternHead s)
+  head-spells =
+      head-cases Spells s tt
+      (λ there is. (tt, first-bytes 1 s there ∙ (λ j. is j ∷ drop 1 s)))
+      (λ there is. (wide 1, first-bytes 3 s there ∙ (λ j. is j ∷ two-bytes 1 (drop 3 s) j)))
+      (λ there is. (
+        (wide 1, wide 3),
+        first-bytes 5 s there
+            ∙ (λ j. is j ∷ (two-bytes 1 _ ∙ ap (wideThen (wideAt s 1)) (two-bytes 3 (drop 5 s))) j),
+      ))
+      (λ there is. (wide 1, first-bytes 4 s there ∙ (λ j. is j ∷ two-bytes 1 (getD s 3 0 ∷ drop 4 s) j)))
+      (λ there is. (tt, first-bytes 2 s there ∙ (λ j. is j ∷ getD s 1 0 ∷ drop 2 s)))
+      (λ there is. (
+        (wide 2, wide 4),
+        first-bytes 6 s there
+            ∙ (λ j. is j ∷ getD s 1 0 ∷ (two-bytes 2 _ ∙ ap (wideThen (wideAt s 2)) (two-bytes 4 (drop 6 s))) j),
+      ))
+
+  -- The wide fields of a whole record are wide.
+  pub head-wide : {r : PatternRecord} → patternHead s ≡ Whole r → WideFields r
+  head-wide e = (subst Spells e head-spells) .0
+
+  -- The list begins with the bytes that spell a whole record.
+  pub head-spelled : {r : PatternRecord} → patternHead s ≡ Whole r → s ≡ recordSpelling r ++ drop (recordBytes r) s
+  head-spelled e = (subst Spells e head-spells) .1
+
+-- Bytes that begin with those that spell a record have it for their head.
+pub spelled-head : (r : PatternRecord) (rest : List ℕ) → WideFields r → patternHead (recordSpelling r ++ rest) ≡ Whole r
+spelled-head Anything rest w =
+    let s = recordSpelling Anything ++ rest in
+    simp (ne-eqb (length s) 0 (λ e. omega arith))
+spelled-head (Symbol a) rest w =
+    let s = recordSpelling (Symbol a) ++ rest in
+    simp (ne-eqb (length s) 0 (λ e. omega arith), le-leb 3 (length s) (omega arith))
+    (ap (λ (x : ℕ). Whole (Symbol x)) (wide-of a w))
+spelled-head (Range l h) rest w =
+    let s = recordSpelling (Range l h) ++ rest in
+    simp (ne-eqb (length s) 0 (λ e. omega arith), le-leb 5 (length s) (omega arith))
+    (λ j. Whole (Range (wide-of l (w .0) j) (wide-of h (w .1) j)))
+spelled-head (Compound a n) rest w =
+    let s = recordSpelling (Compound a n) ++ rest in
+    simp (ne-eqb (length s) 0 (λ e. omega arith), le-leb 4 (length s) (omega arith))
+    (ap (λ (x : ℕ). Whole (Compound x n)) (wide-of a w))
+spelled-head (Variable v) rest w =
+    let s = recordSpelling (Variable v) ++ rest in
+    simp (ne-eqb (length s) 0 (λ e. omega arith), le-leb 2 (length s) (omega arith))
+spelled-head (Ranged v l h) rest w =
+    let s = recordSpelling (Ranged v l h) ++ rest in
+    simp (ne-eqb (length s) 0 (λ e. omega arith), le-leb 6 (length s) (omega arith))
+    (λ j. Whole (Ranged v (wide-of l (w .0) j) (wide-of h (w .1) j)))

@@ -1,0 +1,57 @@
+-- A note is read back from its number as it was.
+use Prim.Native.Nat.{ℕ, _%_, _<_}
+use mathlib.Core.Path.{_≡_, ap, _∙_}
+use mathlib.Core.Bool.{Bool, true, false}
+use native.Mathlib.Omega.{arith}
+use lib.Dec.{eqb}
+use Rattle.terms.specs.Term.{Wide}
+use Rattle.sheet.specs.declared.PatternRecord.{PatternRecord}
+use Rattle.sheet.specs.declared.PatternRecord.the-variants.{Anything, Symbol, Range, Compound, Variable, Ranged}
+use Rattle.sheet.specs.PatternRecord.{isKind}
+use Rattle.sheet.specs.Noted.{note}
+use Rattle.sheet.specs.NoteCode.{packed, noteCode, noteOf, codePlace, codeKind, codeVariable, codeFirst, codeSecond, codeRecord, Fitting}
+
+-- The record of kind k with these fields.
+abbrev recordWith : ℕ → ℕ → ℕ → ℕ → ℕ → PatternRecord
+recordWith k v x y arity =
+    isKind (eqb k 1) (Symbol x)
+    (isKind (eqb k 2) (Range x y)
+    (isKind (eqb k 3) (Compound x arity) (isKind (eqb k 4) (Variable v) (isKind (eqb k 5) (Ranged v x y) Anything))))
+
+-- Each part of a number made of parts that fit is that part.
+note-packed
+    : (n k v x y : ℕ) → k < 8 → v < 16 → Wide x → Wide y
+    → noteOf (packed n k v x y) ≡ note n (recordWith k v x y (packed n k v x y % 256))
+unfolding codeRecord
+note-packed n k v x y hk hv hx hy =
+    let c = packed n k v x y in
+    let place : codePlace c ≡ n = omega arith in
+    let kind : codeKind c ≡ k = omega arith in
+    let variable : codeVariable c ≡ v = omega arith in
+    let first : codeFirst c ≡ x = omega arith in
+    let second : codeSecond c ≡ y = omega arith in
+    λ j. note (place j) (recordWith (kind j) (variable j) (first j) (second j) (c % 256))
+
+-- The note that a note's number stands for is that note.
+pub note-kept : (n : ℕ) (r : PatternRecord) → Fitting r → noteOf (noteCode (note n r)) ≡ note n r
+note-kept n Anything h = note-packed n 0 0 0 0 (omega arith) (omega arith) (omega arith) (omega arith)
+note-kept n (Symbol a) h = note-packed n 1 0 a 0 (omega arith) (omega arith) h (omega arith)
+note-kept n (Range l h) f = note-packed n 2 0 l h (omega arith) (omega arith) (f .0) (f .1)
+note-kept n (Compound a k) h =
+    let arity : packed n 3 0 a k % 256 ≡ k = omega arith in
+    note-packed n 3 0 a k (omega arith) (omega arith) (h .0) (omega arith) ∙ ap (λ (i : ℕ). note n (Compound a i)) arity
+note-kept n (Variable v) h = note-packed n 4 v 0 0 (omega arith) h (omega arith) (omega arith)
+note-kept n (Ranged v l h) f = note-packed n 5 v l h (omega arith) (f .0) (f .1) (f .2)
+
+either-fits : (b : Bool) (x y : PatternRecord) → Fitting x → Fitting y → Fitting (isKind b x y)
+either-fits true x y hx hy = hx
+either-fits false x y hx hy = hy
+
+-- The record that a number stands for has fields that fit.
+pub code-fits : (c : ℕ) → Fitting (codeRecord c)
+unfolding codeRecord
+code-fits c =
+    either-fits (eqb (codeKind c) 1) _ _ (omega arith)
+    (either-fits (eqb (codeKind c) 2) _ _ (omega arith)
+    (either-fits (eqb (codeKind c) 3) _ _ (omega arith)
+    (either-fits (eqb (codeKind c) 4) _ _ (omega arith) (either-fits (eqb (codeKind c) 5) _ _ (omega arith) tt))))

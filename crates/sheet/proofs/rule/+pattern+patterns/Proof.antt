@@ -1,0 +1,32 @@
+-- Patterns and rows of patterns, which call each other.
+mod Measures
+mod Pattern
+mod Patterns
+use borrow.Author.Needs.{needs}
+use Rattle.sheet.proofs.rule.pattern.Reads as pattern
+use Rattle.sheet.proofs.rule.+pattern+patterns.Lts-pattern as pattern-lts
+use Rattle.sheet.proofs.rule.+pattern+patterns.Proof.Pattern as of-pattern
+use Rattle.sheet.proofs.rule.patterns.Reads as patterns
+use Rattle.sheet.proofs.rule.+pattern+patterns.Lts-patterns as patterns-lts
+use Rattle.sheet.proofs.rule.+pattern+patterns.Proof.Patterns as of-patterns
+use Rattle.sheet.proofs.rule.+pattern+patterns.Proof.Measures.{μ-pattern, pattern-at, pattern-calls, μ-patterns, patterns-at, patterns-calls}
+use Rattle.sheet.proofs.rule.+pattern+patterns.{statement}
+use Rattle.sheet.proofs.rule.+pattern+patterns.Tie.{close}
+
+pub +pattern+patterns-spec : {M : Type 1} → statement M
++pattern+patterns-spec =
+    close μ-pattern μ-patterns
+    (λ t.
+    pattern-lts.spec (pattern-calls t) (pattern-at t) pattern.Post (λ c κs. search needs) (λ c. search needs)
+    (λ c. search needs) (of-pattern.returns t) (λ c κs. search needs) (of-pattern.returns-2 t) (λ c. search needs)
+    (λ c κs. search needs) (of-pattern.returns-3 t) (of-pattern.returns-4 t) (λ c κs. search needs)
+    (of-pattern.sub-patterns t) (of-pattern.sub-patterns t) (λ c. search needs) (λ c. search needs)
+    (λ c. search needs) (λ c. search needs) (λ c. search needs) (of-pattern.patterns-requires t) (λ c. search needs)
+    (λ c. search needs) (of-pattern.returns-5 t) (of-pattern.add-t20 t) (of-pattern.returns-6 t))
+    (λ t.
+    patterns-lts.spec (patterns-calls t) (patterns-at t) patterns.Post (of-patterns.returns t)
+    (of-patterns.pattern-requires t) (λ c. search needs) (λ c. search needs) (of-patterns.returns-2 t)
+    (λ c. search needs) (λ c κs. search needs) (of-patterns.add-next t) (of-patterns.sub-patterns t)
+    (of-patterns.sub-patterns t) (λ c. search needs) (λ c. search needs) (of-patterns.patterns-requires t)
+    (λ c. search needs) (λ c. search needs) (of-patterns.returns-3 t) (of-patterns.add-t16 t)
+    (of-patterns.returns-4 t))

@@ -1,0 +1,145 @@
+// The patterns of a rule, read in prefix order into an array of notes: questions 4 to 9.
+use crate::PatternHead;
+use crate::PatternRecord;
+use crate::Took;
+use crate::note::note_code;
+use crate::record::pattern_head;
+use crate::variable::meet;
+use crate::variable::ranges;
+ghost use mathlib.Core.Path.{_≡_};
+ghost use mathlib.Core.List.{[], _∷_, _++_};
+ghost use Prim.Native.Nat.{suc, _+_, _*_, _≤_, _<_};
+ghost use lib.ListN.{length};
+ghost use Rattle.places.specs.Numbering.{stride};
+ghost use Rattle.records.specs.Reading.{took, mapReading};
+ghost use Rattle.sheet.specs.PatternRecord.{recordBytes};
+ghost use Rattle.sheet.specs.ReadSheet.{readRule};
+ghost use Rattle.sheet.specs.Noted.{note, ruleNotes};
+ghost use Rattle.sheet.specs.NoteCode.{Fitting};
+ghost use Rattle.sheet.specs.NoteArray.{notesIn, tookNotes, Within};
+ghost use Rattle.sheet.specs.NotesBehind.{leafBehind, patternBehind, rowBehind};
+
+// Notes a record at its place as note n.
+fn put(place: usize, what: PatternRecord, n: usize, notes: &mut [u64; 680])
+    requires { ⌜ (place < 680) × Fitting what × (n < 680) × (length (now notes) ≡ 680) ⌝ }
+    ensures { λ _. ⌜ notesIn (now (notes .exit)) (n + 1) ≡ notesIn (now (notes .entry)) n ++ (note place what ∷ []) ⌝ }
+    ensures { λ _. ⌜ length (now (notes .exit)) ≡ 680 ⌝ }
+{
+    notes[n] = note_code(place, what);
+}
+
+// Notes a record at its place as note n, where it took so many bytes.
+fn noted(bytes: usize, place: usize, what: PatternRecord, n: usize, notes: &mut [u64; 680]) -> Took
+    requires { ⌜ (place < 680) × Fitting what × (n < 680) × (length (now notes) ≡ 680) ⌝ }
+    ensures { λ r. ⌜ tookNotes (now (notes .exit)) r ≡ took bytes (notesIn (now (notes .entry)) n ++ (note place what ∷ [])) ⌝ }
+    ensures { λ r. ⌜ Within bytes (n + 1) (now (notes .exit)) r ⌝ }
+{
+    put(place, what, n, notes);
+    Took::Used(bytes, n + 1)
+}
+
+// A record with no level below it, so no compound: question 5, then 7 and 8.
+fn leaf(what: PatternRecord, place: usize, n: usize, notes: &mut [u64; 680]) -> Took
+    requires { ⌜ (n ≤ place) × (place < 680) × (length (now notes) ≡ 680) ⌝ }
+    ensures { λ r. ⌜ tookNotes (now (notes .exit)) r ≡ leafBehind place (notesIn (now (notes .entry)) n) what ⌝ }
+    ensures { λ r. ⌜ Within (recordBytes what) (n + 1) (now (notes .exit)) r ⌝ }
+{
+    match what {
+        PatternRecord::Anything => Took::Used(1, n),
+        PatternRecord::Symbol(_id) => noted(3, place, what, n, notes),
+        PatternRecord::Range(low, high) => {
+            if high < low {
+                return Took::Refused(7);
+            }
+            noted(5, place, what, n, notes)
+        }
+        PatternRecord::Compound(_, _) => Took::Refused(5),
+        PatternRecord::Variable(v) => {
+            if 15 < v {
+                return Took::Refused(8);
+            }
+            noted(2, place, what, n, notes)
+        }
+        PatternRecord::Ranged(v, low, high) => {
+            if high < low {
+                return Took::Refused(7);
+            }
+            if 15 < v {
+                return Took::Refused(8);
+            }
+            noted(6, place, what, n, notes)
+        }
+    }
+}
+
+// The pattern that the input begins with, at a place with so many levels below it. Its notes begin at note n.
+fn pattern(s: &[u8], below: usize, place: usize, n: usize, notes: &mut [u64; 680]) -> Took
+    requires { ⌜ (below < 4) × (place + stride (suc below) ≤ 680) × (n ≤ place) × (length (now notes) ≡ 680) ⌝ }
+    ensures { λ r. ⌜ tookNotes (now (notes .exit)) r ≡ patternBehind below place (notesIn (now (notes .entry)) n) (now (s .entry)) ⌝ }
+    ensures { λ r. ⌜ Within (length (now (s .entry))) (place + stride (suc below)) (now (notes .exit)) r ⌝ }
+{
+    let head = pattern_head(s);
+    let PatternHead::Whole(what) = head else {
+        return Took::Refused(4);
+    };
+    if below == 0 {
+        return leaf(what, place, n, notes);
+    }
+    let PatternRecord::Compound(_, arity) = what else {
+        return leaf(what, place, n, notes);
+    };
+    if arity < 1 || 4 < arity {
+        return Took::Refused(6);
+    }
+    put(place, what, n, notes);
+    let arguments = patterns(&s[4..], below - 1, arity as usize, place + 1, n + 1, notes);
+    let Took::Used(bytes, made) = arguments else {
+        return arguments;
+    };
+    Took::Used(4 + bytes, made)
+}
+
+// The count patterns that the input begins with, the first at a place, each with so many levels below it.
+fn patterns(
+    s: &[u8],
+    below: usize,
+    count: usize,
+    place: usize,
+    n: usize,
+    notes: &mut [u64; 680],
+) -> Took
+    requires { ⌜ (below < 4) × (place + count * stride (suc below) ≤ 680) × (n ≤ place) × (length (now notes) ≡ 680) ⌝ }
+    ensures { λ r. ⌜ tookNotes (now (notes .exit)) r ≡ rowBehind below count place (notesIn (now (notes .entry)) n) (now (s .entry)) ⌝ }
+    ensures { λ r. ⌜ Within (length (now (s .entry))) (place + count * stride (suc below)) (now (notes .exit)) r ⌝ }
+{
+    if count == 0 {
+        return Took::Used(0, n);
+    }
+    let first = pattern(s, below, place, n, notes);
+    let Took::Used(bytes, made) = first else {
+        return first;
+    };
+    let next = place + places::step(3 - below);
+    let rest = patterns(&s[bytes..], below, count - 1, next, made, notes);
+    let Took::Used(more, all) = rest else {
+        return rest;
+    };
+    Took::Used(bytes + more, all)
+}
+
+// The rule that the input begins with, of so many arguments: questions 4 to 9. Its notes are the first of the array. A rule
+// is not cut off before its last argument, and a rule whose ranges have no number in common is refused by 9.
+pub fn read_rule(s: &[u8], arity: usize, notes: &mut [u64; 680]) -> Took
+    requires { ⌜ (arity ≤ 8) × (length (now notes) ≡ 680) ⌝ }
+    ensures { λ r. ⌜ tookNotes (now (notes .exit)) r ≡ mapReading ruleNotes (readRule arity (now (s .entry))) ⌝ }
+    ensures { λ r. ⌜ Within (length (now (s .entry))) 680 (now (notes .exit)) r ⌝ }
+{
+    let read = patterns(s, 3, arity, 0, 0, notes);
+    let Took::Used(bytes, n) = read else {
+        return read;
+    };
+    if !meet(ranges(notes, n)) {
+        return Took::Refused(9);
+    }
+    Took::Used(bytes, n)
+}

@@ -1,0 +1,116 @@
+-- The rules are read and their tests gathered; then question 10, and question 11.
+use native.Mathlib.Omega.{arith}
+use Rattle.tests.proofs.Scanning.{bytes-known}
+use Rattle.tests.proofs.Checking.{rules-gathered, check-refused, places-few, tests-many, tests-number, check-left, check-many, check-accepted}
+use borrow.Author.Needs.{needs}
+use Rattle.tests.proofs.sheets.check_rules.Statement.{statement}
+use Rattle.tests.proofs.sheets.check_rules.Tie as tie
+
+scan-rules-requires : tie.Need-scan-rules-requires
+scan-rules-requires c κs = search needs
+
+enum-known-scan : tie.Need-enum-known-scan
+enum-known-scan c = search needs
+
+enum-known-scan-2 : tie.Need-enum-known-scan-2
+enum-known-scan-2 c = search needs
+
+returns : tie.Need-returns
+returns c =
+    let scan-rules = c .before .before .before .before .scan-rules in
+    let start = c .before .before .before .before .before .before .before .before .before in
+    let shared-slice-known = c .before .before .before .before .before .before .before .before .shared-slice-known in
+    let scan2 = c .before .before .scan2 in
+    let words = scan-rules .last .1 .1 .1 .1 .0 in
+    let codes = scan-rules .last .1 .1 .1 .1 .1 .0 in
+    let bytes = bytes-known (start .args .s .now) (λ i. omega (arith, shared-slice-known .given i)) in
+    let read =
+    rules-gathered (start .args .arity) (start .args .rules) (start .args .s .now) words codes (omega arith) bytes
+    (scan2 .given .1) (scan-rules .ensures .0) in
+    check-left read (c .if1 .taken)
+
+returns-2 : tie.Need-returns-2
+returns-2 c =
+    let scan-rules = c .before .before .before .before .before .scan-rules in
+    let start = c .before .before .before .before .before .before .before .before .before .before in
+    let shared-slice-known = c .before .before .before .before .before .before .before .before .before .shared-slice-known in
+    let scan2 = c .before .before .before .scan2 in
+    let words = scan-rules .last .1 .1 .1 .1 .0 in
+    let codes = scan-rules .last .1 .1 .1 .1 .1 .0 in
+    let bytes = bytes-known (start .args .s .now) (λ i. omega (arith, shared-slice-known .given i)) in
+    let read =
+    rules-gathered (start .args .arity) (start .args .rules) (start .args .s .now) words codes (omega arith) bytes
+    (scan2 .given .1) (scan-rules .ensures .0) in
+    check-many read (omega arith) (tests-many read (omega arith))
+
+count-places-requires : tie.Need-count-places-requires
+count-places-requires c κs =
+    let scan-rules = c .before .before .before .before .before .before .scan-rules in
+    scan-rules .ensures .1 .allWords
+
+add-tests : tie.Need-add-tests
+add-tests c =
+    let scan-rules = c .before .before .before .before .before .before .before .scan-rules in
+    let words = scan-rules .last .1 .1 .1 .1 .0 in
+    let codes = scan-rules .last .1 .1 .1 .1 .1 .0 in
+    omega (arith, c .count-places .ensures, places-few words, scan-rules .ensures .1 .allWords)
+
+returns-3 : tie.Need-returns-3
+returns-3 c =
+    let scan-rules = c .before .before .before .before .before .before .before .before .scan-rules in
+    let start = c .before .before .before .before .before .before .before .before .before .before .before .before .before in
+    let shared-slice-known = c .before .before .before .before .before .before .before .before .before .before .before .before .shared-slice-known in
+    let scan2 = c .before .before .before .before .before .before .scan2 in
+    let count-places = c .before .count-places in
+    let words = scan-rules .last .1 .1 .1 .1 .0 in
+    let codes = scan-rules .last .1 .1 .1 .1 .1 .0 in
+    let bytes = bytes-known (start .args .s .now) (λ i. omega (arith, shared-slice-known .given i)) in
+    let read =
+    rules-gathered (start .args .arity) (start .args .rules) (start .args .s .now) words codes (omega arith) bytes
+    (scan2 .given .1) (scan-rules .ensures .0) in
+    let number = tests-number read (omega arith) (omega (arith, scan-rules .ensures .1 .allCodes)) in
+    check-many read (omega arith) (omega (arith, count-places .ensures))
+
+cast-t21 : tie.Need-cast-t21
+cast-t21 c = search needs
+
+returns-4 : tie.Need-returns-4
+returns-4 c =
+    let scan-rules = c .before .before .before .scan-rules in
+    let start = c .before .before .before .before .before .before .before .before in
+    let scan = c .before .scan in
+    let words = scan-rules .last .1 .1 .1 .1 .0 in
+    let codes = scan-rules .last .1 .1 .1 .1 .1 .0 in
+    check-refused (start .args .arity) (start .args .rules) (start .args .s .now) words codes (scan .given .1) (scan-rules .ensures .0)
+
+returns-5 : tie.Need-returns-5
+returns-5 c =
+    let scan-rules = c .before .before .before .before .before .before .before .before .scan-rules in
+    let start = c .before .before .before .before .before .before .before .before .before .before .before .before .before in
+    let shared-slice-known = c .before .before .before .before .before .before .before .before .before .before .before .before .shared-slice-known in
+    let scan2 = c .before .before .before .before .before .before .scan2 in
+    let count-places = c .before .count-places in
+    let words = scan-rules .last .1 .1 .1 .1 .0 in
+    let codes = scan-rules .last .1 .1 .1 .1 .1 .0 in
+    let bytes = bytes-known (start .args .s .now) (λ i. omega (arith, shared-slice-known .given i)) in
+    let read =
+    rules-gathered (start .args .arity) (start .args .rules) (start .args .s .now) words codes (omega arith) bytes
+    (scan2 .given .1) (scan-rules .ensures .0) in
+    let number = tests-number read (omega arith) (omega (arith, scan-rules .ensures .1 .allCodes)) in
+    check-accepted read (omega arith) _ (omega (arith, count-places .ensures)) (omega arith)
+
+pub check-rules-spec : {M : Type 1} → statement M
+check-rules-spec =
+    tie.close
+    (tie.spec
+    scan-rules-requires
+    enum-known-scan
+    enum-known-scan-2
+    returns
+    returns-2
+    count-places-requires
+    add-tests
+    returns-3
+    cast-t21
+    returns-4
+    returns-5)

@@ -1,0 +1,31 @@
+-- The places, then the pairs of the rule.
+use mathlib.Core.Path.{_∙_}
+use Rattle.sheet.specs.NoteArray.{notesIn}
+use Rattle.tests.specs.TestedPlaces.{placesIn, insertAll}
+use Rattle.tests.specs.NoteTests.{testedPlaces, hasRange}
+use native.Mathlib.Omega.{arith}
+use borrow.Author.Needs.{needs}
+use Rattle.tests.proofs.sheets.gather_rule.Statement.{statement}
+use Rattle.tests.proofs.sheets.gather_rule.Tie as tie
+
+ranges-requires : tie.Need-ranges-requires
+ranges-requires c κs = search needs
+
+mark-rule-requires : tie.Need-mark-rule-requires
+mark-rule-requires c κs = search needs
+
+pair-rule-requires : tie.Need-pair-rule-requires
+pair-rule-requires c κs =
+    let start = c .before .before .before .before .before .before in
+    (omega arith, start .pre .1, start .pre .2, start .pre .4, start .pre .5)
+
+returns : tie.Need-returns
+returns c =
+    let mark-rule = c .before .before .mark-rule in
+    let ranges = c .before .before .before .before .before .before .ranges in
+    let start = c .before .before .before .before .before .before .before in
+    ((λ j. record { places = (mark-rule .ensures .0 ∙ (λ k. insertAll (testedPlaces (hasRange (ranges .ensures k .high)) (notesIn (start .args .notes .now) (start .args .n))) (placesIn (start .args .words .now)))) j; pairs = c .pair-rule .ensures .0 j }), (mark-rule .ensures .1, c .pair-rule .ensures .1 .0, c .pair-rule .ensures .1 .1))
+
+pub gather-rule-spec : {M : Type 1} → statement M
+gather-rule-spec =
+    tie.close (tie.spec ranges-requires mark-rule-requires pair-rule-requires returns)

@@ -1,0 +1,111 @@
+// The check of a sheet: its rules are read one after another, and the tests of each are gathered.
+use crate::Scan;
+use crate::SheetCheck;
+use crate::rule::mark_rule;
+use crate::rule::pair_rule;
+use crate::tested::count_places;
+use sheet::Header;
+use sheet::Took;
+ghost use mathlib.Core.Path.{_≡_};
+ghost use Prim.Native.Nat.{_≤_};
+ghost use lib.ListN.{length};
+ghost use Rattle.terms.specs.Lists.{All};
+ghost use Rattle.records.specs.Reading.{mapReading};
+ghost use Rattle.sheet.specs.NoteArray.{notesIn};
+ghost use Rattle.sheet.specs.ReadSheet.{readRules, endSheet};
+ghost use Rattle.tests.specs.NoteTests.{Placed};
+ghost use Rattle.tests.specs.Gathered.{gather, gatherNotes, held, gatheredIn, Scanned};
+ghost use Rattle.tests.specs.CheckSheet.{askTests, acceptSheet, checkValues, sheetValues};
+
+// Gathers the tests of a rule from its notes.
+fn gather_rule(
+    notes: &[u64; 680],
+    n: usize,
+    words: &mut [u64; 11],
+    codes: &mut [u32; 65],
+    count: usize,
+) -> usize
+    requires { ⌜ (n ≤ 680) × (length (now notes) ≡ 680) × All Placed (notesIn (now notes) n) × (length (now words) ≡ 11) × (count ≤ 65) × (length (now codes) ≡ 65) ⌝ }
+    ensures { λ r. ⌜ held (now (words .exit)) (now (codes .exit)) r ≡ gatherNotes (notesIn (now (notes .entry)) n) (held (now (words .entry)) (now (codes .entry)) count) ⌝ }
+    ensures { λ r. ⌜ (length (now (words .exit)) ≡ 11) × (r ≤ 65) × (length (now (codes .exit)) ≡ 65) ⌝ }
+{
+    let ranges = sheet::variable_ranges(notes, n);
+    let high = ranges.high;
+    mark_rule(notes, n, &high, words);
+    pair_rule(notes, n, codes, count)
+}
+
+// Reads the rules that the input begins with and gathers their tests: questions 4 to 9.
+fn scan_rules(
+    s: &[u8],
+    arity: usize,
+    rules: usize,
+    notes: &mut [u64; 680],
+    words: &mut [u64; 11],
+    codes: &mut [u32; 65],
+) -> Scan
+    requires { ⌜ (arity ≤ 8) × (length (now notes) ≡ 680) × (length (now words) ≡ 11) × (length (now codes) ≡ 65) ⌝ }
+    ensures { λ r. ⌜ gatheredIn (now (words .exit)) (now (codes .exit)) r ≡ mapReading (λ rs. gather rs (held (now (words .entry)) (now (codes .entry)) 0)) (readRules arity rules (now (s .entry))) ⌝ }
+    ensures { λ r. ⌜ Scanned (length (now (s .entry))) (now (words .exit)) (now (codes .exit)) r ⌝ }
+{
+    let mut at: usize = 0;
+    let mut count: usize = 0;
+    let mut i: usize = 0;
+    while i < rules {
+        let read = sheet::read_rule(&s[at..], arity, notes);
+        match read {
+            Took::Refused(q) => return Scan::Refused(q),
+            Took::Used(bytes, n) => {
+                count = gather_rule(notes, n, words, codes, count);
+                at += bytes;
+            }
+        }
+        i += 1;
+    }
+    Scan::Done(at, count)
+}
+
+// Checks what follows a sheet's first record: questions 4 to 11.
+fn check_rules(s: &[u8], arity: u8, rules: u8) -> SheetCheck
+    requires { ⌜ arity ≤ 8 ⌝ }
+    ensures { λ r. ⌜ checkValues r ≡ sheetValues (askTests (endSheet arity (length (now (s .entry))) (readRules arity rules (now (s .entry))))) ⌝ }
+{
+    let mut notes = [0u64; 680];
+    let mut words = [0u64; 11];
+    let mut codes = [0u32; 65];
+    let scan = scan_rules(
+        s,
+        arity as usize,
+        rules as usize,
+        &mut notes,
+        &mut words,
+        &mut codes,
+    );
+    match scan {
+        Scan::Refused(q) => SheetCheck::Refused(q),
+        Scan::Done(bytes, pairs) => {
+            if bytes != s.len() {
+                return SheetCheck::Refused(10);
+            }
+            if 64 < pairs {
+                return SheetCheck::Refused(11);
+            }
+            let tests = count_places(&words) + pairs;
+            if 64 < tests {
+                return SheetCheck::Refused(11);
+            }
+            SheetCheck::Accepted(arity, rules, tests as u8)
+        }
+    }
+}
+
+// Checks a sheet: questions 1 to 11. Not a sheet accepted that has 65 tests, nor one refused for its tests that has bytes left.
+pub fn check_sheet(s: &[u8]) -> SheetCheck
+    ensures { λ r. ⌜ checkValues r ≡ sheetValues (acceptSheet (now (s .entry))) ⌝ }
+{
+    let header = sheet::read_header(s);
+    match header {
+        Header::Refused(q) => SheetCheck::Refused(q),
+        Header::Of(arity, rules) => check_rules(&s[3..], arity, rules),
+    }
+}
