@@ -1,6 +1,6 @@
 -- Laws of the nearest place with a cell: the steps of the climb from place to parent.
 use Prim.Native.Nat.{ℕ, zero, suc, _-_, _≤_, _<_}
-use mathlib.Core.Path.{_≡_, refl, ap, sym, _∙_}
+use mathlib.Core.Path.{_≡_, refl, ap, _∙_}
 use mathlib.Core.Bool.{Bool, true, false}
 use mathlib.Core.List.{List}
 use native.Mathlib.Omega.{arith}
@@ -21,6 +21,7 @@ no-parent zero cells p top = refl
 no-parent (suc k) cells p top = rw (eq-eqb p 680 top)
 
 module _ (k : ℕ) (cells : List ℕ) (p : ℕ) (some : 0 < k) (place : p ≡ 680 → ⊥) where
+  -- One more place is looked at.
   climb : nearest k cells p ≡ nearest (suc (k - 1)) cells p
   climb = let counted : k ≡ suc (k - 1) = omega arith in ap (λ (j : ℕ). nearest j cells p) counted
 

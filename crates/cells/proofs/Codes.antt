@@ -1,11 +1,11 @@
 -- Laws of codes: different things have different codes.
-use Prim.Native.Nat.{ℕ, _+_, _*_, _%_, _≤_, _<_}
+use Prim.Native.Nat.{ℕ, _+_, _*_, _≤_}
 use mathlib.Core.Path.{_≡_, refl}
-use mathlib.Core.Bool.{Bool, true, false, _&&_, and-eq-true-iff}
+use mathlib.Core.Bool.{true, false, _&&_, and-eq-true-iff}
 use native.Mathlib.Omega.{arith}
 use lib.Dec.{leb, eqb}
 use borrow.Author.Tests.{leb-true, eqb-true, le-leb, lt-leb, le-ltb, lt-ltb, eq-eqb, ne-eqb}
-use Rattle.terms.specs.Term.{Term, Terms, count, unknown, symbol, number, compound, Wide}
+use Rattle.terms.specs.Term.{Term, count, unknown, symbol, number, compound, Wide}
 use Rattle.terms.specs.Lookup.{Found, lacking, found}
 use Rattle.terms.specs.Filling.{WellFormed}
 use Rattle.terms.proofs.TermPlaces.{IfFound}
@@ -66,13 +66,17 @@ same-compound a b n m few few-other =
     let same-arity = eqb-true n m (both .1) in
     eq-eqb (compoundCode a n) (compoundCode b m) (omega arith))
 
--- Symbols and numbers have no compound's code, and compounds have.
+-- A symbol has no compound's code.
 pub symbol-leaf : (a : ℕ) → Wide a → isCompound (symbolCode a) ≡ false
 symbol-leaf a ok = rw (lt-leb (compoundCode 0 0) (symbolCode a) (omega arith))
 
+-- Nor has a number.
 pub number-leaf : (a : ℕ) → isCompound (numberCode a) ≡ false
-number-leaf a = rw (le-leb (compoundCode 0 0) (numberCode a) (omega arith), le-ltb (numberCode a) (numberCode 0) (omega arith))
+number-leaf a =
+    rw (le-leb (compoundCode 0 0) (numberCode a) (omega arith), le-ltb (numberCode a) (numberCode 0) (omega arith))
 
+-- A compound has.
 pub compound-code : (a n : ℕ) → Wide a → n ≤ 4 → isCompound (compoundCode a n) ≡ true
 compound-code a n ok few =
-    rw (le-leb (compoundCode 0 0) (compoundCode a n) (omega arith), lt-ltb (compoundCode a n) (numberCode 0) (omega arith))
+    rw
+    (le-leb (compoundCode 0 0) (compoundCode a n) (omega arith), lt-ltb (compoundCode a n) (numberCode 0) (omega arith))

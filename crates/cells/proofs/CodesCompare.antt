@@ -1,11 +1,11 @@
 -- Two terms compare as their codes say, but for the arguments of compounds.
-use Prim.Native.Nat.{ℕ, _+_, _*_, _≤_, _<_}
-use mathlib.Core.Path.{_≡_, refl, ap, sym, _∙_}
+use Prim.Native.Nat.{ℕ}
+use mathlib.Core.Path.{_≡_, refl, _∙_}
 use mathlib.Core.Bool.{Bool, true, false, _&&_, _||_}
 use native.Mathlib.Omega.{arith}
 use lib.Dec.{eqb}
 use borrow.Author.Tests.{ne-eqb}
-use Rattle.terms.specs.Term.{Term, Terms, count, unknown, symbol, number, compound}
+use Rattle.terms.specs.Term.{Term, count, unknown, symbol, number, compound}
 use Rattle.terms.specs.Lookup.{found}
 use Rattle.terms.specs.Outcome.{Outcome, holds, notKnown, contradicted, known, compare}
 use Rattle.terms.specs.Filling.{WellFormed}
@@ -32,39 +32,51 @@ by-tests
     → compareCodes a b x ≡ choose (u || v) notKnown (choose same (choose inner x holds) contradicted)
 by-tests a b x left right same inner = rw (left, right, same, inner)
 
+-- Equal where the test is true, else different.
 chosen : (b : Bool) → choose b holds contradicted ≡ known b
 chosen true = refl
 chosen false = refl
 
 module _ (t u : Term) (x : Outcome) (ok : WellFormed t) (ok-other : WellFormed u) where
   -- Two known terms with other codes differ.
-  differ : isUnknown (found t) ≡ false → isUnknown (found u) ≡ false → (termCode t ≡ termCode u → ⊥) → compareCodes (termCode t) (termCode u) x ≡ contradicted
+  differ
+      : isUnknown (found t) ≡ false → isUnknown (found u) ≡ false → (termCode t ≡ termCode u → ⊥)
+      → compareCodes (termCode t) (termCode u) x ≡ contradicted
   differ known-t known-u other =
-      by-tests (termCode t) (termCode u) x (code-unknown (found t) ok ∙ known-t) (code-unknown (found u) ok-other ∙ known-u)
+      by-tests (termCode t) (termCode u) x (code-unknown (found t) ok ∙ known-t)
+      (code-unknown (found u) ok-other ∙ known-u)
       (ne-eqb (termCode t) (termCode u) other) refl
 
 -- Where one is unknown, nothing is known.
 second-unknown : (a : ℕ) (x : Outcome) → compareCodes a unknownCode x ≡ notKnown
 second-unknown a x = go (eqb a unknownCode)
   where
-    go : (b : Bool) → choose (b || true) notKnown (choose (eqb a unknownCode) (choose (isCompound a) x holds) contradicted) ≡ notKnown
+    go
+        : (b : Bool)
+        → choose (b || true) notKnown (choose (eqb a unknownCode) (choose (isCompound a) x holds) contradicted) ≡ notKnown
     go true = refl
     go false = refl
 
+-- Two codes compare as their terms do.
 pub codes-compare
-    : (t u : Term) (x : Outcome) → WellFormed t → WellFormed u → compareCodes (termCode t) (termCode u) x ≡ byCodes t u x
+    : (t u : Term) (x : Outcome) → WellFormed t → WellFormed u → compareCodes (termCode t) (termCode u) x ≡ byCodes t u
+    x
 codes-compare unknown u x ok ok-other = refl
 codes-compare (symbol a) unknown x ok ok-other = second-unknown (symbolCode a) x
 codes-compare (symbol a) (symbol b) x ok ok-other =
-    by-tests (symbolCode a) (symbolCode b) x (code-unknown (found (symbol a)) ok) (code-unknown (found (symbol b)) ok-other)
+    by-tests (symbolCode a) (symbolCode b) x (code-unknown (found (symbol a)) ok)
+    (code-unknown (found (symbol b)) ok-other)
     (same-of-sort 0x1000000 a b) (symbol-leaf a ok) ∙ chosen (eqb a b)
-codes-compare (symbol a) (number b) x ok ok-other = differ (symbol a) (number b) x ok ok-other refl refl (λ e. omega arith)
+codes-compare (symbol a) (number b) x ok ok-other =
+    differ (symbol a) (number b) x ok ok-other refl refl (λ e. omega arith)
 codes-compare (symbol a) (compound b us) x ok ok-other =
     differ (symbol a) (compound b us) x ok ok-other refl refl (λ e. omega arith)
 codes-compare (number a) unknown x ok ok-other = second-unknown (numberCode a) x
-codes-compare (number a) (symbol b) x ok ok-other = differ (number a) (symbol b) x ok ok-other refl refl (λ e. omega arith)
+codes-compare (number a) (symbol b) x ok ok-other =
+    differ (number a) (symbol b) x ok ok-other refl refl (λ e. omega arith)
 codes-compare (number a) (number b) x ok ok-other =
-    by-tests (numberCode a) (numberCode b) x (code-unknown (found (number a)) ok) (code-unknown (found (number b)) ok-other)
+    by-tests (numberCode a) (numberCode b) x (code-unknown (found (number a)) ok)
+    (code-unknown (found (number b)) ok-other)
     (same-of-sort 0x3000000 a b) (number-leaf a) ∙ chosen (eqb a b)
 codes-compare (number a) (compound b us) x ok ok-other =
     differ (number a) (compound b us) x ok ok-other refl refl (λ e. omega (arith, ok-other .0, ok-other .2))

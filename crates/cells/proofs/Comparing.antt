@@ -27,24 +27,28 @@ module _ (a b : ℕ) (arguments : Outcome) where
     module _ (same : a ≡ b) where
       -- The same code of symbols or numbers is equal.
       pub same-leaf : (a < compoundCode 0 0) ⊎ (leb (numberCode 0) a ≡ true) → holds ≡ compareCodes a b arguments
-      same-leaf (inl low) = simp (none-is a b unknownCode known-a known-b, eq-eqb a b same, lt-leb (compoundCode 0 0) a low)
+      same-leaf (inl low) =
+          simp (none-is a b unknownCode known-a known-b, eq-eqb a b same, lt-leb (compoundCode 0 0) a low)
       same-leaf (inr high) =
           let number = leb-true (numberCode 0) a high in
-          simp (none-is a b unknownCode known-a known-b, eq-eqb a b same, le-leb (compoundCode 0 0) a (omega arith), le-ltb a (numberCode 0) number)
+          simp
+          (none-is a b unknownCode known-a known-b, eq-eqb a b same, le-leb (compoundCode 0 0) a (omega arith), le-ltb a (numberCode 0) number)
 
       -- The same code of compounds is as the arguments are.
       pub same-compound
           : compoundCode 0 0 ≤ a → leb (numberCode 0) a ≡ false → compareCodes a b arguments ≡ arguments
       same-compound low high =
           let below = leb-false (numberCode 0) a high in
-          simp (none-is a b unknownCode known-a known-b, eq-eqb a b same, le-leb (compoundCode 0 0) a low, lt-ltb a (numberCode 0) below)
+          simp
+          (none-is a b unknownCode known-a known-b, eq-eqb a b same, le-leb (compoundCode 0 0) a low, lt-ltb a (numberCode 0) below)
 
 -- What two compounds' arguments say, with so many levels below the one and the other.
 abbrev pub compareBelow : List ℕ → ℕ → ℕ → ℕ → ℕ → Outcome
 compareBelow cells zero other p q = notKnown
 compareBelow cells (suc below) zero p q = notKnown
 compareBelow cells (suc below) (suc other) p q =
-    compareRow (compareAt cells below other) (stride (suc below)) (stride (suc other)) (arityOf (getD cells p 0)) (p + 1) (q + 1)
+    compareRow (compareAt cells below other) (stride (suc below)) (stride (suc other)) (arityOf (getD cells p 0))
+    (p + 1) (q + 1)
 
 module _ (cells : List ℕ) (below other p q : ℕ) where
   -- Two terms compare by their codes.
@@ -54,7 +58,8 @@ module _ (cells : List ℕ) (below other p q : ℕ) where
   by-codes = go below other
     where
       go
-          : (k l : ℕ) → compareAt cells k l p q ≡ compareCodes (getD cells p 0) (getD cells q 0) (compareBelow cells k l p q)
+          : (k l : ℕ) → compareAt cells k l p q ≡ compareCodes (getD cells p 0) (getD cells q 0)
+          (compareBelow cells k l p q)
       go zero l = refl
       go (suc k) zero = refl
       go (suc k) (suc l) = refl

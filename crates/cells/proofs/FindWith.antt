@@ -1,9 +1,9 @@
--- Finding what stands n places into a term, where x stands below an unknown: an unknown, as document 01 has it, or nothing, as
--- the cells have it. Its laws hold for any number of levels; one of them is that finding composes.
-use Prim.Native.Nat.{ℕ, zero, suc, pred, _+_, _-_, _*_, _≤_, _<_}
+-- Finding what stands n places into a term, where x stands below an unknown: an unknown, as document 01 has it, or
+-- nothing, as the cells have it. Its laws hold for any number of levels; one of them is that finding composes.
+use Prim.Native.Nat.{ℕ, zero, suc, pred, _+_, _-_, _<_}
 use mathlib.Core.Path.{_≡_, refl, ap, sym, _∙_}
-use mathlib.Core.Bool.{Bool, true, false}
-use native.Mathlib.Nat.{suc-mul, suc-add, zero-add}
+use mathlib.Core.Bool.{true, false}
+use native.Mathlib.Nat.{suc-add, zero-add}
 use native.Mathlib.Decide.{decLt}
 use native.Mathlib.Omega.{arith}
 use lib.Dec.{ltb, lt→ltb, ltb→lt}
@@ -13,6 +13,7 @@ use Rattle.terms.specs.Term.{Term, Terms, unknown, symbol, number, compound, ni
 use Rattle.terms.specs.Lookup.{Found, lacking, found, find, finds}
 use Rattle.terms.proofs.Booleans.{choose-true, choose-false, choose-related}
 
+-- What stands n places into a term with r levels, and the same for a row of terms.
 abbrev mutual
   pub findWith : Found → Term → ℕ → ℕ → Found
   findWith x unknown r zero = found unknown
@@ -75,13 +76,16 @@ goOn f (found t) = f t
 abbrev pub Stays : Found → Type 0
 Stays x = (r n : ℕ) → goOn (λ t. findWith x t r n) x ≡ x
 
+-- Below an unknown is an unknown, and so on.
 pub unknown-stays : Stays (found unknown)
 unknown-stays r zero = refl
 unknown-stays r (suc n) = refl
 
+-- Below nothing is nothing.
 pub lacking-stays : Stays lacking
 lacking-stays r n = refl
 
+-- Going on from the place of the term itself.
 from-first
     : (x : Found) (t : Term) (r m : ℕ)
     → findWith x t r (0 + m) ≡ goOn (λ u. findWith x u (levelsIn r 0) m) (findWith x t r 0)
@@ -91,12 +95,14 @@ from-first x t r m =
 
 module _ (x : Found) (stays : Stays x) where
   mutual
-    -- Finding composes: what stands m places after place n, of the places that place n has, is found from what stands there.
+    -- Finding composes: what stands m places after place n, of the places that place n has, is found from what stands
+    -- there.
     pub with-composes
         : (t : Term) (r n m : ℕ) → n < stride r → m < stride (levelsIn r n)
         → findWith x t r (n + m) ≡ goOn (λ u. findWith x u (levelsIn r n) m) (findWith x t r n)
     with-composes unknown r zero m inside near = from-first x unknown r m
-    with-composes unknown r (suc n) m inside near = ap (findWith x unknown r) (suc-add n m) ∙ sym (stays (levelsIn r (suc n)) m)
+    with-composes unknown r (suc n) m inside near =
+        ap (findWith x unknown r) (suc-add n m) ∙ sym (stays (levelsIn r (suc n)) m)
     with-composes (symbol a) r zero m inside near = from-first x (symbol a) r m
     with-composes (symbol a) r (suc n) m inside near = ap (findWith x (symbol a) r) (suc-add n m)
     with-composes (number a) r zero m inside near = from-first x (number a) r m
@@ -132,8 +138,8 @@ module _ (x : Found) (stays : Stays x) where
               (sym (ap (findsWith x (cons t ts) r) n-is ∙ with-there x t ts r k))
         ]
 
--- Finding as document 01 has it composes: in a row of terms, a place m places after place n, of the places that place n has,
--- is lacking where place n is, and else found from what stands there.
+-- Finding as document 01 has it composes: in a row of terms, a place m places after place n, of the places that place n
+-- has, is lacking where place n is, and else found from what stands there.
 pub finds-composes
     : (ts : Terms) (r n m : ℕ) → m < stride (levelsIn r n)
     → finds ts r (n + m) ≡ goOn (λ u. find u (levelsIn r n) m) (finds ts r n)

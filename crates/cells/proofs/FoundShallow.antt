@@ -1,6 +1,6 @@
 -- What is found in a term that is shallow enough for its levels is shallow enough for the levels of its place.
-use Prim.Native.Nat.{ℕ, zero, suc, pred, _+_, _-_, _*_, _≤_, _<_}
-use mathlib.Core.Path.{_≡_, ap, ap₂, sym, subst, _∙_}
+use Prim.Native.Nat.{ℕ, zero, suc, _+_, _-_, _<_}
+use mathlib.Core.Path.{_≡_, ap, sym, subst, _∙_}
 use native.Mathlib.Decide.{decLt}
 use native.Mathlib.Omega.{arith}
 use Rattle.places.specs.Numbering.{stride, levelsIn}
@@ -10,6 +10,7 @@ use Rattle.terms.specs.Lookup.{Found, lacking, found, find, finds}
 use Rattle.terms.specs.Accepted.{Shallow, Shallows}
 use Rattle.terms.proofs.TermPlaces.{finds-here, finds-there}
 
+-- What is found, if anything, is shallow enough for r levels.
 abbrev pub ShallowFound : Found → ℕ → Type 0
 ShallowFound lacking r = Unit
 ShallowFound (found t) r = Shallow t r

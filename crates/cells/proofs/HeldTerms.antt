@@ -1,5 +1,5 @@
 -- Cells compare as the terms that they hold do, for any number of levels below them and of arguments.
-use Prim.Native.Nat.{ℕ, zero, suc, pred, _+_, _*_, _≤_, _<_}
+use Prim.Native.Nat.{ℕ, zero, suc, _+_, _≤_, _<_}
 use mathlib.Core.Path.{_≡_, refl, ap, ap₂, sym, _∙_}
 use mathlib.Core.Bool.{Bool, true, false, _&&_}
 use mathlib.Core.List.{List}
@@ -9,13 +9,13 @@ use lib.Dec.{eqb}
 use borrow.Author.Tests.{eqb-true, eqb-false}
 use Rattle.places.specs.Numbering.{stride}
 use Rattle.terms.specs.Term.{Term, Terms, count, unknown, symbol, number, compound, nil, cons}
-use Rattle.terms.specs.Lookup.{Found, lacking, found}
+use Rattle.terms.specs.Lookup.{lacking}
 use Rattle.terms.specs.Outcome.{Outcome, holds, notKnown, contradicted, known, _and_, compare, compares}
 use Rattle.terms.specs.Filling.{WellFormed, WellFormeds}
 use Rattle.terms.specs.Accepted.{Shallow, Shallows}
 use Rattle.terms.proofs.TermPlaces.{extent}
 use Rattle.piece.proofs.Rooms.{no-arguments}
-use Rattle.piece.specs.Cells.{compoundCode, termCode, foundCode}
+use Rattle.piece.specs.Cells.{termCode, foundCode}
 use Rattle.cells.specs.Choice.{choose}
 use Rattle.cells.specs.CompareCells.{arityOf, compareCodes, compareRow, compareAt}
 use Rattle.cells.proofs.Comparing.{compareBelow, by-codes}
@@ -58,11 +58,13 @@ module _ (cells : List ℕ) where
   abbrev HeldRow : Terms → ℕ → ℕ → Type 0
   HeldRow ts r p = (m : ℕ) → m < extent (count ts) r → getD cells (p + m) 0 ≡ foundCode (findsWith lacking ts r m)
 
+  -- The first cell of a held term is its code.
   held-code : (t : Term) (below p : ℕ) → Held t (suc below) p → getD cells p 0 ≡ termCode t
   held-code t below p held =
       let first : p ≡ p + 0 = omega arith in
       ap (λ (i : ℕ). getD cells i 0) first ∙ held 0 (omega arith) ∙ ap foundCode (with-zero lacking t (suc below))
 
+  -- The arguments of a held compound are held from the next place on.
   held-arguments
       : (a : ℕ) (ts : Terms) (below p : ℕ) → count ts ≤ 4 → Held (compound a ts) (suc (suc below)) p
       → HeldRow ts (suc below) (p + 1)
@@ -70,9 +72,11 @@ module _ (cells : List ℕ) where
       let next : p + 1 + m ≡ p + suc m = omega arith in
       ap (λ (i : ℕ). getD cells i 0) next ∙ held (suc m) (omega (arith, extent-four ts (suc below) few))
 
+  -- The first term of a held row is held there,
   held-first : (t : Term) (ts : Terms) (r p : ℕ) → HeldRow (cons t ts) r p → Held t r p
   held-first t ts r p held m h = held m (omega arith) ∙ ap foundCode (with-here lacking t ts r m h)
 
+  -- and the others from stride r places later on.
   held-others : (t : Term) (ts : Terms) (r p : ℕ) → HeldRow (cons t ts) r p → HeldRow ts r (p + stride r)
   held-others t ts r p held m h =
       let next : p + stride r + m ≡ p + (stride r + m) = omega arith in
@@ -87,6 +91,7 @@ module _ (cells : List ℕ) where
       ∙ ap₂ (λ a b. compareCodes a b (compareBelow cells below other p q)) (held-code t below p held) (held-code u other q held-other)
       ∙ codes-compare t u (compareBelow cells below other p q) ok ok-other
 
+  -- The arity in a held compound's code is the number of its arguments.
   arity-held : (a : ℕ) (ts : Terms) (below p : ℕ) → count ts ≤ 4 → Held (compound a ts) (suc below) p → arityOf (getD cells p 0) ≡ count ts
   arity-held a ts below p few held = let code = held-code (compound a ts) below p held in rw code (omega arith)
 

@@ -1,6 +1,6 @@
--- What is found at a place and what the cells have there: the same, but that the cells have nothing below an unknown. So where
--- the cells have nothing, an unknown is found exactly where one is found above. For any number of levels.
-use Prim.Native.Nat.{ℕ, zero, suc, pred, _+_, _-_, _*_, _≤_, _<_}
+-- What is found at a place and what the cells have there: the same, but that the cells have nothing below an unknown.
+-- So where the cells have nothing, an unknown is found exactly where one is found above. For any number of levels.
+use Prim.Native.Nat.{ℕ, zero, suc, pred, _-_, _*_, _≤_, _<_}
 use mathlib.Core.Path.{_≡_, refl, ap, sym, _∙_}
 use mathlib.Core.Bool.{Bool, true, false}
 use native.Mathlib.Nat.{suc-mul, add-comm}
@@ -67,6 +67,7 @@ abbrev pub orElse : Found → Found → Found
 orElse lacking y = y
 orElse (found t) y = found t
 
+-- Nothing else makes no difference.
 pub or-nothing : (f : Found) → orElse f lacking ≡ f
 or-nothing lacking = refl
 or-nothing (found t) = refl

@@ -1,10 +1,8 @@
 -- In the cells of an accepted piece, an equality test has the outcome that it has in the piece.
-use Prim.Native.Nat.{ℕ, suc, pred, _+_, _*_, _≤_, _<_}
+use Prim.Native.Nat.{ℕ, suc, pred, _+_, _≤_, _<_}
 use mathlib.Core.Path.{_≡_, refl, ap, ap₂, sym, subst, _∙_}
 use mathlib.Core.Bool.{Bool, true, false, _||_, false≢true}
-use mathlib.Core.List.{List}
 use native.Mathlib.Omega.{arith}
-use lib.ListN.{getD}
 use lib.Dec.{eqb}
 use borrow.Author.Tests.{ne-eqb}
 use Rattle.places.specs.Numbering.{stride, levelsAt}
@@ -22,11 +20,11 @@ use Rattle.piece.specs.LaidOut.{pieceCells}
 use Rattle.cells.specs.Choice.{choose}
 use Rattle.cells.specs.CompareCells.{compareAt}
 use Rattle.cells.specs.CellOutcome.{codesOutcome, pairCells}
-use Rattle.cells.proofs.FindWith.{findWith, findsWith, finds-is, row-composes, lacking-stays, goOn}
+use Rattle.cells.proofs.FindWith.{findWith, finds-is, row-composes, lacking-stays, goOn}
 use Rattle.cells.proofs.Hidden.{Stores, shown, hidden, stores-row, isUnknown}
 use Rattle.cells.proofs.Codes.{code-some, code-unknown}
 use Rattle.cells.proofs.FoundShallow.{ShallowFound, finds-shallow}
-use Rattle.cells.proofs.LookFinds.{storedAt, cell-stored, look-finds}
+use Rattle.cells.proofs.LookFinds.{cell-stored, look-finds}
 use Rattle.cells.proofs.HeldTerms.{Held, terms-compare}
 
 -- What is no unknown is compared with an unknown, and nothing is known.
@@ -55,10 +53,13 @@ module _ (x : Outcome) where
   terms-agree (number a) u known = second-agrees (number a) u (known refl)
   terms-agree (compound a ts) u known = second-agrees (compound a ts) u (known refl)
 
+-- Where the second place is lacking, the test is contradicted.
 second-lacking : (a : ℕ) (x : Outcome) → codesOutcome a 0 x ≡ contradicted
 second-lacking a x = go (eqb a 0)
   where
-    go : (b : Bool) → choose (b || true) contradicted (choose (eqb a unknownCode || eqb 0 unknownCode) notKnown x) ≡ contradicted
+    go
+        : (b : Bool)
+        → choose (b || true) contradicted (choose (eqb a unknownCode || eqb 0 unknownCode) notKnown x) ≡ contradicted
     go true = refl
     go false = refl
 
@@ -71,7 +72,8 @@ both-there a b x some some-other left right = rw (ne-eqb a 0 some, ne-eqb b 0 so
 -- The test at two codes is the test at what they are the codes of, where x is how two known terms compare.
 codes-agree
     : (f g : Found) (x : Outcome) → IfFound WellFormed f → IfFound WellFormed g
-    → ((t u : Term) → f ≡ found t → g ≡ found u → isUnknown (found t) ≡ false → isUnknown (found u) ≡ false → x ≡ compare t u)
+    →
+    ((t u : Term) → f ≡ found t → g ≡ found u → isUnknown (found t) ≡ false → isUnknown (found u) ≡ false → x ≡ compare t u)
     → codesOutcome (foundCode f) (foundCode g) x ≡ atPlaces f g
 codes-agree lacking g x ok ok-other compared = refl
 codes-agree (found t) lacking x ok ok-other compared = second-lacking (termCode t) x
@@ -109,6 +111,7 @@ module _ (arity : ℕ) (piece : Terms) (accepted : AcceptedPiece arity piece) (f
         subst (Shallow t) levels
         (subst (λ f. ShallowFound f (levelsAt p)) at-p (finds-shallow piece 4 p (accepted .shallow)))
 
+    -- It is well-formed.
     well-formed : WellFormed t
     well-formed = subst (IfFound WellFormed) at-p (finds-well-formed piece (accepted .wellFormed) 4 p)
 
@@ -125,4 +128,5 @@ module _ (arity : ℕ) (piece : Terms) (accepted : AcceptedPiece arity piece) (f
       (finds-well-formed piece (accepted .wellFormed) 4 p) (finds-well-formed piece (accepted .wellFormed) 4 q)
       (λ t u at-p at-q known known-q.
       terms-compare cells t u below other p q (well-formed p inside t at-p) (well-formed q inside-q u at-q)
-      (shallow p inside t at-p) (shallow q inside-q u at-q) (held p inside t at-p known) (held q inside-q u at-q known-q))
+      (shallow p inside t at-p) (shallow q inside-q u at-q) (held p inside t at-p known)
+      (held q inside-q u at-q known-q))

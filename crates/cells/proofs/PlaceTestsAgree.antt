@@ -1,11 +1,11 @@
 -- In the cells of an accepted piece, a place test has the outcome that it has in the piece.
-use Prim.Native.Nat.{ℕ, _+_, _*_, _≤_, _<_}
-use mathlib.Core.Path.{_≡_, refl, ap, sym, _∙_}
+use Prim.Native.Nat.{ℕ, _≤_, _<_}
+use mathlib.Core.Path.{_≡_, refl, ap, _∙_}
 use mathlib.Core.Bool.{Bool, true, false, _&&_, and-eq-true-iff}
 use native.Mathlib.Omega.{arith}
 use lib.Dec.{leb, eqb}
 use borrow.Author.Tests.{leb-true, eqb-true, le-leb, lt-leb, eq-eqb}
-use Rattle.terms.specs.Term.{Term, Terms, count, unknown, symbol, number, compound, Wide}
+use Rattle.terms.specs.Term.{Terms, count, unknown, symbol, number, compound, Wide}
 use Rattle.terms.specs.RuleTests.{Want, aSymbol, aNumber, aCompound, at}
 use Rattle.terms.specs.Lookup.{Found, lacking, found, termAt}
 use Rattle.terms.specs.Outcome.{Outcome, notKnown, known, fits, atPlace, placeOutcome}
@@ -13,7 +13,7 @@ use Rattle.terms.specs.Accepted.{AcceptedPiece}
 use Rattle.terms.specs.Filling.{WellFormed}
 use Rattle.terms.proofs.TermPlaces.{IfFound}
 use Rattle.terms.proofs.WellFormed.{finds-well-formed}
-use Rattle.piece.specs.Cells.{symbolCode, numberCode, compoundCode, unknownCode, foundCode}
+use Rattle.piece.specs.Cells.{symbolCode, numberCode, compoundCode, foundCode}
 use Rattle.piece.specs.LaidOut.{pieceCells}
 use Rattle.cells.specs.Choice.{choose}
 use Rattle.cells.specs.CellOutcome.{wantLow, wantHigh, codeOutcome, placeCells}
@@ -53,7 +53,10 @@ only c code y to from =
 abbrev Between : Want → ℕ → Outcome
 Between w code = known (leb (wantLow w) code && leb code (wantHigh w))
 
-want-agrees : (w : Want) (f : Found) → SoundWant w → IfFound WellFormed f → choose (isUnknown f) notKnown (Between w (foundCode f)) ≡ atPlace (fits w) f
+-- What a want says of a code is what it says of the term.
+want-agrees
+    : (w : Want) (f : Found) → SoundWant w → IfFound WellFormed f
+    → choose (isUnknown f) notKnown (Between w (foundCode f)) ≡ atPlace (fits w) f
 want-agrees (aSymbol a) lacking sound ok = under (symbolCode a) (symbolCode a) 0 (omega arith)
 want-agrees (aNumber l h) lacking sound ok = under (numberCode l) (numberCode h) 0 (omega arith)
 want-agrees (aCompound a n) lacking sound ok = under (compoundCode a n) (compoundCode a n) 0 (omega arith)
@@ -61,17 +64,21 @@ want-agrees (aSymbol a) (found unknown) sound ok = refl
 want-agrees (aNumber l h) (found unknown) sound ok = refl
 want-agrees (aCompound a n) (found unknown) sound ok = refl
 want-agrees (aSymbol a) (found (symbol b)) sound ok =
-    ap known (only (symbolCode a) (symbolCode b) (eqb a b) (λ e. eq-eqb a b (omega arith)) (λ e. let same = eqb-true a b e in omega arith))
-want-agrees (aSymbol a) (found (number b)) sound ok = over (symbolCode a) (symbolCode a) (numberCode b) (omega arith) (omega arith)
+    ap known
+    (only (symbolCode a) (symbolCode b) (eqb a b) (λ e. eq-eqb a b (omega arith)) (λ e. let same = eqb-true a b e in omega arith))
+want-agrees (aSymbol a) (found (number b)) sound ok =
+    over (symbolCode a) (symbolCode a) (numberCode b) (omega arith) (omega arith)
 want-agrees (aSymbol a) (found (compound b ts)) sound ok =
     over (symbolCode a) (symbolCode a) (compoundCode b (count ts)) (omega arith) (omega arith)
 want-agrees (aNumber l h) (found (symbol b)) sound ok = under (numberCode l) (numberCode h) (symbolCode b) (omega arith)
 want-agrees (aNumber l h) (found (number b)) sound ok = rw (in-order 0x3000000 l b, in-order 0x3000000 b h)
 want-agrees (aNumber l h) (found (compound b ts)) sound ok =
     under (numberCode l) (numberCode h) (compoundCode b (count ts)) (omega (arith, ok .0, ok .2))
-want-agrees (aCompound a n) (found (symbol b)) sound ok = under (compoundCode a n) (compoundCode a n) (symbolCode b) (omega arith)
+want-agrees (aCompound a n) (found (symbol b)) sound ok =
+    under (compoundCode a n) (compoundCode a n) (symbolCode b) (omega arith)
 want-agrees (aCompound a n) (found (number b)) sound ok =
-    over (compoundCode a n) (compoundCode a n) (numberCode b) (omega (arith, sound .0, sound .1)) (omega (arith, sound .0, sound .1))
+    over (compoundCode a n) (compoundCode a n) (numberCode b) (omega (arith, sound .0, sound .1))
+    (omega (arith, sound .0, sound .1))
 want-agrees (aCompound a n) (found (compound b ts)) sound ok =
     ap known
     (only (compoundCode a n) (compoundCode b (count ts)) (eqb a b && eqb n (count ts))

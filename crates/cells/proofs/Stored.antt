@@ -1,5 +1,5 @@
--- What the cells hold after terms are stored in them, for any number of levels below the terms and of terms in a row: at each
--- place the code of what stands there, and nothing below an unknown.
+-- What the cells hold after terms are stored in them, for any number of levels below the terms and of terms in a row:
+-- at each place the code of what stands there, and nothing below an unknown.
 use Prim.Native.Nat.{ℕ, zero, suc, pred, _+_, _-_, _*_, _≤_, _<_}
 use mathlib.Core.Path.{_≡_, refl, ap, sym, _∙_}
 use mathlib.Core.List.{List}
@@ -10,7 +10,7 @@ use lib.ListN.{length, getD, set, length-set}
 use lib.Seq.{getD-set-same, getD-set-other}
 use Rattle.places.specs.Numbering.{stride}
 use Rattle.terms.specs.Term.{Term, Terms, count, unknown, symbol, number, compound, nil, cons}
-use Rattle.terms.specs.Lookup.{Found, lacking, found}
+use Rattle.terms.specs.Lookup.{lacking}
 use Rattle.terms.specs.Filling.{WellFormed, WellFormeds}
 use Rattle.terms.specs.Accepted.{Shallow, Shallows}
 use Rattle.terms.proofs.TermPlaces.{extent, extent-le}
@@ -44,7 +44,8 @@ mutual
   term-before (number a) below p cells i h = getD-set-other cells p i (numberCode a) 0 (λ e. omega arith)
   term-before (compound a ts) below p cells i h =
       let code = compoundCode a (count ts) in
-      terms-before ts (pred below) (p + 1) (set cells p code) i (omega arith) ∙ getD-set-other cells p i code 0 (λ e. omega arith)
+      terms-before ts (pred below) (p + 1) (set cells p code) i (omega arith)
+      ∙ getD-set-other cells p i code 0 (λ e. omega arith)
 
   -- and so does storing a row of terms.
   terms-before
@@ -70,7 +71,8 @@ mutual
   term-after (compound a ts) zero p cells i ok shallow h = absurd (no-arguments ts (ok .1) (shallow .1))
   term-after (compound a ts) (suc below) p cells i ok shallow h =
       let code = compoundCode a (count ts) in
-      terms-after ts below (p + 1) (set cells p code) i (ok .3) (shallow .1) (omega (arith, extent-four ts (suc below) (ok .2)))
+      terms-after ts below (p + 1) (set cells p code) i (ok .3) (shallow .1)
+      (omega (arith, extent-four ts (suc below) (ok .2)))
       ∙ getD-set-other cells p i code 0 (λ e. omega arith)
 
   -- and so does storing a row of accepted terms.
@@ -98,6 +100,7 @@ module _ (cells : List ℕ) (p k : ℕ) (empty : Empty cells p k) where
   code-later : (code n : ℕ) → suc n < k → getD (set cells p code) (p + suc n) 0 ≡ 0
   code-later code n h = getD-set-other cells p (p + suc n) code 0 (λ e. omega arith) ∙ empty .none (suc n) h
 
+  -- So the later cells are a row of empty ones.
   later-empty : (code : ℕ) → 0 < k → Empty (set cells p code) (p + 1) (pred k)
   later-empty code some =
       let there = empty .there in
@@ -171,5 +174,6 @@ mutual
             ap (λ (j : ℕ). getD (storeTerms ts below (p + step) stored) j 0) place-is
             ∙ terms-stored ts below (p + step) stored (k - step) i (ok .1) (shallow .1)
             (others-empty cells p k empty t below (ok .0) (shallow .0) (omega arith)) (omega arith) (omega arith)
-            ∙ ap foundCode (sym (ap (findsWith lacking (cons t ts) (suc below)) n-is ∙ with-there lacking t ts (suc below) i))
+            ∙ ap foundCode
+            (sym (ap (findsWith lacking (cons t ts) (suc below)) n-is ∙ with-there lacking t ts (suc below) i))
       ]

@@ -12,6 +12,7 @@ not-both x y (inl h) = rw h
 not-both true y (inr h) = h
 not-both false y (inr h) = refl
 
+-- One of two tests is true where the second is.
 either : (x y : Bool) → y ≡ true → x || y ≡ true
 either true y h = refl
 either false y h = h

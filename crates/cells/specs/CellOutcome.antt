@@ -38,7 +38,8 @@ codeOutcome low high code = choose (eqb code unknownCode) notKnown (known (leb l
 abbrev pub placeCells : List ℕ → ℕ → ℕ → ℕ → Outcome
 placeCells cells p low high = codeOutcome low high (look cells p)
 
--- An equality test at two places with these codes, whose terms compare so: it is contradicted where one of them is lacking.
+-- An equality test at two places with these codes, whose terms compare so: it is contradicted where one of them is
+-- lacking.
 abbrev pub codesOutcome : ℕ → ℕ → Outcome → Outcome
 codesOutcome a b compared =
     choose (eqb a 0 || eqb b 0) contradicted (choose (eqb a unknownCode || eqb b unknownCode) notKnown compared)

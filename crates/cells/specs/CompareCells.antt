@@ -20,19 +20,21 @@ arityOf code = code % 256
 abbrev pub Narrow : List ℕ → Type 0
 Narrow cells = (i : ℕ) → arityOf (getD cells i 0) ≤ 4
 
--- Two codes: not known where one is unknown, else contradicted where they differ. Where they do not, two symbols or two numbers
--- are equal, and two compounds are as their arguments say.
+-- Two codes: not known where one is unknown, else contradicted where they differ. Where they do not, two symbols or two
+-- numbers are equal, and two compounds are as their arguments say.
 abbrev pub compareCodes : ℕ → ℕ → Outcome → Outcome
 compareCodes a b arguments =
     choose (eqb a unknownCode || eqb b unknownCode) notKnown
     (choose (eqb a b) (choose (isCompound a) arguments holds) contradicted)
 
--- n pairs of terms in turn, the first at places p and q, each compared by one: the next ones stand i and j places later.
+-- n pairs of terms in turn, the first at places p and q, each compared by one: the next ones stand i and j places
+-- later.
 abbrev pub compareRow : (ℕ → ℕ → Outcome) → ℕ → ℕ → ℕ → ℕ → ℕ → Outcome
 compareRow one i j zero p q = holds
 compareRow one i j (suc n) p q = _and_ (one p q) (compareRow one i j n (p + i) (q + j))
 
--- The terms at places p and q, with so many levels below the one and the other. No compound stands where no level is below.
+-- The terms at places p and q, with so many levels below the one and the other. No compound stands where no level is
+-- below.
 abbrev pub compareAt : List ℕ → ℕ → ℕ → ℕ → ℕ → Outcome
 compareAt cells zero other p q = compareCodes (getD cells p 0) (getD cells q 0) notKnown
 compareAt cells (suc below) zero p q = compareCodes (getD cells p 0) (getD cells q 0) notKnown

@@ -7,15 +7,15 @@ use Rattle.places.specs.Numbering.{parentAt}
 use Rattle.piece.specs.Cells.{unknownCode}
 use Rattle.cells.specs.Choice.{choose}
 
--- The cell of the nearest place that has one, of p and the places above it, so many in all; 0 where none has. The parents are
--- those of the table, 680 where there is none.
+-- The cell of the nearest place that has one, of p and the places above it, so many in all; 0 where none has. The
+-- parents are those of the table, 680 where there is none.
 abbrev pub nearest : ℕ → List ℕ → ℕ → ℕ
 nearest zero cells p = 0
 nearest (suc k) cells p =
     choose (eqb p 680) 0 (choose (eqb (getD cells p 0) 0) (nearest k cells (parentAt p)) (getD cells p 0))
 
--- What stands at place p: its cell; where that is 0, unknown if the nearest place above it with a cell is, since "a place below
--- an unknown is unknown", else nothing. At most 3 places are above it.
+-- What stands at place p: its cell; where that is 0, unknown if the nearest place above it with a cell is, since "a
+-- place below an unknown is unknown", else nothing. At most 3 places are above it.
 abbrev pub look : List ℕ → ℕ → ℕ
 look cells p =
     choose (eqb (getD cells p 0) 0)

@@ -43,9 +43,9 @@ pub fn look(cells: &[u32; 680], p: usize) -> u32
     requires { ⌜ p < 680 ⌝ }
     ensures { λ r. ⌜ r ≡ look (now (cells .entry)) p ⌝ }
 {
-    let cell = cells[p];
-    if cell != 0 {
-        return cell;
+    let own = cells[p];
+    if own != 0 {
+        return own;
     }
     if nearest(cells, places::parent(p)) == UNKNOWN {
         return UNKNOWN;
@@ -54,7 +54,7 @@ pub fn look(cells: &[u32; 680], p: usize) -> u32
 }
 
 // Two outcomes together.
-fn both(a: TestOutcome, b: TestOutcome) -> TestOutcome
+pub fn both(a: TestOutcome, b: TestOutcome) -> TestOutcome
     ensures { λ r. ⌜ outcomeOf r ≡ _and_ (outcomeOf a) (outcomeOf b) ⌝ }
 {
     match a {
@@ -73,15 +73,15 @@ fn compare(cells: &[u32; 680], below: usize, other: usize, p: usize, q: usize) -
     requires { ⌜ (below < 4) × (other < 4) × (p + stride (suc below) ≤ 680) × (q + stride (suc other) ≤ 680) × Narrow (now cells) ⌝ }
     ensures { λ r. ⌜ outcomeOf r ≡ compareAt (now (cells .entry)) below other p q ⌝ }
 {
-    let a = cells[p];
-    let b = cells[q];
-    if a == UNKNOWN || b == UNKNOWN {
+    let code = cells[p];
+    let code_other = cells[q];
+    if code == UNKNOWN || code_other == UNKNOWN {
         return TestOutcome::NotKnown;
     }
-    if a != b {
+    if code != code_other {
         return TestOutcome::Contradicted;
     }
-    if a < COMPOUNDS || NUMBERS <= a {
+    if code < COMPOUNDS || NUMBERS <= code {
         return TestOutcome::Holds;
     }
     if below == 0 || other == 0 {
@@ -91,7 +91,7 @@ fn compare(cells: &[u32; 680], below: usize, other: usize, p: usize, q: usize) -
         cells,
         below - 1,
         other - 1,
-        (a % 256) as usize,
+        (code % 256) as usize,
         p + 1,
         q + 1,
     )

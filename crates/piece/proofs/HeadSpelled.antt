@@ -1,12 +1,11 @@
 -- Bytes begin with a record of a term exactly where they spell it.
-use Prim.Native.Nat.{ℕ, suc, _+_, _*_, _/_, _%_, _≤_, _<_}
-use mathlib.Core.Path.{_≡_, refl, ap, ap₂, sym, _∙_}
-use mathlib.Core.Bool.{true}
-use mathlib.Core.List.{List, [], _∷_}
+use Prim.Native.Nat.{ℕ, suc, _≤_}
+use mathlib.Core.Path.{_≡_, ap, ap₂, sym, _∙_}
+use mathlib.Core.List.{List, _∷_}
 use native.Mathlib.Omega.{arith}
 use lib.ListN.{length, getD, drop}
 use lib.Seq.{drop-cons}
-use lib.Dec.{leb, eqb·suc-zero}
+use lib.Dec.{eqb·suc-zero}
 use borrow.Author.Tests.{le-leb}
 use Rattle.records.specs.Fields.{IsByte, wideOf, wideAt, highOf, lowOf, wideThen}
 use Rattle.terms.specs.Term.{Wide}
@@ -14,7 +13,7 @@ use Rattle.piece.specs.declared.TermRecord.{TermRecord}
 use Rattle.piece.specs.declared.TermRecord.the-variants.{Unknown, Symbol, Number, Compound}
 use Rattle.piece.specs.declared.TermHead.{TermHead}
 use Rattle.piece.specs.declared.TermHead.the-variants.{Whole, Refused}
-use Rattle.piece.specs.TermRecord.{termHead, wholeIf}
+use Rattle.piece.specs.TermRecord.{termHead}
 use Rattle.piece.proofs.Heads.{head-cases, recordBytes}
 
 -- The numbers are bytes.
@@ -43,9 +42,11 @@ wide-holds a wide = omega arith
 pub wide-of : (high low : ℕ) → IsByte high → IsByte low → Wide (wideOf high low)
 wide-of high low h l = omega arith
 
+-- The high byte is the first of them,
 pub high-of : (high low : ℕ) → IsByte high → IsByte low → highOf (wideOf high low) ≡ high
 high-of high low h l = omega arith
 
+-- and the low byte the second.
 pub low-of : (high low : ℕ) → IsByte high → IsByte low → lowOf (wideOf high low) ≡ low
 low-of high low h l = omega arith
 
@@ -55,6 +56,7 @@ HeadSpells s (Whole r) = (s ≡ recordThen r (drop (recordBytes r) s)) × WideRe
 HeadSpells s (Refused q) = Unit
 
 module _ (s : List ℕ) (bytes : AreBytes s) where
+  -- The bytes are the first one and those after it.
   first : 1 ≤ length s → s ≡ getD s 0 0 ∷ drop 1 s
   first there = drop-cons s 0 0 there
 

@@ -14,13 +14,16 @@ use Rattle.piece.specs.declared.TermHead.{TermHead}
 use Rattle.piece.specs.declared.TermHead.the-variants.{Whole, Refused}
 use Rattle.piece.specs.TermRecord.{termHead, wholeIf, isKind}
 
+-- What holds of both heads holds of the one that the test chooses.
 kind-cases
     : (P : TermHead → Type 0) (b : Bool) (this others : TermHead) → (b ≡ true → P this) → (b ≡ false → P others)
     → P (isKind b this others)
 kind-cases P true this others h k = h refl
 kind-cases P false this others h k = k refl
 
-whole-cases : (P : TermHead → Type 0) (b : Bool) (r : TermRecord) → P (Refused 14) → (b ≡ true → P (Whole r)) → P (wholeIf b r)
+-- What holds of a refusal and of the whole record holds of the record that may be cut.
+whole-cases
+    : (P : TermHead → Type 0) (b : Bool) (r : TermRecord) → P (Refused 14) → (b ≡ true → P (Whole r)) → P (wholeIf b r)
 whole-cases P true r h k = k refl
 whole-cases P false r h k = h
 
@@ -57,6 +60,7 @@ recordBytes (Symbol a) = 3
 recordBytes (Number a) = 3
 recordBytes (Compound a n) = 4
 
+-- The bytes of a head, 0 where it was refused.
 abbrev headBytes : TermHead → ℕ
 headBytes (Whole r) = recordBytes r
 headBytes (Refused q) = 0

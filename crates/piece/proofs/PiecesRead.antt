@@ -1,17 +1,14 @@
 -- Laws of reading pieces into cells and of checking them.
-use Prim.Native.Nat.{ℕ, _+_, _≤_, _<_}
+use Prim.Native.Nat.{ℕ, _≤_, _<_}
 use mathlib.Core.Path.{_≡_, refl, ap, sym, _∙_}
 use mathlib.Core.Bool.{Bool, true, false, _&&_, and-eq-true-iff}
 use mathlib.Core.List.{List}
 use mathlib.Core.Logic.{_⊎_}
-use native.Mathlib.Omega.{arith}
 use lib.ListN.{length, getD, drop}
 use lib.Dec.{leb, eqb}
 use borrow.Author.Tests.{leb-true, eqb-true, le-leb, eq-eqb, ne-eqb}
 use Rattle.records.specs.Reading.{Reading, took, refused, ask, mapReading, after, andThen}
 use Rattle.terms.specs.Term.{Terms}
-use Rattle.piece.specs.declared.Taken.{Taken}
-use Rattle.piece.specs.declared.Taken.the-variants as taken
 use Rattle.piece.specs.declared.Prefix.{Prefix}
 use Rattle.piece.specs.declared.Prefix.the-variants as prefix
 use Rattle.piece.specs.declared.PieceCheck.{PieceCheck}
@@ -19,9 +16,8 @@ use Rattle.piece.specs.declared.PieceCheck.the-variants as check
 use Rattle.piece.specs.Piece.{Piece}
 use Rattle.piece.specs.ReadPiece.{readTerms, readArity, readPrefix, readPiece}
 use Rattle.piece.specs.Cells.{storeTerms}
-use Rattle.piece.specs.LaidOut.{LaidOut, PieceResult, tookCells, termsCells, emptyCells, layOut, arityRead, prefixRead, pieceRead, pieceResult, checkedPiece}
+use Rattle.piece.specs.LaidOut.{LaidOut, PieceResult, termsCells, emptyCells, layOut, arityRead, prefixRead, pieceRead, pieceResult, checkedPiece}
 use Rattle.piece.proofs.Readings.{asked, inside, outside}
-use Rattle.piece.proofs.TermCells.{terms-fit}
 
 -- What is known of the bytes where the record that a piece begins with is read.
 pub record ArityRead (s : List ℕ) (a n : ℕ) : Type 0 where
@@ -32,6 +28,7 @@ pub record ArityRead (s : List ℕ) (a n : ℕ) : Type 0 where
   pub least : 1 ≤ n
   pub most : n ≤ 8
 
+-- It is read only there.
 pub arity-read : (s : List ℕ) {a n : ℕ} → readArity s ≡ took a n → ArityRead s a n
 arity-read s e =
     let first = asked 12 (leb 2 (length s) && eqb (getD s 0 0) 0x11) _ e in
@@ -54,16 +51,19 @@ arity-read s e =
     arity-is e = cc
 
 module _ (s : List ℕ) (there : 2 ≤ length s) (kind : getD s 0 0 ≡ 0x11) where
-  -- Where the bytes begin with a whole 11 record, the arity decides.
+  -- Where the bytes begin with a whole 11 record, an arity of 0 or above 8 is refused.
   pub wrong-arity : (getD s 1 0 < 1) ⊎ (8 < getD s 1 0) → refused 13 ≡ readArity s
   wrong-arity h = simp (le-leb 2 (length s) there, eq-eqb (getD s 0 0) 0x11 kind, outside (getD s 1 0) 8 h)
 
+  -- An arity of 1 to 8 is read.
   pub right-arity : 1 ≤ getD s 1 0 → getD s 1 0 ≤ 8 → took 2 (getD s 1 0) ≡ readArity s
-  right-arity least most = simp (le-leb 2 (length s) there, eq-eqb (getD s 0 0) 0x11 kind, inside (getD s 1 0) 8 least most)
+  right-arity least most =
+      simp (le-leb 2 (length s) there, eq-eqb (getD s 0 0) 0x11 kind, inside (getD s 1 0) 8 least most)
 
 module _ (s : List ℕ) (head : Prefix) (read : arityRead head ≡ readArity s) where
   -- Where that record was refused, so is the piece.
-  pub arity-refused : {q : ℕ} → head ≡ prefix.Refused q → (cells : List ℕ) → prefixRead cells head ≡ mapReading layOut (readPrefix s)
+  pub arity-refused
+      : {q : ℕ} → head ≡ prefix.Refused q → (cells : List ℕ) → prefixRead cells head ≡ mapReading layOut (readPrefix s)
   unfolding readPrefix
   arity-refused told cells = rw (← read, told)
 
@@ -89,13 +89,16 @@ module _ (s : List ℕ) (head : Prefix) (read : arityRead head ≡ readArity s) 
         go (refused q) = refl
 
 module _ (s : List ℕ) (r : Prefix) (cells : List ℕ) (read : prefixRead cells r ≡ mapReading layOut (readPrefix s)) where
+  -- The whole piece is read as the piece that the bytes begin with, and then question 17 is asked.
   whole
       : mapReading layOut (readPiece s)
       ≡ andThen (prefixRead cells r) (λ a x. ask 17 (eqb a (length s)) (took a x))
   unfolding readPiece
   whole = rw read (go (readPrefix s))
     where
-      last : (b : Bool) (a : ℕ) (piece : Piece) → mapReading layOut (ask 17 b (took a piece)) ≡ ask 17 b (took a (layOut piece))
+      last
+          : (b : Bool) (a : ℕ) (piece : Piece)
+          → mapReading layOut (ask 17 b (took a piece)) ≡ ask 17 b (took a (layOut piece))
       last true a piece = refl
       last false a piece = refl
 
@@ -111,25 +114,31 @@ module _ (s : List ℕ) (r : Prefix) (cells : List ℕ) (read : prefixRead cells
   bytes-left told more = sym (whole ∙ (rw (told, ne-eqb _ _ more)))
 
   -- Where no bytes are left, the piece is read.
-  pub piece-took : {n a : ℕ} → r ≡ prefix.Read n a → a ≡ length s → took (length s) (record { arity = n; cells = cells }) ≡ mapReading layOut (readPiece s)
+  pub piece-took
+      : {n a : ℕ} → r ≡ prefix.Read n a → a ≡ length s
+      → took (length s) (record { arity = n; cells = cells }) ≡ mapReading layOut (readPiece s)
   piece-took told all = sym (whole ∙ (rw (told, all, eq-eqb (length s) (length s) refl)))
 
+  -- Where that piece is refused, so is the whole.
   pub piece-refused : {q : ℕ} → r ≡ prefix.Refused q → refused q ≡ mapReading layOut (readPiece s)
   piece-refused told = sym (whole ∙ (rw told))
 
--- What a check says is what the reading of the piece says.
+-- The number and the arity that a reading of a laid out piece says.
 abbrev laidOutResult : Reading LaidOut → PieceResult
 laidOutResult (took a x) = record { refusal = 0; arity = x .arity }
 laidOutResult (refused q) = record { refusal = q; arity = 0 }
 
+-- What the answer of a check says,
 check-result : (bytes : ℕ) (cells : List ℕ) (r : PieceCheck) → pieceResult r ≡ laidOutResult (pieceRead bytes cells r)
 check-result bytes cells (check.Accepted n) = refl
 check-result bytes cells (check.Refused q) = refl
 
+-- what a reading says,
 read-result : (r : Reading Piece) → laidOutResult (mapReading layOut r) ≡ checkedPiece r
 read-result (took a piece) = refl
 read-result (refused q) = refl
 
+-- and both are the same where the answer is that of the reading.
 pub check-says
     : (bytes : ℕ) (cells : List ℕ) (r : PieceCheck) (x : Reading Piece)
     → pieceRead bytes cells r ≡ mapReading layOut x → pieceResult r ≡ checkedPiece x

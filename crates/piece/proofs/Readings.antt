@@ -1,5 +1,5 @@
 -- Laws of readings: the bytes that they took, and rows of things read one after another.
-use Prim.Native.Nat.{ℕ, zero, suc, _+_, _-_, _≤_, _<_}
+use Prim.Native.Nat.{ℕ, zero, suc, _+_, _≤_, _<_}
 use mathlib.Core.Path.{_≡_, refl, ap}
 use mathlib.Core.Bool.{Bool, true, false, _&&_}
 use mathlib.Core.Logic.{_⊎_, inl, inr}
@@ -37,6 +37,7 @@ abbrev pub Took : {A : Type 0} → (A → Type 0) → Reading A → Type 0
 Took P (took a x) = P x
 Took P (refused q) = Unit
 
+-- What holds of each thing read holds of the view of it with bytes before.
 pub took-after
     : {A B : Type 0} (P : A → Type 0) (Q : B → Type 0) (a : ℕ) (f : A → B) → ((x : A) → P x → Q (f x))
     → (r : Reading A) → Took P r → Took Q (after a f r)
@@ -62,7 +63,8 @@ row-took {A} Q empty join one none more (suc n) s = next (one s) (λ a. row-took
     next
         : (r : Reading A) → ((a : ℕ) → Took (Q n) (readRow empty join one n (drop a s)))
         → Took (Q (suc n)) (andThen r (λ a x. after a (join x) (readRow empty join one n (drop a s))))
-    next (took a x) others = took-after (Q n) (Q (suc n)) a (join x) (more n x) (readRow empty join one n (drop a s)) (others a)
+    next (took a x) others =
+        took-after (Q n) (Q (suc n)) a (join x) (more n x) (readRow empty join one n (drop a s)) (others a)
     next (refused q) others = tt
 
 -- No thing in a row takes more bytes than there are, so neither does the row.
@@ -72,7 +74,8 @@ pub row-within
     → (n : ℕ) (s : List ℕ) → bytesOf (readRow empty join one n s) ≤ length s
 unfolding readRow
 row-within empty join one within zero s = omega arith
-row-within {A} {L} empty join one within (suc n) s = next (one s) (within s) (λ a. row-within empty join one within n (drop a s))
+row-within {A} {L} empty join one within (suc n) s =
+    next (one s) (within s) (λ a. row-within empty join one within n (drop a s))
   where
     next
         : (r : Reading A) → bytesOf r ≤ length s
@@ -83,7 +86,9 @@ row-within {A} {L} empty join one within (suc n) s = next (one s) (within s) (λ
     next (refused q) h others = omega arith
 
 -- Where something was read after a question, the answer was yes.
-pub asked : {A : Type 0} (q : ℕ) (b : Bool) (r : Reading A) {a : ℕ} {x : A} → ask q b r ≡ took a x → (b ≡ true) × (r ≡ took a x)
+pub asked
+    : {A : Type 0} (q : ℕ) (b : Bool) (r : Reading A) {a : ℕ} {x : A} → ask q b r ≡ took a x
+    → (b ≡ true) × (r ≡ took a x)
 asked q true r e = (refl, e)
 asked q false r e = let no-yes : _≡_ {A = ℕ} 0 1 = cc in absurd (omega arith)
 
@@ -94,7 +99,8 @@ inside n most least few = rw (le-leb 1 n least, le-leb n most few)
 -- or it is not.
 pub outside : (n most : ℕ) → (n < 1) ⊎ (most < n) → leb 1 n && leb n most ≡ false
 outside n most (inl none) = rw (lt-leb 1 n none)
-outside n most (inr many) = elim (leb 1 n) as (λ b. b && leb n most ≡ false) [ true ↦ lt-leb n most many | false ↦ refl ]
+outside n most (inr many) =
+    elim (leb 1 n) as (λ b. b && leb n most ≡ false) [ true ↦ lt-leb n most many | false ↦ refl ]
 
 -- Two readings that are the same took the same bytes.
 pub took-bytes : {A : Type 0} {a b : ℕ} {x y : A} → took a x ≡ took b y → a ≡ b

@@ -1,23 +1,19 @@
--- Bytes are accepted exactly when they spell a piece that the meaning accepts, and every such piece is spelled by its written
--- bytes.
-use Prim.Native.Nat.{ℕ, zero, suc, _+_, _-_, _≤_, _<_}
+-- Bytes are accepted exactly when they spell a piece that the meaning accepts, and every such piece is spelled by its
+-- written bytes.
+use Prim.Native.Nat.{ℕ, _+_, _≤_}
 use mathlib.Core.Path.{_≡_, refl, ap, ap₂, sym, subst, _∙_}
-use mathlib.Core.Bool.{Bool, true, false}
-use mathlib.Core.List.{List, [], _∷_, _++_, append-nil}
+use mathlib.Core.List.{List, _∷_, _++_, append-nil}
 use mathlib.Core.Logic.{_↔_}
-use native.Mathlib.Decide.{decLt}
 use native.Mathlib.Omega.{arith}
-use lib.ListN.{length, getD, drop, List·getD-append}
-use lib.Seq.{drop-cons, drop-drop, drop-length, getD-append-add}
+use lib.ListN.{length, drop}
+use lib.Seq.{drop-cons, drop-drop, drop-length}
 use lib.Dec.{eqb}
 use borrow.Author.Tests.{eq-eqb, eqb-true}
-use Rattle.records.specs.Fields.{IsByte, highOf, lowOf, wideThen}
 use Rattle.records.specs.Reading.{Reading, took, refused, ask, after, andThen}
-use Rattle.terms.specs.Term.{Term, Terms, count, unknown, symbol, number, compound, nil, cons}
-use Rattle.terms.specs.Filling.{WellFormed, WellFormeds}
+use Rattle.terms.specs.Term.{Terms}
 use Rattle.piece.specs.Piece.{Piece, SoundPiece}
 use Rattle.piece.specs.ReadPiece.{readTerms, readArity, readPrefix, readPiece}
-use Rattle.piece.specs.WritePiece.{termBytes, termsBytes, pieceBytes}
+use Rattle.piece.specs.WritePiece.{termsBytes, pieceBytes}
 use Rattle.piece.proofs.Readings.{asked, took-bytes}
 use Rattle.piece.proofs.PiecesRead.{ArityRead, arity-read, right-arity}
 use Rattle.piece.proofs.HeadSpelled.{AreBytes}
@@ -30,11 +26,15 @@ pub record Spells (s : List ℕ) (k : ℕ) (piece : Piece) : Type 0 where
   pub size : k ≡ length (pieceBytes piece)
   pub bytes : s ≡ pieceBytes piece ++ drop k s
 
+-- What was read, if anything, is spelled.
 abbrev PrefixRead : List ℕ → Reading Piece → Type 0
 PrefixRead s (took k piece) = Spells s k piece
 PrefixRead s (refused q) = Unit
 
-piece-of : (s : List ℕ) (a n b : ℕ) (ts : Terms) → ArityRead s a n → TermsSpelled (drop a s) 3 n b ts → Spells s (a + b) (record { arity = n; terms = ts })
+-- A piece is spelled where its record and its terms are.
+piece-of
+    : (s : List ℕ) (a n b : ℕ) (ts : Terms) → ArityRead s a n → TermsSpelled (drop a s) 3 n b ts
+    → Spells s (a + b) (record { arity = n; terms = ts })
 piece-of s a n b ts head terms = record {
   sound = record {
     someArgument = head .least;
@@ -108,6 +108,7 @@ no-bytes-left n k piece (took a x) e =
     (answer .1, sym (took-bytes (answer .1)) ∙ eqb-true a n (answer .0))
 no-bytes-left n k piece (refused q) e = let never : _≡_ {A = ℕ} 0 1 = cc in absurd (omega arith)
 
+-- So the whole piece is read exactly where the piece that the bytes begin with takes them all.
 whole-piece
     : (s : List ℕ) (k : ℕ) (piece : Piece)
     → (readPiece s ≡ took k piece) ↔ ((readPrefix s ≡ took k piece) × (k ≡ length s))
@@ -134,7 +135,8 @@ piece-spelled s bytes k piece = (
             record {
               sound = spelled .0;
               size = spelled .2 ∙ ap length (sym (spelled .1));
-              bytes = sym (spelled .1) ∙ sym (append-nil (pieceBytes piece)) ∙ ap (λ l. pieceBytes piece ++ l) (sym none);
+              bytes =
+                  sym (spelled .1) ∙ sym (append-nil (pieceBytes piece)) ∙ ap (λ l. pieceBytes piece ++ l) (sym none);
             },
         spelled .2,
       ),

@@ -51,6 +51,7 @@ module _ (a : ℕ) (then : List ℕ) (r : Taken) {whole : Reading (List ℕ)} (r
   stopped told = ap (tookCells then) told ∙ ap (λ o. later a (tookCells then o)) (sym told) ∙ read
 
 module _ (below : ℕ) (s : List ℕ) (p : ℕ) (cells : List ℕ) where
+  -- The cells after the term is stored.
   abbrev stored : Term → List ℕ
   stored t = storeTerm t below p cells
 
@@ -104,6 +105,7 @@ module _ (below : ℕ) (s : List ℕ) (p : ℕ) (cells : List ℕ) where
       first (refused q) = refl
 
   module _ (n : ℕ) (some : n ≡ 0 → ⊥) (r : Taken) (then : List ℕ) (read : tookCells then r ≡ termCells below p cells s) where
+    -- The same where the first term was read or refused.
     one-then
         : andThen (tookCells then r) (λ a then. later a (termsCells below (n - 1) (p + stride (suc below)) then (drop a s)))
         ≡ termsCells below n p cells s

@@ -1,11 +1,11 @@
--- Bytes are read as a term exactly where they spell an accepted one, for any number of levels below it; and so for terms in a
--- row, any number of them.
-use Prim.Native.Nat.{ℕ, zero, suc, _+_, _*_, _≤_, _<_}
-use mathlib.Core.Path.{_≡_, refl, ap, ap₂, sym, subst, _∙_}
+-- Bytes are read as a term exactly where they spell an accepted one, for any number of levels below it; and so for
+-- terms in a row, any number of them.
+use Prim.Native.Nat.{ℕ, zero, suc, _+_, _≤_}
+use mathlib.Core.Path.{_≡_, refl, ap, ap₂, sym, _∙_}
 use mathlib.Core.Bool.{Bool, true, false, _&&_, and-eq-true-iff}
-use mathlib.Core.List.{List, [], _∷_, _++_, append-assoc}
+use mathlib.Core.List.{List, _∷_, _++_, append-assoc}
 use native.Mathlib.Omega.{arith}
-use lib.ListN.{length, getD, drop, length-append}
+use lib.ListN.{length, drop, length-append}
 use lib.Seq.{drop-drop, drop-append-seam, getD-drop}
 use lib.Dec.{leb}
 use borrow.Author.Tests.{leb-true}
@@ -55,7 +55,8 @@ drop-bytes s a bytes i = rw (getD-drop a s i 0) (bytes (a + i))
 
 -- One term and then the others are spelled one after another.
 cons-spelled
-    : (s : List ℕ) (below n a b : ℕ) (t : Term) (ts : Terms) → TermSpelled s below a t → TermsSpelled (drop a s) below n b ts
+    : (s : List ℕ) (below n a b : ℕ) (t : Term) (ts : Terms) → TermSpelled s below a t → TermsSpelled (drop a s) below n
+    b ts
     → TermsSpelled s below (suc n) (a + b) (cons t ts)
 cons-spelled s below n a b t ts first others = record {
   counted = ap suc (others .counted);
@@ -108,14 +109,18 @@ compound-spelled s below a n k ts head wide least most arguments =
           (arguments .bytes ∙ ap (λ l. termsBytes ts ++ l) (drop-drop k 4 s));
     }
 
+-- What is read as a compound is spelled.
 compound-read
     : (s : List ℕ) (below a n : ℕ) → s ≡ recordThen (Compound a n) (drop 4 s) → Wide a
-    → TermsRead (drop 4 s) below n (readTerms below n (drop 4 s)) → TermRead s (suc below) (readCompound (suc below) s a n)
+    → TermsRead (drop 4 s) below n (readTerms below n (drop 4 s)) → TermRead s (suc below)
+    (readCompound (suc below) s a n)
 unfolding readCompound
-compound-read s below a n head wide row = go (leb 1 n && leb n 4) (and-eq-true-iff (leb 1 n) (leb n 4) .0) (readTerms below n (drop 4 s)) row
+compound-read s below a n head wide row =
+    go (leb 1 n && leb n 4) (and-eq-true-iff (leb 1 n) (leb n 4) .0) (readTerms below n (drop 4 s)) row
   where
     go
-        : (b : Bool) → (b ≡ true → (leb 1 n ≡ true) × (leb n 4 ≡ true)) → (r : Reading Terms) → TermsRead (drop 4 s) below n r
+        : (b : Bool) → (b ≡ true → (leb 1 n ≡ true) × (leb n 4 ≡ true)) → (r : Reading Terms) → TermsRead (drop 4 s)
+        below n r
         → TermRead s (suc below) (ask 16 b (after 4 (compound a) r))
     go true asked (took k ts) spelled =
         let answers = asked refl in
@@ -157,16 +162,19 @@ read-head
     : (below : ℕ) (s : List ℕ) {h : TermHead} → termHead s ≡ h → readTerm below s ≡ onHead (readCompound below s) h
 read-head below s head = by-head below s ∙ ap (onHead (readCompound below s)) head
 
+-- A compound with 1 to 4 arguments is read on.
 compound-reads
     : (below : ℕ) (s : List ℕ) (a n : ℕ) → 1 ≤ n → n ≤ 4
     → readCompound (suc below) s a n ≡ after 4 (compound a) (readTerms below n (drop 4 s))
 unfolding readCompound
 compound-reads below s a n least most = rw (inside n 4 least most)
 
+-- No terms are read from any bytes.
 none-read : (below : ℕ) (s : List ℕ) → readTerms below 0 s ≡ took 0 nil
 unfolding readRow
 none-read below s = refl
 
+-- One term is read, and then the others.
 one-reads
     : (below n : ℕ) (s : List ℕ) {a : ℕ} {t : Term} → readTerm below s ≡ took a t
     → readTerms below (suc n) s ≡ after a (cons t) (readTerms below n (drop a s))
@@ -201,6 +209,7 @@ mutual
       let s = termBytes t ++ (termsBytes ts ++ rest) in
       ap (readTerms below (suc (count ts))) (append-assoc (termBytes t) (termsBytes ts) rest)
       ∙ one-reads below (count ts) s (term-reads t below (termsBytes ts ++ rest) (ok .0) (shallow .0))
-      ∙ ap (λ l. after (length (termBytes t)) (cons t) (readTerms below (count ts) l)) (drop-append-seam (termBytes t) (termsBytes ts ++ rest))
+      ∙ ap (λ l. after (length (termBytes t)) (cons t) (readTerms below (count ts) l))
+      (drop-append-seam (termBytes t) (termsBytes ts ++ rest))
       ∙ ap (after (length (termBytes t)) (cons t)) (terms-read ts below rest (ok .1) (shallow .1))
       ∙ ap (λ k. took k (cons t ts)) (sym (length-append (termBytes t) (termsBytes ts)))

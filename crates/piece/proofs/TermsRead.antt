@@ -1,22 +1,17 @@
 -- Laws of reading terms, for any number of levels below them and of terms in a row.
 use Prim.Native.Nat.{ℕ, zero, suc, _-_, _≤_, _<_}
-use mathlib.Core.Path.{_≡_, refl, ap, sym, subst, _∙_}
+use mathlib.Core.Path.{_≡_, refl, ap, _∙_}
 use mathlib.Core.Bool.{Bool, true, false, _&&_}
 use mathlib.Core.List.{List}
-use mathlib.Core.Logic.{_⊎_, inl, inr}
+use mathlib.Core.Logic.{_⊎_}
 use native.Mathlib.Omega.{arith}
 use lib.ListN.{length, getD, drop, length-drop}
-use lib.Dec.{leb, eqb}
-use borrow.Author.Tests.{leb-true, le-leb, lt-leb, ne-eqb, eqb-false}
+use lib.Dec.{leb}
 use Rattle.records.specs.Fields.{wideAt}
-use Rattle.records.specs.Reading.{Reading, took, refused, ask, after, andThen, readRow}
-use Rattle.terms.specs.Term.{Term, Terms, count, compound, nil, cons}
-use Rattle.piece.specs.declared.TermRecord.{TermRecord}
-use Rattle.piece.specs.declared.TermRecord.the-variants.{Unknown, Symbol, Number, Compound}
-use Rattle.piece.specs.declared.TermHead.{TermHead}
-use Rattle.piece.specs.declared.TermHead.the-variants.{Whole, Refused}
-use Rattle.piece.specs.TermRecord.{termHead, wholeIf, isKind}
-use Rattle.piece.specs.ReadPiece.{onRecord, onHead, readTerm, readTerms}
+use Rattle.records.specs.Reading.{Reading, refused, ask, after}
+use Rattle.terms.specs.Term.{Term, compound, nil, cons}
+use Rattle.piece.specs.TermRecord.{termHead}
+use Rattle.piece.specs.ReadPiece.{onHead, readTerm, readTerms}
 use Rattle.piece.proofs.Heads.{head-cases}
 use Rattle.piece.proofs.Readings.{bytesOf, bytes-after, row-within, inside, outside}
 
@@ -37,6 +32,7 @@ unfolding readCompound
 too-deep below s a n none = rw none
 
 module _ (below : ℕ) (s : List ℕ) (a n : ℕ) (some : below ≡ 0 → ⊥) where
+  -- Where a level is below, the arity is asked.
   asked
       : readCompound below s a n
       ≡ ask 16 (leb 1 n && leb n 4) (after 4 (compound a) (readTerms (below - 1) n (drop 4 s)))
@@ -50,14 +46,17 @@ module _ (below : ℕ) (s : List ℕ) (a n : ℕ) (some : below ≡ 0 → ⊥) w
   wrong-arity h = asked ∙ (rw (outside n 4 h))
 
   -- A compound's arguments follow its record.
-  pub with-arguments : 1 ≤ n → n ≤ 4 → readCompound below s a n ≡ after 4 (compound a) (readTerms (below - 1) n (drop 4 s))
+  pub with-arguments
+      : 1 ≤ n → n ≤ 4 → readCompound below s a n ≡ after 4 (compound a) (readTerms (below - 1) n (drop 4 s))
   with-arguments least most = asked ∙ (rw (inside n 4 least most))
 
+-- A question takes no bytes.
 ask-within
     : {A : Type 0} (q : ℕ) (b : Bool) (r : Reading A) (k : ℕ) → bytesOf r ≤ k → bytesOf (ask q b r) ≤ k
 ask-within q true r k h = h
 ask-within q false r k h = omega arith
 
+-- A term takes no more bytes than there are where a compound takes no more.
 within-by-compound
     : (below : ℕ) (s : List ℕ) → ((a n : ℕ) → 4 ≤ length s → bytesOf (readCompound below s a n) ≤ length s)
     → bytesOf (readTerm below s) ≤ length s

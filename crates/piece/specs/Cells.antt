@@ -1,15 +1,14 @@
 -- A piece laid out by place: a number for what stands at each place.
-use Prim.Native.Nat.{ℕ, zero, suc, pred, _+_, _*_}
-use mathlib.Core.Bool.{true, false}
+use Prim.Native.Nat.{ℕ, suc, pred, _+_, _*_}
 use mathlib.Core.List.{List}
-use lib.ListN.{getD, set}
-use lib.Dec.{eqb}
-use Rattle.places.specs.Numbering.{stride, parentAt}
+use lib.ListN.{set}
+use Rattle.places.specs.Numbering.{stride}
 use Rattle.terms.specs.Term.{Term, Terms, count, unknown, symbol, number, compound, nil, cons}
 use Rattle.terms.specs.Lookup.{Found, lacking, found}
 
--- The sort of a term in the highest byte, its id or number in the next two, its arity in the lowest. The sorts are in the order
--- of a switch's cases, so that one comparison of numbers finds a case. 0 stands where the piece lacks a place.
+-- The sort of a term in the highest byte, its id or number in the next two, its arity in the lowest. The sorts are in
+-- the order of a switch's cases, so that one comparison of numbers finds a case. 0 stands where the piece lacks a
+-- place.
 abbrev pub symbolCode : ℕ → ℕ
 symbolCode a = 0x1000000 + a * 256
 
@@ -32,8 +31,8 @@ abbrev pub foundCode : Found → ℕ
 foundCode lacking = 0
 foundCode (found t) = termCode t
 
--- The cells after a term with so many levels below it is stored at place p, and after a row of terms from there on. Nothing is
--- stored below an unknown.
+-- The cells after a term with so many levels below it is stored at place p, and after a row of terms from there on.
+-- Nothing is stored below an unknown.
 abbrev mutual
   pub storeTerm : Term → ℕ → ℕ → List ℕ → List ℕ
   storeTerm unknown below p cells = set cells p unknownCode

@@ -1,5 +1,5 @@
--- How a piece is read: its arity and terms, or the number of the first question that gets a no (document 01, "Questions at the
--- counter", 12 to 17).
+-- How a piece is read: its arity and terms, or the number of the first question that gets a no (document 01, "Questions
+-- at the counter", 12 to 17).
 use Prim.Native.Nat.{ℕ, zero, suc}
 use mathlib.Core.Bool.{_&&_}
 use mathlib.Core.List.{List}
@@ -25,8 +25,8 @@ abbrev pub onHead : (ℕ → ℕ → Reading Term) → TermHead → Reading Term
 onHead compoundOf (Whole r) = onRecord compoundOf r
 onHead compoundOf (Refused q) = refused q
 
--- A term with so many levels below it. "15 If compound, is its depth at most 3?" It is 4 where no level is below. "16 Is its
--- arity 1 to 4?" Its arguments follow.
+-- A term with so many levels below it. "15 If compound, is its depth at most 3?" It is 4 where no level is below. "16
+-- Is its arity 1 to 4?" Its arguments follow.
 unfoldable pub readTerm : ℕ → List ℕ → Reading Term
 readTerm zero s = onHead (λ a n. refused 15) (termHead s)
 readTerm (suc below) s =

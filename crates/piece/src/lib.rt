@@ -29,8 +29,8 @@ pub enum Taken {
     Refused(u8),
 }
 
-// How reading the piece that the input begins with ended: its arity and the number of bytes that it took, or the number of
-// the question that got a no.
+// How reading the piece that the input begins with ended: its arity and the number of bytes that it took, or the number
+// of the question that got a no.
 pub enum Prefix {
     Read(u8, usize),
     Refused(u8),

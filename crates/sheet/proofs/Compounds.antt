@@ -95,7 +95,8 @@ module _ (below place : ℕ) (before : List Note) (s : List ℕ) where
   pub lowest-read : {r : PatternRecord} → patternHead s ≡ Whole r → below ≡ 0 → leafBehind place before r ≡ patternRead
   lowest-read {r} e lowest =
       sym (by-record e
-      ∙ ap (λ (k : ℕ). mapReading (λ (p : Pattern). before ++ patternNotes p k place) (onRecord (compoundOf k s) r)) lowest)
+      ∙ ap (λ (k : ℕ). mapReading (λ (p : Pattern). before ++ patternNotes p k place) (onRecord (compoundOf k s) r))
+      lowest)
 
   flat-same : (r : PatternRecord) → Flat r → leafBehind place before r ≡ onWhole r
   flat-same Anything f = refl

@@ -1,7 +1,8 @@
 -- Laws of the notes in an array.
-use Prim.Native.Nat.{ℕ, _+_, _<_}
+use Prim.Native.Nat.{ℕ, _+_, _≤_, _<_}
 use mathlib.Core.Path.{_≡_, refl, sym, ap, _∙_}
 use mathlib.Core.List.{List, [], _∷_, _++_, map, map-append}
+use native.Mathlib.Omega.{arith}
 use native.Mathlib.Numerals.{add-one}
 use lib.ListN.{length, take, getD, set}
 use lib.Seq.{take-suc, take-suc-set}
@@ -11,7 +12,7 @@ use Rattle.sheet.specs.declared.Took.the-variants.{Used, Refused}
 use Rattle.sheet.specs.declared.PatternRecord.{PatternRecord}
 use Rattle.sheet.specs.Noted.{Note, note}
 use Rattle.sheet.specs.NoteCode.{noteCode, noteOf, Fitting}
-use Rattle.sheet.specs.NoteArray.{notesIn, tookNotes}
+use Rattle.sheet.specs.NoteArray.{notesIn, tookNotes, usedAfter, bytesUsed, notesMade}
 use Rattle.sheet.proofs.NoteCodes.{note-kept}
 
 -- A note put behind the first n notes comes after them.
@@ -51,3 +52,20 @@ pub was-refused
     : {t : Took} {q : ℕ} (codes : List ℕ) {r r' : Reading (List Note)} → t ≡ Refused q → tookNotes codes t ≡ r
     → (refused q ≡ r → refused q ≡ r') → tookNotes codes t ≡ r'
 was-refused codes e h next = ap (tookNotes codes) e ∙ next (sym (ap (tookNotes codes) e) ∙ h)
+
+-- How reading went after so many bytes: what follows of reading, and what follows of a refusal.
+pub was-after
+    : (a : ℕ) (t : Took) (codes : List ℕ) {r r' : Reading (List Note)} → tookNotes codes t ≡ r
+    → ((b : ℕ) (notes : List Note) → took b notes ≡ r → took (a + b) notes ≡ r')
+    → ((q : ℕ) → refused q ≡ r → refused q ≡ r') → tookNotes codes (usedAfter a t) ≡ r'
+was-after a (Used b n) codes e read stop = read b (notesIn codes n) e
+was-after a (Refused q) codes e read stop = stop q e
+
+-- It used no more bytes than those and its own, and made the same notes.
+pub after-used : (a : ℕ) (t : Took) → bytesUsed (usedAfter a t) ≤ a + bytesUsed t
+after-used a (Used b n) = omega arith
+after-used a (Refused q) = omega arith
+
+pub after-made : (a : ℕ) (t : Took) → notesMade (usedAfter a t) ≡ notesMade t
+after-made a (Used b n) = refl
+after-made a (Refused q) = refl

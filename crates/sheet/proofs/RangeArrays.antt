@@ -108,6 +108,10 @@ no-range (Ranged u l h) o v =
     (⊎-elim (λ e. omega arith)
     (⊎-elim (λ e. omega arith) (⊎-elim (λ e. omega arith) (⊎-elim (λ e. omega arith) (λ e. omega arith)))) o)
 
+-- The fields of a ranged record that a number stands for.
+pub ranged-fits : (c : ℕ) {u l h : ℕ} → codeRecord c ≡ Ranged u l h → (u < 16) × Wide l × Wide h
+ranged-fits c e = subst Fitting e (code-fits c)
+
 module _ (codes : List ℕ) (i : ℕ) (inside : i < length codes) where
   next-range
       : {r : PatternRecord} → codeRecord (getD codes i 0) ≡ r → (v : ℕ)
@@ -150,12 +154,15 @@ module _ (codes : List ℕ) (i : ℕ) (inside : i < length codes) where
         let was = rangeIn (notesIn codes i) v in
         sym (ap (commonPart was) there ∙ common-none was)
 
+    abbrev small : u < 16
+    small = ranged-fits (getD codes i 0) e .0
+
     end-narrowed
         : (end : Option Range → ℕ) (join : ℕ → ℕ → ℕ) (x : ℕ)
         → ((o : Option Range) → end (commonPart o own) ≡ join (end o) x)
-        → {ends : List ℕ} → ends ≡ forVariables (λ (v : ℕ). end (rangeIn (notesIn codes i) v)) → u < 16
+        → {ends : List ℕ} → ends ≡ forVariables (λ (v : ℕ). end (rangeIn (notesIn codes i) v))
         → set ends u (join (getD ends u 0) x) ≡ forVariables (λ (v : ℕ). end (rangeIn (notesIn codes (i + 1)) v))
-    end-narrowed end join x common {ends} was small =
+    end-narrowed end join x common {ends} was =
         let before : ℕ → ℕ = λ v. end (rangeIn (notesIn codes i) v) in
         let there : getD ends u 0 ≡ before u = ap (λ (xs : List ℕ). getD xs u 0) was ∙ variable-at before u small in
         ap (λ (xs : List ℕ). set xs u (join (getD ends u 0) x)) was
@@ -164,16 +171,12 @@ module _ (codes : List ℕ) (i : ℕ) (inside : i < length codes) where
         (λ v apart. ap end (narrowed-other v apart))
         ∙ variables-same _ _ (λ v below. ap end (sym (next-range e v)))
 
-    -- The fields of a ranged record that was noted.
-    pub ranged-fits : (u < 16) × Wide l × Wide h
-    ranged-fits = subst Fitting e (code-fits (getD codes i 0))
-
     pub low-narrowed
         : {low : List ℕ} → low ≡ lowsOf (notesIn codes i)
         → set low u (max (getD low u 0) l) ≡ lowsOf (notesIn codes (i + 1))
-    low-narrowed was = end-narrowed lowEnd max l (λ o. low-common o l h) was (ranged-fits .0)
+    low-narrowed was = end-narrowed lowEnd max l (λ o. low-common o l h) was
 
     pub high-narrowed
         : {high : List ℕ} → high ≡ highsOf (notesIn codes i)
         → set high u (min (getD high u 0) h) ≡ highsOf (notesIn codes (i + 1))
-    high-narrowed was = end-narrowed highEnd min h (λ o. high-common o l h (ranged-fits .2)) was (ranged-fits .0)
+    high-narrowed was = end-narrowed highEnd min h (λ o. high-common o l h (ranged-fits (getD codes i 0) e .2)) was

@@ -35,8 +35,10 @@ sound-from below s bytes rows (isRanged head range small) = (omega arith, range,
 
 -- A row of patterns is sound where each is.
 row-sound
-    : (below : ℕ) → ((s : List ℕ) (k : ℕ) (p : Pattern) → All IsByte s → readPattern below s ≡ took k p → Sound p (suc below))
-    → (n : ℕ) (s : List ℕ) {k : ℕ} {ps : Patterns} → All IsByte s → readPatterns below n s ≡ took k ps → Sounds ps (suc below)
+    : (below : ℕ) → ((s : List ℕ) (k : ℕ) (p : Pattern) → All IsByte s → readPattern below s ≡ took k p
+    → Sound p (suc below))
+    → (n : ℕ) (s : List ℕ) {k : ℕ} {ps : Patterns} → All IsByte s → readPatterns below n s ≡ took k ps
+    → Sounds ps (suc below)
 row-sound below each n s bytes e =
     row-holds pnil pcons (readPattern below) (All IsByte) bytes-rest (λ (p : Pattern). Sound p (suc below))
     (λ (ps : Patterns). Sounds ps (suc below)) tt (λ p ps first rest. (first, rest)) each n s bytes e

@@ -37,11 +37,13 @@ spelled-from below s bytes rows (isRanged head range small) = record { begins = 
 -- A row of patterns is spelled where each is.
 row-bytes
     : (below : ℕ)
-    → ((s : List ℕ) (k : ℕ) (p : Pattern) → All IsByte s → readPattern below s ≡ took k p → Spelled (patternBytes p) k s)
+    → ((s : List ℕ) (k : ℕ) (p : Pattern) → All IsByte s → readPattern below s ≡ took k p
+    → Spelled (patternBytes p) k s)
     → (n : ℕ) (s : List ℕ) {k : ℕ} {ps : Patterns} → All IsByte s → readPatterns below n s ≡ took k ps
     → Spelled (patternsBytes ps) k s
 row-bytes below each n s bytes e =
-    row-spelled pnil pcons (readPattern below) (All IsByte) bytes-rest patternBytes patternsBytes refl (λ p ps. refl) each
+    row-spelled pnil pcons (readPattern below) (All IsByte) bytes-rest patternBytes patternsBytes refl (λ p ps. refl)
+    each
     n s bytes e
 
 -- A pattern that is read from bytes is spelled by those that it took.

@@ -2,7 +2,7 @@
 use Prim.Native.Nat.{ℕ}
 use mathlib.Core.Path.{_≡_, refl, sym, ap, _∙_}
 use mathlib.Core.Bool.{Bool, true, false}
-use mathlib.Core.List.{List, []}
+use mathlib.Core.List.{List}
 use mathlib.Core.Option.{Option, some, none}
 use lib.Dec.{leb}
 use Rattle.records.specs.Reading.{Reading, took, refused, ask, mapReading, andThen}
@@ -11,8 +11,10 @@ use Rattle.terms.specs.Pattern.{Patterns}
 use Rattle.terms.specs.RuleTests.{Range}
 use Rattle.sheet.specs.ReadSheet.{readPatterns, readRule, inCommon, rangesMeet}
 use Rattle.sheet.specs.Noted.{Note, ruleNotes}
+use Rattle.sheet.specs.NoteArray.{notesIn}
 use Rattle.sheet.specs.NotesBehind.{rowBehind}
-use Rattle.sheet.specs.NoteRanges.{rangeIn, lowEnd, highEnd, lowsOf, highsOf, endsMeet}
+use Rattle.sheet.specs.NoteRanges.{rangeIn, lowEnd, highEnd, endsMeet, notesMeet}
+use Rattle.sheet.proofs.NoteArrays.{notes-none}
 use Rattle.sheet.proofs.AllBelow.{all-same}
 use Rattle.sheet.proofs.CommonRanges.{rule-range}
 use Rattle.sheet.proofs.RangeArrays.{variable-at}
@@ -23,7 +25,7 @@ in-common-ends (some x) = refl
 
 -- The ends of the ranges in the notes of a rule meet where its ranges do.
 pub rule-ends-meet
-    : (rule : Patterns) → endsMeet (lowsOf (ruleNotes rule)) (highsOf (ruleNotes rule)) ≡ rangesMeet rule
+    : (rule : Patterns) → notesMeet (ruleNotes rule) ≡ rangesMeet rule
 unfolding endsMeet
 rule-ends-meet rule =
     let in-notes : ℕ → Option Range = rangeIn (ruleNotes rule) in
@@ -42,10 +44,10 @@ module _ (arity : ℕ) (s : List ℕ) where
   abbrev pub ruleRead : Reading (List Note)
   ruleRead = mapReading ruleNotes (readRule arity s)
 
-  -- The notes begin with the rule's.
+  -- With no notes before them, the notes are the rule's.
   pub from-none
-      : {r : Reading (List Note)} {notes : List Note} → notes ≡ [] → r ≡ rowBehind 3 arity 0 notes s → r ≡ patternsRead
-  from-none empty e = e ∙ ap (λ (l : List Note). rowBehind 3 arity 0 l s) empty
+      : (codes : List ℕ) {r : Reading (List Note)} → r ≡ rowBehind 3 arity 0 (notesIn codes 0) s → r ≡ patternsRead
+  from-none codes e = e ∙ ap (λ (l : List Note). rowBehind 3 arity 0 l s) (notes-none codes)
 
   abbrev asked : ℕ → Patterns → Reading Patterns
   asked a rule = ask 9 (rangesMeet rule) (took a rule)
@@ -59,18 +61,18 @@ module _ (arity : ℕ) (s : List ℕ) where
   -- Question 9, by the ranges in the notes.
   module _ {bytes : ℕ} {notes : List Note} (e : took bytes notes ≡ patternsRead) where
     by-answer
-        : {b : Bool} → b ≡ endsMeet (lowsOf notes) (highsOf notes)
+        : {b : Bool} → b ≡ notesMeet notes
         → ruleRead ≡ mapReading ruleNotes (ask 9 b (took bytes (took-view ruleNotes (readPatterns 3 arity s) e .0)))
     by-answer same =
         let (rule, read, are) = took-view ruleNotes (readPatterns 3 arity s) e in
         ap (λ x. mapReading ruleNotes (andThen x asked)) read
         ∙ ap (λ b. mapReading ruleNotes (ask 9 b (took bytes rule)))
-        (sym (same ∙ ap (λ (l : List Note). endsMeet (lowsOf l) (highsOf l)) are ∙ rule-ends-meet rule))
+        (sym (same ∙ ap notesMeet are ∙ rule-ends-meet rule))
 
-    pub ranges-yes : endsMeet (lowsOf notes) (highsOf notes) ≡ true → took bytes notes ≡ ruleRead
+    pub ranges-yes : notesMeet notes ≡ true → took bytes notes ≡ ruleRead
     ranges-yes meet =
         let (rule, read, are) = took-view ruleNotes (readPatterns 3 arity s) e in
         ap (took bytes) are ∙ sym (by-answer (sym meet))
 
-    pub ranges-no : endsMeet (lowsOf notes) (highsOf notes) ≡ false → refused 9 ≡ ruleRead
+    pub ranges-no : notesMeet notes ≡ false → refused 9 ≡ ruleRead
     ranges-no apart = sym (by-answer (sym apart))

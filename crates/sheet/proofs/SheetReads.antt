@@ -6,7 +6,7 @@ use mathlib.Core.List.{List}
 use native.Mathlib.Omega.{arith}
 use lib.ListN.{length, getD, drop}
 use lib.Dec.{leb, eqb}
-use borrow.Author.Tests.{leb-true, eqb-true}
+use borrow.Author.Tests.{leb-true, le-leb, eqb-true, eq-eqb}
 use Rattle.records.specs.Reading.{Reading, took, refused, ask, andThen}
 use Rattle.records.proofs.Rows.{ask-holds}
 use Rattle.terms.specs.Pattern.{Patterns}
@@ -41,6 +41,21 @@ pub record HeaderIs (s : List ℕ) (k : ℕ) (head : SheetHead) : Type 0 where
   pub fewArguments : head .arity ≤ 8
   pub fewRules : head .count ≤ mostRules
   pub threeBytes : k ≡ 3
+
+-- Where questions 1 and 2 get a yes, question 3 is asked.
+pub header-count
+    : (s : List ℕ) → 3 ≤ length s → getD s 0 0 ≡ 0x10 → 1 ≤ getD s 1 0 → getD s 1 0 ≤ 8
+    → readHeader s
+    ≡ ask 3 (leb (getD s 2 0) mostRules) (took 3 (record { arity = getD s 1 0; count = getD s 2 0 }))
+unfolding readHeader
+header-count s whole kind enough few =
+    simp (
+      le-leb 3 (length s) whole,
+      eq-eqb (getD s 0 0) 0x10 kind,
+      le-leb 1 (getD s 1 0) enough,
+      le-leb (getD s 1 0)
+          8 few,
+    )
 
 abbrev HeaderRead : List ℕ → Reading SheetHead → Type 0
 HeaderRead s (took k head) = HeaderIs s k head

@@ -1,5 +1,5 @@
--- Bytes are accepted by questions 1 to 10 exactly when they spell a sound sheet, and every sound sheet is spelled by its
--- written bytes.
+-- Bytes are accepted by questions 1 to 10 exactly when they spell a sound sheet, and every sound sheet is spelled by
+-- its written bytes.
 use Prim.Native.Nat.{ℕ, suc, _+_, _-_}
 use mathlib.Core.Path.{_≡_, refl, sym, ap, subst, _∙_}
 use mathlib.Core.Logic.{_↔_}

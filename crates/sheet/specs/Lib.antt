@@ -1,4 +1,4 @@
--- The definitions that the contracts of this crate cite: sheets, how they are read and written, and the notes of a rule.
+-- The definitions that the contracts of this crate cite: sheets, how they are read and written, the notes of a rule.
 pub mod Sheet
 pub mod PatternRecord
 pub mod ReadSheet

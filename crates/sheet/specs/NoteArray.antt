@@ -1,5 +1,5 @@
 -- What the reader leaves in its array of notes.
-use Prim.Native.Nat.{ℕ, _≤_}
+use Prim.Native.Nat.{ℕ, _+_, _≤_}
 use mathlib.Core.Path.{_≡_}
 use mathlib.Core.List.{List, map}
 use lib.ListN.{length, take}
@@ -18,6 +18,12 @@ abbrev pub tookNotes : List ℕ → Took → Reading (List Note)
 tookNotes codes (Used bytes n) = took bytes (notesIn codes n)
 tookNotes codes (Refused q) = refused q
 
+-- The same where a bytes were used before it.
+abbrev pub usedAfter : ℕ → Took → Took
+usedAfter a (Used bytes n) = Used (a + bytes) n
+usedAfter a (Refused q) = Refused q
+
+-- The bytes used and the notes made, none where there was a refusal.
 abbrev pub bytesUsed : Took → ℕ
 bytesUsed (Used bytes n) = bytes
 bytesUsed (Refused q) = 0

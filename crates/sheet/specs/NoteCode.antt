@@ -1,5 +1,5 @@
--- A note as one number of 64 bits, so that the notes of a rule are one array. From the highest bits down: the place, the kind
--- of the record (its kind byte less 0x20), the variable (4 bits) and two fields of 16 bits.
+-- A note as one number of 64 bits, so that the notes of a rule are one array. From the highest bits down: the place,
+-- the kind of the record (its kind byte less 0x20), the variable (4 bits) and two fields of 16 bits.
 use Prim.Native.Nat.{ℕ, _+_, _*_, _/_, _%_, _<_}
 use lib.Dec.{eqb}
 use Rattle.terms.specs.Term.{Wide}

@@ -52,3 +52,6 @@ rangesOf notes = record { low = lowsOf notes; high = highsOf notes }
 -- "9 Has each variable's set of ranges a number in common?"
 unfoldable pub endsMeet : List ℕ → List ℕ → Bool
 endsMeet low high = allBelow 16 (λ (v : ℕ). leb (getD low v 0) (getD high v 0))
+
+abbrev pub notesMeet : List Note → Bool
+notesMeet notes = endsMeet (lowsOf notes) (highsOf notes)

@@ -1,5 +1,5 @@
--- A rule as the reader notes it: its records other than anything, each with its place, in preorder. All that is asked of a
--- rule later, its ranges, tests and pairs, is read off this list.
+-- A rule as the reader notes it: its records other than anything, each with its place, in preorder. All that is asked
+-- of a rule later, its ranges, tests and pairs, is read off this list.
 use Prim.Native.Nat.{ℕ, pred, suc, _+_}
 use mathlib.Core.List.{List, [], _∷_, _++_}
 use Rattle.places.specs.Numbering.{stride}
@@ -14,13 +14,15 @@ pub record Note : Type 0 where
 abbrev pub note : ℕ → PatternRecord → Note
 note n r = record { place = n; what = r }
 
--- The notes of a pattern at place b with so many levels below it, and of a row of patterns of which the first stands there.
+-- The notes of a pattern at place b with so many levels below it, and of a row of patterns of which the first stands
+-- there.
 abbrev mutual
   pub patternNotes : Pattern → ℕ → ℕ → List Note
   patternNotes anything below b = []
   patternNotes (theSymbol a) below b = note b (Symbol a) ∷ []
   patternNotes (theRange l h) below b = note b (Range l h) ∷ []
-  patternNotes (theCompound a ps) below b = note b (Compound a (countPatterns ps)) ∷ patternsNotes ps (pred below) (suc b)
+  patternNotes (theCompound a ps) below b =
+      note b (Compound a (countPatterns ps)) ∷ patternsNotes ps (pred below) (suc b)
   patternNotes (variable v) below b = note b (Variable v) ∷ []
   patternNotes (rangedVariable v l h) below b = note b (Ranged v l h) ∷ []
 

@@ -1,5 +1,5 @@
--- How a sheet is read: its arity and rules, or the number of the first question that gets a no (document 01, "Questions at
--- the counter", 1 to 10).
+-- How a sheet is read: its arity and rules, or the number of the first question that gets a no (document 01, "Questions
+-- at the counter", 1 to 10).
 use Prim.Native.Nat.{ℕ, zero, suc, _+_, _-_}
 use mathlib.Core.Bool.{Bool, true, _&&_}
 use mathlib.Core.List.{List, [], _∷_}

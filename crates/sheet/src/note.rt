@@ -14,8 +14,8 @@ fn pack(place: usize, kind: u8, variable: u8, first: u16, second: u16) -> u64
     (head * 0x1_0000 + first as u64) * 0x1_0000 + second as u64
 }
 
-// The number of a note: of a record at its place. Notes that differ have numbers that differ, so neither the place nor the
-// kind may be left out.
+// The number of a note: of a record at its place. Notes that differ have numbers that differ, so neither the place nor
+// the kind may be left out.
 pub fn note_code(place: usize, what: PatternRecord) -> u64
     requires { ⌜ place < 680 ⌝ }
     ensures { λ r. ⌜ r ≡ noteCode (note place what) ⌝ }

@@ -10,8 +10,8 @@ ghost use Rattle.sheet.specs.PatternRecord.{patternHead, rangeHead, rang
 // "At most 32 rules".
 const MOST_RULES: u8 = 32;
 
-// The record that a sheet begins with; its rules begin behind its 3 bytes. Arity 9 is refused by 2 and 33 rules by 3, and
-// no arity or count is made up.
+// The record that a sheet begins with; its rules begin behind its 3 bytes. Arity 9 is refused by 2 and 33 rules by 3,
+// and no arity or count is made up.
 pub fn read_header(s: &[u8]) -> Header
     ensures { λ r. ⌜ headerRead r ≡ readHeader (now (s .entry)) ⌝ }
 {

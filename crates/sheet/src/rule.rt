@@ -4,11 +4,10 @@ use crate::PatternRecord;
 use crate::Took;
 use crate::note::note_code;
 use crate::record::pattern_head;
-use crate::variable::meet;
-use crate::variable::ranges;
+use crate::variable::common;
 ghost use mathlib.Core.Path.{_≡_};
 ghost use mathlib.Core.List.{[], _∷_, _++_};
-ghost use Prim.Native.Nat.{suc, _+_, _*_, _≤_, _<_};
+ghost use Prim.Native.Nat.{suc, _+_, _*_, _^_, _≤_, _<_};
 ghost use lib.ListN.{length};
 ghost use Rattle.places.specs.Numbering.{stride};
 ghost use Rattle.records.specs.Reading.{took, mapReading};
@@ -16,7 +15,7 @@ ghost use Rattle.sheet.specs.PatternRecord.{recordBytes};
 ghost use Rattle.sheet.specs.ReadSheet.{readRule};
 ghost use Rattle.sheet.specs.Noted.{note, ruleNotes};
 ghost use Rattle.sheet.specs.NoteCode.{Fitting};
-ghost use Rattle.sheet.specs.NoteArray.{notesIn, tookNotes, Within};
+ghost use Rattle.sheet.specs.NoteArray.{notesIn, tookNotes, usedAfter, bytesUsed, Within};
 ghost use Rattle.sheet.specs.NotesBehind.{leafBehind, patternBehind, rowBehind};
 
 // Notes a record at its place as note n.
@@ -36,6 +35,17 @@ fn noted(bytes: usize, place: usize, what: PatternRecord, n: usize, notes: &mut 
 {
     put(place, what, n, notes);
     Took::Used(bytes, n + 1)
+}
+
+// How reading went where so many bytes were used before.
+fn after(bytes: usize, rest: Took) -> Took
+    requires { ⌜ bytes + bytesUsed rest < 2 ^ 64 ⌝ }
+    ensures { λ r. ⌜ r ≡ usedAfter bytes rest ⌝ }
+{
+    let Took::Used(more, n) = rest else {
+        return rest;
+    };
+    Took::Used(bytes + more, n)
 }
 
 // A record with no level below it, so no compound: question 5, then 7 and 8.
@@ -93,10 +103,7 @@ fn pattern(s: &[u8], below: usize, place: usize, n: usize, notes: &mut [u64; 680
     }
     put(place, what, n, notes);
     let arguments = patterns(&s[4..], below - 1, arity as usize, place + 1, n + 1, notes);
-    let Took::Used(bytes, made) = arguments else {
-        return arguments;
-    };
-    Took::Used(4 + bytes, made)
+    after(4, arguments)
 }
 
 // The count patterns that the input begins with, the first at a place, each with so many levels below it.
@@ -121,14 +128,11 @@ fn patterns(
     };
     let next = place + places::step(3 - below);
     let rest = patterns(&s[bytes..], below, count - 1, next, made, notes);
-    let Took::Used(more, all) = rest else {
-        return rest;
-    };
-    Took::Used(bytes + more, all)
+    after(bytes, rest)
 }
 
-// The rule that the input begins with, of so many arguments: questions 4 to 9. Its notes are the first of the array. A rule
-// is not cut off before its last argument, and a rule whose ranges have no number in common is refused by 9.
+// The rule that the input begins with, of so many arguments: questions 4 to 9. Its notes are the first of the array. A
+// rule is not cut off before its last argument, and a rule whose ranges have no number in common is refused by 9.
 pub fn read_rule(s: &[u8], arity: usize, notes: &mut [u64; 680]) -> Took
     requires { ⌜ (arity ≤ 8) × (length (now notes) ≡ 680) ⌝ }
     ensures { λ r. ⌜ tookNotes (now (notes .exit)) r ≡ mapReading ruleNotes (readRule arity (now (s .entry))) ⌝ }
@@ -138,7 +142,7 @@ pub fn read_rule(s: &[u8], arity: usize, notes: &mut [u64; 680]) -> Took
     let Took::Used(bytes, n) = read else {
         return read;
     };
-    if !meet(ranges(notes, n)) {
+    if !common(notes, n) {
         return Took::Refused(9);
     }
     Took::Used(bytes, n)

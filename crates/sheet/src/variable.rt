@@ -6,7 +6,7 @@ ghost use mathlib.Core.Path.{_≡_};
 ghost use Prim.Native.Nat.{_≤_, min, max};
 ghost use lib.ListN.{length};
 ghost use Rattle.sheet.specs.NoteArray.{notesIn};
-ghost use Rattle.sheet.specs.NoteRanges.{rangesOf, endsMeet};
+ghost use Rattle.sheet.specs.NoteRanges.{rangesOf, endsMeet, notesMeet};
 
 // The larger of two numbers.
 fn larger(x: u16, y: u16) -> u16
@@ -29,8 +29,8 @@ fn wider(x: u16) -> u32
     x as u32
 }
 
-// The common range of each variable, in the first n notes: the common part of all its ranges and not the last of them, and
-// no range where it has none.
+// The common range of each variable, in the first n notes: the common part of all its ranges and not the last of them,
+// and no range where it has none.
 pub fn ranges(notes: &[u64; 680], n: usize) -> Ranges
     requires { ⌜ (n ≤ 680) × (length (now notes) ≡ 680) ⌝ }
     ensures { λ r. ⌜ r ≡ rangesOf (notesIn (now (notes .entry)) n) ⌝ }
@@ -50,8 +50,8 @@ pub fn ranges(notes: &[u64; 680], n: usize) -> Ranges
     Ranges { low, high }
 }
 
-// Question 9: each variable's ranges have a number in common. 5 to 9 with 7 to 12 have, 5 to 6 with 7 to 12 have not.
-pub fn meet(ranges: Ranges) -> bool
+// Whether each variable's range has a number. 5 to 5 has, 5 to 4 has not.
+fn meet(ranges: Ranges) -> bool
     ensures { λ r. ⌜ r ≡ endsMeet (ranges .low) (ranges .high) ⌝ }
 {
     let mut v = 0;
@@ -62,4 +62,13 @@ pub fn meet(ranges: Ranges) -> bool
         v += 1;
     }
     true
+}
+
+// Question 9 of the first n notes: each variable's ranges have a number in common. 5 to 9 and 7 to 12 have, 5 to 6 and
+// 7 to 12 have not.
+pub fn common(notes: &[u64; 680], n: usize) -> bool
+    requires { ⌜ (n ≤ 680) × (length (now notes) ≡ 680) ⌝ }
+    ensures { λ r. ⌜ r ≡ notesMeet (notesIn (now (notes .entry)) n) ⌝ }
+{
+    meet(ranges(notes, n))
 }

@@ -57,7 +57,7 @@ pub fn mark_rule(notes: &[u64; 680], n: usize, high: &[u32; 16], words: &mut [u6
 }
 
 // The variable of a record.
-fn name_of(what: PatternRecord) -> Name
+pub fn name_of(what: PatternRecord) -> Name
     ensures { λ r. ⌜ r ≡ nameOf what ⌝ }
 {
     match what {
@@ -71,7 +71,7 @@ fn name_of(what: PatternRecord) -> Name
 }
 
 // Is the record variable v?
-fn is_named(v: u8, what: PatternRecord) -> bool
+pub fn is_named(v: u8, what: PatternRecord) -> bool
     ensures { λ r. ⌜ r ≡ isNamed v what ⌝ }
 {
     match what {

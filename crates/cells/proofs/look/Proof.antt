@@ -9,13 +9,18 @@ returns : tie.Need-returns
 returns c = simp (ne-eqb _ _ (c .if1 .taken))
 
 nearest-requires : tie.Need-nearest-requires
-nearest-requires c κs = let up = c .parent .ensures in rw up (parent-most (c .before .before .before .args .p) (search needs))
+nearest-requires c κs =
+    let up = c .parent .ensures in rw up (parent-most (c .before .before .before .args .p) (search needs))
 
 returns-2 : tie.Need-returns-2
-returns-2 c = simp (eq-eqb _ _ (c .before .before .before .if1 .left), ← c .before .before .parent .ensures, ← c .before .nearest .ensures, eq-eqb _ _ (c .if2 .taken))
+returns-2 c =
+    let m = c .before in
+    simp (eq-eqb _ _ (m .before .before .if1 .left), ← m .before .parent .ensures, ← m .nearest .ensures, eq-eqb _ _ (c .if2 .taken))
 
 returns-3 : tie.Need-returns-3
-returns-3 c = simp (eq-eqb _ _ (c .before .before .before .if1 .left), ← c .before .before .parent .ensures, ← c .before .nearest .ensures, ne-eqb _ _ (c .if2 .left))
+returns-3 c =
+    let m = c .before in
+    simp (eq-eqb _ _ (m .before .before .if1 .left), ← m .before .parent .ensures, ← m .nearest .ensures, ne-eqb _ _ (c .if2 .left))
 
 pub look-spec : {M : Type 1} → statement M
 look-spec =

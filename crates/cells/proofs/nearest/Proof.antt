@@ -16,16 +16,34 @@ abbrev μ-loop : tie.MeasureT-loop
 μ-loop cells p place₀ left₀ place left = left
 
 returns : tie.Need-returns Inv-loop μ-loop
-returns c = let cells = now (c .before .before .before .args .cells) in let place = c .before .before .loop .place in let left = c .before .before .loop .left in sym (c .before .before .loop .inv .1 ∙ no-parent left cells place (c .if1 .taken))
+returns c =
+    let m = c .before .before in
+    sym (m .loop .inv .1 ∙ no-parent (m .loop .left) (now (m .before .args .cells)) (m .loop .place) (c .if1 .taken))
 
 returns-2 : tie.Need-returns-2 Inv-loop μ-loop
-returns-2 c = let cells = now (c .before .before .before .before .before .args .cells) in let place = c .before .before .before .before .loop .place in let left = c .before .before .before .before .loop .left in sym (c .before .before .before .before .loop .inv .1 ∙ has-cell left cells place (c .before .before .before .loop-test .taken) (c .before .before .if1 .left) (c .if2 .taken))
+returns-2 c =
+    let m = c .before .before .before .before in
+    let cells = now (m .before .args .cells) in
+    sym
+    (m .loop .inv .1
+    ∙ has-cell (m .loop .left) cells (m .loop .place) (c .before .before .before .loop-test .taken) (c .before .before .if1 .left) (c .if2 .taken))
 
 loop-again : tie.Need-loop-again Inv-loop μ-loop
-loop-again c = let cells = now (c .before .before .before .before .before .before .args .cells) in let place = c .before .before .before .before .before .loop .place in let left = c .before .before .before .before .before .loop .left in let up = c .parent .ensures in (rw up (parent-most place (c .before .before .before .before .before .loop .inv .0)), c .before .before .before .before .before .loop .inv .1 ∙ has-none left cells place (c .before .before .before .before .loop-test .taken) (c .before .before .before .if1 .left) (c .before .if2 .left) ∙ (rw up))
+loop-again c =
+    let m = c .before .before .before .before .before in
+    let cells = now (m .before .args .cells) in
+    let up = c .parent .ensures in (
+      rw up (parent-most (m .loop .place) (m .loop .inv .0)),
+      m .loop .inv .1
+          ∙ has-none (m .loop .left) cells (m .loop .place) (c .before .before .before .before .loop-test .taken) (c .before .before .before .if1 .left) (c .before .if2 .left)
+          ∙ (rw up),
+    )
 
 returns-3 : tie.Need-returns-3 Inv-loop μ-loop
-returns-3 c = let cells = now (c .before .before .args .cells) in let place = c .before .loop .place in let left = c .before .loop .left in sym (c .before .loop .inv .1 ∙ none-left left cells place (omega (arith, c .loop-test .left)))
+returns-3 c =
+    let m = c .before in
+    let none : m .loop .left ≡ 0 = omega (arith, c .loop-test .left) in
+    sym (m .loop .inv .1 ∙ none-left (m .loop .left) (now (m .before .args .cells)) (m .loop .place) none)
 
 pub nearest-spec : {M : Type 1} → statement M
 nearest-spec =

@@ -26,7 +26,8 @@ term-returns t c =
     let a = c .before .before .before .before .before .args in
     let told = c .before .enum-told .given .1 in
     ap refused (c .head-refusal .ensures ∙ ap headRefusal told)
-    ∙ by-record (a .below) (now (a .s)) (a .p) (now (a .cells)) (sym (c .before .before .before .term-head .ensures) ∙ told)
+    ∙ by-record (a .below) (now (a .s)) (a .p) (now (a .cells))
+    (sym (c .before .before .before .term-head .ensures) ∙ told)
 
 term-returns-2 : (t : ℕ) → term-lts.Need-returns-2 (term-calls t) (term-at t) term.Post
 term-returns-2 t c =
@@ -38,7 +39,8 @@ term-returns-3 : (t : ℕ) → term-lts.Need-returns-3 (term-calls t) (term-at t
 term-returns-3 t c =
     let k = c .before .before in
     let a = compound-start k .args in
-    arity-refused (a .below) (now (a .s)) (a .p) (now (a .cells)) (id k) (arity k) (compound-head k) (c .before .if1 .left)
+    arity-refused (a .below) (now (a .s)) (a .p) (now (a .cells)) (id k) (arity k) (compound-head k)
+    (c .before .if1 .left)
     (⊎-elim (λ w. inl (w .taken)) (λ w. inr (ltb-true _ _ (w .1 .taken))) (c .if2 .came))
 
 term-sub-terms : (t : ℕ) → term-lts.Need-sub-terms (term-calls t) (term-at t) term.Post
@@ -50,15 +52,16 @@ term-part-terms-start t c = omega (arith, compound-there (c .before .before .bef
 term-terms-requires : (t : ℕ) → term-lts.Need-terms-requires (term-calls t) (term-at t) term.Post
 term-terms-requires t c κs =
     let k = c .before .before .before .before .before .before in
+    let some = c .before .before .before .before .before .if1 .left in
     let most : arity k ≤ 4 = ltb-false _ _ (c .before .before .before .if3 .left) in
-    omega (arith, arguments-room (compound-start k .args .below) (arity k) (c .before .before .before .before .before .if1 .left) most)
+    omega (arith, arguments-room (compound-start k .args .below) (arity k) some most)
 
 term-returns-4 : (t : ℕ) → term-lts.Need-returns-4 (term-calls t) (term-at t) term.Post
 term-returns-4 t c = stopped 4 _ _ (compound-read (c .before .before)) (c .enum-told3 .given .1)
 
 term-add-t30 : (t : ℕ) → term-lts.Need-add-t30 (term-calls t) (term-at t) term.Post
 term-add-t30 t c =
-    omega (arith, arguments-fit (c .before .before .before) (c .before .arguments .given .1), arguments-start (c .before .before .before) .good .0 .0)
+    let m = c .before .before .before in omega (arith, arguments-fit m (c .before .arguments .given .1), arguments-start m .good .0 .0)
 
 term-returns-5 : (t : ℕ) → term-lts.Need-returns-5 (term-calls t) (term-at t) term.Post
 term-returns-5 t c =
@@ -69,13 +72,15 @@ term-returns-6 : (t : ℕ) → term-lts.Need-returns-6 (term-calls t) (term-at t
 term-returns-6 t c =
     let a = head-start (c .before .before .before .before) .args in
     ap (λ x. took 3 (set (now (a .cells)) (a .p) x)) (c .symbol-code .ensures)
-    ∙ by-record (a .below) (now (a .s)) (a .p) (now (a .cells)) (whole-head (c .before .before .before .before) (c .before .before .«record» .given .1))
+    ∙ by-record (a .below) (now (a .s)) (a .p) (now (a .cells))
+    (whole-head (c .before .before .before .before) (c .before .before .«record» .given .1))
 
 term-returns-7 : (t : ℕ) → term-lts.Need-returns-7 (term-calls t) (term-at t) term.Post
 term-returns-7 t c =
     let a = head-start (c .before .before .before .before) .args in
     ap (λ x. took 3 (set (now (a .cells)) (a .p) x)) (c .number-code .ensures)
-    ∙ by-record (a .below) (now (a .s)) (a .p) (now (a .cells)) (whole-head (c .before .before .before .before) (c .before .before .record2 .given .1))
+    ∙ by-record (a .below) (now (a .s)) (a .p) (now (a .cells))
+    (whole-head (c .before .before .before .before) (c .before .before .record2 .given .1))
 
 term-returns-8 : (t : ℕ) → term-lts.Need-returns-8 (term-calls t) (term-at t) term.Post
 term-returns-8 t c = went-on 4 _ _ (compound-read (c .before .before .before)) (c .before .arguments .given .1)
@@ -86,12 +91,14 @@ terms-returns t c =
 
 terms-term-requires : (t : ℕ) → terms-lts.Need-term-requires (terms-calls t) (terms-at t) terms.Post
 terms-term-requires t c κs =
-    let a = c .before .before .before .args in omega (arith, row-room (a .n) (stride (suc (a .below))) (c .before .if1 .left))
+    let a = c .before .before .before .args in
+    omega (arith, row-room (a .n) (stride (suc (a .below))) (c .before .if1 .left))
 
 terms-returns-2 : (t : ℕ) → terms-lts.Need-returns-2 (terms-calls t) (terms-at t) terms.Post
 terms-returns-2 t c =
     let a = c .before .before .before .before .before .before .args in
-    first-refused (a .below) (now (a .s)) (a .p) (now (a .cells)) (a .n) (c .before .before .before .before .if1 .left) (c .before .before .term .result)
+    first-refused (a .below) (now (a .s)) (a .p) (now (a .cells)) (a .n) (c .before .before .before .before .if1 .left)
+    (c .before .before .term .result)
     (c .before .before .term .last .1 .1 .1 .0) (c .before .before .term .ensures) (c .enum-told .given .1)
 
 terms-sub-terms : (t : ℕ) → terms-lts.Need-sub-terms (terms-calls t) (terms-at t) terms.Post
@@ -115,7 +122,7 @@ terms-returns-3 t c = stopped _ _ _ (row-read (c .before .before)) (c .enum-told
 
 terms-add-t13 : (t : ℕ) → terms-lts.Need-add-t13 (terms-calls t) (terms-at t) terms.Post
 terms-add-t13 t c =
-    omega (arith, others-fit (c .before .before .before) (c .before .others .given .1), others-start (c .before .before .before) .good .0 .0)
+    let m = c .before .before .before in omega (arith, others-fit m (c .before .others .given .1), others-start m .good .0 .0)
 
 terms-returns-4 : (t : ℕ) → terms-lts.Need-returns-4 (terms-calls t) (terms-at t) terms.Post
 terms-returns-4 t c = went-on _ _ _ (row-read (c .before .before .before)) (c .before .others .given .1)

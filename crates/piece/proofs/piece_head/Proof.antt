@@ -14,10 +14,16 @@ returns-2 : tie.Need-returns-2
 returns-2 c = simp (le-leb _ _ (c .before .before .if1 .left), ne-eqb _ _ (c .if2 .taken))
 
 returns-3 : tie.Need-returns-3
-returns-3 c = wrong-arity (now (c .before .before .before .before .before .args .s)) (c .before .before .before .before .if1 .left) (c .before .before .if2 .left) (⊎-elim (λ w. inl (w .taken)) (λ w. inr (ltb-true _ _ (w .1 .taken))) (c .if3 .came))
+returns-3 c =
+    let m = c .before .before in
+    wrong-arity (now (m .before .before .before .args .s)) (m .before .before .if1 .left) (m .if2 .left)
+    (⊎-elim (λ w. inl (w .taken)) (λ w. inr (ltb-true _ _ (w .1 .taken))) (c .if3 .came))
 
 returns-4 : tie.Need-returns-4
-returns-4 c = right-arity (now (c .before .before .before .before .before .before .args .s)) (c .before .before .before .before .before .if1 .left) (c .before .before .before .if2 .left) (c .before .if3 .left) (ltb-false _ _ (c .if4 .left))
+returns-4 c =
+    let m = c .before .before .before in
+    right-arity (now (m .before .before .before .args .s)) (m .before .before .if1 .left) (m .if2 .left) (c .before .if3 .left)
+    (ltb-false _ _ (c .if4 .left))
 
 pub piece-head-spec : {M : Type 1} → statement M
 piece-head-spec =

@@ -26,7 +26,9 @@ module _ (c : tie.After-known-told) where
   arity = c .before .head .given .0 .0
 
   known : ArityRead bytes (c .before .head .given .0 .1 .0) arity
-  known = arity-known bytes (c .before .before .before .piece-head .result) (c .before .before .before .piece-head .ensures) (c .before .head .given .1)
+  known =
+      arity-known bytes (c .before .before .before .piece-head .result) (c .before .before .before .piece-head .ensures)
+      (c .before .head .given .1)
 
 -- Where the terms were read or refused.
 module _ (c : tie.After-terms) where
@@ -34,23 +36,29 @@ module _ (c : tie.After-terms) where
   start = c .before .before .before .before
 
   abbrev laid : Taken → Reading LaidOut
-  laid r = after 2 (λ cells. record { arity = arity start; cells = cells }) (tookCells (c .terms .last .1 .1 .1 .1 .0) r)
+  laid r =
+      after 2 (λ cells. record { arity = arity start; cells = cells }) (tookCells (c .terms .last .1 .1 .1 .1 .0) r)
 
   laid-out : laid (c .terms .result) ≡ mapReading layOut (readPrefix (bytes start))
   unfolding emptyCells
   laid-out =
-      terms-laid (bytes start) (c .before .before .before .before .before .before .before .piece-head .result) (c .before .before .before .before .before .before .before .piece-head .ensures) (c .before .before .before .before .before .head .given .1)
+      terms-laid (bytes start) (c .before .before .before .before .before .before .before .piece-head .result)
+      (c .before .before .before .before .before .before .before .piece-head .ensures)
+      (c .before .before .before .before .before .head .given .1)
       (c .terms .ensures ∙ ap (termsCells 3 (arity start) 0 emptyCells) (rest (bytes start) 2))
 
   within : {b : ℕ} → c .terms .result ≡ Bytes b → 2 + b ≤ length (bytes start)
   within told =
-      omega (arith, terms-fit 3 _ _ 0 _ _ (c .terms .result) (c .terms .ensures) told, rest-length (bytes start) 2, known start .there)
+      let fits = terms-fit 3 _ _ 0 _ _ (c .terms .result) (c .terms .ensures) told in
+      omega (arith, fits, rest-length (bytes start) 2, known start .there)
 
 returns : tie.Need-returns
 returns c =
-    let s = now (c .before .before .before .before .args .s) in
-    let told = c .enum-told .given .1 in
-    (arity-refused s (c .before .before .piece-head .result) (c .before .before .piece-head .ensures) told _, omega (arith, ap prefixBytes told))
+    let m = c .before .before in
+    let told = c .enum-told .given .1 in (
+      arity-refused (now (m .before .before .args .s)) (m .piece-head .result) (m .piece-head .ensures) told _,
+      omega (arith, ap prefixBytes told),
+    )
 
 sub-terms : tie.Need-sub-terms
 sub-terms c = omega (arith, known (c .before) .there)
@@ -62,7 +70,8 @@ terms-requires : tie.Need-terms-requires
 terms-requires c κs = omega (arith, known (c .before .before .before) .most)
 
 add-t15 : tie.Need-add-t15
-add-t15 c = omega (arith, within (c .before .before .before) (c .before .taken .given .1), c .before .before .before .before .before .before .before .before .before .before .before .before .good .0 .0)
+add-t15 c =
+    let m = c .before .before .before in omega (arith, within m (c .before .taken .given .1), start m .before .before .before .before .before .good .0 .0)
 
 returns-2 : tie.Need-returns-2
 returns-2 c =

@@ -8,28 +8,40 @@ returns : tie.Need-returns
 returns c = simp (eq-eqb _ _ (c .if1 .taken))
 
 returns-2 : tie.Need-returns-2
-returns-2 c = simp (ne-eqb _ _ (c .before .before .before .if1 .left), c .before .match .keys2, lt-leb _ _ (c .if2 .taken))
+returns-2 c =
+    let m = c .before in simp (ne-eqb _ _ (m .before .before .if1 .left), m .match .keys2, lt-leb _ _ (c .if2 .taken))
 
 returns-3 : tie.Need-returns-3
-returns-3 c = simp (ne-eqb _ _ (c .before .before .before .if1 .left), c .before .match .keys3, lt-leb _ _ (c .if3 .taken))
+returns-3 c =
+    let m = c .before in simp (ne-eqb _ _ (m .before .before .if1 .left), m .match .keys3, lt-leb _ _ (c .if3 .taken))
 
 returns-4 : tie.Need-returns-4
-returns-4 c = simp (ne-eqb _ _ (c .before .before .before .if1 .left), c .before .match .keys4, lt-leb _ _ (c .if4 .taken))
+returns-4 c =
+    let m = c .before in simp (ne-eqb _ _ (m .before .before .if1 .left), m .match .keys4, lt-leb _ _ (c .if4 .taken))
 
 returns-5 : tie.Need-returns-5
 returns-5 c = simp (ne-eqb _ _ (c .before .before .if1 .left), c .match .keys1)
 
 returns-6 : tie.Need-returns-6
-returns-6 c = simp (ne-eqb _ _ (c .before .before .before .before .before .before .if1 .left), c .before .before .before .before .match .keys2, le-leb _ _ (c .before .before .before .if2 .left), c .wide .ensures)
+returns-6 c =
+    let m = c .before .before .before .before in
+    simp (ne-eqb _ _ (m .before .before .if1 .left), m .match .keys2, le-leb _ _ (c .before .before .before .if2 .left), c .wide .ensures)
 
 returns-7 : tie.Need-returns-7
-returns-7 c = simp (ne-eqb _ _ (c .before .before .before .before .before .before .if1 .left), c .before .before .before .before .match .keys3, le-leb _ _ (c .before .before .before .if3 .left), c .wide2 .ensures)
+returns-7 c =
+    let m = c .before .before .before .before in
+    simp (ne-eqb _ _ (m .before .before .if1 .left), m .match .keys3, le-leb _ _ (c .before .before .before .if3 .left), c .wide2 .ensures)
 
 returns-8 : tie.Need-returns-8
-returns-8 c = simp (ne-eqb _ _ (c .before .before .before .before .before .before .before .if1 .left), c .before .before .before .before .before .match .keys4, le-leb _ _ (c .before .before .before .before .if4 .left), c .before .wide3 .ensures)
+returns-8 c =
+    let m = c .before .before .before .before .before in
+    simp (ne-eqb _ _ (m .before .before .if1 .left), m .match .keys4, le-leb _ _ (c .before .before .before .before .if4 .left), c .before .wide3 .ensures)
 
 returns-9 : tie.Need-returns-9
-returns-9 c = simp (ne-eqb _ _ (c .before .before .if1 .left), ne-eqb _ _ (c .match .rest .0 .0 .0 .1), ne-eqb _ _ (c .match .rest .0 .0 .1), ne-eqb _ _ (c .match .rest .0 .1), ne-eqb _ _ (c .match .rest .1))
+returns-9 c =
+    let others = c .match .rest in
+    simp
+    (ne-eqb _ _ (c .before .before .if1 .left), ne-eqb _ _ (others .0 .0 .0 .1), ne-eqb _ _ (others .0 .0 .1), ne-eqb _ _ (others .0 .1), ne-eqb _ _ (others .1))
 
 pub term-head-spec : {M : Type 1} → statement M
 term-head-spec =

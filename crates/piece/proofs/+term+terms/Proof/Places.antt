@@ -1,5 +1,6 @@
--- What is known at the places of `term` and `terms`. The levels below fall from a term to its arguments, and the number of
--- terms along a row: a compound has at most 4 arguments, so 6 for each level and 1 for each term still to come are enough.
+-- What is known at the places of `term` and `terms`. The levels below fall from a term to its arguments, and the number
+-- of terms along a row: a compound has at most 4 arguments, so 6 for each level and 1 for each term still to come are
+-- enough.
 use Prim.Native.Nat.{ℕ, suc, _+_, _-_, _*_, _≤_, _<_}
 use mathlib.Core.Path.{_≡_, _∙_}
 use mathlib.Core.List.{List}
@@ -11,6 +12,7 @@ use borrow.Author.Tests.{ltb-false}
 use borrow.Fn.Kinds.{In}
 use borrow.Fn.PlainCycle.{Measures, is, falls, and}
 use Rattle.places.specs.Numbering.{stride}
+use Rattle.places.proofs.step.Reads as step-reads
 use Rattle.records.specs.Reading.{refused}
 use Rattle.records.proofs.Parts.{rest, rest-length}
 use Rattle.piece.specs.declared.Taken.the-variants.{Bytes}
@@ -22,7 +24,6 @@ use Rattle.piece.specs.LaidOut.{tookCells, termCells, termsCells}
 use Rattle.piece.proofs.Rooms.{row-room, step-of}
 use Rattle.piece.proofs.Heads.{record-within}
 use Rattle.piece.proofs.TermCells.{begins, later, arguments-read, others-read, term-fits, terms-fit}
-use Rattle.places.proofs.step.Reads as step-reads
 use Rattle.piece.proofs.compound_code.Reads as compound-code-reads
 use Rattle.piece.proofs.head_refusal.Reads as head-refusal-reads
 use Rattle.piece.proofs.number_code.Reads as number-code-reads
@@ -72,110 +73,131 @@ term-calls t = (
 abbrev pub terms-calls : ℕ → terms-lts.Claims
 terms-calls t = (term-below t, term.Post, step-reads.Asked, step-reads.Learnt, terms-below t, terms.Post)
 
+-- Where `term` begins, where the head is known to be whole, where its record is known to be a compound's, and where the
+-- compound's arguments were read or refused.
+abbrev Begun : ℕ → Type 0
+Begun t = term-lts.Start (term-calls t) (term-at t) term.Post
+
+abbrev HeadKnown : ℕ → Type 0
+HeadKnown t = term-lts.After-known-told (term-calls t) (term-at t) term.Post
+
+abbrev CompoundKnown : ℕ → Type 0
+CompoundKnown t = term-lts.After-known-told4 (term-calls t) (term-at t) term.Post
+
+abbrev ArgumentsRead : ℕ → Type 0
+ArgumentsRead t = term-lts.After-terms (term-calls t) (term-at t) term.Post
+
+-- Where `terms` begins, where its first term was read, and where the others were read or refused.
+abbrev RowBegun : ℕ → Type 0
+RowBegun t = terms-lts.Start (terms-calls t) (terms-at t) terms.Post
+
+abbrev FirstRead : ℕ → Type 0
+FirstRead t = terms-lts.After-known-told (terms-calls t) (terms-at t) terms.Post
+
+abbrev OthersRead : ℕ → Type 0
+OthersRead t = terms-lts.After-terms (terms-calls t) (terms-at t) terms.Post
+
 module _ {t : ℕ} where
-  -- Where the head of the input is known to be whole.
-  abbrev pub head-start
-      : term-lts.After-known-told (term-calls t) (term-at t) term.Post → term-lts.Start (term-calls t) (term-at t) term.Post
-  head-start c = c .before .before .before .before .before
+  module _ (c : HeadKnown t) where
+    abbrev pub head-start : Begun t
+    head-start = c .before .before .before .before .before
 
-  pub whole-head
-      : (c : term-lts.After-known-told (term-calls t) (term-at t) term.Post) {r : TermRecord} → c .before .head .given .0 .0 ≡ r
-      → termHead (now (head-start c .args .s)) ≡ Whole r
-  whole-head c known = begins (now (head-start c .args .s)) (c .before .before .before .term-head .ensures) (c .before .head .given .1) known
+    -- The input begins with the record that is known.
+    pub whole-head : {r : TermRecord} → c .before .head .given .0 .0 ≡ r → termHead (now (head-start .args .s)) ≡ Whole r
+    whole-head = begins (now (head-start .args .s)) (c .before .before .before .term-head .ensures) (c .before .head .given .1)
 
-  -- Where the record is known to be a compound's: its id, its arity, and that the input begins with it.
-  module _ (c : term-lts.After-known-told4 (term-calls t) (term-at t) term.Post) where
-    abbrev pub compound-start : term-lts.Start (term-calls t) (term-at t) term.Post
+  module _ (c : CompoundKnown t) where
+    abbrev pub compound-start : Begun t
     compound-start = head-start (c .before .before .before)
 
+    -- The compound's id and arity.
     abbrev pub id : ℕ
     id = c .before .record3 .given .0 .0
 
     abbrev pub arity : ℕ
     arity = c .before .record3 .given .0 .1 .0
 
+    -- The input begins with the compound's record, so its bytes are there.
     pub compound-head : termHead (now (compound-start .args .s)) ≡ Whole (Compound id arity)
     compound-head = whole-head (c .before .before .before) (c .before .record3 .given .1)
 
     pub compound-there : 4 ≤ length (now (compound-start .args .s))
     compound-there = record-within (now (compound-start .args .s)) compound-head
 
-  -- Where a compound's arguments were read or refused.
-  module _ (c : term-lts.After-terms (term-calls t) (term-at t) term.Post) where
-    abbrev pub arguments-start : term-lts.Start (term-calls t) (term-at t) term.Post
-    arguments-start = compound-start (c .before .before .before .before .before .before .before)
+  module _ (c : ArgumentsRead t) where
+    abbrev known : CompoundKnown t
+    known = c .before .before .before .before .before .before .before
 
-    abbrev pub arguments-cells : List ℕ
+    abbrev pub arguments-start : Begun t
+    arguments-start = compound-start known
+
+    abbrev arguments-cells : List ℕ
     arguments-cells = c .terms .last .1 .1 .1 .1 .0
 
+    -- What the arguments' reading says of the compound's.
     pub compound-read
-        : later 4 (tookCells arguments-cells (c .terms .result))
-        ≡ termCells (arguments-start .args .below) (arguments-start .args .p) (now (arguments-start .args .cells))
-        (now (arguments-start .args .s))
+        : let a = arguments-start .args in
+        later 4 (tookCells arguments-cells (c .terms .result)) ≡ termCells (a .below) (a .p) (now (a .cells)) (now (a .s))
     compound-read =
         let a = arguments-start .args in
         let s = now (a .s) in
-        let k = c .before .before .before .before .before .before .before in
-        arguments-read (a .below) s (a .p) (now (a .cells)) (id k) (arity k) (compound-head k) (c .before .before .before .before .before .before .if1 .left)
-        (c .before .before .before .before .before .if2 .left) (ltb-false _ _ (c .before .before .before .before .if3 .left))
+        arguments-read (a .below) s (a .p) (now (a .cells)) (id known) (arity known) (compound-head known)
+        (c .before .before .before .before .before .before .if1 .left) (c .before .before .before .before .before .if2 .left) (ltb-false _ _ (c .before .before .before .before .if3 .left))
         (c .terms .ensures ∙ (simp (rest s 4, c .before .before .before .compound-code .ensures)))
 
     pub arguments-fit : {k : ℕ} → c .terms .result ≡ Bytes k → 4 + k ≤ length (now (arguments-start .args .s))
     arguments-fit told =
-        let s = now (arguments-start .args .s) in
-        omega (
-          arith,
-          terms-fit _ _ _ _ _ arguments-cells (c .terms .result) (c .terms .ensures) told,
-          rest-length s 4,
-          compound-there (c .before .before .before .before .before .before .before),
-        )
+        let fits = terms-fit _ _ _ _ _ arguments-cells (c .terms .result) (c .terms .ensures) told in
+        omega (arith, fits, rest-length (now (arguments-start .args .s)) 4, compound-there known)
 
-  -- Where the first term of a row was read.
-  module _ (c : terms-lts.After-known-told (terms-calls t) (terms-at t) terms.Post) where
-    abbrev pub row-start : terms-lts.Start (terms-calls t) (terms-at t) terms.Post
+  module _ (c : FirstRead t) where
+    abbrev pub row-start : RowBegun t
     row-start = c .before .before .before .before .before .before .before
 
+    -- The bytes of the first term, which are there.
     abbrev pub first-bytes : ℕ
     first-bytes = c .before .first .given .0 .0
 
     pub first-fits : first-bytes ≤ length (now (row-start .args .s))
     first-fits =
         let a = row-start .args in
-        term-fits (a .below) (now (a .s)) (a .p) (now (a .cells)) (c .before .before .before .term .last .1 .1 .1 .0) (c .before .before .before .term .result)
-        (c .before .before .before .term .ensures) (c .before .first .given .1)
+        let m = c .before .before .before in
+        term-fits (a .below) (now (a .s)) (a .p) (now (a .cells)) (m .term .last .1 .1 .1 .0) (m .term .result)
+        (m .term .ensures) (c .before .first .given .1)
 
+    -- The row has room for the first term and the others.
     pub row-fits
-        : row-start .args .n * stride (suc (row-start .args .below))
-        ≡ stride (suc (row-start .args .below)) + (row-start .args .n - 1) * stride (suc (row-start .args .below))
+        : let a = row-start .args in
+        let z = stride (suc (a .below)) in a .n * z ≡ z + (a .n - 1) * z
     row-fits = row-room (row-start .args .n) (stride (suc (row-start .args .below))) (c .before .before .before .before .before .if1 .left)
 
-  -- Where the others were read or refused.
-  module _ (c : terms-lts.After-terms (terms-calls t) (terms-at t) terms.Post) where
-    abbrev pub others-start : terms-lts.Start (terms-calls t) (terms-at t) terms.Post
-    others-start = row-start (c .before .before .before .before)
+  module _ (c : OthersRead t) where
+    abbrev first-read : FirstRead t
+    first-read = c .before .before .before .before
 
-    abbrev pub others-cells : List ℕ
+    abbrev pub others-start : RowBegun t
+    others-start = row-start first-read
+
+    abbrev others-cells : List ℕ
     others-cells = c .terms .last .1 .1 .1 .1 .0
 
+    -- What the others' reading says of the row's.
     pub row-read
-        : later (first-bytes (c .before .before .before .before)) (tookCells others-cells (c .terms .result))
-        ≡ termsCells (others-start .args .below) (others-start .args .n) (others-start .args .p) (now (others-start .args .cells))
-        (now (others-start .args .s))
+        : let a = others-start .args in
+        later (first-bytes first-read) (tookCells others-cells (c .terms .result))
+        ≡ termsCells (a .below) (a .n) (a .p) (now (a .cells)) (now (a .s))
     row-read =
         let a = others-start .args in
         let s = now (a .s) in
+        let m = first-read .before .before .before in
         let step = step-of (a .below) (search needs) (c .before .before .step .ensures) in
-        others-read (a .below) s (a .p) (now (a .cells)) (a .n) (c .before .before .before .before .before .before .before .before .before .if1 .left) (c .before .before .before .before .before .before .before .term .result)
-        (c .before .before .before .before .before .before .before .term .last .1 .1 .1 .0) (c .before .before .before .before .before .before .before .term .ensures) (c .before .before .before .before .before .first .given .1)
-        (c .terms .ensures ∙ (simp (rest s (first-bytes (c .before .before .before .before)), step)))
+        others-read (a .below) s (a .p) (now (a .cells)) (a .n) (m .before .before .if1 .left) (m .term .result)
+        (m .term .last .1 .1 .1 .0) (m .term .ensures) (first-read .before .first .given .1)
+        (c .terms .ensures ∙ (simp (rest s (first-bytes first-read), step)))
 
     pub others-fit
-        : {k : ℕ} → c .terms .result ≡ Bytes k → first-bytes (c .before .before .before .before) + k ≤ length (now (others-start .args .s))
+        : {k : ℕ} → c .terms .result ≡ Bytes k → first-bytes first-read + k ≤ length (now (others-start .args .s))
     others-fit told =
+        let fits = terms-fit _ _ _ _ _ others-cells (c .terms .result) (c .terms .ensures) told in
         let s = now (others-start .args .s) in
-        omega (
-          arith,
-          terms-fit _ _ _ _ _ others-cells (c .terms .result) (c .terms .ensures) told,
-          rest-length s (first-bytes (c .before .before .before .before)),
-          first-fits (c .before .before .before .before),
-        )
+        omega (arith, fits, rest-length s (first-bytes first-read), first-fits first-read)

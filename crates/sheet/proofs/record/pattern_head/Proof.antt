@@ -49,7 +49,13 @@ returns-8 c =
     let at-if3 = at-wide2 .before .before .before in
     let at-match = at-if3 .before in
     let at-if1 = at-match .before .before in
-    simp (ne-eqb _ _ (at-if1 .if1 .left), at-match .match .keys4, le-leb _ _ (at-if3 .if3 .left), at-wide2 .wide2 .ensures)
+    simp (
+      ne-eqb _ _ (at-if1 .if1 .left),
+      at-match .match .keys4,
+      le-leb _ _ (at-if3 .if3 .left),
+      at-wide2 .wide2
+          .ensures,
+    )
 
 returns-9 : tie.Need-returns-9
 returns-9 c =

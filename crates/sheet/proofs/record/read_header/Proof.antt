@@ -1,10 +1,12 @@
 -- The record that a sheet begins with, question by question.
-use Prim.Native.Nat.{_≤_, _<_}
+use Prim.Native.Nat.{_<_}
+use mathlib.Core.Path.{sym, _∙_}
 use mathlib.Core.Logic.{⊎-elim}
 use denote.Ref.{now}
 use lib.ListN.{getD}
 use borrow.Author.Tests.{eq-eqb, ne-eqb, lt-leb, le-leb, ltb-true, ltb-false}
 use Rattle.sheet.specs.ReadSheet.{readHeader}
+use Rattle.sheet.proofs.SheetReads.{header-count}
 use borrow.Author.Needs.{needs}
 use Rattle.sheet.proofs.record.read_header.Statement.{statement}
 use Rattle.sheet.proofs.record.read_header.Tie as tie
@@ -24,10 +26,9 @@ unfolding readHeader
 returns-3 c =
     let at-if2 = c .before .before in
     let at-if1 = at-if2 .before .before in
-    let start = at-if1 .before in
     let whole = le-leb _ _ (at-if1 .if1 .left) in
     let kind = eq-eqb _ _ (at-if2 .if2 .left) in
-    let arity = getD (now (start .args .s)) 1 0 in
+    let arity = getD (now (at-if1 .before .args .s)) 1 0 in
     ⊎-elim
     (λ w. simp (whole, kind, lt-leb _ _ (w .taken)))
     (λ w.
@@ -36,32 +37,22 @@ returns-3 c =
     (c .if3 .came)
 
 returns-4 : tie.Need-returns-4
-unfolding readHeader
 returns-4 c =
     let at-if4 = c .before .before in
     let at-if3 = at-if4 .before in
     let at-if2 = at-if3 .before .before in
     let at-if1 = at-if2 .before .before in
-    let start = at-if1 .before in
-    let whole = le-leb _ _ (at-if1 .if1 .left) in
-    let kind = eq-eqb _ _ (at-if2 .if2 .left) in
-    let arity = getD (now (start .args .s)) 1 0 in
-    let few : arity ≤ 8 = ltb-false _ _ (at-if4 .if4 .left) in
-    simp (whole, kind, le-leb _ _ (at-if3 .if3 .left), le-leb _ _ few, lt-leb _ _ (c .if5 .taken))
+    sym (header-count (now (at-if1 .before .args .s)) (at-if1 .if1 .left) (at-if2 .if2 .left) (at-if3 .if3 .left)
+    (ltb-false _ _ (at-if4 .if4 .left)) ∙ rw (lt-leb _ _ (c .if5 .taken)))
 
 returns-5 : tie.Need-returns-5
-unfolding readHeader
 returns-5 c =
     let at-if4 = c .before .before in
     let at-if3 = at-if4 .before in
     let at-if2 = at-if3 .before .before in
     let at-if1 = at-if2 .before .before in
-    let start = at-if1 .before in
-    let whole = le-leb _ _ (at-if1 .if1 .left) in
-    let kind = eq-eqb _ _ (at-if2 .if2 .left) in
-    let arity = getD (now (start .args .s)) 1 0 in
-    let few : arity ≤ 8 = ltb-false _ _ (at-if4 .if4 .left) in
-    simp (whole, kind, le-leb _ _ (at-if3 .if3 .left), le-leb _ _ few, le-leb _ _ (c .if5 .left))
+    sym (header-count (now (at-if1 .before .args .s)) (at-if1 .if1 .left) (at-if2 .if2 .left) (at-if3 .if3 .left)
+    (ltb-false _ _ (at-if4 .if4 .left)) ∙ rw (le-leb _ _ (c .if5 .left)))
 
 pub read-header-spec : {M : Type 1} → statement M
 read-header-spec =

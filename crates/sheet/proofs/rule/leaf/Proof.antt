@@ -13,8 +13,7 @@ use Rattle.sheet.proofs.rule.leaf.Tie as tie
 returns : tie.Need-returns
 returns c =
     let at-what2 = c .before .before in
-    let start = at-what2 .before .before in
-    let a = start .args in
+    let a = at-what2 .before .before .args in
     let before = notesIn (now (a .notes)) (a .n) in
     let same = at-what2 .what2 .given .1 in (
       range-no (a .place) before (c .if1 .taken) ∙ ap (leafBehind (a .place) before) (sym same),
@@ -24,8 +23,7 @@ returns c =
 returns-2 : tie.Need-returns-2
 returns-2 c =
     let at-what3 = c .before .before in
-    let start = at-what3 .before .before in
-    let a = start .args in
+    let a = at-what3 .before .before .args in
     let before = notesIn (now (a .notes)) (a .n) in
     let same = at-what3 .what3 .given .1 in (
       variable-no (a .place) before (c .if2 .taken) ∙ ap (leafBehind (a .place) before) (sym same),
@@ -35,11 +33,11 @@ returns-2 c =
 returns-3 : tie.Need-returns-3
 returns-3 c =
     let at-what4 = c .before .before in
-    let start = at-what4 .before .before in
-    let a = start .args in
+    let a = at-what4 .before .before .args in
     let before = notesIn (now (a .notes)) (a .n) in
     let same = at-what4 .what4 .given .1 in (
-      ranged-no-range (a .place) before (at-what4 .what4 .given .0 .0) (c .if3 .taken) ∙ ap (leafBehind (a .place) before) (sym same),
+      ranged-no-range (a .place) before (at-what4 .what4 .given .0 .0) (c .if3 .taken)
+          ∙ ap (leafBehind (a .place) before) (sym same),
       search needs,
     )
 
@@ -47,11 +45,11 @@ returns-4 : tie.Need-returns-4
 returns-4 c =
     let at-if3 = c .before in
     let at-what4 = at-if3 .before .before in
-    let start = at-what4 .before .before in
-    let a = start .args in
+    let a = at-what4 .before .before .args in
     let before = notesIn (now (a .notes)) (a .n) in
     let same = at-what4 .what4 .given .1 in (
-      ranged-no-variable (a .place) before (at-if3 .if3 .left) (c .if4 .taken) ∙ ap (leafBehind (a .place) before) (sym same),
+      ranged-no-variable (a .place) before (at-if3 .if3 .left) (c .if4 .taken)
+          ∙ ap (leafBehind (a .place) before) (sym same),
       search needs,
     )
 
@@ -67,8 +65,7 @@ returns-5 c =
 returns-6 : tie.Need-returns-6
 returns-6 c =
     let at-what = c .before .before .before in
-    let start = at-what .before .before in
-    let a = start .args in
+    let a = at-what .before .before .args in
     let before = notesIn (now (a .notes)) (a .n) in
     let same = at-what .what .given .1 in (
       c .noted .ensures .0 ∙ ap (leafBehind (a .place) before) (sym same),
@@ -79,11 +76,11 @@ returns-7 : tie.Need-returns-7
 returns-7 c =
     let at-if1 = c .before .before in
     let at-what2 = at-if1 .before .before in
-    let start = at-what2 .before .before in
-    let a = start .args in
+    let a = at-what2 .before .before .args in
     let before = notesIn (now (a .notes)) (a .n) in
     let same = at-what2 .what2 .given .1 in (
-      c .noted2 .ensures .0 ∙ range-yes (a .place) before (at-if1 .if1 .left) ∙ ap (leafBehind (a .place) before) (sym same),
+      c .noted2 .ensures .0 ∙ range-yes (a .place) before (at-if1 .if1 .left)
+          ∙ ap (leafBehind (a .place) before) (sym same),
       omega (arith, c .noted2 .ensures .1, ap recordBytes same),
     )
 
@@ -91,11 +88,11 @@ returns-9 : tie.Need-returns-9
 returns-9 c =
     let at-if2 = c .before .before in
     let at-what3 = at-if2 .before .before in
-    let start = at-what3 .before .before in
-    let a = start .args in
+    let a = at-what3 .before .before .args in
     let before = notesIn (now (a .notes)) (a .n) in
     let same = at-what3 .what3 .given .1 in (
-      c .noted3 .ensures .0 ∙ variable-yes (a .place) before (at-if2 .if2 .left) ∙ ap (leafBehind (a .place) before) (sym same),
+      c .noted3 .ensures .0 ∙ variable-yes (a .place) before (at-if2 .if2 .left)
+          ∙ ap (leafBehind (a .place) before) (sym same),
       omega (arith, c .noted3 .ensures .1, ap recordBytes same),
     )
 
@@ -104,11 +101,11 @@ returns-10 c =
     let at-if4 = c .before .before in
     let at-if3 = at-if4 .before in
     let at-what4 = at-if3 .before .before in
-    let start = at-what4 .before .before in
-    let a = start .args in
+    let a = at-what4 .before .before .args in
     let before = notesIn (now (a .notes)) (a .n) in
     let same = at-what4 .what4 .given .1 in (
-      c .noted4 .ensures .0 ∙ ranged-yes (a .place) before (at-if3 .if3 .left) (at-if4 .if4 .left) ∙ ap (leafBehind (a .place) before) (sym same),
+      c .noted4 .ensures .0 ∙ ranged-yes (a .place) before (at-if3 .if3 .left) (at-if4 .if4 .left)
+          ∙ ap (leafBehind (a .place) before) (sym same),
       omega (arith, c .noted4 .ensures .1, ap recordBytes same),
     )
 

@@ -3,10 +3,8 @@ use mathlib.Core.Path.{sym, ap, _∙_}
 use native.Mathlib.Omega.{arith}
 use denote.Ref.{now}
 use borrow.Author.Tests.{not-true, not-false}
-use Rattle.sheet.specs.declared.Ranges.{Ranges}
 use Rattle.sheet.specs.NoteArray.{bytesUsed, notesMade}
-use Rattle.sheet.specs.NoteRanges.{endsMeet}
-use Rattle.sheet.proofs.NoteArrays.{notes-none, was-used, was-refused}
+use Rattle.sheet.proofs.NoteArrays.{was-used, was-refused}
 use Rattle.sheet.proofs.RuleReads.{from-none, patterns-no, ranges-yes, ranges-no}
 use borrow.Author.Needs.{needs}
 use Rattle.sheet.proofs.rule.read_rule.Statement.{statement}
@@ -15,55 +13,49 @@ use Rattle.sheet.proofs.rule.read_rule.Tie as tie
 returns : tie.Need-returns
 returns c =
     let at-patterns = c .before .before in
-    let start = at-patterns .before .before .before in
-    let a = start .args in
+    let a = at-patterns .before .before .before .args in
     let codes = at-patterns .patterns .last .1 .1 .1 .1 .1 .0 in
-    let read = from-none (a .arity) (now (a .s)) (notes-none (now (a .notes))) (at-patterns .patterns .ensures .0) in
+    let read = from-none (a .arity) (now (a .s)) (now (a .notes)) (at-patterns .patterns .ensures .0) in
     let stop = c .enum-told .given .1 in (
       was-refused codes stop read (patterns-no (a .arity) (now (a .s))),
       omega (arith, at-patterns .patterns .ensures .1, ap bytesUsed stop, ap notesMade stop),
     )
 
-ranges-requires : tie.Need-ranges-requires
-ranges-requires c κs =
+common-requires : tie.Need-common-requires
+common-requires c κs =
     let at-read = c .before .before in
     let at-patterns = at-read .before .before in
     omega (arith, at-patterns .patterns .ensures .1, ap notesMade (at-read .read .given .1))
 
 returns-2 : tie.Need-returns-2
 returns-2 c =
-    let at-meet = c .before in
-    let at-ranges = at-meet .before in
-    let at-read = at-ranges .before .before .before in
+    let at-common = c .before in
+    let at-read = at-common .before .before .before in
     let at-patterns = at-read .before .before in
-    let start = at-patterns .before .before .before in
-    let a = start .args in
-    let codes = at-patterns .patterns .last .1 .1 .1 .1 .1 .0 in
-    let read = from-none (a .arity) (now (a .s)) (notes-none (now (a .notes))) (at-patterns .patterns .ensures .0) in
-    let end = at-read .read .given .1 in
-    let met = at-meet .meet .ensures ∙ ap (λ (x : Ranges). endsMeet (x .low) (x .high)) (at-ranges .ranges .ensures) in (
-      ranges-no (a .arity) (now (a .s)) (was-used codes end read) (sym met ∙ not-true _ (c .if1 .taken)),
+    let a = at-patterns .before .before .before .args in
+    let codes = at-patterns .patterns .last .1 .1 .1 .1 .1 .0 in (
+      ranges-no (a .arity) (now (a .s))
+          (was-used codes (at-read .read .given .1) (from-none (a .arity) (now (a .s)) (now (a .notes)) (at-patterns .patterns .ensures .0)))
+          (sym (at-common .common .ensures) ∙ not-true _ (c .if1 .taken)),
       omega (arith, at-patterns .patterns .ensures .1),
     )
 
 returns-3 : tie.Need-returns-3
 returns-3 c =
-    let at-meet = c .before in
-    let at-ranges = at-meet .before in
-    let at-read = at-ranges .before .before .before in
+    let at-common = c .before in
+    let at-read = at-common .before .before .before in
     let at-patterns = at-read .before .before in
-    let start = at-patterns .before .before .before in
-    let a = start .args in
+    let a = at-patterns .before .before .before .args in
     let codes = at-patterns .patterns .last .1 .1 .1 .1 .1 .0 in
-    let read = from-none (a .arity) (now (a .s)) (notes-none (now (a .notes))) (at-patterns .patterns .ensures .0) in
-    let end = at-read .read .given .1 in
-    let met = at-meet .meet .ensures ∙ ap (λ (x : Ranges). endsMeet (x .low) (x .high)) (at-ranges .ranges .ensures) in (
-      ranges-yes (a .arity) (now (a .s)) (was-used codes end read) (sym met ∙ not-false _ (c .if1 .left)),
+    let end = at-read .read .given .1 in (
+      ranges-yes (a .arity) (now (a .s))
+          (was-used codes end (from-none (a .arity) (now (a .s)) (now (a .notes)) (at-patterns .patterns .ensures .0)))
+          (sym (at-common .common .ensures) ∙ not-false _ (c .if1 .left)),
       omega (arith, at-patterns .patterns .ensures .1, ap bytesUsed end, ap notesMade end),
     )
 
 pub read-rule-spec : {M : Type 1} → statement M
 read-rule-spec =
     tie.close
-    (tie.spec (λ c κs. search needs) (λ c. search needs) (λ c. search needs) returns ranges-requires
-    (λ c κs. search needs) returns-2 returns-3)
+    (tie.spec (λ c κs. search needs) (λ c. search needs) (λ c. search needs) returns common-requires returns-2
+    returns-3)

@@ -29,49 +29,25 @@ array-read-larger : tie.Need-array-read-larger Inv-loop μ-loop
 array-read-larger c =
     let at-what = c .before in
     let at-note-record = at-what .before .before in
-    let at-loop = at-note-record .before .before .before in
-    let start = at-loop .before in
-    let a = start .args in
-    let codes = now (a .notes) in
-    let i = at-loop .loop .i in
-    let inside : i < length codes = omega (arith, start .pre) in
-    ranged-fits codes i inside (sym (at-note-record .note-record .ensures) ∙ at-what .what .given .1) .0
+    ranged-fits _ (sym (at-note-record .note-record .ensures) ∙ at-what .what .given .1) .0
 
 array-write-low : tie.Need-array-write-low Inv-loop μ-loop
 array-write-low c =
     let at-what = c .before .before in
     let at-note-record = at-what .before .before in
-    let at-loop = at-note-record .before .before .before in
-    let start = at-loop .before in
-    let a = start .args in
-    let codes = now (a .notes) in
-    let i = at-loop .loop .i in
-    let inside : i < length codes = omega (arith, start .pre) in
-    ranged-fits codes i inside (sym (at-note-record .note-record .ensures) ∙ at-what .what .given .1) .0
+    ranged-fits _ (sym (at-note-record .note-record .ensures) ∙ at-what .what .given .1) .0
 
 array-read-smaller : tie.Need-array-read-smaller Inv-loop μ-loop
 array-read-smaller c =
     let at-what = c .before .before in
     let at-note-record = at-what .before .before in
-    let at-loop = at-note-record .before .before .before in
-    let start = at-loop .before in
-    let a = start .args in
-    let codes = now (a .notes) in
-    let i = at-loop .loop .i in
-    let inside : i < length codes = omega (arith, start .pre) in
-    ranged-fits codes i inside (sym (at-note-record .note-record .ensures) ∙ at-what .what .given .1) .0
+    ranged-fits _ (sym (at-note-record .note-record .ensures) ∙ at-what .what .given .1) .0
 
 array-write-high : tie.Need-array-write-high Inv-loop μ-loop
 array-write-high c =
     let at-what = c .before .before .before in
     let at-note-record = at-what .before .before in
-    let at-loop = at-note-record .before .before .before in
-    let start = at-loop .before in
-    let a = start .args in
-    let codes = now (a .notes) in
-    let i = at-loop .loop .i in
-    let inside : i < length codes = omega (arith, start .pre) in
-    ranged-fits codes i inside (sym (at-note-record .note-record .ensures) ∙ at-what .what .given .1) .0
+    ranged-fits _ (sym (at-note-record .note-record .ensures) ∙ at-what .what .given .1) .0
 
 loop-again : tie.Need-loop-again Inv-loop μ-loop
 loop-again c =

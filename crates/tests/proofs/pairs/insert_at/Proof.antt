@@ -41,8 +41,11 @@ loop-less c = search needs
 loop-again : tie.Need-loop-again Inv-loop μ-loop
 loop-again c =
     let start = c .before .before .before in
-    let turn = c .before .before .loop in
-    (omega arith, carrying-turn (start .args .codes .now) (start .args .n) _ (turn .codes) (turn .i) (turn .carried) (omega arith) (turn .inv .1) (omega arith))
+    let turn = c .before .before .loop in (
+      omega arith,
+      carrying-turn (start .args .codes .now) (start .args .n) _ (turn .codes) (turn .i) (turn .carried) (omega arith)
+          (turn .inv .1) (omega arith),
+    )
 
 mul-codes-2 : tie.Need-mul-codes-2 Inv-loop μ-loop
 mul-codes-2 c = search needs
@@ -53,8 +56,11 @@ element-write-codes-2 c = search needs
 returns : tie.Need-returns Inv-loop μ-loop
 returns c =
     let start = c .before .before in
-    let turn = c .before .loop in
-    (carrying-done (start .args .codes .now) (start .args .n) _ (turn .codes) (turn .i) (turn .carried) (omega arith) (turn .inv .1) (omega arith), simp length-set (turn .inv .1 .same-length ∙ start .pre .2))
+    let turn = c .before .loop in (
+      carrying-done (start .args .codes .now) (start .args .n) _ (turn .codes) (turn .i) (turn .carried) (omega arith)
+          (turn .inv .1) (omega arith),
+      simp length-set (turn .inv .1 .same-length ∙ start .pre .2),
+    )
 
 pub insert-at-spec : {M : Type 1} → statement M
 insert-at-spec =

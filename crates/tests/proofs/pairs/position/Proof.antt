@@ -28,7 +28,8 @@ returns : tie.Need-returns Inv-loop μ-loop
 returns c =
     let start = c .before .before .before .before in
     let turn = c .before .before .before .loop in
-    slot-found (start .args .code) (start .args .codes .now) (start .args .n) (turn .i) (omega arith) (turn .inv .1) (omega arith) (omega arith)
+    slot-found (start .args .code) (start .args .codes .now) (start .args .n) (turn .i) (omega arith)
+    (turn .inv .1) (omega arith) (omega arith)
 
 add-i : tie.Need-add-i Inv-loop μ-loop
 add-i c = search needs
@@ -39,14 +40,18 @@ loop-less c = search needs
 loop-again : tie.Need-loop-again Inv-loop μ-loop
 loop-again c =
     let start = c .before .before .before .before in
-    let turn = c .before .before .before .loop in
-    (omega arith, slot-further (start .args .code) (start .args .codes .now) (start .args .n) (turn .i) (omega arith) (turn .inv .1) (omega arith) (omega arith))
+    let turn = c .before .before .before .loop in (
+      omega arith,
+      slot-further (start .args .code) (start .args .codes .now) (start .args .n) (turn .i) (omega arith)
+          (turn .inv .1) (omega arith) (omega arith),
+    )
 
 returns-2 : tie.Need-returns-2 Inv-loop μ-loop
 returns-2 c =
     let start = c .before .before in
     let turn = c .before .loop in
-    slot-end (start .args .code) (start .args .codes .now) (start .args .n) (turn .i) (omega arith) (turn .inv .1) (omega arith)
+    slot-end (start .args .code) (start .args .codes .now) (start .args .n) (turn .i) (omega arith)
+    (turn .inv .1) (omega arith)
 
 pub position-spec : {M : Type 1} → statement M
 position-spec =

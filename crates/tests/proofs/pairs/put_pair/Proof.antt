@@ -24,13 +24,21 @@ returns-2 : tie.Need-returns-2
 returns-2 c =
     let start = c .before .before .before .before .before .before in
     let position = c .before .before .before .position in
-    (keep-there (start .args .codes .now) (start .args .n) (start .args .code) (omega arith) (omega arith) (position .result) (position .ensures) (c .before .before .if2 .taken) (c .if3 .taken), start .pre)
+    let if2 = c .before .before .if2 in (
+      keep-there (start .args .codes .now) (start .args .n) (start .args .code) (omega arith) (omega arith)
+          (position .result) (position .ensures) (if2 .taken) (c .if3 .taken),
+      start .pre,
+    )
 
 insert-at-requires : tie.Need-insert-at-requires
 insert-at-requires c κs =
     let start = c .before .before .before .before .before in
-    let position = c .before .before .position in
-    (slot-low (start .args .codes .now) (start .args .n) (start .args .code) (omega arith) (omega arith) (position .result) (position .ensures), omega arith, start .pre .1)
+    let position = c .before .before .position in (
+      slot-low (start .args .codes .now) (start .args .n) (start .args .code) (omega arith) (omega arith)
+          (position .result) (position .ensures),
+      omega arith,
+      start .pre .1,
+    )
 
 add-result : tie.Need-add-result
 add-result c = search needs
@@ -40,7 +48,8 @@ returns-3 c =
     let start = c .before .before .before .before .before .before in
     let position = c .before .before .before .position in
     let if2 = c .before .before .if2 in (
-      keep-here (start .args .codes .now) (start .args .n) (start .args .code) (omega arith) (omega arith) (position .result) (position .ensures)
+      keep-here (start .args .codes .now) (start .args .n) (start .args .code) (omega arith) (omega arith)
+          (position .result) (position .ensures)
           (c .insert-at .last .0) (omega (arith, c .insert-at .ensures .1))
           (⊎-elim (λ w l. w .2 .left) (λ w l. absurd (omega (arith, w .left))) (if2 .came))
           (c .insert-at .ensures .0),

@@ -1,5 +1,6 @@
 -- The places, then the pairs of the rule.
-use mathlib.Core.Path.{_∙_}
+use mathlib.Core.Path.{ap, _∙_}
+use Rattle.sheet.specs.declared.Ranges.{Ranges}
 use Rattle.sheet.specs.NoteArray.{notesIn}
 use Rattle.tests.specs.TestedPlaces.{placesIn, insertAll}
 use Rattle.tests.specs.NoteTests.{testedPlaces, hasRange}
@@ -21,10 +22,15 @@ pair-rule-requires c κs =
 
 returns : tie.Need-returns
 returns c =
-    let mark-rule = c .before .before .mark-rule in
-    let ranges = c .before .before .before .before .before .before .ranges in
     let start = c .before .before .before .before .before .before .before in
-    ((λ j. record { places = (mark-rule .ensures .0 ∙ (λ k. insertAll (testedPlaces (hasRange (ranges .ensures k .high)) (notesIn (start .args .notes .now) (start .args .n))) (placesIn (start .args .words .now)))) j; pairs = c .pair-rule .ensures .0 j }), (mark-rule .ensures .1, c .pair-rule .ensures .1 .0, c .pair-rule .ensures .1 .1))
+    let ranges = c .before .before .before .before .before .before .ranges in
+    let mark-rule = c .before .before .mark-rule in
+    let notes = notesIn (start .args .notes .now) (start .args .n) in
+    let places = placesIn (start .args .words .now) in
+    let marked =
+    mark-rule .ensures .0 ∙ ap (λ (r : Ranges). insertAll (testedPlaces (hasRange (r .high)) notes) places) (ranges .ensures) in
+    let paired = c .pair-rule .ensures in
+    ((λ j. record { places = marked j; pairs = paired .0 j }), (mark-rule .ensures .1, paired .1 .0, paired .1 .1))
 
 pub gather-rule-spec : {M : Type 1} → statement M
 gather-rule-spec =

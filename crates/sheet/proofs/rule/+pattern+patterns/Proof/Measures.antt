@@ -11,6 +11,7 @@ use Rattle.sheet.proofs.rule.+pattern+patterns.Lts-patterns as patterns
 use Rattle.sheet.proofs.record.pattern_head.Reads as pattern-head-reads
 use Rattle.sheet.proofs.rule.leaf.Reads as leaf-reads
 use Rattle.sheet.proofs.rule.put.Reads as put-reads
+use Rattle.sheet.proofs.rule.after.Reads as after-reads
 use Rattle.places.proofs.step.Reads as step-reads
 
 abbrev pub μ-pattern : Measures 2 pattern-kinds.ps ℕ
@@ -41,8 +42,18 @@ pattern-calls t = (
   put-reads.Learnt,
   patterns-below t,
   patterns.Post,
+  after-reads.Asked,
+  after-reads.Learnt,
 )
 
 abbrev pub patterns-calls : ℕ → patterns-lts.Claims
-patterns-calls t =
-    (pattern-below t, pattern.Post, step-reads.Asked, step-reads.Learnt, patterns-below t, patterns.Post)
+patterns-calls t = (
+  pattern-below t,
+  pattern.Post,
+  step-reads.Asked,
+  step-reads.Learnt,
+  patterns-below t,
+  patterns.Post,
+  after-reads.Asked,
+  after-reads.Learnt,
+)

@@ -1,26 +1,38 @@
 -- A pattern: its record, then the arguments of a compound.
 use Prim.Native.Nat.{ℕ, _-_, _≤_}
-use mathlib.Core.Path.{refl, sym, ap, _∙_}
+use mathlib.Core.Path.{_≡_, refl, sym, ap, _∙_}
 use mathlib.Core.Logic.{inl, inr, ⊎-elim}
 use native.Mathlib.Omega.{arith}
 use denote.Ref.{now}
 use borrow.Author.Tests.{ltb-true, ltb-false}
 use Rattle.records.proofs.Parts.{rest-length}
+use Rattle.sheet.specs.declared.PatternRecord.the-variants.{Compound}
 use Rattle.sheet.specs.declared.PatternHead.the-variants.{Whole}
-use Rattle.sheet.specs.NoteArray.{notesIn, bytesUsed, notesMade}
+use Rattle.sheet.specs.PatternRecord.{patternHead}
+use Rattle.sheet.specs.NoteArray.{notesIn, tookNotes, bytesUsed, notesMade}
 use Rattle.sheet.proofs.Heads.{head-whole}
-use Rattle.sheet.proofs.NoteArrays.{was-used, was-refused}
+use Rattle.sheet.proofs.NoteArrays.{was-after, after-used, after-made}
 use Rattle.sheet.proofs.Compounds.{flat-tag, head-no, lowest-read, flat-read, arity-no, arguments-yes, arguments-no}
 use Rattle.sheet.proofs.Rows.{arguments-room, part-read}
 use Rattle.sheet.proofs.rule.pattern.Reads as pattern
 use Rattle.sheet.proofs.rule.+pattern+patterns.Lts-pattern as lts
 use Rattle.sheet.proofs.rule.+pattern+patterns.Proof.Measures.{pattern-at, pattern-calls}
 
+-- Where a compound was found, the input begins with its record.
+compound-head
+    : (t : ℕ) (c : lts.After-known-told2 (pattern-calls t) (pattern-at t) pattern.Post)
+    → patternHead (now (c .before .before .before .before .before .before .before .before .before .args .s))
+    ≡ Whole (Compound (c .before .what .given .0 .0) (c .before .what .given .0 .1 .0))
+compound-head t c =
+    let at-what = c .before in
+    let at-head = at-what .before .before .before .before in
+    let at-pattern-head = at-head .before .before in
+    sym (at-pattern-head .pattern-head .ensures) ∙ at-head .head .given .1 ∙ ap Whole (at-what .what .given .1)
+
 pub returns : (t : ℕ) → lts.Need-returns (pattern-calls t) (pattern-at t) pattern.Post
 returns t c =
     let at-pattern-head = c .before .before in
-    let start = at-pattern-head .before .before in
-    let a = start .args in
+    let a = at-pattern-head .before .before .args in
     let s = now (a .s) in
     let before = notesIn (now (a .notes)) (a .n) in (
       head-no (a .below) (a .place) before s (sym (at-pattern-head .pattern-head .ensures) ∙ c .enum-told .given .1),
@@ -32,8 +44,7 @@ returns-2 t c =
     let at-if1 = c .before .before in
     let at-head = at-if1 .before .before in
     let at-pattern-head = at-head .before .before in
-    let start = at-pattern-head .before .before in
-    let a = start .args in
+    let a = at-pattern-head .before .before .args in
     let s = now (a .s) in
     let before = notesIn (now (a .notes)) (a .n) in
     let head = sym (at-pattern-head .pattern-head .ensures) ∙ at-head .head .given .1 in (
@@ -46,8 +57,7 @@ returns-3 t c =
     let at-match2 = c .before .before in
     let at-head = at-match2 .before .before .before in
     let at-pattern-head = at-head .before .before in
-    let start = at-pattern-head .before .before in
-    let a = start .args in
+    let a = at-pattern-head .before .before .args in
     let s = now (a .s) in
     let before = notesIn (now (a .notes)) (a .n) in
     let head = sym (at-pattern-head .pattern-head .ensures) ∙ at-head .head .given .1 in
@@ -58,106 +68,73 @@ returns-3 t c =
 
 pub returns-4 : (t : ℕ) → lts.Need-returns-4 (pattern-calls t) (pattern-at t) pattern.Post
 returns-4 t c =
-    let at-what = c .before .before in
-    let at-if1 = at-what .before .before in
-    let at-head = at-if1 .before .before in
-    let at-pattern-head = at-head .before .before in
-    let start = at-pattern-head .before .before in
-    let a = start .args in
+    let compound = c .before in
+    let at-if1 = compound .before .before .before in
+    let a = at-if1 .before .before .before .before .before .before .args in
     let s = now (a .s) in
     let before = notesIn (now (a .notes)) (a .n) in
-    let whole = sym (at-pattern-head .pattern-head .ensures) ∙ at-head .head .given .1 in
-    let head = whole ∙ ap Whole (at-what .what .given .1) in
+    let head = compound-head t (compound) in
     let wrong = ⊎-elim (λ w. inl (w .taken)) (λ w. inr (ltb-true _ _ (w .1 .taken))) (c .if2 .came) in
     (arity-no (a .below) (a .place) before s head (at-if1 .if1 .left) wrong, omega arith)
 
 pub sub-patterns : (t : ℕ) → lts.Need-sub-patterns (pattern-calls t) (pattern-at t) pattern.Post
 sub-patterns t c =
-    let at-what = c .before .before .before .before .before in
-    let at-head = at-what .before .before .before .before in
-    let at-pattern-head = at-head .before .before in
-    let start = at-pattern-head .before .before in
-    let whole = sym (at-pattern-head .pattern-head .ensures) ∙ at-head .head .given .1 in
-    let head = whole ∙ ap Whole (at-what .what .given .1) in
-    omega (arith, head-whole (now (start .args .s)) head)
+    let compound = c .before .before .before .before in
+    omega (
+      arith,
+      head-whole
+          (now (compound .before .before .before .before .before .before .before .before .before .args .s))
+          (compound-head t (compound)),
+    )
 
 pub patterns-requires : (t : ℕ) → lts.Need-patterns-requires (pattern-calls t) (pattern-at t) pattern.Post
 patterns-requires t c κs =
     let at-if3 = c .before .before .before .before in
     let at-what = at-if3 .before .before .before in
     let at-if1 = at-what .before .before in
-    let start = at-if1 .before .before .before .before .before .before in
     let few : at-what .what .given .0 .1 .0 ≤ 4 = ltb-false _ _ (at-if3 .if3 .left) in
-    omega (arith, arguments-room (start .args .below) (at-what .what .given .0 .1 .0) (at-if1 .if1 .left) few)
+    omega (
+      arith,
+      arguments-room (at-if1 .before .before .before .before .before .before .args .below)
+          (at-what .what .given .0 .1 .0) (at-if1 .if1 .left) few,
+    )
+
+pub after-requires : (t : ℕ) → lts.Need-after-requires (pattern-calls t) (pattern-at t) pattern.Post
+after-requires t c κs =
+    let start =
+    c .before .before .before .before .before .before .before .before .before .before .before .before .before
+    .before .before .before in
+    omega (arith, c .patterns .ensures .1, rest-length (now (start .args .s)) 4, start .good .0 .0)
 
 pub returns-5 : (t : ℕ) → lts.Need-returns-5 (pattern-calls t) (pattern-at t) pattern.Post
 returns-5 t c =
-    let at-patterns = c .before .before in
+    let at-patterns = c .before in
     let at-put = at-patterns .before .before .before in
     let at-if3 = at-put .before .before in
     let at-if2 = at-if3 .before in
-    let at-what = at-if2 .before .before in
+    let compound = at-if2 .before in
+    let at-what = compound .before in
     let at-if1 = at-what .before .before in
-    let at-head = at-if1 .before .before in
-    let at-pattern-head = at-head .before .before in
-    let start = at-pattern-head .before .before in
-    let a = start .args in
+    let a = at-if1 .before .before .before .before .before .before .args in
     let s = now (a .s) in
     let before = notesIn (now (a .notes)) (a .n) in
-    let whole = sym (at-pattern-head .pattern-head .ensures) ∙ at-head .head .given .1 in
-    let head = whole ∙ ap Whole (at-what .what .given .1) in
+    let head = compound-head t (compound) in
     let arity = at-what .what .given .0 .1 .0 in
     let few : at-what .what .given .0 .1 .0 ≤ 4 = ltb-false _ _ (at-if3 .if3 .left) in
     let codes = at-patterns .patterns .last .1 .1 .1 .1 .1 .0 in
     let read = part-read (a .below - 1) arity 4 s (at-patterns .patterns .ensures .0) (at-put .put .ensures .0) refl in
-    let stop = c .enum-told2 .given .1 in (
-      was-refused codes stop read
-          (arguments-no (a .below) (a .place) before s head (at-if1 .if1 .left) (at-if2 .if2 .left) few),
-      omega (arith, at-patterns .patterns .ensures .1, ap bytesUsed stop, ap notesMade stop),
-    )
-
-pub add-t20 : (t : ℕ) → lts.Need-add-t20 (pattern-calls t) (pattern-at t) pattern.Post
-add-t20 t c =
-    let at-arguments = c .before in
-    let at-patterns = at-arguments .before .before in
-    let start = at-patterns .before .before .before .before .before .before .before .before .before .before .before .before .before .before .before .before in
-    omega (
-      arith,
-      at-patterns .patterns .ensures .1,
-      ap bytesUsed (at-arguments .arguments .given .1),
-      rest-length (now (start .args .s)) 4,
-      start .good .0 .0,
-    )
-
-pub returns-6 : (t : ℕ) → lts.Need-returns-6 (pattern-calls t) (pattern-at t) pattern.Post
-returns-6 t c =
-    let at-arguments = c .before in
-    let at-patterns = at-arguments .before .before in
-    let at-put = at-patterns .before .before .before in
-    let at-if3 = at-put .before .before in
-    let at-if2 = at-if3 .before in
-    let at-what = at-if2 .before .before in
-    let at-if1 = at-what .before .before in
-    let at-head = at-if1 .before .before in
-    let at-pattern-head = at-head .before .before in
-    let start = at-pattern-head .before .before in
-    let a = start .args in
-    let s = now (a .s) in
-    let before = notesIn (now (a .notes)) (a .n) in
-    let whole = sym (at-pattern-head .pattern-head .ensures) ∙ at-head .head .given .1 in
-    let head = whole ∙ ap Whole (at-what .what .given .1) in
-    let arity = at-what .what .given .0 .1 .0 in
-    let few : at-what .what .given .0 .1 .0 ≤ 4 = ltb-false _ _ (at-if3 .if3 .left) in
-    let codes = at-patterns .patterns .last .1 .1 .1 .1 .1 .0 in
-    let read = part-read (a .below - 1) arity 4 s (at-patterns .patterns .ensures .0) (at-put .put .ensures .0) refl in
-    let end = at-arguments .arguments .given .1 in (
-      arguments-yes (a .below) (a .place) before s head (at-if1 .if1 .left) (at-if2 .if2 .left) few
-          (was-used codes end read),
+    let end = c .after .ensures in (
+      ap (tookNotes codes) end
+          ∙ was-after 4 (at-patterns .patterns .result) codes read
+          (λ b notes e. arguments-yes (a .below) (a .place) before s head (at-if1 .if1 .left) (at-if2 .if2 .left) few e)
+          (λ q e. arguments-no (a .below) (a .place) before s head (at-if1 .if1 .left) (at-if2 .if2 .left) few e),
       omega (
         arith,
         at-patterns .patterns .ensures .1,
         ap bytesUsed end,
+        after-used 4 (at-patterns .patterns .result),
         ap notesMade end,
+        after-made 4 (at-patterns .patterns .result),
         rest-length s 4,
         head-whole s head,
         arguments-room (a .below) arity (at-if1 .if1 .left) few,

@@ -5,8 +5,8 @@ use native.Mathlib.Omega.{arith}
 use denote.Ref.{now}
 use Rattle.places.specs.Numbering.{stride}
 use Rattle.records.proofs.Parts.{rest-length}
-use Rattle.sheet.specs.NoteArray.{notesIn, bytesUsed, notesMade}
-use Rattle.sheet.proofs.NoteArrays.{was-used, was-refused}
+use Rattle.sheet.specs.NoteArray.{notesIn, tookNotes, bytesUsed, notesMade}
+use Rattle.sheet.proofs.NoteArrays.{was-used, was-refused, was-after, after-used, after-made}
 use Rattle.sheet.proofs.Rows.{row-room, row-step, part-read, none-read, first-no, others-yes, others-no}
 use Rattle.sheet.proofs.rule.patterns.Reads as patterns
 use Rattle.sheet.proofs.rule.+pattern+patterns.Lts-patterns as lts
@@ -22,16 +22,14 @@ returns t c =
 pub pattern-requires : (t : ℕ) → lts.Need-pattern-requires (patterns-calls t) (patterns-at t) patterns.Post
 pattern-requires t c κs =
     let at-if1 = c .before in
-    let start = at-if1 .before .before in
-    let a = start .args in
+    let a = at-if1 .before .before .args in
     omega (arith, row-room (a .count) (stride (suc (a .below))) (at-if1 .if1 .left))
 
 pub returns-2 : (t : ℕ) → lts.Need-returns-2 (patterns-calls t) (patterns-at t) patterns.Post
 returns-2 t c =
     let at-pattern = c .before .before in
     let at-if1 = at-pattern .before .before in
-    let start = at-if1 .before .before in
-    let a = start .args in
+    let a = at-if1 .before .before .args in
     let s = now (a .s) in
     let before = notesIn (now (a .notes)) (a .n) in
     let first = at-pattern .pattern .last .1 .1 .1 .1 .0 in
@@ -70,55 +68,25 @@ patterns-requires t c κs =
     let used = at-first .first .given .1 in
     omega (arith, at-pattern .pattern .ensures .1, ap bytesUsed used, ap notesMade used)
 
-pub returns-3 : (t : ℕ) → lts.Need-returns-3 (patterns-calls t) (patterns-at t) patterns.Post
-returns-3 t c =
-    let at-patterns = c .before .before in
-    let at-step = at-patterns .before .before .before in
-    let at-first = at-step .before .before in
-    let at-pattern = at-first .before .before in
-    let at-if1 = at-pattern .before .before in
-    let start = at-if1 .before .before in
-    let a = start .args in
-    let s = now (a .s) in
-    let before = notesIn (now (a .notes)) (a .n) in
-    let first = at-pattern .pattern .last .1 .1 .1 .1 .0 in
-    let readFirst = was-used first (at-first .first .given .1) (at-pattern .pattern .ensures .0) in
-    let bytes = at-first .first .given .0 .0 in
-    let step = at-step .step .ensures ∙ row-step (a .below) (start .pre .1 .0) in
-    let others = at-patterns .patterns .last .1 .1 .1 .1 .1 .0 in
-    let read =
-    part-read (a .below) (a .count - 1) bytes s {notes = notesIn first (at-first .first .given .0 .1 .0)}
-    (at-patterns .patterns .ensures .0) refl (ap (a .place +_) step) in
-    let stop = c .enum-told2 .given .1 in (
-      was-refused others stop read (others-no (a .below) (a .count) (a .place) before s (at-if1 .if1 .left) readFirst),
-      omega (arith, at-patterns .patterns .ensures .1, ap bytesUsed stop, ap notesMade stop),
-    )
-
-pub add-t16 : (t : ℕ) → lts.Need-add-t16 (patterns-calls t) (patterns-at t) patterns.Post
-add-t16 t c =
-    let at-rest = c .before in
-    let at-patterns = at-rest .before .before in
-    let at-first = at-patterns .before .before .before .before .before in
+pub after-requires : (t : ℕ) → lts.Need-after-requires (patterns-calls t) (patterns-at t) patterns.Post
+after-requires t c κs =
+    let at-first = c .before .before .before .before .before in
     let at-pattern = at-first .before .before in
     let start = at-pattern .before .before .before .before in
     let used = at-first .first .given .1 in
-    let end = at-rest .rest .given .1 in
     omega (
       arith,
       at-pattern .pattern .ensures .1,
       ap bytesUsed used,
       ap notesMade used,
-      at-patterns .patterns .ensures .1,
-      ap bytesUsed end,
-      ap notesMade end,
+      c .patterns .ensures .1,
       rest-length (now (start .args .s)) (at-first .first .given .0 .0),
       start .good .0 .0,
     )
 
-pub returns-4 : (t : ℕ) → lts.Need-returns-4 (patterns-calls t) (patterns-at t) patterns.Post
-returns-4 t c =
-    let at-rest = c .before in
-    let at-patterns = at-rest .before .before in
+pub returns-3 : (t : ℕ) → lts.Need-returns-3 (patterns-calls t) (patterns-at t) patterns.Post
+returns-3 t c =
+    let at-patterns = c .before in
     let at-step = at-patterns .before .before .before in
     let at-first = at-step .before .before in
     let at-pattern = at-first .before .before in
@@ -128,24 +96,31 @@ returns-4 t c =
     let s = now (a .s) in
     let before = notesIn (now (a .notes)) (a .n) in
     let first = at-pattern .pattern .last .1 .1 .1 .1 .0 in
-    let readFirst = was-used first (at-first .first .given .1) (at-pattern .pattern .ensures .0) in
+    let used = at-first .first .given .1 in
+    let readFirst = was-used first used (at-pattern .pattern .ensures .0) in
     let bytes = at-first .first .given .0 .0 in
     let step = at-step .step .ensures ∙ row-step (a .below) (start .pre .1 .0) in
     let others = at-patterns .patterns .last .1 .1 .1 .1 .1 .0 in
     let read =
     part-read (a .below) (a .count - 1) bytes s {notes = notesIn first (at-first .first .given .0 .1 .0)}
     (at-patterns .patterns .ensures .0) refl (ap (a .place +_) step) in
-    let used = at-first .first .given .1 in
-    let end = at-rest .rest .given .1 in (
-      others-yes (a .below) (a .count) (a .place) before s (at-if1 .if1 .left) readFirst (was-used others end read),
+    let end = c .after .ensures in (
+      ap (tookNotes others) end
+          ∙ was-after bytes (at-patterns .patterns .result) others read
+          (λ b notes e. others-yes (a .below) (a .count) (a .place) before s (at-if1 .if1 .left) readFirst e)
+          (λ q e. others-no (a .below) (a .count) (a .place) before s (at-if1 .if1 .left) readFirst e),
       omega (
         arith,
         at-pattern .pattern .ensures .1,
         ap bytesUsed used,
         ap notesMade used,
-        at-patterns .patterns .ensures .1,
+        at-patterns .patterns
+            .ensures .1,
         ap bytesUsed end,
+        after-used bytes (at-patterns .patterns .result),
         ap notesMade end,
+        after-made bytes
+            (at-patterns .patterns .result),
         rest-length s bytes,
         row-room (a .count) (stride (suc (a .below))) (at-if1 .if1 .left),
       ),

@@ -1,0 +1,12 @@
+pub mod RuleByRule
+pub mod Gathering
+pub mod NoteTurns
+pub mod RuleTurns
+pub mod SoundNotes
+pub mod NotesRight
+pub mod Questions
+pub mod CheckedSheets
+pub mod PiecesRead
+pub mod PieceAnswers
+pub mod ByteLists
+pub mod PlainBytes

@@ -1,0 +1,82 @@
+// The static library. Every call takes byte slices and hands back one number, the refusal's number in its lowest byte.
+use answer::Answer;
+use answer::Plain;
+use piece::PieceCheck;
+use tests::SheetCheck;
+ghost use mathlib.Core.Path.{_≡_};
+ghost use Rattle.terms.specs.Answer.{wordOf, ruleOf};
+ghost use Rattle.tests.specs.CheckSheet.{acceptSheet, sheetValues};
+ghost use Rattle.piece.specs.ReadPiece.{readPiece};
+ghost use Rattle.piece.specs.LaidOut.{checkedPiece};
+ghost use Rattle.answer.specs.Plain.{answerOf, plainReading, readingValues};
+ghost use Rattle.board.specs.Packed.{packed, packedSheet, packedPiece, packedPlain};
+
+// A refusal's number and three values as one number.
+fn pack(refusal: u8, first: u8, second: u8, third: u8) -> u64
+    ensures { λ r. ⌜ r ≡ packed refusal first second third ⌝ }
+{
+    refusal as u64
+        + 0x100 * (first as u64)
+        + 0x1_0000 * (second as u64)
+        + 0x100_0000 * (third as u64)
+}
+
+// The answer word's number.
+fn word(answer: Answer) -> u8
+    ensures { λ r. ⌜ r ≡ wordOf (answerOf answer) ⌝ }
+{
+    match answer {
+        Answer::Commit(_) => 1,
+        Answer::Execute(_) => 2,
+        Answer::Suspend => 3,
+        Answer::Fail => 4,
+    }
+}
+
+// The answer's rule, 0 where it has none.
+fn rule(answer: Answer) -> u8
+    ensures { λ r. ⌜ r ≡ ruleOf (answerOf answer) ⌝ }
+{
+    match answer {
+        Answer::Commit(i) => i,
+        Answer::Execute(i) => i,
+        Answer::Suspend => 0,
+        Answer::Fail => 0,
+    }
+}
+
+// Checks a sheet: arity, rules and tests. Not the arity of a sheet that is refused, nor the rules in the place of the tests.
+#[no_mangle]
+pub extern "C" fn vt_check_sheet(sheet: &[u8]) -> u64
+    ensures { λ r. ⌜ r ≡ packedSheet (sheetValues (acceptSheet (now (sheet .entry)))) ⌝ }
+{
+    let checked = tests::check_sheet(sheet);
+    match checked {
+        SheetCheck::Accepted(arity, rules, count) => pack(0, arity, rules, count),
+        SheetCheck::Refused(q) => pack(q, 0, 0, 0),
+    }
+}
+
+// Checks a piece: its arity. Not an arity beside a refusal's number, nor 0 for a piece that is accepted.
+#[no_mangle]
+pub extern "C" fn vt_check_piece(piece: &[u8]) -> u64
+    ensures { λ r. ⌜ r ≡ packedPiece (checkedPiece (readPiece (now (piece .entry)))) ⌝ }
+{
+    let checked = piece::check_piece(piece);
+    match checked {
+        PieceCheck::Accepted(arity) => pack(0, arity, 0, 0),
+        PieceCheck::Refused(q) => pack(q, 0, 0, 0),
+    }
+}
+
+// The plain answer: its word and rule. Not the rule before the word, nor suspend for every piece with an unknown.
+#[no_mangle]
+pub extern "C" fn vt_plain(sheet: &[u8], piece: &[u8]) -> u64
+    ensures { λ r. ⌜ r ≡ packedPlain (readingValues (plainReading (now (sheet .entry)) (now (piece .entry)))) ⌝ }
+{
+    let answered = answer::counter::plain(sheet, piece);
+    match answered {
+        Plain::Answered(a) => pack(0, word(a), rule(a), 0),
+        Plain::Refused(q) => pack(q, 0, 0, 0),
+    }
+}

@@ -1,2 +1,0 @@
-pub mod NodeRecord
-pub mod ReadGraph

@@ -1,0 +1,17 @@
+-- Questions that were asked: what follows one is reached exactly where its answer is yes.
+use Prim.Native.Nat.{ℕ}
+use mathlib.Core.Path.{_≡_, refl}
+use mathlib.Core.Bool.{Bool, true, false}
+use native.Mathlib.Omega.{arith}
+use lib.Dec.{T}
+use Rattle.records.specs.Reading.{Reading, took, refused, ask}
+
+-- Where something was read, the question before it got a yes.
+pub ask-took : {A : Type 0} (q : ℕ) (b : Bool) (r : Reading A) {a : ℕ} {x : A} → ask q b r ≡ took a x → T b × (r ≡ took a x)
+ask-took q true r e = (tt, e)
+ask-took q false r e = let z : _≡_ {A = ℕ} 0 1 = cc in absurd (omega arith)
+
+-- A question that gets a yes changes nothing.
+pub ask-yes : {A : Type 0} (q : ℕ) (b : Bool) (r : Reading A) → T b → ask q b r ≡ r
+ask-yes q true r h = refl
+ask-yes q false r h = absurd h

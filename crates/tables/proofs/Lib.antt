@@ -1,0 +1,2 @@
+pub mod WordPlaces
+pub mod TestNumbers

@@ -1,0 +1,71 @@
+/*
+ * Voltunnis: checks and answers for coin sorter rule sheets.
+ *
+ * Every function takes byte sequences, each as a pointer and a length, and returns one 64-bit
+ * number. A pointer is never null, not even with length 0. A buffer that is lent to be written must
+ * not overlap an input. No function keeps a pointer after it returned.
+ *
+ * A result is packed from the lowest bit up: 8 bits for the refusal's number, 0 when accepted, then
+ * the fields that stand beside each function. On a refusal all other bits are 0.
+ *
+ * Refusals: the first question that gets a no, in this order, gives its number.
+ *
+ *   sheet        1  begins with a whole 10 record
+ *                2  arity 1 to 8
+ *                3  at most 32 rules
+ *   each         4  whole record of kinds 20 to 25
+ *   pattern      5  a compound's depth is at most 3
+ *                6  a compound's arity is 1 to 4
+ *                7  low is at most high
+ *                8  variable 0 to 15
+ *   each rule    9  each variable's ranges have a number in common
+ *   sheet's end 10  no bytes are left
+ *               11  at most 64 tests
+ *   piece       12  begins with a whole 11 record
+ *               13  arity 1 to 8
+ *               14  each term is a whole record of kinds 30 to 33
+ *               15  a compound's depth is at most 3
+ *               16  a compound's arity is 1 to 4
+ *               17  no bytes are left
+ *   both        20  sheet and piece have the same arity
+ *
+ * Kinds are hexadecimal, all other numbers decimal.
+ */
+#ifndef VOLTUNNIS_H
+#define VOLTUNNIS_H
+
+#include <stddef.h>
+#include <stdint.h>
+
+#ifdef __cplusplus
+extern "C" {
+#endif
+
+/* The word of an answer. */
+enum vt_word {
+    VT_COMMIT = 1,
+    VT_EXECUTE = 2,
+    VT_SUSPEND = 3,
+    VT_FAIL = 4
+};
+
+/* Refusal, 0 when accepted: bits 0 to 7 of every result. */
+static inline unsigned vt_refusal(uint64_t result) { return (unsigned)(result & 0xff); }
+
+/* Checks a sheet: questions 1 to 11.
+ * Fields: arity (bits 8 to 15), rules (16 to 23), tests (24 to 31). */
+uint64_t vt_check_sheet(const uint8_t *sheet, size_t sheet_len);
+
+/* Checks a piece: questions 12 to 17.
+ * Fields: arity (bits 8 to 15). */
+uint64_t vt_check_piece(const uint8_t *piece, size_t piece_len);
+
+/* The plain answer of a sheet on a piece: questions 1 to 11, 12 to 17, then 20.
+ * Fields: word (bits 8 to 15), rule (16 to 23), which is 0 for suspend and fail. */
+uint64_t vt_plain(const uint8_t *sheet, size_t sheet_len, const uint8_t *piece, size_t piece_len);
+
+#ifdef __cplusplus
+}
+#endif
+
+#endif

@@ -1,0 +1,88 @@
+//! Each call made twice, of the library and of the reference, with equal results.
+//!
+//! Every function panics with the bytes in hexadecimal if the two differ. They are inlined, so that
+//! a program links only those functions of the library that it calls.
+
+use crate::bytes::to_hex;
+use crate::results::{Answer, Built, GraphSize, PieceSize, Plain, Refusal, SheetSize, Written};
+use crate::{reference, voltunnis};
+
+#[inline]
+pub fn check_sheet(sheet: &[u8]) -> Result<SheetSize, Refusal> {
+    let result = voltunnis::check_sheet(sheet);
+    assert_eq!(result, reference::check_sheet(sheet), "library, reference: sheet {}", to_hex(sheet));
+    result
+}
+
+#[inline]
+pub fn check_piece(piece: &[u8]) -> Result<PieceSize, Refusal> {
+    let result = voltunnis::check_piece(piece);
+    assert_eq!(result, reference::check_piece(piece), "library, reference: piece {}", to_hex(piece));
+    result
+}
+
+#[inline]
+pub fn plain(sheet: &[u8], piece: &[u8]) -> Result<Plain, Refusal> {
+    let result = voltunnis::plain(sheet, piece);
+    assert_eq!(
+        result,
+        reference::plain(sheet, piece),
+        "library, reference: sheet {} piece {}",
+        to_hex(sheet),
+        to_hex(piece)
+    );
+    result
+}
+
+#[inline]
+pub fn check_graph(sheet: &[u8], graph: &[u8]) -> Result<GraphSize, Refusal> {
+    let result = voltunnis::check_graph(sheet, graph);
+    assert_eq!(
+        result,
+        reference::check_graph(sheet, graph),
+        "library, reference: sheet {} graph {}",
+        to_hex(sheet),
+        to_hex(graph)
+    );
+    result
+}
+
+/// A buffer of this length as it is lent: bytes by which a part that moved is seen.
+pub fn lent(len: usize) -> Vec<u8> {
+    (0..len).map(|at| (at * 37 % 251) as u8).collect()
+}
+
+/// Rewrites a graph to a buffer of this length; gives the result and the buffer.
+#[inline]
+pub fn rewrite(sheet: &[u8], graph: &[u8], len: usize) -> (Result<Written, Refusal>, Vec<u8>) {
+    let (mut one, mut two) = (lent(len), lent(len));
+    let result = voltunnis::rewrite(sheet, graph, &mut one);
+    let what =
+        || format!("library, reference: sheet {} graph {} to {len} bytes", to_hex(sheet), to_hex(graph));
+    assert_eq!(result, reference::rewrite(sheet, graph, &mut two), "{}", what());
+    assert!(one == two, "other bytes in the buffer: {}", what());
+    (result, one)
+}
+
+/// Builds a graph in a buffer of this length; gives the result and the buffer.
+#[inline]
+pub fn build(sheet: &[u8], len: usize) -> (Result<Built, Refusal>, Vec<u8>) {
+    let (mut one, mut two) = (lent(len), lent(len));
+    let result = voltunnis::build(sheet, &mut one);
+    let what = || format!("library, reference: sheet {} to {len} bytes", to_hex(sheet));
+    assert_eq!(result, reference::build(sheet, &mut two), "{}", what());
+    assert!(one == two, "other bytes in the buffer: {}", what());
+    (result, one)
+}
+
+/// Walks a graph; the wait list is compared on refusals too.
+#[inline]
+pub fn walk(sheet: &[u8], graph: &[u8], piece: &[u8]) -> Result<Answer, Refusal> {
+    let result = reference::walk(sheet, graph, piece);
+    let what = || format!("sheet {} graph {} piece {}", to_hex(sheet), to_hex(graph), to_hex(piece));
+    let walk = result.map(|answer| answer.walk);
+    assert_eq!(voltunnis::walk(sheet, graph, piece), walk, "library, reference: {}", what());
+    let wait = result.map_or(0, |answer| answer.wait);
+    assert_eq!(voltunnis::wait(sheet, graph, piece), wait, "library's wait list, reference's: {}", what());
+    result
+}

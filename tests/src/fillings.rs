@@ -1,0 +1,198 @@
+//! The plain answer by trying fillings, on small sheets: a check of the reference that uses no
+//! places, no tests and no comparison of terms with unknowns.
+//!
+//! Document 01 fills unknowns with any terms without unknowns. Here they come from a finite set:
+//! every symbol and number that sheet or piece mention, the numbers beside them, two symbols that
+//! neither mentions, and every compound that they mention over these, up to a height. That is
+//! enough. If some filling meets a rule, so does one that puts at each unknown no more than what the
+//! rule and the other places of its variables ask there: a pattern with terms of the piece laid over
+//! each other where its variables stand. And if some filling misses it, so does one that puts a new
+//! symbol at an unknown, or the two new ones at two of them.
+
+use crate::generate::trees::{Pattern, SheetTree, Term};
+use crate::results::{Plain, Word};
+use std::collections::BTreeSet;
+
+/// Whether terms without unknowns meet a rule.
+pub fn meets(rule: &[Pattern], terms: &[Term]) -> bool {
+    let mut bound = [None; 16];
+    takes_all(rule, terms, &mut bound)
+}
+
+fn takes_all<'a>(patterns: &[Pattern], terms: &'a [Term], bound: &mut [Option<&'a Term>; 16]) -> bool {
+    patterns.len() == terms.len()
+        && patterns.iter().zip(terms).all(|(pattern, term)| takes(pattern, term, bound))
+}
+
+/// Whether a pattern takes a term, each variable taking the same term wherever it stands.
+fn takes<'a>(pattern: &Pattern, term: &'a Term, bound: &mut [Option<&'a Term>; 16]) -> bool {
+    match (pattern, term) {
+        (Pattern::Anything, _) => true,
+        (Pattern::Symbol(id), Term::Symbol(other)) => id == other,
+        (Pattern::Range(low, high), Term::Number(n)) => (low..=high).contains(&n),
+        (Pattern::Compound(id, patterns), Term::Compound(other, terms)) => {
+            id == other && takes_all(patterns, terms, bound)
+        }
+        (Pattern::Variable(number), _) => *bound[usize::from(*number)].get_or_insert(term) == term,
+        (Pattern::Ranged(number, low, high), Term::Number(n)) => {
+            (low..=high).contains(&n) && *bound[usize::from(*number)].get_or_insert(term) == term
+        }
+        _ => false,
+    }
+}
+
+/// What sheet and piece mention.
+#[derive(Default)]
+struct Mentioned {
+    symbols: BTreeSet<u16>,
+    numbers: BTreeSet<u16>,
+    compounds: BTreeSet<(u16, usize)>,
+    /// The height of the highest pattern.
+    patterns: usize,
+    /// How deep a variable stands in its pattern, 1 at the top.
+    variables: usize,
+    /// The height of the highest term.
+    terms: usize,
+}
+
+impl Mentioned {
+    fn range(&mut self, low: u16, high: u16) {
+        self.numbers.extend([low.saturating_sub(1), low, high, high.saturating_add(1)]);
+    }
+
+    fn pattern(&mut self, pattern: &Pattern, level: usize) {
+        self.patterns = self.patterns.max(level);
+        if let Pattern::Variable(_) | Pattern::Ranged(..) = pattern {
+            self.variables = self.variables.max(level);
+        }
+        match pattern {
+            Pattern::Anything | Pattern::Variable(_) => {}
+            Pattern::Symbol(id) => self.symbols.extend([*id]),
+            Pattern::Range(low, high) | Pattern::Ranged(_, low, high) => self.range(*low, *high),
+            Pattern::Compound(id, arguments) => {
+                self.compounds.insert((*id, arguments.len()));
+                arguments.iter().for_each(|argument| self.pattern(argument, level + 1));
+            }
+        }
+    }
+
+    fn term(&mut self, term: &Term, level: usize) {
+        self.terms = self.terms.max(level);
+        match term {
+            Term::Unknown => {}
+            Term::Symbol(id) => self.symbols.extend([*id]),
+            Term::Number(n) => self.numbers.extend([*n]),
+            Term::Compound(id, arguments) => {
+                self.compounds.insert((*id, arguments.len()));
+                arguments.iter().for_each(|argument| self.term(argument, level + 1));
+            }
+        }
+    }
+
+    /// The height up to which terms are tried.
+    fn height(&self) -> usize {
+        self.patterns.max(self.variables.max(1) - 1 + self.terms)
+    }
+
+    /// All terms of this height or lower over what is mentioned and two new symbols; none if they
+    /// are more than so many.
+    fn terms(&self, most: usize) -> Option<Vec<Term>> {
+        let new = (0..=u16::MAX).filter(|id| !self.symbols.contains(id)).take(2);
+        let mut atoms: Vec<Term> = self.symbols.iter().copied().chain(new).map(Term::Symbol).collect();
+        atoms.extend(self.numbers.iter().map(|n| Term::Number(*n)));
+        let mut all = atoms.clone();
+        for _ in 1..self.height() {
+            let mut higher = atoms.clone();
+            for (id, arity) in &self.compounds {
+                if higher.len() + all.len().checked_pow(*arity as u32)? > most {
+                    return None;
+                }
+                let lists = lists(&all, *arity);
+                higher.extend(lists.into_iter().map(|arguments| Term::Compound(*id, arguments)));
+            }
+            all = higher;
+        }
+        Some(all)
+    }
+}
+
+/// All lists of this length over these terms.
+fn lists(over: &[Term], length: usize) -> Vec<Vec<Term>> {
+    (0..length).fold(vec![Vec::new()], |shorter, _| {
+        let longer = |list: &Vec<Term>, last: &Term| [&list[..], std::slice::from_ref(last)].concat();
+        shorter.iter().flat_map(|list| over.iter().map(move |last| longer(list, last))).collect()
+    })
+}
+
+fn unknowns(terms: &[Term]) -> usize {
+    terms
+        .iter()
+        .map(|term| match term {
+            Term::Unknown => 1,
+            Term::Compound(_, arguments) => unknowns(arguments),
+            _ => 0,
+        })
+        .sum()
+}
+
+/// The terms with the next of these put in each unknown in turn.
+fn filled<'a>(terms: &[Term], with: &mut impl Iterator<Item = &'a Term>) -> Vec<Term> {
+    terms
+        .iter()
+        .map(|term| match term {
+            Term::Unknown => with.next().expect("a term for each unknown").clone(),
+            Term::Compound(id, arguments) => Term::Compound(*id, filled(arguments, with)),
+            other => other.clone(),
+        })
+        .collect()
+}
+
+/// Which rules some filling meets, and which some filling misses.
+struct Tried {
+    met: Vec<bool>,
+    missed: Vec<bool>,
+}
+
+impl Tried {
+    fn all(sheet: &SheetTree, piece: &[Term], from: &[Term]) -> Tried {
+        let count = unknowns(piece);
+        let rules = sheet.rules.len();
+        let mut tried = Tried { met: vec![false; rules], missed: vec![false; rules] };
+        for mut number in 0..from.len().pow(count as u32) {
+            let mut chosen = (0..count).map(|_| {
+                let term = &from[number % from.len()];
+                number /= from.len();
+                term
+            });
+            let terms = filled(piece, &mut chosen);
+            for (at, rule) in sheet.rules.iter().enumerate() {
+                let side = if meets(rule, &terms) { &mut tried.met } else { &mut tried.missed };
+                side[at] = true;
+            }
+        }
+        tried
+    }
+
+    /// Commit: this rule alone is met by some filling, and by all. Execute: this rule alone is met
+    /// by some filling, and missed by some. Suspend: some filling meets one rule, and some filling
+    /// another. Fail: no filling meets a rule.
+    fn answer(&self) -> Plain {
+        let met: Vec<usize> = (0..self.met.len()).filter(|at| self.met[*at]).collect();
+        match met[..] {
+            [] => Plain { word: Word::Fail, rule: 0 },
+            [only] if self.missed[only] => Plain { word: Word::Execute, rule: only as u8 + 1 },
+            [only] => Plain { word: Word::Commit, rule: only as u8 + 1 },
+            _ => Plain { word: Word::Suspend, rule: 0 },
+        }
+    }
+}
+
+/// The plain answer by trying fillings; none if there are more than so many to try.
+pub fn answer(sheet: &SheetTree, piece: &[Term], most: usize) -> Option<Plain> {
+    let mut mentioned = Mentioned::default();
+    sheet.rules.iter().flatten().for_each(|pattern| mentioned.pattern(pattern, 1));
+    piece.iter().for_each(|term| mentioned.term(term, 1));
+    let from = mentioned.terms(most)?;
+    from.len().checked_pow(unknowns(piece) as u32).filter(|count| *count <= most)?;
+    Some(Tried::all(sheet, piece, &from).answer())
+}

@@ -1,0 +1,73 @@
+//! A second implementation of document 01, written from its text alone.
+//!
+//! A sheet is read to the tests of its rules, a piece to a list of its terms ascending by place.
+//! Questions are asked in the order in which the bytes are read; the first no is handed back.
+
+pub mod build;
+pub mod edges;
+pub mod graph;
+pub mod keys;
+pub mod listing;
+pub mod nodes;
+pub mod piece;
+pub mod places;
+pub mod plain;
+pub mod records;
+pub mod sheet;
+pub mod truth;
+pub mod variables;
+pub mod walk;
+
+use crate::results::{Answer, Built, GraphSize, PieceSize, Plain, Refusal, SheetSize, Written};
+use piece::Piece;
+use sheet::Sheet;
+
+/// Checks a sheet: questions 1 to 11.
+pub fn check_sheet(sheet: &[u8]) -> Result<SheetSize, Refusal> {
+    let sheet = Sheet::read(sheet)?;
+    Ok(SheetSize { arity: sheet.arity, rules: sheet.rules.len() as u8, tests: sheet.tests.count() as u8 })
+}
+
+/// Checks a piece: questions 12 to 17.
+pub fn check_piece(piece: &[u8]) -> Result<PieceSize, Refusal> {
+    Piece::read(piece).map(|piece| PieceSize { arity: piece.arity })
+}
+
+/// The plain answer: the sheet's questions, the piece's, then 20.
+pub fn plain(sheet: &[u8], piece: &[u8]) -> Result<Plain, Refusal> {
+    let (sheet, piece) = (Sheet::read(sheet)?, Piece::read(piece)?);
+    if sheet.arity != piece.arity {
+        return Err(20);
+    }
+    Ok(plain::answer(&sheet, &piece))
+}
+
+/// Checks a graph: the sheet's questions, then 21 to 25.
+pub fn check_graph(sheet: &[u8], graph: &[u8]) -> Result<GraphSize, Refusal> {
+    let nodes = graph::read(&Sheet::read(sheet)?, graph)?;
+    Ok(GraphSize { nodes: nodes.len() as u16 })
+}
+
+/// Writes a graph's nodes again: the sheet's questions, 21 to 25, then 19.
+pub fn rewrite(sheet: &[u8], graph: &[u8], buffer: &mut [u8]) -> Result<Written, Refusal> {
+    let sheet = Sheet::read(sheet)?;
+    let nodes = graph::read(&sheet, graph)?;
+    Ok(Written { bytes: build::write(&sheet, &nodes, buffer)? })
+}
+
+/// Builds a sheet's graph: the sheet's questions, then 18 and 19.
+pub fn build(sheet: &[u8], buffer: &mut [u8]) -> Result<Built, Refusal> {
+    let sheet = Sheet::read(sheet)?;
+    let nodes = build::nodes(&sheet)?;
+    Ok(Built { nodes: nodes.len() as u16, bytes: build::write(&sheet, &nodes, buffer)? })
+}
+
+/// Walks a graph: the sheet's questions, the piece's, then 20 to 27.
+pub fn walk(sheet: &[u8], graph: &[u8], piece: &[u8]) -> Result<Answer, Refusal> {
+    let (sheet, piece) = (Sheet::read(sheet)?, Piece::read(piece)?);
+    if sheet.arity != piece.arity {
+        return Err(20);
+    }
+    let nodes = graph::read(&sheet, graph)?;
+    walk::walk(&sheet, &nodes, &piece)
+}

@@ -1,0 +1,197 @@
+//! The questions at a graph, 21 to 25: each at its exact limit, which of two comes first, and random
+//! graphs, built, of other makers, mangled and damaged.
+
+use voltunnis_tests::both::check_graph;
+use voltunnis_tests::bytes::from_hex;
+use voltunnis_tests::generate::damage::damaged;
+use voltunnis_tests::generate::graphs::graph;
+use voltunnis_tests::generate::random::Random;
+use voltunnis_tests::generate::sheets::sheet;
+use voltunnis_tests::reference::nodes::{graph_bytes, Case, Node};
+use voltunnis_tests::reference::sheet::Sheet;
+use voltunnis_tests::results::GraphSize;
+
+/// f(X, X) and f(1, 2): place tests at 0 and 85, one pair.
+const EXAMPLE: &str = "10 02 02 24 00 24 00 21 00 01 21 00 02";
+
+/// f(X, X) alone: one pair, no place test.
+const PAIR: &str = "10 02 01 24 00 24 00";
+
+#[track_caller]
+fn refused(sheet: &str, graph: &str, refusal: u8) {
+    assert_eq!(check_graph(&from_hex(sheet), &from_hex(graph)), Err(refusal), "{graph}");
+}
+
+#[track_caller]
+fn accepted(sheet: &str, graph: &str, nodes: u16) {
+    assert_eq!(check_graph(&from_hex(sheet), &from_hex(graph)), Ok(GraphSize { nodes }), "{graph}");
+}
+
+/// What is said about the example's graph with two nodes, this one and a suspend.
+#[track_caller]
+fn node(hex: &str, expected: Result<u16, u8>) {
+    let graph = format!("12 02 02 00 02 {hex} 41");
+    match expected {
+        Ok(nodes) => accepted(EXAMPLE, &graph, nodes),
+        Err(refusal) => refused(EXAMPLE, &graph, refusal),
+    }
+}
+
+/// The same with a switch at place 0 that has these cases.
+#[track_caller]
+fn cases(cases: &[&str], expected: Result<u16, u8>) {
+    node(&format!("43 00 00 {:02x} 00 00 00 01 {}", cases.len(), cases.concat()), expected);
+}
+
+#[test]
+fn question_21_asks_for_a_header_that_fits_the_sheet() {
+    for graph in ["", "12", "12 02 02 00", "11 02 02 00 01 41", "12 01 02 00 01 41", "12 02 03 00 01 41"] {
+        refused(EXAMPLE, graph, 21);
+    }
+    refused(EXAMPLE, "12 02 02 00 00", 21);
+    accepted(EXAMPLE, "12 02 02 00 01 41", 1);
+    accepted(EXAMPLE, &format!("12 02 02 04 00 {}", "41".repeat(1024)), 1024);
+    refused(EXAMPLE, &format!("12 02 02 04 01 {}", "41".repeat(1025)), 21);
+    refused(EXAMPLE, "12 02 02 ff ff", 21);
+    accepted("10 08 00", "12 08 00 00 01 40", 1);
+}
+
+#[test]
+fn question_22_asks_for_whole_records_of_the_right_kinds() {
+    for kind in (0..=0xff).filter(|kind| !(0x40..=0x43).contains(kind) && *kind != 0x47) {
+        node(&format!("{kind:02x} 00 00 00 00 00 00 00 00 00"), Err(22));
+    }
+    node("43 00 00 00 00 00 00 01", Err(22));
+    for kind in (0..=0xff).filter(|kind| !(0x44..=0x46).contains(kind)) {
+        cases(&[&format!("{kind:02x} 00 00 00 00 00 00")], Err(22));
+    }
+    for whole in [
+        "42 01",
+        "43 00 00 01 00 00 00 00 44 00 01 00 00",
+        "43 00 00 02 00 00 00 00 45 00 01 02 00 00 46 00 01 00 02 00 00",
+        "47 00 00 00 55 00 00 00 00",
+    ] {
+        let graph = from_hex(&format!("12 02 02 00 01 {whole}"));
+        assert_eq!(check_graph(&from_hex(EXAMPLE), &graph), Ok(GraphSize { nodes: 1 }));
+        for cut in 5..graph.len() {
+            assert_eq!(check_graph(&from_hex(EXAMPLE), &graph[..cut]), Err(22), "{whole} cut to {cut}");
+        }
+    }
+    refused(EXAMPLE, "12 02 02 00 02 41", 22);
+}
+
+#[test]
+fn question_23_asks_for_nodes_and_rules_in_range() {
+    node("42 00", Err(23));
+    node("42 01", Ok(2));
+    node("42 02", Ok(2));
+    node("42 03", Err(23));
+    refused("10 02 00", "12 02 00 00 01 42 00", 23);
+    refused("10 02 00", "12 02 00 00 01 42 01", 23);
+    node("43 00 00 01 00 01 00 01 44 00 01 00 01", Ok(2));
+    node("43 00 00 01 00 02 00 01 44 00 01 00 01", Err(23));
+    node("43 00 00 01 00 01 00 02 44 00 01 00 01", Err(23));
+    node("43 00 00 01 00 01 00 01 44 00 01 00 02", Err(23));
+    node("43 00 00 01 00 01 00 01 45 00 01 01 ff ff", Err(23));
+    node("43 00 00 01 00 01 00 01 46 00 01 00 02 01 00", Err(23));
+    node("47 00 00 00 55 00 01 00 01", Ok(2));
+    node("47 00 00 00 55 00 02 00 01", Err(23));
+    node("47 00 00 00 55 00 01 00 02", Err(23));
+}
+
+#[test]
+fn question_23_asks_for_a_test_of_the_sheet() {
+    node("43 00 55 01 00 00 00 00 44 00 01 00 00", Ok(2));
+    for place in ["00 01", "00 54", "00 aa", "02 a8", "ff ff"] {
+        node(&format!("43 {place} 01 00 00 00 00 44 00 01 00 00"), Err(23));
+    }
+    for pair in ["00 55 00 00", "00 00 00 00", "00 00 00 aa", "00 55 00 55"] {
+        node(&format!("47 {pair} 00 00 00 00"), Err(23));
+    }
+    // A place that stands only in a pair has no place test.
+    refused(PAIR, "12 02 01 00 01 43 00 00 01 00 00 00 00 44 00 01 00 00", 23);
+    accepted(PAIR, "12 02 01 00 01 47 00 00 00 55 00 00 00 00", 1);
+}
+
+#[test]
+fn question_24_asks_for_cases_in_order() {
+    let (symbol, compound) = ("44 00 05 00 01", "45 00 05 02 00 01");
+    let numbers = "46 00 05 00 09 00 01";
+    cases(&[symbol, compound, numbers], Ok(2));
+    for wrong in [[compound, symbol], [numbers, symbol], [numbers, compound], [symbol, symbol]] {
+        cases(&wrong, Err(24));
+    }
+    cases(&["44 00 ff 00 01", "44 01 00 00 01"], Ok(2));
+    cases(&["44 01 00 00 01", "44 00 ff 00 01"], Err(24));
+    cases(&[compound, "45 00 05 03 00 01", "45 00 06 01 00 01"], Ok(2));
+    cases(&[compound, "45 00 05 01 00 01"], Err(24));
+    cases(&["45 00 06 01 00 01", compound], Err(24));
+    cases(&[compound, compound], Err(24));
+    cases(&["45 00 05 00 00 01", "45 00 05 ff 00 01"], Ok(2));
+}
+
+#[test]
+fn question_24_asks_for_numbers_apart() {
+    let numbers = "46 00 05 00 09 00 01";
+    cases(&[numbers, "46 00 0a 00 0a 00 00"], Ok(2));
+    cases(&[numbers, "46 00 09 00 0a 00 00"], Err(24));
+    cases(&[numbers, "46 00 06 00 07 00 00"], Err(24));
+    cases(&[numbers, "46 00 00 00 04 00 00"], Err(24));
+    cases(&[numbers, numbers], Err(24));
+    cases(&["46 00 05 00 04 00 01"], Err(24));
+    cases(&["46 00 05 00 05 00 01"], Ok(2));
+    cases(&["46 00 00 ff ff 00 01"], Ok(2));
+    cases(&["46 00 00 00 00 00 01", "46 ff ff ff ff 00 01"], Ok(2));
+    // A range with its ends swapped before one that it would not meet.
+    cases(&["46 00 09 00 05 00 01", "46 00 06 00 07 00 01"], Err(24));
+}
+
+#[test]
+fn question_25_asks_that_no_bytes_are_left() {
+    refused(EXAMPLE, "12 02 02 00 01 41 41", 25);
+    refused(EXAMPLE, "12 02 02 00 02 42 01 41 00", 25);
+}
+
+#[test]
+fn questions_come_node_by_node_in_number_order() {
+    // A wrong place and then a cut case; a wrong place and cases out of order.
+    refused(EXAMPLE, "12 02 02 00 01 43 00 01 01 00 00 00 00 44 00 01 00", 22);
+    refused(EXAMPLE, "12 02 02 00 01 43 00 01 02 00 00 00 00 44 00 02 00 00 44 00 01 00 00", 23);
+    // The first node's cases out of order, the second of a wrong kind; and the other way round.
+    refused(EXAMPLE, "12 02 02 00 02 43 00 00 02 00 00 00 00 44 00 02 00 00 44 00 01 00 00 48", 24);
+    refused(EXAMPLE, "12 02 02 00 02 48", 22);
+    refused(EXAMPLE, "12 02 02 00 02 42 00 48", 23);
+    // The sheet's own questions come first.
+    refused("10 02", "12", 1);
+    refused("10 02 00 20", "12", 10);
+}
+
+#[test]
+fn a_switch_may_have_255_cases() {
+    let cases: Vec<Case> = (0..255).map(|id| Case::Symbol { id, node: 0 }).collect();
+    let switch = Node::Switch { place: 0, neither: 0, unknown: 0, cases };
+    let graph = graph_bytes(2, 2, &[switch]);
+    assert_eq!(check_graph(&from_hex(EXAMPLE), &graph), Ok(GraphSize { nodes: 1 }));
+}
+
+#[test]
+fn library_and_reference_agree_on_random_graphs() {
+    let mut random = Random::new(0x6772_6170);
+    let mut refusals = [0; 28];
+    for _ in 0..30_000 {
+        let mut sheet_bytes = sheet(&mut random).bytes();
+        let Ok(sheet) = Sheet::read(&sheet_bytes) else {
+            continue;
+        };
+        let graph = graph(&mut random, &sheet);
+        if random.percent(2) {
+            sheet_bytes = damaged(&mut random, &sheet_bytes);
+        }
+        let result = check_graph(&sheet_bytes, &graph);
+        refusals[usize::from(result.err().unwrap_or(0))] += 1;
+    }
+    println!("by refusal {refusals:?}");
+    for refusal in [0, 21, 22, 23, 24, 25] {
+        assert!(refusals[refusal] >= 100, "{refusal}: {} calls", refusals[refusal]);
+    }
+}

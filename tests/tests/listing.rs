@@ -1,0 +1,152 @@
+//! The listing program against the reference's listing: the same lines on the shared vectors, on
+//! refusals, on inputs that are cut, and on random pieces.
+
+use std::fs::{self, File};
+use std::io::Write;
+use std::path::{Path, PathBuf};
+use std::process::{Command, Stdio};
+use voltunnis_tests::bytes::from_hex;
+use voltunnis_tests::generate::pieces::piece;
+use voltunnis_tests::generate::random::Random;
+use voltunnis_tests::generate::sheets::sheet;
+use voltunnis_tests::generate::stock::Stock;
+use voltunnis_tests::generate::trees::{piece_bytes, Pattern, SheetTree};
+use voltunnis_tests::reference::listing::listing;
+use voltunnis_tests::vectors;
+
+const EXAMPLE: &str = "10 02 02 24 00 24 00 21 00 01 21 00 02";
+
+/// The program, which `rt check listing` writes.
+fn program() -> PathBuf {
+    let program = Path::new(env!("CARGO_MANIFEST_DIR")).join("../target/bin/listing");
+    assert!(program.exists(), "there is no target/bin/listing: run `rt check listing` first");
+    program.canonicalize().expect("a path")
+}
+
+/// An empty folder for one test.
+fn folder(name: &str) -> PathBuf {
+    let folder = Path::new(env!("CARGO_TARGET_TMPDIR")).join(name);
+    let _ = fs::remove_dir_all(&folder);
+    fs::create_dir_all(&folder).expect("a folder");
+    folder
+}
+
+/// What the program prints in this folder, its standard input a file.
+fn run(folder: &Path, pieces: &[u8]) -> String {
+    let input = folder.join("pieces");
+    fs::write(&input, pieces).expect("a file");
+    let output = Command::new(program())
+        .current_dir(folder)
+        .stdin(File::open(&input).expect("a file"))
+        .output()
+        .expect("the program starts");
+    String::from_utf8(output.stdout).expect("text")
+}
+
+/// Runs the program and compares it with the reference; gives the lines.
+#[track_caller]
+fn lines(folder: &Path, sheet: &[u8], pieces: &[u8]) -> String {
+    fs::write(folder.join("sheet.bin"), sheet).expect("a file");
+    let lines = run(folder, pieces);
+    assert!(lines == listing(sheet, pieces), "not the reference's lines: {lines}");
+    lines
+}
+
+#[test]
+fn the_vectors_are_listed_as_is_said() {
+    let folder = folder("vectors");
+    for vector in vectors::all() {
+        let pieces: Vec<u8> = vector.pieces.iter().flat_map(|said| said.piece.clone()).collect();
+        let lines = lines(&folder, &vector.sheet, &pieces);
+        let said = vector.pieces.iter().map(|said| &said.line);
+        assert!(lines.lines().eq([&vector.sheet_line].into_iter().chain(said)), "{}", vector.name);
+    }
+}
+
+#[test]
+fn a_missing_or_unreadable_sheet_is_an_empty_one() {
+    let missing = folder("missing");
+    assert_eq!(run(&missing, &[]), "refused 1\n");
+    let unreadable = folder("unreadable");
+    fs::create_dir(unreadable.join("sheet.bin")).expect("a folder");
+    assert_eq!(run(&unreadable, &[]), "refused 1\n");
+}
+
+#[test]
+fn refusals_end_the_run_and_leave_the_lines_before() {
+    let folder = folder("refusals");
+    let listed = |sheet: &str, pieces: &str| lines(&folder, &from_hex(sheet), &from_hex(pieces));
+    assert_eq!(listed("10 02 00 20", "11 02 30 30"), "refused 10\n");
+    assert_eq!(listed("10 02 00", ""), "sheet 2 0 0 1\n");
+    let first = "sheet 2 2 3 7\n1 suspend 0 2 0000000000000003\n";
+    for (rest, refusal) in
+        [("11", 12), ("11 09", 13), ("11 02 30", 14), ("11 02 33 00 01 05", 16), ("11 01 30", 20), ("00", 12)]
+    {
+        let pieces = format!("11 02 30 30 {rest}");
+        assert_eq!(listed(EXAMPLE, &pieces), format!("{first}refused {refusal}\n"));
+    }
+    let rules = [Pattern::Variable(0), Pattern::Symbol(1)].map(|pattern| vec![pattern; 8]);
+    let too_many = SheetTree { arity: 8, rules: rules.to_vec() };
+    assert_eq!(lines(&folder, &too_many.bytes(), &[]), "refused 18\n");
+    let range = |at| vec![Pattern::Compound(1, vec![Pattern::Range(at, 1000 - at); 2]); 8];
+    let too_long = SheetTree { arity: 8, rules: (0..32).map(range).collect() };
+    assert_eq!(lines(&folder, &too_long.bytes(), &[]), "refused 19\n");
+}
+
+#[test]
+fn inputs_are_cut_after_65536_bytes() {
+    let folder = folder("cut");
+    let sheet = from_hex(EXAMPLE);
+    let whole = lines(&folder, &sheet, &from_hex("11 02 30 30").repeat(16_400));
+    assert_eq!(whole.lines().count(), 1 + 16_384);
+    let header = lines(&folder, &from_hex("10 01 00"), &from_hex("11 01 30").repeat(30_000));
+    assert!(header.ends_with("\n21845 fail 0 0 0000000000000000\nrefused 12\n"));
+    let term = lines(&folder, &sheet, &from_hex("11 02 30 31 00 01").repeat(30_000));
+    assert!(term.ends_with("\n10922 execute 1 2 0000000000000004\nrefused 14\n"));
+    // A sheet that is refused by 11 as a whole, and by 4 where it is cut.
+    fn full(depth: usize) -> Pattern {
+        match depth {
+            4 => Pattern::Ranged(0, 1, 9),
+            _ => Pattern::Compound(1, vec![full(depth + 1); 4]),
+        }
+    }
+    let long = SheetTree { arity: 8, rules: vec![vec![full(1); 8]; 32] }.bytes();
+    assert_eq!(lines(&folder, &long, &[]), "refused 4\n");
+}
+
+#[test]
+fn pieces_may_come_in_parts() {
+    let folder = folder("parts");
+    let (sheet, pieces) = (from_hex(EXAMPLE), from_hex("11 02 30 31 00 01").repeat(12_000));
+    fs::write(folder.join("sheet.bin"), &sheet).expect("a file");
+    let mut child = Command::new(program())
+        .current_dir(&folder)
+        .stdin(Stdio::piped())
+        .stdout(Stdio::piped())
+        .spawn()
+        .expect("the program starts");
+    let mut input = child.stdin.take().expect("its standard input");
+    let feed = {
+        let pieces = pieces.clone();
+        // The program stops reading after 65,536 bytes, so the last parts may find no reader.
+        std::thread::spawn(move || pieces.chunks(1_001).all(|part| input.write_all(part).is_ok()))
+    };
+    let output = child.wait_with_output().expect("the program ends");
+    feed.join().expect("the thread ends");
+    assert!(output.stdout == listing(&sheet, &pieces).into_bytes(), "not the reference's lines");
+}
+
+#[test]
+fn random_sheets_and_pieces_are_listed_alike() {
+    let folder = folder("random");
+    let mut random = Random::new(0x6c69_7374);
+    let mut answers = 0;
+    for _ in 0..150 {
+        let tree = sheet(&mut random);
+        let count = random.between(1, 30);
+        let pieces: Vec<u8> =
+            (0..count).flat_map(|_| piece_bytes(&piece(&mut random, &tree, Stock::FULL))).collect();
+        answers += lines(&folder, &tree.bytes(), &pieces).lines().count();
+    }
+    assert!(answers >= 500, "{answers} lines");
+}
