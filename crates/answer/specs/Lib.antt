@@ -1,3 +1,4 @@
+-- What the plain answer of bytes is.
 pub mod Plain
 pub mod RuleByRule
 pub mod NotesOutcome

@@ -1,1 +1,2 @@
+-- How the library packs its results.
 pub mod Packed

@@ -1,3 +1,4 @@
+-- How a piece is read, written and laid out.
 pub mod Piece
 pub mod TermRecord
 pub mod ReadPiece

@@ -1,3 +1,4 @@
+-- The fields of records, and how they are read and written.
 pub mod Fields
 pub mod Reading
 pub mod Writing

@@ -1,3 +1,4 @@
+-- What sheets and pieces mean, in the order of document 01.
 pub mod Lists
 pub mod Term
 pub mod Pattern
