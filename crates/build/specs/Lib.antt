@@ -1,0 +1,5 @@
+-- The definitions that the contracts of `build` cite.
+pub mod KeysMet
+pub mod KeyGraph
+pub mod NodeKind
+pub mod Switching

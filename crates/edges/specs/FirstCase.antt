@@ -1,0 +1,16 @@
+-- The cases of a switch one after another, as runs of codes.
+use Prim.Native.Nat.{ℕ}
+use mathlib.Core.Bool.{true, false}
+use mathlib.Core.List.{List, [], _∷_}
+use lib.Dec.{leb}
+use Rattle.decision.specs.Cases.{Case}
+use Rattle.edges.specs.declared.cases.NextCase.{NextCase}
+use Rattle.edges.specs.declared.cases.NextCase.the-variants.{Run, Nothing}
+use Rattle.edges.specs.Codes.{caseLow, caseHigh}
+
+-- The first case that begins at the code or above it. The cases after one that ends at a code are those from the next
+-- code on.
+abbrev pub firstCase : ℕ → List Case → NextCase
+firstCase from [] = Nothing
+firstCase from (c ∷ cs) =
+    elim (leb from (caseLow c)) [ true ↦ Run (caseLow c) (caseHigh c) | false ↦ firstCase from cs ]

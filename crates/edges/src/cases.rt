@@ -1,0 +1,169 @@
+// The cases of a switch as runs of codes, and the keys behind them. At 64 i + t of `low` and `high` stand the lowest
+// and the highest code of what rule i wants by place test t.
+use crate::Key;
+use crate::keys::lead;
+use crate::keys::without;
+ghost use mathlib.Core.Path.{_≡_};
+ghost use mathlib.Core.List.{List};
+ghost use Prim.Native.Nat.{ℕ, _+_, _≤_, _<_};
+ghost use Rattle.terms.specs.Lists.{Mem};
+ghost use Rattle.terms.specs.Pattern.{Patterns};
+ghost use Rattle.tests.specs.SheetTests.{place};
+ghost use Rattle.decision.specs.Rules.{testAt};
+ghost use Rattle.decision.specs.Cases.{Case, casesOf};
+ghost use Rattle.decision.specs.Edges.{liveWants, byCase};
+ghost use Rattle.edges.specs.VertexKey.{vertexKey, keyIn};
+ghost use Rattle.edges.specs.Codes.{caseLow, cutCodes};
+ghost use Rattle.edges.specs.Compiled.{CodeTable, Asked};
+ghost use Rattle.edges.specs.FirstCase.{firstCase};
+ghost use Rattle.edges.specs.Tables.{those, stays, noCut, firstFrom, nearerOf};
+
+// A case as the codes from its lowest to its highest, or that there is none.
+pub enum NextCase {
+    Run(u32, u32),
+    Nothing,
+}
+
+// Does rule i stay live at a code: has it not test t, or wants it such a term there?
+fn stays_at(
+    t: usize,
+    i: usize,
+    code: u32,
+    rows: &[u64; 64],
+    low: &[u32; 4096],
+    high: &[u32; 4096],
+) -> bool
+    requires { ⌜ (t < 64) × (i < 64) ⌝ }
+    ensures { λ r. ⌜ r ≡ stays (now (rows .entry)) (now (low .entry)) (now (high .entry)) t code i ⌝ }
+{
+    if !masks::has(rows[i], t) {
+        return true;
+    }
+    let at = 64 * i + t;
+    if low[at] <= code {
+        return code <= high[at];
+    }
+    false
+}
+
+// The live rules that stay at a code. Not those alone that want such a term, nor all that want something there.
+pub fn kept(
+    t: usize,
+    live: u64,
+    code: u32,
+    rows: &[u64; 64],
+    low: &[u32; 4096],
+    high: &[u32; 4096],
+) -> u64
+    requires { ⌜ t < 64 ⌝ }
+    ensures { λ r. ⌜ r ≡ those live (stays (now (rows .entry)) (now (low .entry)) (now (high .entry)) t code) ⌝ }
+{
+    let mut all: u64 = 0;
+    let mut left = live;
+    while left != 0 {
+        let i = u64::trailing_zeros(left) as usize;
+        if stays_at(t, i, code, rows, low, high) {
+            all |= 1 << i;
+        }
+        left &= left - 1;
+    }
+    all
+}
+
+// The key behind the case that begins at a code. Not with a rule that wants something else there, nor with the test
+// pending.
+pub fn by_case(
+    key: Key,
+    t: usize,
+    code: u32,
+    rows: &[u64; 64],
+    low: &[u32; 4096],
+    high: &[u32; 4096],
+) -> Key
+    requires { ⌜ t < 64 ⌝ }
+    ensures { λ r. ⌜ ((rules : List Patterns) → Asked rules (now (rows .entry)) (key .live) t → CodeTable rules (now (low .entry)) (now (high .entry)) → (n : ℕ) (c : Case) → testAt rules t ≡ place n → Mem c (casesOf (liveWants rules (key .live) n)) → code ≡ caseLow c → r ≡ vertexKey (byCase rules (keyIn key) t n c)) ⌝ }
+{
+    let live = kept(t, key.live, code, rows, low, high);
+    let left = masks::remove(key.pending, t);
+    lead(live, left, rows)
+}
+
+// The nearer of the best cut so far and another one, which counts from a code on.
+fn nearer(best: u32, from: u32, cut: u32) -> u32
+    ensures { λ r. ⌜ r ≡ nearerOf best from cut ⌝ }
+{
+    if cut < from {
+        return best;
+    }
+    if cut < best {
+        return cut;
+    }
+    best
+}
+
+// The nearest of the best cut so far and the two cuts of what a rule wants: its lowest code, and the one after its
+// highest.
+fn nearest(best: u32, from: u32, low: u32, high: u32) -> u32
+    ensures { λ r. ⌜ r ≡ nearerOf (nearerOf best from low) from (high + 1) ⌝ }
+{
+    let first = nearer(best, from, low);
+    if high < first {
+        return nearer(first, from, high + 1);
+    }
+    first
+}
+
+// The first cut from a code on, 0x400_0000 if there is none: a cut is the lowest code of what a live rule wants by
+// test t, or the one after its highest. Not a cut of a rule that is not live, nor one below the code.
+pub fn next_cut(
+    t: usize,
+    live: u64,
+    from: u32,
+    rows: &[u64; 64],
+    low: &[u32; 4096],
+    high: &[u32; 4096],
+) -> u32
+    requires { ⌜ t < 64 ⌝ }
+    ensures { λ r. ⌜ (r ≤ noCut) × (r < noCut → from ≤ r) ⌝ }
+    ensures { λ r. ⌜ ((rules : List Patterns) → Asked rules (now (rows .entry)) live t → CodeTable rules (now (low .entry)) (now (high .entry)) → (n : ℕ) → testAt rules t ≡ place n → r ≡ firstFrom from (cutCodes (liveWants rules live n))) ⌝ }
+{
+    let mut best: u32 = 0x400_0000;
+    let mut to_come = live;
+    while to_come != 0 {
+        let i = u64::trailing_zeros(to_come) as usize;
+        if masks::has(rows[i], t) {
+            let at = 64 * i + t;
+            best = nearest(best, from, low[at], high[at]);
+        }
+        to_come &= to_come - 1;
+    }
+    best
+}
+
+// The first case of the switch that begins at a code or above it. Not one that no live rule wants, nor one that a
+// live rule wants in part.
+pub fn next_case(
+    t: usize,
+    live: u64,
+    from: u32,
+    rows: &[u64; 64],
+    low: &[u32; 4096],
+    high: &[u32; 4096],
+) -> NextCase
+    requires { ⌜ t < 64 ⌝ }
+    ensures { λ r. ⌜ ((rules : List Patterns) → Asked rules (now (rows .entry)) live t → CodeTable rules (now (low .entry)) (now (high .entry)) → (n : ℕ) → testAt rules t ≡ place n → r ≡ firstCase from (casesOf (liveWants rules live n))) ⌝ }
+{
+    let free = without(t, live, rows);
+    let mut x = next_cut(t, live, from, rows, low, high);
+    while x < 0x400_0000 {
+        let y = next_cut(t, live, x + 1, rows, low, high);
+        if y == 0x400_0000 {
+            return NextCase::Nothing;
+        }
+        if kept(t, live, x, rows, low, high) != free {
+            return NextCase::Run(x, y - 1);
+        }
+        x = y;
+    }
+    NextCase::Nothing
+}

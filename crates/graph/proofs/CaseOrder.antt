@@ -1,0 +1,108 @@
+-- The order of a switch's cases (question 24): neighbours in order are all in order.
+use Prim.Native.Nat.{ℕ}
+use mathlib.Core.Bool.{_&&_}
+use mathlib.Core.List.{List, [], _∷_}
+use native.Mathlib.Omega.{arith}
+use lib.Dec.{T, ltb→lt, lt→ltb, leb→le, le→leb}
+use Rattle.terms.specs.Lists.{All}
+use Rattle.terms.proofs.Booleans.{both-true, true-both}
+use Rattle.terms.proofs.ListLaws.{all-map}
+use Rattle.tests.specs.SheetTests.{pair}
+use Rattle.tests.proofs.TestOrder.{before-order}
+use Rattle.decision.specs.Cases.{Case, symbolCase, compoundCase, numbersCase}
+use Rattle.decision.specs.Node.{CaseEdge}
+use Rattle.decision.specs.AcceptedGraph.{CaseBefore, LowAtMostHigh, Ascend}
+use Rattle.graph.specs.ReadGraph.{caseBefore, lowAtMostHigh, beforeNext, casesAscend}
+
+-- The test of two cases says whether the one comes before the other.
+before-true : (c d : Case) → T (caseBefore c d) → CaseBefore c d
+before-true (symbolCase a) (symbolCase b) h = ltb→lt a b h
+before-true (symbolCase a) (compoundCase b m) h = tt
+before-true (symbolCase a) (numbersCase x y) h = tt
+before-true (compoundCase a n) (symbolCase b) h = h
+before-true (compoundCase a n) (compoundCase b m) h = h
+before-true (compoundCase a n) (numbersCase x y) h = tt
+before-true (numbersCase l u) (symbolCase b) h = h
+before-true (numbersCase l u) (compoundCase b m) h = h
+before-true (numbersCase l u) (numbersCase x y) h = ltb→lt u x h
+
+true-before : (c d : Case) → CaseBefore c d → T (caseBefore c d)
+true-before (symbolCase a) (symbolCase b) h = lt→ltb a b h
+true-before (symbolCase a) (compoundCase b m) h = tt
+true-before (symbolCase a) (numbersCase x y) h = tt
+true-before (compoundCase a n) (symbolCase b) h = h
+true-before (compoundCase a n) (compoundCase b m) h = h
+true-before (compoundCase a n) (numbersCase x y) h = tt
+true-before (numbersCase l u) (symbolCase b) h = h
+true-before (numbersCase l u) (compoundCase b m) h = h
+true-before (numbersCase l u) (numbersCase x y) h = lt→ltb u x h
+
+-- So does the test of a case's range.
+low-true : (c : Case) → T (lowAtMostHigh c) → LowAtMostHigh c
+low-true (symbolCase a) h = tt
+low-true (compoundCase a n) h = tt
+low-true (numbersCase l u) h = leb→le l u h
+
+true-low : (c : Case) → LowAtMostHigh c → T (lowAtMostHigh c)
+true-low (symbolCase a) h = tt
+true-low (compoundCase a n) h = tt
+true-low (numbersCase l u) h = le→leb l u h
+
+-- A case before one whose low is at most its high is before all that come after that one.
+before-transitive : (c d e : Case) → LowAtMostHigh d → CaseBefore c d → CaseBefore d e → CaseBefore c e
+before-transitive (symbolCase a) (symbolCase b) (symbolCase x) low h k = omega arith
+before-transitive (symbolCase a) (compoundCase b m) (symbolCase x) low h k = absurd k
+before-transitive (symbolCase a) (numbersCase l u) (symbolCase x) low h k = absurd k
+before-transitive (symbolCase a) d (compoundCase x n) low h k = tt
+before-transitive (symbolCase a) d (numbersCase x y) low h k = tt
+before-transitive (compoundCase a n) (symbolCase b) e low h k = absurd h
+before-transitive (compoundCase a n) (compoundCase b m) (symbolCase x) low h k = absurd k
+before-transitive (compoundCase a n) (compoundCase b m) (compoundCase x i) low h k =
+    before-order .transitive (pair a n) (pair b m) (pair x i) h k
+before-transitive (compoundCase a n) (compoundCase b m) (numbersCase x y) low h k = tt
+before-transitive (compoundCase a n) (numbersCase l u) (symbolCase x) low h k = absurd k
+before-transitive (compoundCase a n) (numbersCase l u) (compoundCase x i) low h k = absurd k
+before-transitive (compoundCase a n) (numbersCase l u) (numbersCase x y) low h k = tt
+before-transitive (numbersCase p q) (symbolCase b) e low h k = absurd h
+before-transitive (numbersCase p q) (compoundCase b m) e low h k = absurd h
+before-transitive (numbersCase p q) (numbersCase l u) (symbolCase x) low h k = absurd k
+before-transitive (numbersCase p q) (numbersCase l u) (compoundCase x i) low h k = absurd k
+before-transitive (numbersCase p q) (numbersCase l u) (numbersCase x y) low h k = omega arith
+
+-- Low is at most high in each case.
+abbrev pub AllLow : List (CaseEdge ℕ) → Type 0
+AllLow = All (λ (c : CaseEdge ℕ). LowAtMostHigh (c .case))
+
+-- A case before the first of ascending cases is before them all.
+before-all
+    : (c : Case) (ds : List (CaseEdge ℕ)) → AllLow ds → Ascend ds → T (beforeNext c ds)
+    → All (λ (d : CaseEdge ℕ). CaseBefore c (d .case)) ds
+before-all c [] lows ups h = tt
+before-all c (d ∷ ds) lows ups h =
+    let first = before-true c (d .case) h in (
+      first,
+      all-map (λ (e : CaseEdge ℕ). CaseBefore (d .case) (e .case)) (λ (e : CaseEdge ℕ). CaseBefore c (e .case))
+          (λ e k. before-transitive c (d .case) (e .case) (lows .0) first k) ds (ups .0),
+    )
+
+all-before
+    : (c : Case) (ds : List (CaseEdge ℕ)) → All (λ (d : CaseEdge ℕ). CaseBefore c (d .case)) ds → T (beforeNext c ds)
+all-before c [] h = tt
+all-before c (d ∷ ds) h = true-before c (d .case) (h .0)
+
+-- Where the test of neighbours is passed, all cases ascend.
+pub ascend-true : (cs : List (CaseEdge ℕ)) → T (casesAscend cs) → AllLow cs × Ascend cs
+ascend-true [] h = (tt, tt)
+ascend-true (c ∷ cs) h =
+    let p = both-true (lowAtMostHigh (c .case) && beforeNext (c .case) cs) (casesAscend cs) h in
+    let q = both-true (lowAtMostHigh (c .case)) (beforeNext (c .case) cs) (p .0) in
+    let rest = ascend-true cs (p .1) in
+    ((low-true (c .case) (q .0), rest .0), (before-all (c .case) cs (rest .0) (rest .1) (q .1), rest .1))
+
+-- Where all cases ascend, the test of neighbours is passed.
+pub true-ascend : (cs : List (CaseEdge ℕ)) → AllLow cs → Ascend cs → T (casesAscend cs)
+true-ascend [] lows ups = tt
+true-ascend (c ∷ cs) lows ups =
+    true-both (lowAtMostHigh (c .case) && beforeNext (c .case) cs) (casesAscend cs)
+    (true-both (lowAtMostHigh (c .case)) (beforeNext (c .case) cs) (true-low (c .case) (lows .0)) (all-before (c .case) cs (ups .0)))
+    (true-ascend cs (lows .1) (ups .1))

@@ -1,0 +1,114 @@
+-- The records of cases are read as they are written, one and in rows of any number.
+use Prim.Native.Nat.{ℕ}
+use mathlib.Core.Path.{_≡_, refl}
+use mathlib.Core.Bool.{Bool, true, false}
+use mathlib.Core.List.{List, _++_}
+use native.Mathlib.Omega.{arith}
+use borrow.Author.Tests.{le-leb, ne-eqb}
+use lib.Dec.{T, leb, eqb, eqb→eq, leb→le}
+use lib.ListN.{length, getD}
+use Rattle.records.specs.Fields.{IsByte, wideAt}
+use Rattle.records.specs.Reading.{Reading, took}
+use Rattle.records.proofs.WideFields.{wide-of}
+use Rattle.terms.specs.Lists.{All}
+use Rattle.terms.specs.Term.{Wide}
+use Rattle.decision.specs.Cases.{Case, symbolCase, compoundCase, numbersCase}
+use Rattle.decision.specs.Node.{CaseEdge}
+use Rattle.decision.specs.GraphBytes.{caseBytes, casesBytes}
+use Rattle.decision.specs.AcceptedGraph.{CaseFields}
+use Rattle.graph.specs.declared.CaseRecord.{CaseRecord}
+use Rattle.graph.specs.declared.CaseRecord.the-variants.{Symbol, Compound, Numbers}
+use Rattle.graph.specs.declared.CaseHead.{CaseHead}
+use Rattle.graph.specs.declared.CaseHead.the-variants.{Whole}
+use Rattle.graph.specs.NodeRecord.{isKind, wholeCase, caseHead}
+use Rattle.graph.specs.ReadGraph.{onCase, readCases, edge}
+use Rattle.graph.proofs.Spelling.{Reads, Spelled, GoodRow, row-spelled}
+use Rattle.graph.proofs.FieldBytes.{byte-at, wide-at, byte-then, kind-then, wide-then}
+
+-- What holds of a record where its kind is told, and of the others, holds of the head.
+pub kind-holds
+    : {A : Type 0} (P : A → Type 0) (b : Bool) {this others : A} → (T b → P this) → P others → P (isKind b this others)
+kind-holds P true h k = h tt
+kind-holds P false h k = k
+
+-- The bytes of a case with where it leads, and what they can hold.
+abbrev pub edgeBytes : CaseEdge ℕ → List ℕ
+edgeBytes c = caseBytes (c .case) (c .target)
+
+abbrev pub EdgeFields : CaseEdge ℕ → Type 0
+EdgeFields c = CaseFields (c .case) × Wide (c .target)
+
+abbrev pub readCase : List ℕ → Reading (CaseEdge ℕ)
+readCase s = onCase (caseHead s)
+
+case-brought
+    : (c : Case) (n : ℕ) (rest : List ℕ) → CaseFields c → Wide n
+    → readCase (caseBytes c n ++ rest) ≡ took (length (caseBytes c n)) (edge c n)
+case-brought (symbolCase a) n rest h k =
+    let s = caseBytes (symbolCase a) n ++ rest in
+    rw (ne-eqb (length s) 0 (λ e. omega arith), le-leb 5 (length s) (omega arith), wide-of a h, wide-of n k)
+case-brought (compoundCase a m) n rest h k =
+    let s = caseBytes (compoundCase a m) n ++ rest in
+    rw (ne-eqb (length s) 0 (λ e. omega arith), le-leb 6 (length s) (omega arith), wide-of a (h .0), wide-of n k)
+case-brought (numbersCase l u) n rest h k =
+    let s = caseBytes (numbersCase l u) n ++ rest in
+    rw (
+      ne-eqb (length s) 0 (λ e. omega arith),
+      le-leb 7 (length s) (omega arith),
+      wide-of l (h .0),
+      wide-of u (h .1),
+      wide-of n k,
+    )
+
+module _ (s : List ℕ) (h : All IsByte s) where
+  abbrev Told : CaseHead → Type 0
+  Told r = Reads edgeBytes EdgeFields s (onCase r)
+
+  whole-told : (b : Bool) (r : CaseRecord) → (T b → Told (Whole r)) → Told (wholeCase b r)
+  whole-told true r f = f tt
+  whole-told false r f = tt
+
+  -- Each kind of case with its fields.
+  case-told : Told (caseHead s)
+  case-told =
+      kind-holds Told (eqb (length s) 0) (λ e. tt)
+      (kind-holds Told (eqb (getD s 0 0) 0x44)
+      (λ k. whole-told (leb 5 (length s)) (Symbol (wideAt s 1) (wideAt s 3)) (λ l.
+      let there = leb→le 5 (length s) l in
+      record {
+        good = (wide-at s h 1, wide-at s h 3);
+        size = refl;
+        begins =
+            kind-then s h (eqb→eq (getD s 0 0) 0x44 k) (omega arith)
+            (wide-then s h 1 (omega arith) (wide-then s h 3 (omega arith) refl));
+      }))
+      (kind-holds Told (eqb (getD s 0 0) 0x45)
+      (λ k. whole-told (leb 6 (length s)) (Compound (wideAt s 1) (getD s 3 0) (wideAt s 4)) (λ l.
+      let there = leb→le 6 (length s) l in
+      record {
+        good = ((wide-at s h 1, byte-at s 3 h), wide-at s h 4);
+        size = refl;
+        begins =
+            kind-then s h (eqb→eq (getD s 0 0) 0x45 k) (omega arith)
+            (wide-then s h 1 (omega arith) (byte-then s h 3 (omega arith) (wide-then s h 4 (omega arith) refl)));
+      }))
+      (kind-holds Told (eqb (getD s 0 0) 0x46)
+      (λ k. whole-told (leb 7 (length s)) (Numbers (wideAt s 1) (wideAt s 3) (wideAt s 5)) (λ l.
+      let there = leb→le 7 (length s) l in
+      record {
+        good = ((wide-at s h 1, wide-at s h 3), wide-at s h 5);
+        size = refl;
+        begins =
+            kind-then s h (eqb→eq (getD s 0 0) 0x46 k) (omega arith)
+            (wide-then s h 1 (omega arith) (wide-then s h 3 (omega arith) (wide-then s h 5 (omega arith) refl)));
+      }))
+      tt)))
+
+-- A case is read as it is written.
+pub case-spelled : Spelled edgeBytes EdgeFields readCase
+case-spelled =
+    record { brought = λ c rest h. case-brought (c .case) (c .target) rest (h .0) (h .1); read = case-told }
+
+-- Cases in a row are read as they are written, whatever their number.
+pub cases-spelled : (n : ℕ) → Spelled casesBytes (GoodRow EdgeFields n) (readCases n)
+cases-spelled = row-spelled edgeBytes EdgeFields readCase case-spelled casesBytes refl (λ c cs. refl)

@@ -1,0 +1,148 @@
+-- The records of nodes, with their cases, are read as they are written (question 22).
+use Prim.Native.Nat.{ℕ, _+_, _≤_}
+use mathlib.Core.Path.{_≡_, refl, sym, ap, _∙_}
+use mathlib.Core.Bool.{Bool, true, false}
+use mathlib.Core.List.{List, _∷_, _++_}
+use native.Mathlib.Omega.{arith}
+use borrow.Author.Tests.{le-leb, ne-eqb}
+use lib.Dec.{T, leb, eqb, eqb→eq, leb→le}
+use lib.ListN.{length, getD, drop}
+use lib.Seq.{drop-drop}
+use Rattle.records.specs.Fields.{IsByte, wideAt, wideThen}
+use Rattle.records.specs.Reading.{Reading, took, refused, ask, after}
+use Rattle.records.proofs.WideFields.{wide-of}
+use Rattle.terms.specs.Lists.{All}
+use Rattle.terms.specs.Term.{Wide}
+use Rattle.decision.specs.Key.{fail, suspend, execute}
+use Rattle.decision.specs.Node.{Node, CaseEdge, end, switch, pairNode}
+use Rattle.decision.specs.GraphBytes.{casesBytes, nodeBytes}
+use Rattle.graph.specs.declared.Leaf.the-variants.{Execute}
+use Rattle.graph.specs.declared.NodeRecord.{NodeRecord}
+use Rattle.graph.specs.declared.NodeRecord.the-variants.{End, Switch, Pair}
+use Rattle.graph.specs.declared.NodeHead.{NodeHead}
+use Rattle.graph.specs.declared.NodeHead.the-variants.{Whole}
+use Rattle.graph.specs.NodeRecord.{wholeNode, nodeHead}
+use Rattle.graph.specs.ReadGraph.{onNode, readCases}
+use Rattle.graph.specs.Rewriting.{readRecord}
+use Rattle.graph.proofs.Spelling.{Reads, Spelled, GoodRow, begins-read}
+use Rattle.graph.proofs.FieldBytes.{bytes-drop, byte-at, wide-at, byte-then, kind-then, wide-then}
+use Rattle.graph.proofs.SpelledCases.{kind-holds, EdgeFields, cases-spelled}
+
+-- What the fields of a node's record can hold, its cases' too: 1 to 255 of them.
+abbrev pub NodeFields : Node ℕ → Type 0
+NodeFields (end l) = Unit
+NodeFields (switch n cs x y) =
+    Wide n × Wide x × Wide y × (1 ≤ length cs) × (length cs ≤ 255) × All EdgeFields cs
+NodeFields (pairNode p q x y) = Wide p × Wide q × Wide x × Wide y
+
+node-brought
+    : (node : Node ℕ) (rest : List ℕ) → NodeFields node → readRecord (nodeBytes node ++ rest) ≡ took (length (nodeBytes node)) node
+node-brought (end fail) rest h = rw (ne-eqb (length (0x40 ∷ rest)) 0 (λ e. omega arith))
+node-brought (end suspend) rest h = rw (ne-eqb (length (0x41 ∷ rest)) 0 (λ e. omega arith))
+node-brought (end (execute i)) rest h =
+    let s = nodeBytes (end (execute i)) ++ rest in
+    rw (ne-eqb (length s) 0 (λ e. omega arith), le-leb 2 (length s) (omega arith))
+node-brought (switch n cs x y) rest h =
+    let s = nodeBytes (switch n cs x y) ++ rest in
+    rw (
+      ne-eqb (length s) 0 (λ e. omega arith),
+      le-leb 8 (length s) (omega arith),
+      wide-of n (h .0),
+      wide-of x (h .1),
+      wide-of y (h .2),
+      le-leb 1 (length cs) (h .3),
+      cases-spelled (length cs) .brought cs rest (refl, h .5),
+    )
+    (ap (λ (k : ℕ). took k (switch n cs x y)) size)
+  where
+    size : 8 + length (casesBytes cs) ≡ length (nodeBytes (switch n cs x y))
+    size = omega arith
+node-brought (pairNode p q x y) rest h =
+    let s = nodeBytes (pairNode p q x y) ++ rest in
+    rw (
+      ne-eqb (length s) 0 (λ e. omega arith),
+      le-leb 9 (length s) (omega arith),
+      wide-of p (h .0),
+      wide-of q (h .1),
+      wide-of x (h .2),
+      wide-of y (h .3),
+    )
+
+module _ (s : List ℕ) (h : All IsByte s) where
+  abbrev Told : NodeHead → Type 0
+  Told r = Reads nodeBytes NodeFields s (onNode s r)
+
+  whole-told : (b : Bool) (r : NodeRecord) → (T b → Told (Whole r)) → Told (wholeNode b r)
+  whole-told true r f = f tt
+  whole-told false r f = tt
+
+  -- A switch, where its cases are read behind its eight bytes.
+  module _ (there : 8 ≤ length s) (kind : getD s 0 0 ≡ 0x43) where
+    cases-told
+        : (r : Reading (List (CaseEdge ℕ))) → readCases (getD s 3 0) (drop 8 s) ≡ r → 1 ≤ getD s 3 0
+        → Reads nodeBytes NodeFields s (after 8 (λ cs. switch (wideAt s 1) cs (wideAt s 4) (wideAt s 6)) r)
+    cases-told (took a cs) e some =
+        let row = begins-read casesBytes (GoodRow EdgeFields (getD s 3 0)) (cases-spelled (getD s 3 0)) (drop 8 s) (bytes-drop 8 s h) e in
+        record {
+          good = (
+            wide-at s h 1,
+            wide-at s h 4,
+            wide-at s h 6,
+            omega (arith, row .good .0),
+            omega (arith, row .good .0, byte-at s 3 h),
+            row .good .1,
+          );
+          size = omega (arith, row .size);
+          begins =
+              kind-then s h kind (omega arith)
+              (wide-then s h 1 (omega arith)
+              (byte-then s h 3 (omega arith)
+              (wide-then s h 4 (omega arith)
+              (wide-then s h 6 (omega arith)
+              (row .begins ∙ ap (λ (l : List ℕ). casesBytes cs ++ l) (drop-drop a 8 s))))))
+              ∙ ap
+              (λ (k : ℕ). 0x43 ∷ wideThen (wideAt s 1) (k ∷ wideThen (wideAt s 4) (wideThen (wideAt s 6) (casesBytes cs ++ drop (8 + a) s))))
+              (sym (row .good .0));
+        }
+    cases-told (refused q) e some = tt
+
+    switch-told : (b : Bool) → (T b → 1 ≤ getD s 3 0) → Reads nodeBytes NodeFields s
+        (ask 22 b (after 8 (λ cs. switch (wideAt s 1) cs (wideAt s 4) (wideAt s 6)) (readCases (getD s 3 0) (drop 8 s))))
+    switch-told true some = cases-told (readCases (getD s 3 0) (drop 8 s)) refl (some tt)
+    switch-told false some = tt
+
+  -- Each kind of node with its fields.
+  node-told : Told (nodeHead s)
+  node-told =
+      kind-holds Told (eqb (length s) 0) (λ e. tt)
+      (kind-holds Told (eqb (getD s 0 0) 0x40)
+      (λ k. record { good = tt; size = refl; begins = kind-then s h (eqb→eq (getD s 0 0) 0x40 k) (omega arith) refl })
+      (kind-holds Told (eqb (getD s 0 0) 0x41)
+      (λ k. record { good = tt; size = refl; begins = kind-then s h (eqb→eq (getD s 0 0) 0x41 k) (omega arith) refl })
+      (kind-holds Told (eqb (getD s 0 0) 0x42)
+      (λ k. whole-told (leb 2 (length s)) (End (Execute (getD s 1 0))) (λ l.
+      let there = leb→le 2 (length s) l in
+      record {
+        good = tt;
+        size = refl;
+        begins = kind-then s h (eqb→eq (getD s 0 0) 0x42 k) (omega arith) (byte-then s h 1 (omega arith) refl);
+      }))
+      (kind-holds Told (eqb (getD s 0 0) 0x43)
+      (λ k. whole-told (leb 8 (length s)) (Switch (wideAt s 1) (getD s 3 0) (wideAt s 4) (wideAt s 6)) (λ l.
+      switch-told (leb→le 8 (length s) l) (eqb→eq (getD s 0 0) 0x43 k) (leb 1 (getD s 3 0)) (leb→le 1 (getD s 3 0))))
+      (kind-holds Told (eqb (getD s 0 0) 0x47)
+      (λ k. whole-told (leb 9 (length s)) (Pair (wideAt s 1) (wideAt s 3) (wideAt s 5) (wideAt s 7)) (λ l.
+      let there = leb→le 9 (length s) l in
+      record {
+        good = (wide-at s h 1, wide-at s h 3, wide-at s h 5, wide-at s h 7);
+        size = refl;
+        begins =
+            kind-then s h (eqb→eq (getD s 0 0) 0x47 k) (omega arith)
+            (wide-then s h 1 (omega arith)
+            (wide-then s h 3 (omega arith) (wide-then s h 5 (omega arith) (wide-then s h 7 (omega arith) refl))));
+      }))
+      tt)))))
+
+-- A node is read as it is written.
+pub node-spelled : Spelled nodeBytes NodeFields readRecord
+node-spelled = record { brought = node-brought; read = node-told }

@@ -1,0 +1,82 @@
+-- The places of a sheet's tests: a sheet of at most 8 arguments tests places below 680, so each fits a wide field.
+use Prim.Native.Nat.{ℕ, _+_, _≤_, _<_}
+use mathlib.Core.Path.{_≡_, sym, subst}
+use mathlib.Core.List.{List, [], _∷_, map}
+use native.Mathlib.Omega.{arith}
+use lib.Dec.{T, eqb, eqb→eq, eqb-refl}
+use Rattle.terms.specs.Lists.{All, Mem}
+use Rattle.terms.specs.Pattern.{Patterns, countPatterns}
+use Rattle.terms.specs.RuleTests.{PlaceTest, PairTest, Occurrence, placeTests, pairTests, ruleVariables, patternsRange}
+use Rattle.terms.specs.Accepted.{AcceptedRule}
+use Rattle.terms.proofs.Booleans.{both-true, true-both}
+use Rattle.terms.proofs.ListLaws.{all-join, all-at, all-map}
+use Rattle.terms.proofs.TermPlaces.{extent, extent-le}
+use Rattle.terms.proofs.Ascending.{ascends-below}
+use Rattle.terms.proofs.PreorderTests.{testPlace, all-tests-ascend}
+use Rattle.terms.proofs.PairTests.{variablePlace, all-variables-ascend, pairs-each}
+use Rattle.tests.specs.SheetTests.{Test, place, pair, ruleTests, allTests, sheetTests}
+use Rattle.tests.proofs.TestOrder.{ascending-mem}
+use Rattle.sheet.specs.Sheet.{Sheet, SoundSheet}
+use Rattle.decision.specs.Rules.{sameTest}
+use Rattle.decision.proofs.Filters.{any-mem, mem-any}
+use Rattle.graph.specs.ReadGraph.{isTest}
+
+-- The same test.
+same-test : (t u : Test) → T (sameTest t u) → t ≡ u
+same-test (place m) (place n) h = let e = eqb→eq m n h in λ i. place (e i)
+same-test (place m) (pair p q) h = absurd h
+same-test (pair p q) (place n) h = absurd h
+same-test (pair p q) (pair x y) h =
+    let both = both-true (eqb p x) (eqb q y) h in
+    let e = eqb→eq p x (both .0) in
+    let f = eqb→eq q y (both .1) in
+    λ i. pair (e i) (f i)
+
+test-same : (t : Test) → T (sameTest t t)
+test-same (place n) = eqb-refl n
+test-same (pair p q) = true-both (eqb p p) (eqb q q) (eqb-refl p) (eqb-refl q)
+
+-- "Its place or pair among the sheet's tests": the test is passed exactly by the sheet's tests.
+pub test-mem : (rules : List Patterns) (t : Test) → T (isTest rules t) → Mem t (sheetTests rules)
+test-mem rules t h =
+    let (u, m, e) = any-mem (sameTest t) (sheetTests rules) h in
+    subst (λ (v : Test). Mem v (sheetTests rules)) (sym (same-test t u e)) m
+
+pub mem-test : (rules : List Patterns) (t : Test) → Mem t (sheetTests rules) → T (isTest rules t)
+mem-test rules t m = mem-any (sameTest t) m (test-same t)
+
+-- A test of places below 680.
+abbrev pub Near : Test → Type 0
+Near (place n) = n < 680
+Near (pair p q) = (p < 680) × (q < 680)
+
+all-mapped : {A : Type 0} (Q : Test → Type 0) (f : A → Test) (xs : List A) → All (λ (x : A). Q (f x)) xs → All Q (map f xs)
+all-mapped Q f [] h = tt
+all-mapped Q f (x ∷ xs) h = (h .0, all-mapped Q f xs (h .1))
+
+rule-near : (arity : ℕ) (rule : Patterns) → arity ≤ 8 → AcceptedRule arity rule → All Near (ruleTests rule)
+rule-near arity rule few a =
+    let end = 0 + extent (countPatterns rule) 4 in
+    let inside : extent (countPatterns rule) 4 ≤ 680 = extent-le (countPatterns rule) 8 4 (omega (arith, a .arguments)) in
+    let places = ascends-below testPlace 0 end (placeTests rule) (all-tests-ascend (patternsRange rule) rule 4 0 (a .sound)) in
+    let up = all-variables-ascend rule 4 0 (a .sound) in
+    let variables = ascends-below variablePlace 0 end (ruleVariables rule) up in
+    let pairs = pairs-each (λ (o : Occurrence). o .place < end) BothNear (λ o x before one p q. (omega arith, omega arith)) 0 end (ruleVariables rule) up variables in
+    all-join Near (map (λ (x : PlaceTest). place (x .place)) (placeTests rule)) (map (λ (x : PairTest). pair (x .first) (x .second)) (pairTests rule))
+    (all-mapped Near (λ (x : PlaceTest). place (x .place)) (placeTests rule)
+    (all-map (λ (x : PlaceTest). x .place < end) (λ (x : PlaceTest). x .place < 680) (λ x h. omega arith) (placeTests rule) places))
+    (all-mapped Near (λ (x : PairTest). pair (x .first) (x .second)) (pairTests rule) pairs)
+  where
+    BothNear : PairTest → Type 0
+    BothNear x = (x .first < 680) × (x .second < 680)
+
+all-near : (arity : ℕ) (rules : List Patterns) → arity ≤ 8 → All (AcceptedRule arity) rules → All Near (allTests rules)
+all-near arity [] few a = tt
+all-near arity (rule ∷ rules) few a =
+    all-join Near (ruleTests rule) (allTests rules) (rule-near arity rule few (a .0)) (all-near arity rules few (a .1))
+
+-- The tests of an accepted sheet are of places below 680.
+pub tests-near : (sheet : Sheet) → SoundSheet sheet → (t : Test) → Mem t (sheetTests (sheet .rules)) → Near t
+tests-near sheet sound t m =
+    all-at Near (ascending-mem (allTests (sheet .rules)) m)
+    (all-near (sheet .arity) (sheet .rules) (sound .fewArguments) (sound .acceptedRules))

@@ -1,0 +1,5 @@
+-- How the records of nodes are read and written.
+pub mod NodeRecord
+pub mod ReadGraph
+pub mod WriteNode
+pub mod Rewriting

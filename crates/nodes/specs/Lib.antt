@@ -1,0 +1,3 @@
+-- What the checks of cases and nodes say.
+pub mod CaseCodes
+pub mod CheckNode
