@@ -33,10 +33,11 @@ abbrev pub isPlace : Test → Bool
 isPlace (place n) = true
 isPlace (pair p q) = false
 
--- The first so many tests are places, and stand in `place`; the others are pairs p, q, and stand in `pairs` as p ×
--- 65,536 + q.
+-- The first so many tests are places, all of the 680, and stand in `place`; the others are pairs p, q, and stand in `pairs` as
+-- p × 65,536 + q.
 pub record PlaceTable (rules : List Patterns) (places pairs : List ℕ) (count : ℕ) : Type 0 where
   pub split : (t : ℕ) → t < length (sheetTests rules) → isPlace (testAt rules t) ≡ ltb t count
+  pub inside : (t n : ℕ) → t < length (sheetTests rules) → testAt rules t ≡ place n → n < 680
   pub placeOf : (t n : ℕ) → t < length (sheetTests rules) → testAt rules t ≡ place n → getD places t 0 ≡ n
   pub pairOf
       : (t p q : ℕ) → t < length (sheetTests rules) → testAt rules t ≡ pair p q
