@@ -1,11 +1,11 @@
--- The answers of the check of a sheet, from what was gathered of its rules.
+-- The tests of a sheet as they are left, from what was gathered of its rules.
 use Prim.Native.Nat.{ℕ, _+_, _*_, _-_, _≤_, _<_}
 use mathlib.Core.Path.{_≡_, refl, sym, ap, _∙_, subst}
 use mathlib.Core.Bool.{Bool, true, false}
-use mathlib.Core.List.{List, [], _∷_}
+use mathlib.Core.List.{List, [], _∷_, _++_, map}
 use native.Mathlib.Omega.{arith}
 use lib.Dec.{leb, eqb}
-use lib.ListN.{length, take, drop, replicate}
+use lib.ListN.{length, take, drop, replicate, length-append, length-map, length-replicate}
 use lib.Seq.{length-take-le}
 use borrow.Author.Tests.{leb-false, le-leb, lt-leb, eq-eqb, ne-eqb}
 use Rattle.records.specs.Fields.{IsByte}
@@ -25,21 +25,24 @@ use Rattle.sheet.proofs.ReadsSound.{rule-sound}
 use Rattle.sheet.proofs.SheetReads.{header-is}
 use Rattle.tests.specs.declared.Name.{Name}
 use Rattle.tests.specs.declared.Name.the-variants.{Nameless, Of}
-use Rattle.tests.specs.declared.SheetCheck.the-variants.{Accepted, Refused}
+use Rattle.tests.specs.declared.SheetCheck.the-variants as check
+use Rattle.tests.specs.declared.TestsRead.{TestsRead}
+use Rattle.tests.specs.declared.TestsRead.the-variants.{Accepted, Refused}
 use Rattle.tests.specs.declared.Scan.{Scan}
 use Rattle.tests.specs.declared.Scan.the-variants.{Done}
 use Rattle.tests.specs.declared.Scan.the-variants as scans
-use Rattle.tests.specs.SheetTests.{sheetTests}
+use Rattle.tests.specs.SheetTests.{place, sheetTests}
 use Rattle.tests.specs.TestedPlaces.{hasPlace, placesIn, insertAll}
-use Rattle.tests.specs.KeptPairs.{these, many, keptIf, keptOf, pairsIn}
+use Rattle.tests.specs.KeptPairs.{these, many, keptIf, keptOf, pairsIn, codePair}
 use Rattle.tests.specs.NoteTests.{nameOf, occurrence, notesVariables, Placed}
 use Rattle.tests.specs.Gathered.{Gathered, gather, held, gatheredIn, sheetPlaces, sheetCodes}
 use Rattle.tests.specs.CheckSheet.{mostTests, askTests, acceptSheet, checkValues, sheetValues}
+use Rattle.tests.specs.TestsRead.{keptTests, testsFound, sheetFound, foundValues, Counted, Held}
 use Rattle.tests.proofs.NotedTests.{rule-placed, rule-varied}
 use Rattle.tests.proofs.NumberLists.{filter-count}
 use Rattle.tests.proofs.PlaceSets.{places-none}
 use Rattle.tests.proofs.KeptLists.{pairs-many, pairs-these, keep-all}
-use Rattle.tests.proofs.TestsSplit.{Small, SmallRule, tests-count}
+use Rattle.tests.proofs.TestsSplit.{Small, SmallRule, tests-split, tests-count}
 
 -- A variable's place is one of the 680.
 abbrev Within680 : Occurrence → Type 0
@@ -82,6 +85,10 @@ rules-small arity n few s bytes e =
     row-holds [] _∷_ (readRule arity) (All IsByte) bytes-rest SmallRule (All SmallRule) tt (λ rule rules first rest. (first, rest))
     (λ t k rule good read. rule-small arity rule (rule-sound arity t good read) few) n s bytes e
 
+-- Arrays of zeros have their entries.
+pub zeros : (n : ℕ) {xs : List ℕ} → xs ≡ replicate n 0 → length xs ≡ n
+zeros n e = ap length e ∙ length-replicate n 0
+
 -- At the start nothing is gathered.
 held-none : held (replicate 11 0) (replicate 65 0) 0 ≡ record { places = []; pairs = these [] }
 held-none = λ i. record { places = places-none i; pairs = pairs-these (replicate 65 0) 0 (omega arith) i }
@@ -98,6 +105,12 @@ pub record RulesRead (arity rules : ℕ) (s words codes : List ℕ) (bytes count
 module _ (arity rules : ℕ) (s : List ℕ) where
   abbrev gatheredRules : Reading Gathered
   gatheredRules = mapReading (λ rs. gather rs (held (replicate 11 0) (replicate 65 0) 0)) (readRules arity rules s)
+
+  -- The scan begins with nothing gathered.
+  pub at-start
+      : {words codes : List ℕ} → words ≡ replicate 11 0 → codes ≡ replicate 65 0
+      → mapReading (λ rs. gather rs (held words codes 0)) (readRules arity rules s) ≡ gatheredRules
+  at-start noWords noCodes = λ i. mapReading (λ rs. gather rs (held (noWords i) (noCodes i) 0)) (readRules arity rules s)
 
   -- What the scan of the rules says where it read them.
   pub rules-gathered
@@ -122,10 +135,10 @@ module _ (arity rules : ℕ) (s : List ℕ) where
   -- A refusal of the rules is that of the sheet.
   pub check-refused
       : (words codes : List ℕ) {r : Scan} {q : ℕ} → r ≡ scans.Refused q → gatheredIn words codes r ≡ gatheredRules
-      → checkValues (Refused q) ≡ sheetValues (askTests (endSheet arity (length s) (readRules arity rules s)))
+      → testsFound words codes (Refused q) ≡ sheetFound (askTests (endSheet arity (length s) (readRules arity rules s)))
   check-refused words codes same gathers =
       sym
-      (ap (λ x. sheetValues (askTests (endSheet arity (length s) x)))
+      (ap (λ x. sheetFound (askTests (endSheet arity (length s) x)))
       (rules-refused (sym (ap (gatheredIn words codes) same) ∙ gathers)))
 
 -- Too many are kept of a list where it has more than 64, and otherwise the list.
@@ -148,6 +161,14 @@ pub places-few : (words : List ℕ) → length (placesIn words) ≤ 64 * length 
 unfolding placesIn
 places-few words = filter-count (hasPlace words) 0 (64 * length words)
 
+-- How many tests the arrays hold.
+pub kept-count
+    : (words codes : List ℕ) (count : ℕ) → count ≤ length codes
+    → length (keptTests words codes count) ≡ length (placesIn words) + count
+kept-count words codes count within =
+    length-append (map place (placesIn words)) (map codePair (take count codes))
+    ∙ (λ i. length-map (placesIn words) place i + (length-map (take count codes) codePair ∙ length-take-le count codes within) i)
+
 module _ {arity rules : ℕ} {s words codes : List ℕ} {bytes count : ℕ} (r : RulesRead arity rules s words codes bytes count) where
   abbrev tests : ℕ
   tests = length (sheetTests (r .all))
@@ -161,11 +182,15 @@ module _ {arity rules : ℕ} {s words codes : List ℕ} {bytes count : ℕ} (r :
         tests-count (r .all) (r .small),
       )
 
-  -- The tests are the places and the pairs.
-  pub tests-number : count ≤ 64 → count ≤ length codes → tests ≡ length (placesIn words) + count
-  tests-number h within =
+  -- The tests are the places and the pairs,
+  pub tests-kept : count ≤ 64 → sheetTests (r .all) ≡ keptTests words codes count
+  tests-kept h =
       let pairs = kept-these (take count codes) (insertAll (sheetCodes (r .all)) []) (sym (pairs-these codes count h) ∙ r .pairs) in
-      omega (arith, tests-count (r .all) (r .small), ap length (r .places), ap length pairs, length-take-le count codes within)
+      tests-split (r .all) (r .small) ∙ λ i. map place (sym (r .places) i) ++ map codePair (sym pairs i)
+
+  -- and so is their number.
+  pub tests-number : count ≤ 64 → count ≤ length codes → tests ≡ length (placesIn words) + count
+  tests-number h within = ap length (tests-kept h) ∙ kept-count words codes count within
 
   ended : (b : Bool) → eqb bytes (length s) ≡ b
       → endSheet arity (length s) (readRules arity rules s) ≡ ask 10 b (took (3 + bytes) (record { arity = arity; rules = r .all }))
@@ -177,8 +202,8 @@ module _ {arity rules : ℕ} {s words codes : List ℕ} {bytes count : ℕ} (r :
   checked = askTests (endSheet arity (length s) (readRules arity rules s))
 
   -- Question 10: bytes are left.
-  pub check-left : (bytes ≡ length s → ⊥) → checkValues (Refused 10) ≡ sheetValues checked
-  check-left h = sym (ap (λ x. sheetValues (askTests x)) (ended false (ne-eqb bytes (length s) h)))
+  pub check-left : (bytes ≡ length s → ⊥) → testsFound words codes (Refused 10) ≡ sheetFound checked
+  check-left h = sym (ap (λ x. sheetFound (askTests x)) (ended false (ne-eqb bytes (length s) h)))
 
   module _ (whole : bytes ≡ length s) where
     asked : (b : Bool) → leb tests mostTests ≡ b
@@ -188,22 +213,24 @@ module _ {arity rules : ℕ} {s words codes : List ℕ} {bytes count : ℕ} (r :
         ∙ ap (λ (x : Bool). ask 11 x (took (3 + bytes) (record { arity = arity; rules = r .all }))) e
 
     -- Question 11: there are more than 64 tests.
-    pub check-many : 64 < tests → checkValues (Refused 11) ≡ sheetValues checked
-    check-many h = sym (ap sheetValues (asked false (lt-leb tests 64 h)))
+    pub check-many : 64 < tests → testsFound words codes (Refused 11) ≡ sheetFound checked
+    check-many h = sym (ap sheetFound (asked false (lt-leb tests 64 h)))
 
     -- All questions got a yes.
-    pub check-accepted : (t : ℕ) → t ≡ tests → t ≤ 64 → checkValues (Accepted arity rules t) ≡ sheetValues checked
-    check-accepted t e h =
-        (λ i. record { refusal = 0; arity = arity; rules = sym (r .many) i; tests = e i })
-        ∙ sym (ap sheetValues (asked true (le-leb tests 64 (omega arith))))
+    pub check-accepted
+        : tests ≤ 64 → count ≤ 64
+        → record { refusal = 0; arity = arity; rules = rules; tests = keptTests words codes count } ≡ sheetFound checked
+    check-accepted h few =
+        (λ i. record { refusal = 0; arity = arity; rules = sym (r .many) i; tests = sym (tests-kept few) i })
+        ∙ sym (ap sheetFound (asked true (le-leb tests 64 h)))
 
 -- The first record of a sheet.
 module _ (s : List ℕ) where
   -- Where it is refused, so is the sheet.
-  pub header-refused : {q : ℕ} → refused q ≡ readHeader s → checkValues (Refused q) ≡ sheetValues (acceptSheet s)
+  pub header-refused : (words codes : List ℕ) {q : ℕ} → refused q ≡ readHeader s → testsFound words codes (Refused q) ≡ sheetFound (acceptSheet s)
   unfolding acceptSheet readSheet
-  header-refused e =
-      ap (λ x. sheetValues (askTests (andThen x (λ a head. endSheet (head .arity) (length s - a) (readRules (head .arity) (head .count) (drop a s)))))) e
+  header-refused words codes e =
+      ap (λ x. sheetFound (askTests (andThen x (λ a head. endSheet (head .arity) (length s - a) (readRules (head .arity) (head .count) (drop a s)))))) e
 
   module _ {arity rules : ℕ} (e : took 3 (record { arity = arity; count = rules }) ≡ readHeader s) where
     -- Otherwise its 3 bytes are there, and the arity is at most 8.
@@ -215,3 +242,31 @@ module _ (s : List ℕ) where
     unfolding acceptSheet readSheet
     header-read =
         sym (ap (λ x. askTests (andThen x (λ a head. endSheet (head .arity) (length s - a) (readRules (head .arity) (head .count) (drop a s))))) e)
+
+-- What is found says what the check answers,
+values-found : (x : Reading Sheet) → foundValues (sheetFound x) ≡ sheetValues x
+values-found (took k sheet) = refl
+values-found (refused q) = refl
+
+-- where the sheet is refused,
+pub check-no
+    : (words codes : List ℕ) {r : TestsRead} {q : ℕ} (x : Reading Sheet) → r ≡ Refused q
+    → testsFound words codes r ≡ sheetFound x → checkValues (check.Refused q) ≡ sheetValues x
+check-no words codes x same found = ap foundValues (sym (ap (testsFound words codes) same) ∙ found) ∙ values-found x
+
+-- and where it is accepted.
+module _ (words codes : List ℕ) {r : TestsRead} {arity rules places pairs : ℕ} (same : r ≡ Accepted arity rules places pairs)
+    (held : Held words codes r) where
+  pub read-counted : (places ≡ length (placesIn words)) × (places + pairs ≤ mostTests)
+  read-counted = subst (Counted words) same (held .counted)
+
+  pub check-yes
+      : (x : Reading Sheet) → testsFound words codes r ≡ sheetFound x
+      → checkValues (check.Accepted arity rules (places + pairs)) ≡ sheetValues x
+  check-yes x found =
+      let within : pairs ≤ length codes = omega (arith, read-counted .1, held .allCodes) in
+      let number : places + pairs ≡ length (keptTests words codes pairs) =
+      omega (arith, read-counted .0, kept-count words codes pairs within) in
+      (λ i. record { refusal = 0; arity = arity; rules = rules; tests = number i })
+      ∙ ap foundValues (sym (ap (testsFound words codes) same) ∙ found)
+      ∙ values-found x

@@ -6,3 +6,4 @@ pub mod KeptPairs
 pub mod Slot
 pub mod NoteTests
 pub mod Gathered
+pub mod TestsRead

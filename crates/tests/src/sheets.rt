@@ -1,6 +1,7 @@
-// The check of a sheet: its rules are read one after another, and the tests of each are gathered.
+// The tests of a sheet: its rules are read one after another, and the tests of each are gathered. Its check counts them.
 use crate::Scan;
 use crate::SheetCheck;
+use crate::TestsRead;
 use crate::rule::mark_rule;
 use crate::rule::pair_rule;
 use crate::tested::count_places;
@@ -8,7 +9,7 @@ use sheet::Header;
 use sheet::Took;
 ghost use mathlib.Core.Path.{_≡_};
 ghost use Prim.Native.Nat.{_≤_};
-ghost use lib.ListN.{length};
+ghost use lib.ListN.{length, replicate};
 ghost use Rattle.terms.specs.Lists.{All};
 ghost use Rattle.records.specs.Reading.{mapReading};
 ghost use Rattle.sheet.specs.NoteArray.{notesIn};
@@ -16,6 +17,7 @@ ghost use Rattle.sheet.specs.ReadSheet.{readRules, endSheet};
 ghost use Rattle.tests.specs.NoteTests.{Placed};
 ghost use Rattle.tests.specs.Gathered.{gather, gatherNotes, held, gatheredIn, Scanned};
 ghost use Rattle.tests.specs.CheckSheet.{askTests, acceptSheet, checkValues, sheetValues};
+ghost use Rattle.tests.specs.TestsRead.{testsFound, sheetFound, Held};
 
 // Gathers the tests of a rule from its notes.
 fn gather_rule(
@@ -65,37 +67,48 @@ fn scan_rules(
     Scan::Done(at, count)
 }
 
-// Checks what follows a sheet's first record: questions 4 to 11.
-fn check_rules(s: &[u8], arity: u8, rules: u8) -> SheetCheck
-    requires { ⌜ arity ≤ 8 ⌝ }
-    ensures { λ r. ⌜ checkValues r ≡ sheetValues (askTests (endSheet arity (length (now (s .entry))) (readRules arity rules (now (s .entry))))) ⌝ }
+// Reads what follows a sheet's first record, and leaves its tests: questions 4 to 11.
+fn read_rules(
+    s: &[u8],
+    arity: u8,
+    rules: u8,
+    words: &mut [u64; 11],
+    codes: &mut [u32; 65],
+) -> TestsRead
+    requires { ⌜ (arity ≤ 8) × (now words ≡ replicate 11 0) × (now codes ≡ replicate 65 0) ⌝ }
+    ensures { λ r. ⌜ testsFound (now (words .exit)) (now (codes .exit)) r ≡ sheetFound (askTests (endSheet arity (length (now (s .entry))) (readRules arity rules (now (s .entry))))) ⌝ }
+    ensures { λ r. ⌜ Held (now (words .exit)) (now (codes .exit)) r ⌝ }
 {
     let mut notes = [0u64; 680];
-    let mut words = [0u64; 11];
-    let mut codes = [0u32; 65];
-    let scan = scan_rules(
-        s,
-        arity as usize,
-        rules as usize,
-        &mut notes,
-        &mut words,
-        &mut codes,
-    );
+    let scan = scan_rules(s, arity as usize, rules as usize, &mut notes, words, codes);
     match scan {
-        Scan::Refused(q) => SheetCheck::Refused(q),
+        Scan::Refused(q) => TestsRead::Refused(q),
         Scan::Done(bytes, pairs) => {
             if bytes != s.len() {
-                return SheetCheck::Refused(10);
+                return TestsRead::Refused(10);
             }
             if 64 < pairs {
-                return SheetCheck::Refused(11);
+                return TestsRead::Refused(11);
             }
-            let tests = count_places(&words) + pairs;
-            if 64 < tests {
-                return SheetCheck::Refused(11);
+            let places = count_places(words);
+            if 64 < places + pairs {
+                return TestsRead::Refused(11);
             }
-            SheetCheck::Accepted(arity, rules, tests as u8)
+            TestsRead::Accepted(arity, rules, places, pairs)
         }
+    }
+}
+
+// Reads a sheet and leaves its tests: questions 1 to 11. Not the tests of all rules but the last, nor a pair of two variables.
+pub fn read_tests(s: &[u8], words: &mut [u64; 11], codes: &mut [u32; 65]) -> TestsRead
+    requires { ⌜ (now words ≡ replicate 11 0) × (now codes ≡ replicate 65 0) ⌝ }
+    ensures { λ r. ⌜ testsFound (now (words .exit)) (now (codes .exit)) r ≡ sheetFound (acceptSheet (now (s .entry))) ⌝ }
+    ensures { λ r. ⌜ Held (now (words .exit)) (now (codes .exit)) r ⌝ }
+{
+    let header = sheet::read_header(s);
+    match header {
+        Header::Refused(q) => TestsRead::Refused(q),
+        Header::Of(arity, rules) => read_rules(&s[3..], arity, rules, words, codes),
     }
 }
 
@@ -103,9 +116,15 @@ fn check_rules(s: &[u8], arity: u8, rules: u8) -> SheetCheck
 pub fn check_sheet(s: &[u8]) -> SheetCheck
     ensures { λ r. ⌜ checkValues r ≡ sheetValues (acceptSheet (now (s .entry))) ⌝ }
 {
-    let header = sheet::read_header(s);
-    match header {
-        Header::Refused(q) => SheetCheck::Refused(q),
-        Header::Of(arity, rules) => check_rules(&s[3..], arity, rules),
+    let mut words = [0u64; 11];
+    let mut codes = [0u32; 65];
+    let read = read_tests(s, &mut words, &mut codes);
+    match read {
+        TestsRead::Refused(q) => SheetCheck::Refused(q),
+        TestsRead::Accepted(arity, rules, places, pairs) => SheetCheck::Accepted(
+            arity,
+            rules,
+            (places + pairs) as u8,
+        ),
     }
 }

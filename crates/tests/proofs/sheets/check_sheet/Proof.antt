@@ -1,74 +1,60 @@
--- The first record, then the rules.
+-- The tests are read, then counted.
 use mathlib.Core.Path.{sym, ap, _∙_}
 use native.Mathlib.Omega.{arith}
-use Rattle.records.proofs.Parts.{rest, rest-length}
-use Rattle.sheet.specs.HeaderRead.{headerRead}
-use Rattle.sheet.specs.ReadSheet.{readRules, endSheet}
-use Rattle.tests.specs.CheckSheet.{askTests, sheetValues}
-use Rattle.tests.proofs.Checking.{header-refused, header-known, header-read}
+use Rattle.tests.specs.CheckSheet.{acceptSheet}
+use Rattle.tests.proofs.Checking.{read-counted, check-no, check-yes}
 use borrow.Author.Needs.{needs}
 use Rattle.tests.proofs.sheets.check_sheet.Statement.{statement}
 use Rattle.tests.proofs.sheets.check_sheet.Tie as tie
 
-read-header-requires : tie.Need-read-header-requires
-read-header-requires c κs = search needs
+read-tests-requires : tie.Need-read-tests-requires
+read-tests-requires c κs = search needs
 
-enum-known-header : tie.Need-enum-known-header
-enum-known-header c = search needs
+enum-known-read : tie.Need-enum-known-read
+enum-known-read c = search needs
 
-enum-known-header-2 : tie.Need-enum-known-header-2
-enum-known-header-2 c = search needs
+enum-known-read-2 : tie.Need-enum-known-read-2
+enum-known-read-2 c = search needs
 
-sub-check-rules : tie.Need-sub-check-rules
-sub-check-rules c =
-    let start = c .before .before .before .before .before in
-    let read-header = c .before .before .before .read-header in
-    omega (arith, header-known (start .args .s .now) (sym (ap headerRead (c .before .header2 .given .1)) ∙ read-header .ensures))
+add-t13 : tie.Need-add-t13
+add-t13 c =
+    let read-tests = c .before .before .before .read-tests in
+    let words = read-tests .last .1 .0 in
+    let codes = read-tests .last .1 .1 .0 in
+    omega (arith, read-counted words codes (c .before .read2 .given .1) (read-tests .ensures .1) .1)
 
-part-check-rules-start : tie.Need-part-check-rules-start
-part-check-rules-start c =
-    let start = c .before .before .before .before .before in
-    let read-header = c .before .before .before .read-header in
-    omega (arith, header-known (start .args .s .now) (sym (ap headerRead (c .before .header2 .given .1)) ∙ read-header .ensures))
-
-part-check-rules-end : tie.Need-part-check-rules-end
-part-check-rules-end c = search needs
-
-check-rules-requires : tie.Need-check-rules-requires
-check-rules-requires c κs =
-    let start = c .before .before .before .before .before .before in
-    let read-header = c .before .before .before .before .read-header in
-    header-known (start .args .s .now) (sym (ap headerRead (c .before .before .header2 .given .1)) ∙ read-header .ensures) .1
+cast-t14 : tie.Need-cast-t14
+cast-t14 c =
+    let read-tests = c .before .before .before .read-tests in
+    let words = read-tests .last .1 .0 in
+    let codes = read-tests .last .1 .1 .0 in
+    omega (arith, read-counted words codes (c .before .read2 .given .1) (read-tests .ensures .1) .1)
 
 returns : tie.Need-returns
 returns c =
-    let start = c .before .before .before .before .before in
-    let read-header = c .before .before .before .read-header in
-    header-refused (start .args .s .now) (sym (ap headerRead (c .before .header .given .1)) ∙ read-header .ensures)
+    let read-tests = c .before .before .before .read-tests in
+    let start = c .before .before .before .before .before .before .before in
+    let words = read-tests .last .1 .0 in
+    let codes = read-tests .last .1 .1 .0 in
+    check-no words codes (acceptSheet (start .args .s .now)) (c .before .read .given .1) (read-tests .ensures .0)
 
 returns-2 : tie.Need-returns-2
 returns-2 c =
+    let read-tests = c .before .before .before .read-tests in
     let start = c .before .before .before .before .before .before .before in
-    let header2 = c .before .before .before .header2 in
-    let read-header = c .before .before .before .before .before .read-header in
-    let s = start .args .s .now in
-    let header = sym (ap headerRead (header2 .given .1)) ∙ read-header .ensures in
-    let arity = header2 .given .0 .0 in
-    let rules = header2 .given .0 .1 .0 in
-    c .check-rules .ensures
-    ∙ (λ j. sheetValues (askTests (endSheet arity (rest-length s 3 j) (readRules arity rules (rest s 3 j)))))
-    ∙ sym (ap sheetValues (header-read s header))
+    let words = read-tests .last .1 .0 in
+    let codes = read-tests .last .1 .1 .0 in
+    check-yes words codes (c .before .read2 .given .1) (read-tests .ensures .1) (acceptSheet (start .args .s .now))
+    (read-tests .ensures .0)
 
 pub check-sheet-spec : {M : Type 1} → statement M
 check-sheet-spec =
     tie.close
     (tie.spec
-    read-header-requires
-    enum-known-header
-    enum-known-header-2
-    sub-check-rules
-    part-check-rules-start
-    part-check-rules-end
-    check-rules-requires
+    read-tests-requires
+    enum-known-read
+    enum-known-read-2
+    add-t13
+    cast-t14
     returns
     returns-2)

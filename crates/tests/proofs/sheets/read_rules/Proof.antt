@@ -1,10 +1,11 @@
 -- The rules are read and their tests gathered; then question 10, and question 11.
+use mathlib.Core.Path.{_∙_}
 use native.Mathlib.Omega.{arith}
 use Rattle.tests.proofs.Scanning.{bytes-known}
-use Rattle.tests.proofs.Checking.{rules-gathered, check-refused, places-few, tests-many, tests-number, check-left, check-many, check-accepted}
+use Rattle.tests.proofs.Checking.{at-start, rules-gathered, check-refused, places-few, tests-many, tests-number, check-left, check-many, check-accepted}
 use borrow.Author.Needs.{needs}
-use Rattle.tests.proofs.sheets.check_rules.Statement.{statement}
-use Rattle.tests.proofs.sheets.check_rules.Tie as tie
+use Rattle.tests.proofs.sheets.read_rules.Statement.{statement}
+use Rattle.tests.proofs.sheets.read_rules.Tie as tie
 
 scan-rules-requires : tie.Need-scan-rules-requires
 scan-rules-requires c κs = search needs
@@ -21,13 +22,15 @@ returns c =
     let start = c .before .before .before .before .before .before .before .before .before in
     let shared-slice-known = c .before .before .before .before .before .before .before .before .shared-slice-known in
     let scan2 = c .before .before .scan2 in
+    let s = start .args .s .now in
     let words = scan-rules .last .1 .1 .1 .1 .0 in
     let codes = scan-rules .last .1 .1 .1 .1 .1 .0 in
-    let bytes = bytes-known (start .args .s .now) (λ i. omega (arith, shared-slice-known .given i)) in
+    let bytes = bytes-known s (λ i. omega (arith, shared-slice-known .given i)) in
+    let none = at-start (start .args .arity) (start .args .rules) s (start .pre .1) (start .pre .2) in
     let read =
-    rules-gathered (start .args .arity) (start .args .rules) (start .args .s .now) words codes (omega arith) bytes
-    (scan2 .given .1) (scan-rules .ensures .0) in
-    check-left read (c .if1 .taken)
+    rules-gathered (start .args .arity) (start .args .rules) s words codes (omega arith) bytes (scan2 .given .1)
+    (scan-rules .ensures .0 ∙ none) in
+    (check-left read (c .if1 .taken), record { allWords = scan-rules .ensures .1 .allWords; allCodes = scan-rules .ensures .1 .allCodes; counted = tt })
 
 returns-2 : tie.Need-returns-2
 returns-2 c =
@@ -35,24 +38,23 @@ returns-2 c =
     let start = c .before .before .before .before .before .before .before .before .before .before in
     let shared-slice-known = c .before .before .before .before .before .before .before .before .before .shared-slice-known in
     let scan2 = c .before .before .before .scan2 in
+    let s = start .args .s .now in
     let words = scan-rules .last .1 .1 .1 .1 .0 in
     let codes = scan-rules .last .1 .1 .1 .1 .1 .0 in
-    let bytes = bytes-known (start .args .s .now) (λ i. omega (arith, shared-slice-known .given i)) in
+    let bytes = bytes-known s (λ i. omega (arith, shared-slice-known .given i)) in
+    let none = at-start (start .args .arity) (start .args .rules) s (start .pre .1) (start .pre .2) in
     let read =
-    rules-gathered (start .args .arity) (start .args .rules) (start .args .s .now) words codes (omega arith) bytes
-    (scan2 .given .1) (scan-rules .ensures .0) in
-    check-many read (omega arith) (tests-many read (omega arith))
+    rules-gathered (start .args .arity) (start .args .rules) s words codes (omega arith) bytes (scan2 .given .1)
+    (scan-rules .ensures .0 ∙ none) in
+    (check-many read (omega arith) (tests-many read (omega arith)), record { allWords = scan-rules .ensures .1 .allWords; allCodes = scan-rules .ensures .1 .allCodes; counted = tt })
 
 count-places-requires : tie.Need-count-places-requires
-count-places-requires c κs =
-    let scan-rules = c .before .before .before .before .before .before .scan-rules in
-    scan-rules .ensures .1 .allWords
+count-places-requires c κs = c .before .before .before .before .before .before .scan-rules .ensures .1 .allWords
 
-add-tests : tie.Need-add-tests
-add-tests c =
+add-if3 : tie.Need-add-if3
+add-if3 c =
     let scan-rules = c .before .before .before .before .before .before .before .scan-rules in
     let words = scan-rules .last .1 .1 .1 .1 .0 in
-    let codes = scan-rules .last .1 .1 .1 .1 .1 .0 in
     omega (arith, c .count-places .ensures, places-few words, scan-rules .ensures .1 .allWords)
 
 returns-3 : tie.Need-returns-3
@@ -61,27 +63,29 @@ returns-3 c =
     let start = c .before .before .before .before .before .before .before .before .before .before .before .before .before in
     let shared-slice-known = c .before .before .before .before .before .before .before .before .before .before .before .before .shared-slice-known in
     let scan2 = c .before .before .before .before .before .before .scan2 in
-    let count-places = c .before .count-places in
+    let s = start .args .s .now in
     let words = scan-rules .last .1 .1 .1 .1 .0 in
     let codes = scan-rules .last .1 .1 .1 .1 .1 .0 in
-    let bytes = bytes-known (start .args .s .now) (λ i. omega (arith, shared-slice-known .given i)) in
+    let bytes = bytes-known s (λ i. omega (arith, shared-slice-known .given i)) in
+    let none = at-start (start .args .arity) (start .args .rules) s (start .pre .1) (start .pre .2) in
     let read =
-    rules-gathered (start .args .arity) (start .args .rules) (start .args .s .now) words codes (omega arith) bytes
-    (scan2 .given .1) (scan-rules .ensures .0) in
+    rules-gathered (start .args .arity) (start .args .rules) s words codes (omega arith) bytes (scan2 .given .1)
+    (scan-rules .ensures .0 ∙ none) in
     let number = tests-number read (omega arith) (omega (arith, scan-rules .ensures .1 .allCodes)) in
-    check-many read (omega arith) (omega (arith, count-places .ensures))
-
-cast-t21 : tie.Need-cast-t21
-cast-t21 c = search needs
+    (check-many read (omega arith) (omega (arith, c .before .count-places .ensures)), record { allWords = scan-rules .ensures .1 .allWords; allCodes = scan-rules .ensures .1 .allCodes; counted = tt })
 
 returns-4 : tie.Need-returns-4
 returns-4 c =
     let scan-rules = c .before .before .before .scan-rules in
     let start = c .before .before .before .before .before .before .before .before in
-    let scan = c .before .scan in
+    let s = start .args .s .now in
     let words = scan-rules .last .1 .1 .1 .1 .0 in
     let codes = scan-rules .last .1 .1 .1 .1 .1 .0 in
-    check-refused (start .args .arity) (start .args .rules) (start .args .s .now) words codes (scan .given .1) (scan-rules .ensures .0)
+    let none = at-start (start .args .arity) (start .args .rules) s (start .pre .1) (start .pre .2) in (
+      check-refused (start .args .arity) (start .args .rules) s words codes (c .before .scan .given .1)
+          (scan-rules .ensures .0 ∙ none),
+      record { allWords = scan-rules .ensures .1 .allWords; allCodes = scan-rules .ensures .1 .allCodes; counted = tt },
+    )
 
 returns-5 : tie.Need-returns-5
 returns-5 c =
@@ -89,18 +93,25 @@ returns-5 c =
     let start = c .before .before .before .before .before .before .before .before .before .before .before .before .before in
     let shared-slice-known = c .before .before .before .before .before .before .before .before .before .before .before .before .shared-slice-known in
     let scan2 = c .before .before .before .before .before .before .scan2 in
-    let count-places = c .before .count-places in
+    let s = start .args .s .now in
     let words = scan-rules .last .1 .1 .1 .1 .0 in
     let codes = scan-rules .last .1 .1 .1 .1 .1 .0 in
-    let bytes = bytes-known (start .args .s .now) (λ i. omega (arith, shared-slice-known .given i)) in
+    let bytes = bytes-known s (λ i. omega (arith, shared-slice-known .given i)) in
+    let none = at-start (start .args .arity) (start .args .rules) s (start .pre .1) (start .pre .2) in
     let read =
-    rules-gathered (start .args .arity) (start .args .rules) (start .args .s .now) words codes (omega arith) bytes
-    (scan2 .given .1) (scan-rules .ensures .0) in
-    let number = tests-number read (omega arith) (omega (arith, scan-rules .ensures .1 .allCodes)) in
-    check-accepted read (omega arith) _ (omega (arith, count-places .ensures)) (omega arith)
+    rules-gathered (start .args .arity) (start .args .rules) s words codes (omega arith) bytes (scan2 .given .1)
+    (scan-rules .ensures .0 ∙ none) in
+    let number = tests-number read (omega arith) (omega (arith, scan-rules .ensures .1 .allCodes)) in (
+      check-accepted read (omega arith) (omega (arith, c .before .count-places .ensures)) (omega arith),
+      record {
+        allWords = scan-rules .ensures .1 .allWords;
+        allCodes = scan-rules .ensures .1 .allCodes;
+        counted = (c .before .count-places .ensures, omega (arith, c .before .count-places .ensures));
+      },
+    )
 
-pub check-rules-spec : {M : Type 1} → statement M
-check-rules-spec =
+pub read-rules-spec : {M : Type 1} → statement M
+read-rules-spec =
     tie.close
     (tie.spec
     scan-rules-requires
@@ -109,8 +120,7 @@ check-rules-spec =
     returns
     returns-2
     count-places-requires
-    add-tests
+    add-if3
     returns-3
-    cast-t21
     returns-4
     returns-5)
