@@ -4,8 +4,6 @@ pub mod NoteTurns
 pub mod RuleTurns
 pub mod SoundNotes
 pub mod NotesRight
-pub mod Questions
-pub mod CheckedSheets
 pub mod PiecesRead
 pub mod PieceAnswers
 pub mod ByteLists

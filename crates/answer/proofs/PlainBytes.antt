@@ -17,7 +17,7 @@ use Rattle.piece.specs.ReadPiece.{readPiece}
 use Rattle.piece.proofs.Spelled.{piece-spelled}
 use Rattle.answer.specs.Plain.{plainReading, answerValues, readingValues}
 use Rattle.answer.proofs.ByteLists.{bytes-each}
-use Rattle.answer.proofs.CheckedSheets.{accepted-rules}
+use Rattle.accepted.proofs.CheckedSheets.{accepted-rules}
 use Rattle.answer.proofs.PieceAnswers.{piece-answered, sheet-answers}
 
 -- The bytes s and p are accepted as this sheet and this piece, of one arity.

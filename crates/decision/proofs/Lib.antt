@@ -47,3 +47,4 @@ pub mod SamePath
 pub mod Waits
 pub mod WaitSentence
 pub mod Example
+pub mod MarkedWalks

@@ -17,10 +17,7 @@ pub mod PatternReads
 pub mod SheetReads
 pub mod RangesMeet
 pub mod ReadsSound
-pub mod ReadsSpelled
 pub mod SpelledReads
-pub mod Spelled
-pub mod WrittenBytes
 -- Of the places and tests of a rule, off its notes:
 pub mod NotePlaces
 pub mod NoteTests

@@ -244,7 +244,7 @@ module _ (s : List ℕ) where
         sym (ap (λ x. askTests (andThen x (λ a head. endSheet (head .arity) (length s - a) (readRules (head .arity) (head .count) (drop a s))))) e)
 
 -- What is found says what the check answers,
-values-found : (x : Reading Sheet) → foundValues (sheetFound x) ≡ sheetValues x
+pub values-found : (x : Reading Sheet) → foundValues (sheetFound x) ≡ sheetValues x
 values-found (took k sheet) = refl
 values-found (refused q) = refl
 

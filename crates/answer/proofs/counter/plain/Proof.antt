@@ -12,7 +12,7 @@ use Rattle.sheet.specs.ReadSheet.{readRules}
 use Rattle.tests.specs.CheckSheet.{checkValues}
 use Rattle.answer.specs.Plain.{pieceReading, readingValues}
 use Rattle.answer.proofs.ByteLists.{bytes-all}
-use Rattle.answer.proofs.CheckedSheets.{check-accepts, check-refuses, accepted-rules}
+use Rattle.accepted.proofs.CheckedSheets.{check-accepts, check-refuses, accepted-rules}
 use Rattle.answer.proofs.PieceAnswers.{sheet-refused, sheet-answers}
 use borrow.Author.Needs.{needs}
 use Rattle.answer.proofs.counter.plain.Statement.{statement}

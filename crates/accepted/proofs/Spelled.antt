@@ -11,14 +11,14 @@ use Rattle.records.specs.Fields.{IsByte}
 use Rattle.records.specs.Reading.{took, andThen}
 use Rattle.records.proofs.Rows.{row-size}
 use Rattle.terms.specs.Lists.{All}
 use Rattle.sheet.specs.Sheet.{Sheet, SoundSheet, mostRules}
 use Rattle.sheet.specs.ReadSheet.{readRule, readRules, readHeader, endSheet, readSheet}
 use Rattle.sheet.specs.WriteSheet.{rulesBytes, sheetBytes}
 use Rattle.sheet.proofs.HeadBytes.{bytes-rest, first-bytes}
 use Rattle.sheet.proofs.SheetReads.{sheet-is}
 use Rattle.sheet.proofs.ReadsSound.{sheet-sound}
-use Rattle.sheet.proofs.ReadsSpelled.{rules-spelled}
+use Rattle.accepted.proofs.ReadsSpelled.{rules-spelled}
 use Rattle.sheet.proofs.SpelledReads.{rules-read}
 
 -- The first record of a sound sheet is read from its bytes.
 header-read

@@ -18,7 +18,7 @@ use Rattle.sheet.proofs.ReadsSound.{sheet-sound}
 use Rattle.tests.specs.declared.SheetCheck.the-variants.{Accepted, Refused}
 use Rattle.tests.specs.SheetTests.{sheetTests}
 use Rattle.tests.specs.CheckSheet.{SheetValues, mostTests, askTests, acceptSheet, checkValues, sheetValues}
-use Rattle.answer.proofs.Questions.{Numbered, sheet-numbered}
+use Rattle.accepted.proofs.Questions.{Numbered, sheet-numbered}
 
 -- An accepted sheet was read before question 11.
 pub accepted-read : (s : List ℕ) {k : ℕ} {sheet : Sheet} → acceptSheet s ≡ took k sheet → readSheet s ≡ took k sheet

@@ -1,0 +1,1 @@
+// Which sheets are accepted: the laws stand in proofs/. There is no code here.
