@@ -18,7 +18,8 @@ use Rattle.sheet.proofs.ReadsSound.{sheet-sound}
 use Rattle.tests.specs.declared.SheetCheck.the-variants.{Accepted, Refused}
 use Rattle.tests.specs.SheetTests.{sheetTests}
 use Rattle.tests.specs.CheckSheet.{SheetValues, mostTests, askTests, acceptSheet, checkValues, sheetValues}
-use Rattle.accepted.proofs.Questions.{Numbered, sheet-numbered}
+use Rattle.accepted.proofs.Named.{Named}
+use Rattle.accepted.proofs.Questions.{SheetQuestion, sheet-named}
 
 -- An accepted sheet was read before question 11.
 pub accepted-read : (s : List ℕ) {k : ℕ} {sheet : Sheet} → acceptSheet s ≡ took k sheet → readSheet s ≡ took k sheet
@@ -42,10 +43,10 @@ pub record AcceptedAs (s : List ℕ) (arity count : ℕ) : Type 0 where
 module _ (s : List ℕ) where
   -- A check that accepts says that the sheet is accepted,
   pub check-accepts : (a n t : ℕ) → checkValues (Accepted a n t) ≡ sheetValues (acceptSheet s) → AcceptedAs s a n
-  check-accepts a n t e = go (acceptSheet s) refl (sheet-numbered s) e
+  check-accepts a n t e = go (acceptSheet s) refl (sheet-named s) e
     where
       go
-          : (r : Reading Sheet) → acceptSheet s ≡ r → Numbered r → checkValues (Accepted a n t) ≡ sheetValues r
+          : (r : Reading Sheet) → acceptSheet s ≡ r → Named SheetQuestion r → checkValues (Accepted a n t) ≡ sheetValues r
           → AcceptedAs s a n
       go (took k sheet) d h v =
           let is = sheet-is s (accepted-read s d) in
@@ -61,7 +62,7 @@ module _ (s : List ℕ) where
             arityIs = arity;
             rulesRead = (λ j. readRules (sym arity j) (sym count j) (drop 3 s)) ∙ is .rulesRead;
           }
-      go (refused q) d h v = absurd (omega (arith, h, ap (λ (x : SheetValues). x .refusal) v))
+      go (refused q) d h v = absurd (omega (arith, h .0, ap (λ (x : SheetValues). x .refusal) v))
 
   -- and one that refuses that it is refused.
   pub check-refuses : {q : ℕ} → checkValues (Refused q) ≡ sheetValues (acceptSheet s) → acceptSheet s ≡ refused q

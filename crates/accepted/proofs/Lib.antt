@@ -4,6 +4,7 @@ pub mod ReadsSpelled
 pub mod Spelled
 pub mod Acceptance
 -- What reading a sheet tells of it:
+pub mod Named
 pub mod Questions
 pub mod CheckedSheets
 pub mod FoundTests
