@@ -1,0 +1,166 @@
+-- A graph is refused by one of its own questions, 21 to 25, and a walk over its nodes by 26 or 27.
+use Prim.Native.Nat.{ℕ, zero, suc, _-_}
+use mathlib.Core.Bool.{Bool, true, false, _&&_}
+use mathlib.Core.List.{List, [], _∷_}
+use native.Mathlib.Omega.{arith}
+use lib.Dec.{leb, eqb}
+use lib.ListN.{length, getD, drop}
+use Rattle.records.specs.Fields.{wideAt}
+use Rattle.records.specs.Reading.{Reading, took, refused, ask, after}
+use Rattle.terms.specs.Term.{Terms}
+use Rattle.terms.specs.Pattern.{Patterns}
+use Rattle.tests.specs.SheetTests.{Test}
+use Rattle.sheet.specs.Sheet.{Sheet}
+use Rattle.decision.specs.Node.{Node, CaseEdge, switch}
+use Rattle.decision.specs.Path.{Path, ends, refusedAt, Step, stop, goTo, noWay, through, nodeAt, stepAt, lastStep, nextStep, pathFrom, mostEdges, path}
+use Rattle.decision.specs.Walk.{Reply, answered, atEnd, walk}
+use Rattle.decision.specs.Walk as reply
+use Rattle.graph.specs.declared.Leaf.the-variants.{Fail, Suspend, Execute}
+use Rattle.graph.specs.declared.NodeRecord.{NodeRecord}
+use Rattle.graph.specs.declared.NodeRecord.the-variants.{End, Switch, Pair}
+use Rattle.graph.specs.declared.CaseRecord.{CaseRecord}
+use Rattle.graph.specs.declared.CaseRecord.the-variants.{Symbol, Compound, Numbers}
+use Rattle.graph.specs.declared.NodeHead.{NodeHead}
+use Rattle.graph.specs.declared.NodeHead.the-variants.{Whole, Refused}
+use Rattle.graph.specs.declared.CaseHead.{CaseHead}
+use Rattle.graph.specs.declared.CaseHead.the-variants as case
+use Rattle.graph.specs.NodeRecord.{wholeNode, wholeCase, isKind, nodeHead, caseHead}
+use Rattle.graph.specs.ReadGraph.{onCase, readCases, onNode, isTest, inRange, inOrder, readNode, readNodes, endGraph, hasHeader, readBy, readGraph}
+use Rattle.accepted.proofs.Named.{Between, Named, ask-named, then-named, after-named, row-named}
+
+-- The questions of a graph, and those asked along a path.
+abbrev pub GraphQuestion : ℕ → Type 0
+GraphQuestion = Between 21 25
+
+abbrev pub PathQuestion : ℕ → Type 0
+PathQuestion = Between 26 27
+
+-- So it is with the record of a case,
+abbrev CaseNamed : CaseHead → Type 0
+CaseNamed (case.Whole r) = Unit
+CaseNamed (case.Refused q) = GraphQuestion q
+
+whole-case : (b : Bool) (r : CaseRecord) → CaseNamed (wholeCase b r)
+whole-case true r = tt
+whole-case false r = (omega arith, omega arith)
+
+kind-case : (b : Bool) (x y : CaseHead) → CaseNamed x → CaseNamed y → CaseNamed (isKind b x y)
+kind-case true x y h k = h
+kind-case false x y h k = k
+
+case-head-named : (s : List ℕ) → CaseNamed (caseHead s)
+case-head-named s =
+    kind-case (eqb (length s) 0) _ _ (omega arith, omega arith)
+    (kind-case (eqb (getD s 0 0) 0x44) _ _ (whole-case (leb 5 (length s)) (Symbol (wideAt s 1) (wideAt s 3)))
+    (kind-case (eqb (getD s 0 0) 0x45) _ _ (whole-case (leb 6 (length s)) (Compound (wideAt s 1) (getD s 3 0) (wideAt s 4)))
+    (kind-case (eqb (getD s 0 0) 0x46) _ _ (whole-case (leb 7 (length s)) (Numbers (wideAt s 1) (wideAt s 3) (wideAt s 5)))
+    (omega arith, omega arith))))
+
+on-case-named : (h : CaseHead) → CaseNamed h → Named GraphQuestion (onCase h)
+on-case-named (case.Whole (Symbol a n)) h = tt
+on-case-named (case.Whole (Compound a k n)) h = tt
+on-case-named (case.Whole (Numbers l u n)) h = tt
+on-case-named (case.Refused q) h = h
+
+cases-named : (n : ℕ) (s : List ℕ) → Named GraphQuestion (readCases n s)
+cases-named n s =
+    row-named GraphQuestion [] _∷_ (λ (bytes : List ℕ). onCase (caseHead bytes))
+    (λ (bytes : List ℕ). on-case-named (caseHead bytes) (case-head-named bytes)) n s
+
+-- of a node,
+abbrev NodeNamed : NodeHead → Type 0
+NodeNamed (Whole r) = Unit
+NodeNamed (Refused q) = GraphQuestion q
+
+whole-node : (b : Bool) (r : NodeRecord) → NodeNamed (wholeNode b r)
+whole-node true r = tt
+whole-node false r = (omega arith, omega arith)
+
+kind-node : (b : Bool) (x y : NodeHead) → NodeNamed x → NodeNamed y → NodeNamed (isKind b x y)
+kind-node true x y h k = h
+kind-node false x y h k = k
+
+node-head-named : (s : List ℕ) → NodeNamed (nodeHead s)
+node-head-named s =
+    kind-node (eqb (length s) 0) _ _ (omega arith, omega arith)
+    (kind-node (eqb (getD s 0 0) 0x40) _ _ tt
+    (kind-node (eqb (getD s 0 0) 0x41) _ _ tt
+    (kind-node (eqb (getD s 0 0) 0x42) _ _ (whole-node (leb 2 (length s)) (End (Execute (getD s 1 0))))
+    (kind-node (eqb (getD s 0 0) 0x43) _ _
+    (whole-node (leb 8 (length s)) (Switch (wideAt s 1) (getD s 3 0) (wideAt s 4) (wideAt s 6)))
+    (kind-node (eqb (getD s 0 0) 0x47) _ _
+    (whole-node (leb 9 (length s)) (Pair (wideAt s 1) (wideAt s 3) (wideAt s 5) (wideAt s 7)))
+    (omega arith, omega arith))))))
+
+on-node-named : (s : List ℕ) (h : NodeHead) → NodeNamed h → Named GraphQuestion (onNode s h)
+on-node-named s (Whole (End l)) h = tt
+on-node-named s (Whole (Switch n count x y)) h =
+    let node : List (CaseEdge ℕ) → Node ℕ = λ cases. switch n cases x y in
+    let read : Reading (Node ℕ) = after 8 node (readCases count (drop 8 s)) in
+    ask-named GraphQuestion 22 (leb 1 count) read (omega arith, omega arith)
+    (after-named GraphQuestion 8 node (readCases count (drop 8 s)) (cases-named count (drop 8 s)))
+on-node-named s (Whole (Pair p q x y)) h = tt
+on-node-named s (Refused q) h = h
+
+module _ (test : Test → Bool) (rules nodes : ℕ) where
+  node-named : (s : List ℕ) → Named GraphQuestion (readNode test rules nodes s)
+  node-named s =
+      then-named GraphQuestion (onNode s (nodeHead s))
+      (λ a node. ask 23 (inRange test rules nodes node) (ask 24 (inOrder node) (took a node)))
+      (on-node-named s (nodeHead s) (node-head-named s))
+      (λ a node.
+      ask-named GraphQuestion 23 (inRange test rules nodes node) (ask 24 (inOrder node) (took a node)) (omega arith, omega arith)
+      (ask-named GraphQuestion 24 (inOrder node) (took a node) (omega arith, omega arith) tt))
+
+end-named : (bytes : ℕ) (x : Reading (List (Node ℕ))) → Named GraphQuestion x → Named GraphQuestion (endGraph bytes x)
+end-named bytes (took a nodes) h = ask-named GraphQuestion 25 (eqb a bytes) (took _ nodes) (omega arith, omega arith) tt
+end-named bytes (refused q) h = h
+
+-- and of a graph.
+pub graph-named : (sheet : Sheet) (s : List ℕ) → Named GraphQuestion (readGraph sheet s)
+unfolding readBy
+graph-named sheet s =
+    let test = isTest (sheet .rules) in
+    let rules = length (sheet .rules) in
+    let read : Reading (List (Node ℕ)) = readNodes test rules (wideAt s 3) (drop 5 s) in
+    ask-named GraphQuestion 21 (hasHeader (sheet .arity) rules s) (endGraph (length s - 5) read) (omega arith, omega arith)
+    (end-named (length s - 5) read
+    (row-named GraphQuestion [] _∷_ (readNode test rules (wideAt s 3)) (node-named test rules (wideAt s 3)) (wideAt s 3) (drop 5 s)))
+
+-- A path ends at a leaf, or is refused by 26 or 27.
+abbrev PathNamed : Path → Type 0
+PathNamed (ends walked l) = Unit
+PathNamed (refusedAt q) = PathQuestion q
+
+through-named : (n : ℕ) (p : Path) → PathNamed p → PathNamed (through n p)
+through-named n (ends walked l) h = h
+through-named n (refusedAt q) h = h
+
+module _ (nodes : List (Node ℕ)) (piece : Terms) where
+  path-named : (more n : ℕ) → PathNamed (pathFrom nodes piece more n)
+  path-named zero n = go (stepAt piece (nodeAt nodes piece n))
+    where
+      go : (x : Step ℕ) → PathNamed (lastStep nodes piece n x)
+      go (stop l) = tt
+      go (goTo m) = (omega arith, omega arith)
+      go noWay = (omega arith, omega arith)
+  path-named (suc more) n = go (path-named more) (stepAt piece (nodeAt nodes piece n))
+    where
+      go
+          : ((m : ℕ) → PathNamed (pathFrom nodes piece more m)) → (x : Step ℕ)
+          → PathNamed (nextStep nodes piece (λ m. pathFrom nodes piece more m) n x)
+      go later (stop l) = tt
+      go later (goTo m) = through-named n (pathFrom nodes piece more m) (later m)
+      go later noWay = (omega arith, omega arith)
+
+  -- The number of the question that a walk got a no from.
+  abbrev pub ReplyNamed : Reply → Type 0
+  ReplyNamed (answered w) = Unit
+  ReplyNamed (reply.refused q) = PathQuestion q
+
+  pub walk-named : (rules : List Patterns) → ReplyNamed (walk rules nodes piece)
+  walk-named rules = go (path nodes piece) (path-named (mostEdges nodes piece) 0)
+    where
+      go : (p : Path) → PathNamed p → ReplyNamed (atEnd rules nodes piece p)
+      go (ends walked l) h = tt
+      go (refusedAt q) h = h

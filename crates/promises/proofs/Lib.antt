@@ -1,0 +1,3 @@
+-- Which questions refuse what:
+pub mod PieceQuestions
+pub mod GraphQuestions

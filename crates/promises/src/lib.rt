@@ -1,0 +1,1 @@
+// The demands, as theorems about bytes: they stand in proofs/. There is no code here.
