@@ -27,7 +27,13 @@
  *               15  a compound's depth is at most 3
  *               16  a compound's arity is 1 to 4
  *               17  no bytes are left
+ *   writing     19  it fits the lent buffer
  *   both        20  sheet and piece have the same arity
+ *   graph       21  begins with a whole 12 record: the sheet's arity and rule count, 1 to 1,024 nodes
+ *   each node   22  whole record of kinds 40 to 43 or 47, a switch with 1 case or more of kinds 44 to 46
+ *               23  nodes and rule in range, place or pair among the sheet's tests
+ *               24  cases strictly ascending, low at most high, no number in two
+ *   graph's end 25  no bytes are left
  *
  * Kinds are hexadecimal, all other numbers decimal.
  */
@@ -63,6 +69,16 @@ uint64_t vt_check_piece(const uint8_t *piece, size_t piece_len);
 /* The plain answer of a sheet on a piece: questions 1 to 11, 12 to 17, then 20.
  * Fields: word (bits 8 to 15), rule (16 to 23), which is 0 for suspend and fail. */
 uint64_t vt_plain(const uint8_t *sheet, size_t sheet_len, const uint8_t *piece, size_t piece_len);
+
+/* Checks a graph for the sheet that it is walked with: questions 1 to 11, then 21 to 25.
+ * Fields: nodes (bits 8 to 23). */
+uint64_t vt_check_graph(const uint8_t *sheet, size_t sheet_len, const uint8_t *graph, size_t graph_len);
+
+/* Writes the nodes of a graph again, at the start of the buffer: questions 1 to 11, 21 to 25, then 19.
+ * The bytes after them stay as they are, and all do on a refusal. At most 1,836,037 bytes are written.
+ * Fields: bytes written (bits 8 to 39). */
+uint64_t vt_rewrite(const uint8_t *sheet, size_t sheet_len, const uint8_t *graph, size_t graph_len,
+                    uint8_t *buffer, size_t buffer_len);
 
 #ifdef __cplusplus
 }

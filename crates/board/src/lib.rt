@@ -1,6 +1,8 @@
 // The static library. Every call takes byte slices and hands back one number, the refusal's number in its lowest byte.
 use answer::Answer;
 use answer::Plain;
+use counter::GraphCheck;
+use counter::Rewrote;
 use piece::PieceCheck;
 use tests::SheetCheck;
 ghost use mathlib.Core.Path.{_≡_};
@@ -9,7 +11,9 @@ ghost use Rattle.tests.specs.CheckSheet.{acceptSheet, sheetValues};
 ghost use Rattle.piece.specs.ReadPiece.{readPiece};
 ghost use Rattle.piece.specs.LaidOut.{checkedPiece};
 ghost use Rattle.answer.specs.Plain.{answerOf, plainReading, readingValues};
-ghost use Rattle.board.specs.Packed.{packed, packedSheet, packedPiece, packedPlain};
+ghost use Rattle.counter.specs.CheckGraph.{graphReading, graphValues};
+ghost use Rattle.counter.specs.Rewritten.{rewritten};
+ghost use Rattle.board.specs.Packed.{packed, packedWide, packedSheet, packedPiece, packedPlain, packedGraph, packedWritten};
 
 // A refusal's number and three values as one number.
 fn pack(refusal: u8, first: u8, second: u8, third: u8) -> u64
@@ -19,6 +23,13 @@ fn pack(refusal: u8, first: u8, second: u8, third: u8) -> u64
         + 0x100 * (first as u64)
         + 0x1_0000 * (second as u64)
         + 0x100_0000 * (third as u64)
+}
+
+// A refusal's number and one value of more bits as one number.
+fn pack_wide(refusal: u8, value: u32) -> u64
+    ensures { λ r. ⌜ r ≡ packedWide refusal value ⌝ }
+{
+    refusal as u64 + 0x100 * (value as u64)
 }
 
 // The answer word's number.
@@ -78,5 +89,32 @@ pub extern "C" fn vt_plain(sheet: &[u8], piece: &[u8]) -> u64
     match answered {
         Plain::Answered(a) => pack(0, word(a), rule(a), 0),
         Plain::Refused(q) => pack(q, 0, 0, 0),
+    }
+}
+
+// Checks a graph for a sheet: its nodes. Not the nodes of a graph that is refused, nor a graph accepted by itself where the sheet
+// is refused.
+#[no_mangle]
+pub extern "C" fn vt_check_graph(sheet: &[u8], graph: &[u8]) -> u64
+    ensures { λ r. ⌜ r ≡ packedGraph (graphValues (graphReading (now (sheet .entry)) (now (graph .entry)))) ⌝ }
+{
+    let checked = counter::check_graph(sheet, graph);
+    match checked {
+        GraphCheck::Accepted(nodes) => pack_wide(0, nodes as u32),
+        GraphCheck::Refused(q) => pack_wide(q, 0),
+    }
+}
+
+// Writes the nodes of a graph again, at the front of a buffer: the bytes written. Not the buffer's length for them, nor a byte
+// changed beside a refusal's number.
+#[no_mangle]
+pub extern "C" fn vt_rewrite(sheet: &[u8], graph: &[u8], buffer: &mut [u8]) -> u64
+    ensures { λ r. ⌜ r ≡ packedWritten (rewritten (now (sheet .entry)) (now (graph .entry)) (now (buffer .entry))) ⌝ }
+    ensures { λ _. ⌜ now (buffer .exit) ≡ rewritten (now (sheet .entry)) (now (graph .entry)) (now (buffer .entry)) .buffer ⌝ }
+{
+    let written = counter::rewrite(sheet, graph, buffer);
+    match written {
+        Rewrote::Written(bytes) => pack_wide(0, bytes),
+        Rewrote::Refused(q) => pack_wide(q, 0),
     }
 }
