@@ -18,6 +18,7 @@ use Rattle.decision.proofs.ExploreMap.{named, number-named}
 use Rattle.decision.proofs.SameVertex.{same-vertex, vertex-same}
 use Rattle.build.specs.KeysMet.{numberOf}
 use Rattle.build.specs.KeyGraph.{nameOf, vertexIn, nextKeys, keyedNode, keyedNodes}
+use Rattle.build.specs.Grown.{graphKeys}
 use Rattle.build.proofs.Names.{named-vertex, told-apart}
 use Rattle.build.proofs.Occurring.{Occurs, edges-occur, root-occurs, keys-explored}
 
@@ -120,7 +121,7 @@ module _ (rules : List Patterns) (few : length rules ≤ 64) where
 
   -- All keys that are met breadth first from the root's.
   abbrev pub allKeys : Option (List Key)
-  allKeys = explore sameKey (nextKeys rules) mostNodes (nameOf root ∷ []) (nameOf root ∷ [])
+  allKeys = graphKeys rules
 
   -- Where so many keys are met that there is none, there is no graph,
   pub no-graph : allKeys ≡ none → graphOf rules ≡ none

@@ -8,3 +8,10 @@ pub mod KeyedNodes
 pub mod NodeKinds
 pub mod CasesInTurn
 pub mod SwitchMet
+pub mod Measures
+pub mod EdgesInTurn
+pub mod AskedNodes
+pub mod NamedKeys
+pub mod GrowingKeys
+pub mod RootKeys
+pub mod GrownGraph

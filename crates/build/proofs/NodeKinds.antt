@@ -70,6 +70,14 @@ module _ (rules : List Patterns) (key : Key) where
       let next : suc (trailingZeros 64 (key .live)) ≡ trailingZeros 64 (key .live) + 1 = omega arith in
       ap nodeWith (members-one 64 (key .live) h e) ∙ ap (λ (i : ℕ). end (execute i)) next
 
+  -- The lowest pending test is a test of the sheet where all are.
+  pub asks-below
+      : key .pending < 2 ^ 64 → (key .pending ≡ 0 → ⊥) → key .pending < 2 ^ length (sheetTests rules)
+      → trailingZeros 64 (key .pending) < length (sheetTests rules)
+  asks-below small some-pending within =
+      has-lt (length (sheetTests rules)) (key .pending) (trailingZeros 64 (key .pending)) within
+      (trailing-in 64 (key .pending) small (omega arith))
+
   module _ (fits : key .live < 2 ^ 64) (some-live : key .live ≡ 0 → ⊥) (not-one : ones (key .live) ≡ 1 → ⊥) where
     asks : nodeBy rules key ≡ askFirst rules key (firstIn (key .pending) order)
     asks =
@@ -92,5 +100,5 @@ module _ (rules : List Patterns) (key : Key) where
         asks
         ∙ ap (askFirst rules key)
         (first-lowest (key .pending) t 0 (length (sheetTests rules)) (omega arith)
-        (omega (arith, has-lt (length (sheetTests rules)) (key .pending) t within there)) there
+        (omega (arith, asks-below small some-pending within)) there
         (trailing-first 64 (key .pending)))

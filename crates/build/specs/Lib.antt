@@ -3,3 +3,5 @@ pub mod KeysMet
 pub mod KeyGraph
 pub mod NodeKind
 pub mod Switching
+pub mod Expanding
+pub mod Grown

@@ -4,18 +4,17 @@ use edges::Key;
 use graph::Leaf;
 ghost use mathlib.Core.Path.{_≡_};
 ghost use mathlib.Core.List.{List};
-ghost use Prim.Native.Nat.{_<_, _^_};
 ghost use lib.ListN.{length};
 ghost use Rattle.terms.specs.Pattern.{Patterns};
 ghost use Rattle.tests.specs.SheetTests.{sheetTests};
 ghost use Rattle.edges.specs.VertexKey.{keyIn};
 ghost use Rattle.build.specs.KeyGraph.{nodeBy};
-ghost use Rattle.build.specs.NodeKind.{kindNode, Below};
+ghost use Rattle.build.specs.NodeKind.{Fits, kindNode, Below};
 
 // The leaf that a key is, or the test that its node asks: the lowest pending one. Not the highest, nor execute where two rules
 // are live.
 pub fn kind_of(key: Key) -> Kind
-    ensures { λ r. ⌜ ((rules : List Patterns) → key .pending < 2 ^ length (sheetTests rules) → nodeBy rules (keyIn key) ≡ kindNode rules (keyIn key) r) ⌝ }
+    ensures { λ r. ⌜ ((rules : List Patterns) → Fits rules (keyIn key) → (nodeBy rules (keyIn key) ≡ kindNode rules (keyIn key) r) × Below (length (sheetTests rules)) r) ⌝ }
     ensures { λ r. ⌜ Below 64 r ⌝ }
 {
     if key.live == 0 {

@@ -4,7 +4,7 @@ use native.Mathlib.Omega.{arith}
 use lib.Count.{trailingZeros, trailing-le}
 use Rattle.masks.proofs.LowestMember.{trailing-lt}
 use Rattle.edges.specs.VertexKey.{keyIn}
-use Rattle.build.proofs.NodeKinds.{kind-fail, kind-suspend, kind-execute, kind-settled, kind-asks}
+use Rattle.build.proofs.NodeKinds.{kind-fail, kind-suspend, kind-execute, kind-settled, kind-asks, asks-below}
 use borrow.Author.Needs.{needs}
 use Rattle.build.proofs.node.kind_of.Statement.{statement}
 use Rattle.build.proofs.node.kind_of.Tie as tie
@@ -12,12 +12,12 @@ use Rattle.build.proofs.node.kind_of.Tie as tie
 returns : tie.Need-returns
 returns c =
     let key = c .before .before .before .before .args .key in
-    (λ rules h. kind-fail rules (keyIn key) (c .before .before .if1 .taken) (c .if2 .taken), tt)
+    (λ rules h. (kind-fail rules (keyIn key) (c .before .before .if1 .taken) (c .if2 .taken), tt), tt)
 
 returns-2 : tie.Need-returns-2
 returns-2 c =
     let key = c .before .before .before .before .args .key in
-    (λ rules h. kind-suspend rules (keyIn key) (c .before .before .if1 .taken) (c .if2 .left), tt)
+    (λ rules h. (kind-suspend rules (keyIn key) (c .before .before .if1 .taken) (c .if2 .left), tt), tt)
 
 cast-t8 : tie.Need-cast-t8
 cast-t8 c = omega (arith, trailing-le 64 (c .before .before .before .before .before .args .key .live))
@@ -29,13 +29,17 @@ returns-3 : tie.Need-returns-3
 returns-3 c =
     let key = c .before .before .before .before .before .args .key in
     let small : key .live < 2 ^ 64 = search needs in
-    (λ rules h. kind-execute rules (keyIn key) small (c .before .if3 .taken), tt)
+    (λ rules h. (kind-execute rules (keyIn key) small (c .before .if3 .taken), tt), tt)
 
 returns-4 : tie.Need-returns-4
 returns-4 c =
     let key = c .before .before .before .before .before .before .args .key in
-    let small : key .live < 2 ^ 64 = search needs in (
-      λ rules h. kind-settled rules (keyIn key) small (c .before .before .before .before .if1 .left) (c .before .before .if3 .left) (c .if4 .taken),
+    let small : key .live < 2 ^ 64 = search needs in
+    let live = c .before .before .before .before .if1 .left in (
+      λ rules h. (
+        kind-settled rules (keyIn key) small live (c .before .before .if3 .left) (c .if4 .taken),
+        tt,
+      ),
       tt,
     )
 
@@ -46,8 +50,12 @@ returns-5 : tie.Need-returns-5
 returns-5 c =
     let key = c .before .before .before .before .before .before .before .args .key in
     let small : key .live < 2 ^ 64 = search needs in
-    let few : key .pending < 2 ^ 64 = search needs in (
-      λ rules h. kind-asks rules (keyIn key) small (c .before .before .before .before .before .if1 .left) (c .before .before .before .if3 .left) few (c .before .if4 .left) h,
+    let few : key .pending < 2 ^ 64 = search needs in
+    let live = c .before .before .before .before .before .if1 .left in (
+      λ rules h. (
+        kind-asks rules (keyIn key) small live (c .before .before .before .if3 .left) few (c .before .if4 .left) (h .pends live),
+        asks-below rules (keyIn key) few (c .before .if4 .left) (h .pends live),
+      ),
       trailing-lt 64 (key .pending) few (search needs),
     )
 
