@@ -1,1 +1,5 @@
--- The definitions that the contracts of `tables` cite stand in `masks` and `tests`.
+-- The tables of a sheet: what stands in them, rule by rule.
+pub mod Numbers
+pub mod Wants
+pub mod Row
+pub mod RuleTables

@@ -1,10 +1,24 @@
-// The tests of a sheet as tables.
+// An accepted sheet as tables: its tested places, the numbers of its tests, and of each rule the set of its tests and the
+// codes of what it wants.
+pub mod codes; // what a rule wants, as codes
+pub mod numbers; // the numbers of places and pairs
+pub mod row; // the tests of a rule as a set
+pub mod rules; // the tables of all rules
+
+pub use row::rule_row;
+pub use rules::compile_rules;
 ghost use mathlib.Core.Path.{_≡_};
 ghost use mathlib.Core.List.{_++_, map};
 ghost use Prim.Native.Nat.{ℕ, _+_, _≤_};
 ghost use lib.ListN.{length, take};
 ghost use Rattle.masks.specs.Mask.{members};
 ghost use Rattle.tests.specs.TestedPlaces.{placesIn};
+
+// What a record wants at its place, as lowest and highest code, or nothing.
+pub enum Wanted {
+    Nothing,
+    Codes(u32, u32),
+}
 
 // Lists the members of a word, counted from a base, behind those that are listed, and answers how many there are now.
 fn list_word(word: u64, base: usize, places: &mut [u16; 64], count: usize) -> usize
