@@ -1,5 +1,5 @@
 /*
- * Voltunnis: checks and answers for coin sorter rule sheets.
+ * Voltunnis: checks, answers and decision graphs for coin sorter rule sheets.
  *
  * Every function takes byte sequences, each as a pointer and a length, and returns one 64-bit
  * number. A pointer is never null, not even with length 0. A buffer that is lent to be written must
@@ -27,6 +27,7 @@
  *               15  a compound's depth is at most 3
  *               16  a compound's arity is 1 to 4
  *               17  no bytes are left
+ *   building    18  the graph has at most 1,024 nodes
  *   writing     19  it fits the lent buffer
  *   both        20  sheet and piece have the same arity
  *   graph       21  begins with a whole 12 record: the sheet's arity and rule count, 1 to 1,024 nodes
@@ -79,6 +80,11 @@ uint64_t vt_check_graph(const uint8_t *sheet, size_t sheet_len, const uint8_t *g
  * Fields: bytes written (bits 8 to 39). */
 uint64_t vt_rewrite(const uint8_t *sheet, size_t sheet_len, const uint8_t *graph, size_t graph_len,
                     uint8_t *buffer, size_t buffer_len);
+
+/* Builds a sheet's graph at the start of the buffer: questions 1 to 11, 18, then 19. The bytes after the
+ * graph stay as they are, and all do on a refusal. At most 1,836,037 bytes are written.
+ * Fields: nodes (bits 8 to 23), bytes written (bits 24 to 55). */
+uint64_t vt_build(const uint8_t *sheet, size_t sheet_len, uint8_t *buffer, size_t buffer_len);
 
 #ifdef __cplusplus
 }

@@ -47,32 +47,49 @@ pub fn check_graph(sheet: &[u8], graph: &[u8]) -> Result<GraphSize, Refusal> {
     result
 }
 
-/// A buffer of this length as it is lent: bytes by which a part that moved is seen.
+/// How many bytes after a lent buffer are watched.
+const BEYOND: usize = 64;
+
+/// What stands in a lent buffer at this place: bytes by which a part that moved is seen.
+fn lent_byte(at: usize) -> u8 {
+    (at * 37 % 251) as u8
+}
+
+/// A buffer of this length as it is lent.
 pub fn lent(len: usize) -> Vec<u8> {
-    (0..len).map(|at| (at * 37 % 251) as u8).collect()
+    (0..len).map(lent_byte).collect()
+}
+
+/// Lends a call a buffer of this length; gives its result and the buffer. No byte beyond it changes.
+#[inline]
+fn lend<T>(len: usize, call: impl FnOnce(&mut [u8]) -> T) -> (T, Vec<u8>) {
+    let mut bytes = lent(len + BEYOND);
+    let result = call(&mut bytes[..len]);
+    assert!(bytes.drain(len..).eq((len..len + BEYOND).map(lent_byte)), "a byte beyond {len} changed");
+    (result, bytes)
 }
 
 /// Rewrites a graph to a buffer of this length; gives the result and the buffer.
 #[inline]
 pub fn rewrite(sheet: &[u8], graph: &[u8], len: usize) -> (Result<Written, Refusal>, Vec<u8>) {
-    let (mut one, mut two) = (lent(len), lent(len));
-    let result = voltunnis::rewrite(sheet, graph, &mut one);
+    let (result, buffer) = lend(len, |buffer| voltunnis::rewrite(sheet, graph, buffer));
+    let (expected, bytes) = lend(len, |buffer| reference::rewrite(sheet, graph, buffer));
     let what =
         || format!("library, reference: sheet {} graph {} to {len} bytes", to_hex(sheet), to_hex(graph));
-    assert_eq!(result, reference::rewrite(sheet, graph, &mut two), "{}", what());
-    assert!(one == two, "other bytes in the buffer: {}", what());
-    (result, one)
+    assert_eq!(result, expected, "{}", what());
+    assert!(buffer == bytes, "other bytes in the buffer: {}", what());
+    (result, buffer)
 }
 
 /// Builds a graph in a buffer of this length; gives the result and the buffer.
 #[inline]
 pub fn build(sheet: &[u8], len: usize) -> (Result<Built, Refusal>, Vec<u8>) {
-    let (mut one, mut two) = (lent(len), lent(len));
-    let result = voltunnis::build(sheet, &mut one);
+    let (result, buffer) = lend(len, |buffer| voltunnis::build(sheet, buffer));
+    let (expected, bytes) = lend(len, |buffer| reference::build(sheet, buffer));
     let what = || format!("library, reference: sheet {} to {len} bytes", to_hex(sheet));
-    assert_eq!(result, reference::build(sheet, &mut two), "{}", what());
-    assert!(one == two, "other bytes in the buffer: {}", what());
-    (result, one)
+    assert_eq!(result, expected, "{}", what());
+    assert!(buffer == bytes, "other bytes in the buffer: {}", what());
+    (result, buffer)
 }
 
 /// Walks a graph; the wait list is compared on refusals too.

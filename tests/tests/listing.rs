@@ -6,6 +6,7 @@ use std::io::Write;
 use std::path::{Path, PathBuf};
 use std::process::{Command, Stdio};
 use voltunnis_tests::bytes::from_hex;
+use voltunnis_tests::generate::known;
 use voltunnis_tests::generate::pieces::piece;
 use voltunnis_tests::generate::random::Random;
 use voltunnis_tests::generate::sheets::sheet;
@@ -85,12 +86,10 @@ fn refusals_end_the_run_and_leave_the_lines_before() {
         let pieces = format!("11 02 30 30 {rest}");
         assert_eq!(listed(EXAMPLE, &pieces), format!("{first}refused {refusal}\n"));
     }
-    let rules = [Pattern::Variable(0), Pattern::Symbol(1)].map(|pattern| vec![pattern; 8]);
-    let too_many = SheetTree { arity: 8, rules: rules.to_vec() };
-    assert_eq!(lines(&folder, &too_many.bytes(), &[]), "refused 18\n");
-    let range = |at| vec![Pattern::Compound(1, vec![Pattern::Range(at, 1000 - at); 2]); 8];
-    let too_long = SheetTree { arity: 8, rules: (0..32).map(range).collect() };
-    assert_eq!(lines(&folder, &too_long.bytes(), &[]), "refused 19\n");
+    assert_eq!(lines(&folder, &known::nodes_1025(), &[]), "refused 18\n");
+    assert_eq!(lines(&folder, &known::nodes_1024(), &[]), "sheet 8 4 23 1024\n");
+    assert_eq!(lines(&folder, &known::nested_8(), &[]), "sheet 8 32 8 221\n");
+    assert_eq!(lines(&folder, &known::nested_16(), &[]), "refused 19\n");
 }
 
 #[test]

@@ -4,8 +4,10 @@
 use voltunnis_tests::both::{lent, rewrite};
 use voltunnis_tests::bytes::from_hex;
 use voltunnis_tests::generate::graphs::graph;
+use voltunnis_tests::generate::known;
 use voltunnis_tests::generate::random::Random;
 use voltunnis_tests::generate::sheets::sheet;
+use voltunnis_tests::reference::build::nodes;
 use voltunnis_tests::reference::nodes::{graph_bytes, Case, Node};
 use voltunnis_tests::reference::sheet::Sheet;
 use voltunnis_tests::results::Written;
@@ -54,6 +56,23 @@ fn the_largest_graph_is_written_again() {
 }
 
 #[test]
+fn graphs_of_1024_nodes_are_written_again_and_of_1025_are_not() {
+    let sheet = known::nodes_1024();
+    let read = Sheet::read(&sheet).expect("an accepted sheet");
+    let mut nodes = nodes(&read).expect("a graph");
+    assert_eq!(nodes.len(), 1024);
+    let rules = read.rules.len() as u8;
+    let graph = graph_bytes(read.arity, rules, &nodes);
+    fits(&sheet, &graph, 0);
+    fits(&sheet, &graph, 7);
+    refused(&sheet, &graph, graph.len() - 1, 19);
+    nodes.push(Node::Suspend);
+    let graph = graph_bytes(read.arity, rules, &nodes);
+    refused(&sheet, &graph, graph.len(), 21);
+    refused(&sheet, &graph, 0, 21);
+}
+
+#[test]
 fn question_19_comes_after_the_graphs_questions() {
     let sheet = from_hex("10 01 01 21 00 01");
     for (graph, refusal) in
@@ -94,6 +113,7 @@ fn library_and_reference_agree_on_random_graphs() {
             refusals[usize::from(refusal)] += 1;
         } else {
             assert!(buffer[..graph.len()] == graph, "other bytes than those read");
+            assert!(buffer[graph.len()..] == lent(len)[graph.len()..], "a byte after the graph");
             refusals[0] += 1;
         }
     }

@@ -15,19 +15,11 @@ use Rattle.tests.specs.CheckSheet.{acceptSheet}
 use Rattle.piece.specs.Piece.{Piece}
 use Rattle.piece.specs.ReadPiece.{readPiece}
 use Rattle.piece.proofs.Spelled.{piece-spelled}
+use Rattle.answer.specs.AcceptedBytes.{AcceptedBytes}
 use Rattle.answer.specs.Plain.{plainReading, answerValues, readingValues}
 use Rattle.answer.proofs.ByteLists.{bytes-each}
 use Rattle.accepted.proofs.CheckedSheets.{accepted-rules}
 use Rattle.answer.proofs.PieceAnswers.{piece-answered, sheet-answers}
-
--- The bytes s and p are accepted as this sheet and this piece, of one arity.
-pub record AcceptedBytes (s p : List ℕ) (sheet : Sheet) (piece : Piece) : Type 0 where
-  pub areBytes : All IsByte s × All IsByte p
-  pub sheetBytes : ℕ
-  pub pieceBytes : ℕ
-  pub sheetAccepted : acceptSheet s ≡ took sheetBytes sheet
-  pub pieceAccepted : readPiece p ≡ took pieceBytes piece
-  pub sameArity : piece .arity ≡ sheet .arity
 
 module _ {s p : List ℕ} {sheet : Sheet} {piece : Piece} (accepted : AcceptedBytes s p sheet piece) where
   -- The values of accepted bytes are the word and the rule of the plain answer.
@@ -36,10 +28,10 @@ module _ {s p : List ℕ} {sheet : Sheet} {piece : Piece} (accepted : AcceptedBy
       sym (sheet-answers s p (accepted .sheetAccepted))
       ∙ sym (piece-answered (sheet .arity) (sheet .rules) p (accepted .pieceAccepted) (accepted .sameArity))
 
-  rules-accepted : All (AcceptedRule (sheet .arity)) (sheet .rules)
+  pub rules-accepted : All (AcceptedRule (sheet .arity)) (sheet .rules)
   rules-accepted = accepted-rules s (accepted .areBytes .0) (accepted .sheetAccepted)
 
-  terms-accepted : AcceptedPiece (sheet .arity) (piece .terms)
+  pub terms-accepted : AcceptedPiece (sheet .arity) (piece .terms)
   terms-accepted =
       let bytes = bytes-each p (accepted .areBytes .1) in
       let spelled = piece-spelled p bytes (accepted .pieceBytes) piece .0 (accepted .pieceAccepted) in

@@ -2,3 +2,4 @@
 pub mod Plain
 pub mod RuleByRule
 pub mod NotesOutcome
+pub mod AcceptedBytes

@@ -7,12 +7,16 @@ use Rattle.piece.specs.LaidOut.{PieceResult}
 use Rattle.answer.specs.Plain.{PlainValues}
 use Rattle.counter.specs.CheckGraph.{GraphValues}
 use Rattle.counter.specs.Rewritten.{Result}
+use Rattle.builder.specs.BuildOutcome.{BuildValues}
 
 abbrev pub packed : ℕ → ℕ → ℕ → ℕ → ℕ
 packed refusal first second third = refusal + 0x100 * first + 0x1_0000 * second + 0x100_0000 * third
 
 abbrev pub packedWide : ℕ → ℕ → ℕ
 packedWide refusal value = refusal + 0x100 * value
+
+abbrev pub packedTwo : ℕ → ℕ → ℕ → ℕ
+packedTwo refusal first second = refusal + 0x100 * first + 0x100_0000 * second
 
 -- "A sheet check gives arity, rules and tests".
 abbrev pub packedSheet : SheetValues → ℕ
@@ -33,3 +37,7 @@ packedGraph x = packedWide (x .refusal) (x .nodes)
 -- "Any other writer bytes written": 32 bits.
 abbrev pub packedWritten : Result → ℕ
 packedWritten x = packedWide (x .refusal) (x .bytes)
+
+-- "A build nodes and bytes written": 16 bits, then 32.
+abbrev pub packedBuilt : BuildValues → ℕ
+packedBuilt x = packedTwo (x .refusal) (x .nodes) (x .bytes)

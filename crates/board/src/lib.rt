@@ -1,6 +1,7 @@
 // The static library. Every call takes byte slices and hands back one number, the refusal's number in its lowest byte.
 use answer::Answer;
 use answer::Plain;
+use builder::Built;
 use counter::GraphCheck;
 use counter::Rewrote;
 use piece::PieceCheck;
@@ -13,7 +14,8 @@ ghost use Rattle.piece.specs.LaidOut.{checkedPiece};
 ghost use Rattle.answer.specs.Plain.{answerOf, plainReading, readingValues};
 ghost use Rattle.counter.specs.CheckGraph.{graphReading, graphValues};
 ghost use Rattle.counter.specs.Rewritten.{rewritten};
-ghost use Rattle.board.specs.Packed.{packed, packedWide, packedSheet, packedPiece, packedPlain, packedGraph, packedWritten};
+ghost use Rattle.builder.specs.BuildOutcome.{buildOutcome};
+ghost use Rattle.board.specs.Packed.{packed, packedWide, packedSheet, packedPiece, packedPlain, packedGraph, packedWritten, packedBuilt, packedTwo};
 
 // A refusal's number and three values as one number.
 fn pack(refusal: u8, first: u8, second: u8, third: u8) -> u64
@@ -30,6 +32,13 @@ fn pack_wide(refusal: u8, value: u32) -> u64
     ensures { λ r. ⌜ r ≡ packedWide refusal value ⌝ }
 {
     refusal as u64 + 0x100 * (value as u64)
+}
+
+// A refusal's number, a value of 16 bits and one of 32 as one number.
+fn pack_two(refusal: u8, first: u16, second: u32) -> u64
+    ensures { λ r. ⌜ r ≡ packedTwo refusal first second ⌝ }
+{
+    refusal as u64 + 0x100 * (first as u64) + 0x100_0000 * (second as u64)
 }
 
 // The answer word's number.
@@ -116,5 +125,19 @@ pub extern "C" fn vt_rewrite(sheet: &[u8], graph: &[u8], buffer: &mut [u8]) -> u
     match written {
         Rewrote::Written(bytes) => pack_wide(0, bytes),
         Rewrote::Refused(q) => pack_wide(q, 0),
+    }
+}
+
+// Builds a sheet's graph: its nodes and the bytes written. Not a byte changed behind the graph or on a refusal, nor the bytes in the
+// place of the nodes.
+#[no_mangle]
+pub extern "C" fn vt_build(sheet: &[u8], buffer: &mut [u8]) -> u64
+    ensures { λ r. ⌜ r ≡ packedBuilt (buildOutcome (now (sheet .entry)) (now (buffer .entry)) .values) ⌝ }
+    ensures { λ _. ⌜ now (buffer .exit) ≡ buildOutcome (now (sheet .entry)) (now (buffer .entry)) .buffer ⌝ }
+{
+    let built = builder::build(sheet, buffer);
+    match built {
+        Built::Written(nodes, bytes) => pack_two(0, nodes, bytes),
+        Built::Refused(q) => pack_two(q, 0, 0),
     }
 }

@@ -26,7 +26,7 @@ use Rattle.nodes.proofs.Starts.{start-reads}
 use Rattle.counter.proofs.FoundGraph.{AcceptedGraphAs}
 
 -- Nodes have at most 1,793 bytes each.
-nodes-size : (ns : List (Node ℕ)) → All NodeFields ns → length (nodesBytes ns) ≤ 1793 * length ns
+pub nodes-size : (ns : List (Node ℕ)) → All NodeFields ns → length (nodesBytes ns) ≤ 1793 * length ns
 nodes-size [] h = omega arith
 nodes-size (n ∷ ns) h =
     omega (arith, length-append (nodeBytes n) (nodesBytes ns), node-size n (h .0), nodes-size ns (h .1))

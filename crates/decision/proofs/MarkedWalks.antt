@@ -2,9 +2,10 @@
 -- and the five for the sheet of numbers.
 use Prim.Native.Nat.{ℕ}
 use mathlib.Core.Path.{_≡_, refl}
-use mathlib.Core.List.{List, map}
+use mathlib.Core.List.{List}
 use mathlib.Core.Option.{Option, some, none}
 use Rattle.masks.specs.Mask.{has, maskOf, members, listFrom, anyBelow}
+use Rattle.terms.specs.Lists.{All}
 use Rattle.terms.specs.Answer.{Answer}
 use Rattle.terms.specs.Marked.{Walked, MarkedCase, markedCases}
 use Rattle.decision.specs.Node.{Node}
@@ -12,25 +13,26 @@ use Rattle.decision.specs.Graph.{graphOf}
 use Rattle.decision.specs.Walk.{Walk, Reply, answered, refused, walk}
 
 -- An answer, with edges and wait list where document 01 gives them; none where nothing is answered.
-record Told : Type 0 where
-  answer : Option Answer
-  walked : Option Walked
+pub record Told : Type 0 where
+  pub answer : Option Answer
+  pub walked : Option Walked
 
-abbrev walkedIf : Option Walked → Walk → Option Walked
+abbrev pub walkedIf : Option Walked → Walk → Option Walked
 walkedIf none w = none
 walkedIf (some given) w = some (record { edges = w .edges; waits = w .waits })
 
-abbrev toldBy : Option Walked → Reply → Told
+abbrev pub toldBy : Option Walked → Reply → Told
 toldBy given (answered w) = record { answer = some (w .answer); walked = walkedIf given w }
 toldBy given (refused q) = record { answer = none; walked = none }
 
-abbrev walkIn : MarkedCase → Option (List (Node ℕ)) → Told
+abbrev pub walkIn : MarkedCase → Option (List (Node ℕ)) → Told
 walkIn x none = record { answer = none; walked = none }
 walkIn x (some nodes) = toldBy (x .walked) (walk (x .rules) nodes (x .piece))
 
--- The walk of each marked case, over the graph of its sheet, is as marked.
-pub marked-walks
-    : map (λ (x : MarkedCase). walkIn x (graphOf (x .rules))) markedCases
-    ≡ map (λ (x : MarkedCase). record { answer = some (x .answer); walked = x .walked }) markedCases
+-- The walk of a marked case, over the graph of its sheet, is as marked.
+abbrev pub AsMarked : MarkedCase → Type 0
+AsMarked x = walkIn x (graphOf (x .rules)) ≡ record { answer = some (x .answer); walked = x .walked }
+
+pub marked-walks : All AsMarked markedCases
 unfolding has maskOf members listFrom anyBelow
-marked-walks = refl
+marked-walks = (refl, (refl, (refl, (refl, (refl, (refl, (refl, (refl, (refl, tt)))))))))

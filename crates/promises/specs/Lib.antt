@@ -1,1 +1,2 @@
--- This crate has theorems alone.
+-- What the theorems speak of besides the definitions of the other crates.
+pub mod BuiltGraph

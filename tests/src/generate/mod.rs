@@ -3,6 +3,7 @@
 pub mod crowded;
 pub mod damage;
 pub mod graphs;
+pub mod known;
 pub mod pieces;
 pub mod random;
 pub mod sheets;

@@ -1,65 +1,79 @@
 //! Building the graph of a sheet: nodes breadth first from the root, then the buffer.
 
-use super::edges::{edges, Edges, Taken};
+use super::cases::Taken;
 use super::graph::MOST_NODES;
 use super::keys::{Asking, Key, Kind};
 use super::nodes::{graph_bytes, Case, Node};
 use super::sheet::Sheet;
 use crate::results::Refusal;
 
-/// What each node is, by number; and the numbers of leaves, and of nodes that ask by their keys.
+/// Room for so many nodes is made at first.
+const FEW: usize = 32;
+
+/// The nodes met so far: what each is, by number; the numbers of leaves; and the keys of those that
+/// ask, each with its number.
 #[derive(Default)]
 struct Known {
+    /// How many nodes there may be.
+    most: u16,
     kinds: Vec<Kind>,
-    leaves: Vec<(Kind, u16)>,
+    fail: Option<u16>,
+    suspend: Option<u16>,
+    execute: [Option<u16>; 32],
     keys: Vec<(Key, u16)>,
 }
 
-/// The number that stands beside an item.
-fn beside<T: PartialEq>(list: &[(T, u16)], item: T) -> Option<u16> {
-    list.iter().find(|(known, _)| *known == item).map(|(_, number)| *number)
-}
-
 impl Known {
-    /// The number of the node that is this: that of the node met before, or the next.
-    /// Question 18: has the graph at most 1,024 nodes?
+    /// The number of the node that is this: that of the node met before, or the next. Most keys that
+    /// are met again were met not long ago, so the newest are looked at first.
     fn number(&mut self, kind: Kind) -> Result<u16, Refusal> {
         let before = match kind {
-            Kind::Ask(key) => beside(&self.keys, key),
-            leaf => beside(&self.leaves, leaf),
+            Kind::Fail => self.fail,
+            Kind::Suspend => self.suspend,
+            Kind::Execute(rule) => self.execute[usize::from(rule) - 1],
+            Kind::Ask(key) => {
+                self.keys.iter().rev().find(|(known, _)| *known == key).map(|(_, number)| *number)
+            }
         };
-        if let Some(number) = before {
-            return Ok(number);
-        }
+        before.map_or_else(|| self.next(kind), Ok)
+    }
+
+    /// The number of the next node, which is this. Question 18: are there at most so many nodes?
+    fn next(&mut self, kind: Kind) -> Result<u16, Refusal> {
         let number = self.kinds.len() as u16;
-        if number == MOST_NODES {
+        if number == self.most {
             return Err(18);
         }
         match kind {
+            Kind::Fail => self.fail = Some(number),
+            Kind::Suspend => self.suspend = Some(number),
+            Kind::Execute(rule) => self.execute[usize::from(rule) - 1] = Some(number),
             Kind::Ask(key) => self.keys.push((key, number)),
-            leaf => self.leaves.push((leaf, number)),
         }
         self.kinds.push(kind);
         Ok(number)
     }
 
-    /// The node with these edges. Its edges are taken in order: the cases, neither, unknown; or no,
-    /// other.
-    fn node(&mut self, edges: Edges) -> Result<Node, Refusal> {
-        Ok(match edges {
-            Edges::Switch { place, cases: taken, neither, unknown } => {
-                let mut cases = Vec::with_capacity(taken.len());
-                for (taken, kind) in taken {
-                    cases.push(case(taken, self.number(kind)?));
-                }
-                let (neither, unknown) = (self.number(neither)?, self.number(unknown)?);
-                Node::Switch { place, neither, unknown, cases }
-            }
-            Edges::Pair { p, q, no, other } => {
-                let (no, other) = (self.number(no)?, self.number(other)?);
-                Node::Pair { p, q, no, other }
-            }
-        })
+    /// The node with this key, which asks the lowest pending test. Its edges are taken in order: the
+    /// cases, neither, unknown; or no, other.
+    fn node(&mut self, asking: &Asking, key: Key) -> Result<Node, Refusal> {
+        let test = key.pending.trailing_zeros() as usize;
+        let unsettled = key.pending & !(1 << test);
+        let tested = key.live & asking.having[test];
+        let others = key.live & !tested;
+        let Some(asked) = asking.places.get(test) else {
+            let (p, q) = asking.pairs[test - asking.places.len()];
+            let no = self.number(asking.kind(others, unsettled))?;
+            let other = self.number(asking.kind(key.live, unsettled))?;
+            return Ok(Node::Pair { p, q, no, other });
+        };
+        let mut cases = Vec::with_capacity(2 * tested.count_ones() as usize);
+        for (taken, rules) in asked.cases.of(tested) {
+            cases.push(case(taken, self.number(asking.kind(others | rules, unsettled))?));
+        }
+        let neither = self.number(asking.kind(others, unsettled))?;
+        let unknown = self.number(asking.kind(key.live, key.pending & !asked.settled))?;
+        Ok(Node::Switch { place: asked.place, neither, unknown, cases })
     }
 }
 
@@ -71,18 +85,24 @@ fn case(taken: Taken, node: u16) -> Case {
     }
 }
 
-/// The nodes of a sheet's graph.
+/// The nodes of a sheet's graph. Question 18: has the graph at most 1,024 nodes?
 pub fn nodes(sheet: &Sheet) -> Result<Vec<Node>, Refusal> {
+    nodes_up_to(sheet, MOST_NODES)
+}
+
+/// The nodes of a sheet's graph, if there are at most so many.
+pub fn nodes_up_to(sheet: &Sheet, most: u16) -> Result<Vec<Node>, Refusal> {
     let asking = Asking::new(sheet);
-    let mut known = Known::default();
-    known.number(asking.root())?;
-    let mut nodes = Vec::new();
+    let (kinds, keys) = (Vec::with_capacity(FEW), Vec::with_capacity(FEW));
+    let mut known = Known { most, kinds, keys, ..Known::default() };
+    known.number(asking.root(sheet.rules.len()))?;
+    let mut nodes = Vec::with_capacity(FEW);
     while let Some(kind) = known.kinds.get(nodes.len()) {
         nodes.push(match *kind {
             Kind::Fail => Node::Fail,
             Kind::Execute(rule) => Node::Execute(rule),
             Kind::Suspend => Node::Suspend,
-            Kind::Ask(key) => known.node(edges(&asking, key))?,
+            Kind::Ask(key) => known.node(&asking, key)?,
         });
     }
     Ok(nodes)

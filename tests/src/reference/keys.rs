@@ -1,7 +1,8 @@
 //! What a node stands for: its live rules and its pending tests. Sets are words, item i being bit i.
 
+use super::cases::Cases;
 use super::places::{depth, last_below};
-use super::sheet::{Sheet, Tests, Want};
+use super::sheet::{Sheet, Tests};
 
 /// Live rules and pending tests.
 #[derive(Clone, Copy, Debug, PartialEq, Eq)]
@@ -22,15 +23,19 @@ pub enum Kind {
 
 /// The sheet's tests by number, seen from the rules.
 pub struct Asking<'a> {
-    pub tests: &'a Tests,
-    /// The tests of each rule.
-    pub of_rule: Vec<u64>,
-    /// At each place test, the rules that have it and what each wants.
-    pub wants: Vec<Vec<(usize, Want)>>,
-    /// At each pair, the rules that have it.
-    pub paired: Vec<u64>,
-    /// What an unknown at each place test settles.
-    pub settled: Vec<u64>,
+    /// The rules that have each test.
+    pub having: Vec<u64>,
+    /// The place tests, which come first.
+    pub places: Vec<PlaceTest>,
+    /// The equality tests, which follow.
+    pub pairs: &'a [(u16, u16)],
+}
+
+/// A place test: its place, what an unknown there settles, and the cases if all rules are live.
+pub struct PlaceTest {
+    pub place: u16,
+    pub settled: u64,
+    pub cases: Cases,
 }
 
 /// The members of a set, ascending.
@@ -66,48 +71,51 @@ impl Tests {
 impl<'a> Asking<'a> {
     pub fn new(sheet: &'a Sheet) -> Self {
         let tests = &sheet.tests;
-        let mut asking = Asking {
-            tests,
-            of_rule: vec![0; sheet.rules.len()],
-            wants: vec![Vec::new(); tests.places.len()],
-            paired: vec![0; tests.pairs.len()],
-            settled: tests.places.iter().map(|place| tests.settled_by_unknown(*place)).collect(),
-        };
+        let mut having = vec![0; tests.count()];
+        let mut places = Vec::with_capacity(tests.places.len());
+        let mut left: Vec<_> = sheet.rules.iter().map(|rule| rule.wants.iter().peekable()).collect();
+        let mut wants = Vec::with_capacity(sheet.rules.len());
+        for (test, &place) in tests.places.iter().enumerate() {
+            wants.clear();
+            for (rule, left) in left.iter_mut().enumerate() {
+                if let Some((_, want)) = left.next_if(|(at, _)| *at == place) {
+                    wants.push((rule, *want));
+                    having[test] |= 1 << rule;
+                }
+            }
+            let settled = tests.settled_by_unknown(place);
+            places.push(PlaceTest { place, settled, cases: Cases::new(&wants) });
+        }
         for (number, rule) in sheet.rules.iter().enumerate() {
-            for (place, want) in &rule.wants {
-                let test = tests.place(*place).expect("a place test of the sheet");
-                asking.wants[test].push((number, *want));
-                asking.of_rule[number] |= 1 << test;
-            }
             for pair in &rule.pairs {
-                let test = tests.pair(*pair).expect("a pair of the sheet");
-                asking.paired[test - tests.places.len()] |= 1 << number;
-                asking.of_rule[number] |= 1 << test;
+                having[tests.pair(*pair).expect("a pair of the sheet")] |= 1 << number;
             }
         }
-        asking
+        Asking { having, places, pairs: &tests.pairs }
     }
 
-    /// The root: all rules live, all tests pending.
-    pub fn root(&self) -> Kind {
-        let live = (0..self.of_rule.len()).fold(0, |set, rule| set | 1 << rule);
-        self.kind(live, u64::MAX)
+    /// The root, with all of these rules live and all tests pending.
+    pub fn root(&self, rules: usize) -> Kind {
+        self.kind((1 << rules) - 1, (0..self.having.len()).fold(0, |set, test| set | 1 << test))
     }
 
-    /// What the node is that has these live rules, and of their tests those in this set pending.
+    /// What the node is that has these live rules, and of their tests those in this set pending. A live
+    /// rule that is not waiting has no pending test.
     pub fn kind(&self, live: u64, unsettled: u64) -> Kind {
-        let mut pending = 0;
-        let mut done = 0;
-        for rule in members(live) {
-            let left = self.of_rule[rule] & unsettled;
-            pending |= left;
-            done += usize::from(left == 0);
-        }
         match live.count_ones() {
-            0 => Kind::Fail,
-            1 => Kind::Execute(live.trailing_zeros() as u8 + 1),
-            _ if done >= 2 => Kind::Suspend,
-            _ => Kind::Ask(Key { live, pending }),
+            0 => return Kind::Fail,
+            1 => return Kind::Execute(live.trailing_zeros() as u8 + 1),
+            _ => {}
+        }
+        let (mut pending, mut waiting) = (0, 0);
+        for test in members(unsettled) {
+            let rules = self.having[test] & live;
+            waiting |= rules;
+            pending |= u64::from(rules != 0) << test;
+        }
+        match (live & !waiting).count_ones() {
+            0 | 1 => Kind::Ask(Key { live, pending }),
+            _ => Kind::Suspend,
         }
     }
 }

@@ -4,7 +4,7 @@
 //! Questions are asked in the order in which the bytes are read; the first no is handed back.
 
 pub mod build;
-pub mod edges;
+pub mod cases;
 pub mod graph;
 pub mod keys;
 pub mod listing;

@@ -49,26 +49,24 @@ impl Case {
     fn write(&self, to: &mut Vec<u8>) {
         match *self {
             Case::Symbol { id, node } => {
-                to.push(0x44);
-                put(to, &[id, node]);
+                let ([a, b], [c, d]) = (two(id), two(node));
+                to.extend([0x44, a, b, c, d]);
             }
             Case::Compound { id, arity, node } => {
-                to.push(0x45);
-                put(to, &[id]);
-                to.push(arity);
-                put(to, &[node]);
+                let ([a, b], [c, d]) = (two(id), two(node));
+                to.extend([0x45, a, b, arity, c, d]);
             }
             Case::Numbers { low, high, node } => {
-                to.push(0x46);
-                put(to, &[low, high, node]);
+                let ([a, b], [c, d], [e, f]) = (two(low), two(high), two(node));
+                to.extend([0x46, a, b, c, d, e, f]);
             }
         }
     }
 }
 
-/// Writes wide fields.
-fn put(to: &mut Vec<u8>, fields: &[u16]) {
-    fields.iter().for_each(|field| to.extend(field.to_be_bytes()));
+/// A wide field's two bytes.
+fn two(field: u16) -> [u8; 2] {
+    field.to_be_bytes()
 }
 
 impl Node {
@@ -85,7 +83,10 @@ impl Node {
             }
             0x43 => {
                 let [a, b, count, c, d, e, f] = from.take()?;
-                let cases: Vec<Case> = (0..count).map(|_| Case::read(from)).collect::<Option<_>>()?;
+                let mut cases = Vec::with_capacity(usize::from(count));
+                for _ in 0..count {
+                    cases.push(Case::read(from)?);
+                }
                 if cases.is_empty() {
                     return None;
                 }
@@ -105,15 +106,13 @@ impl Node {
             Node::Suspend => to.push(0x41),
             Node::Execute(rule) => to.extend([0x42, *rule]),
             Node::Switch { place, neither, unknown, cases } => {
-                to.push(0x43);
-                put(to, &[*place]);
-                to.push(cases.len() as u8);
-                put(to, &[*neither, *unknown]);
+                let ([a, b], [c, d], [e, f]) = (two(*place), two(*neither), two(*unknown));
+                to.extend([0x43, a, b, cases.len() as u8, c, d, e, f]);
                 cases.iter().for_each(|case| case.write(to));
             }
             Node::Pair { p, q, no, other } => {
-                to.push(0x47);
-                put(to, &[*p, *q, *no, *other]);
+                let ([a, b], [c, d], [e, f], [g, h]) = (two(*p), two(*q), two(*no), two(*other));
+                to.extend([0x47, a, b, c, d, e, f, g, h]);
             }
         }
     }
@@ -121,8 +120,9 @@ impl Node {
 
 /// The bytes of a graph: its header, then its nodes.
 pub fn graph_bytes(arity: u8, rules: u8, nodes: &[Node]) -> Vec<u8> {
-    let mut to = vec![0x12, arity, rules];
-    put(&mut to, &[nodes.len() as u16]);
+    let mut to = Vec::with_capacity(32 * nodes.len());
+    let [a, b] = two(nodes.len() as u16);
+    to.extend([0x12, arity, rules, a, b]);
     nodes.iter().for_each(|node| node.write(&mut to));
     to
 }

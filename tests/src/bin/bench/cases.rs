@@ -1,6 +1,7 @@
 //! What is timed: sheets and pieces from the smallest to the largest.
 
 use voltunnis_tests::bytes::from_hex;
+use voltunnis_tests::generate::known::{self, coins};
 use voltunnis_tests::generate::trees::{piece_bytes, Pattern, SheetTree, Term};
 
 /// A sheet and a piece of the same arity.
@@ -8,15 +9,6 @@ pub struct Case {
     pub name: &'static str,
     pub sheet: Vec<u8>,
     pub piece: Vec<u8>,
-}
-
-/// Rules of 4 readings, alloy, diameter, thickness and weight, each a little above the last, so that
-/// neighbours overlap.
-fn coins(count: u16) -> Vec<u8> {
-    let range = |at: u16, step: u16, width: u16| Pattern::Range(at * step, at * step + width);
-    let coin =
-        |at: u16| vec![Pattern::Symbol(at % 4), range(at, 40, 50), range(at / 2, 9, 8), range(at, 25, 30)];
-    SheetTree { arity: 4, rules: (0..count).map(coin).collect() }.bytes()
 }
 
 /// Four readings that the rule in the middle takes, one not taken yet.
@@ -69,38 +61,23 @@ fn case(name: &'static str, sheet: Vec<u8>, piece: Vec<u8>) -> Case {
 }
 
 fn example() -> Case {
-    case("document 01's example", from_hex("10020224002400210001210002"), from_hex("1102310001310002"))
-}
-
-/// 32 rules with 16 ranges each, every range inside that of the rule before.
-#[cfg(feature = "graphs")]
-fn nested() -> Vec<u8> {
-    let rule = |at| vec![Pattern::Compound(1, vec![Pattern::Range(at, 1000 - at); 2]); 8];
-    SheetTree { arity: 8, rules: (0..32).map(rule).collect() }.bytes()
-}
-
-/// A small sheet with 1,024 nodes.
-#[cfg(feature = "graphs")]
-fn many_nodes() -> Vec<u8> {
-    from_hex(
-        "1008042100012022000400082100022200020006210000210002240124012024002401210002210001\
-         24002100022401240024002400240024012400240124012200010004210001240024012020210002",
-    )
+    case("document 01's example", known::example(), from_hex("1102310001310002"))
 }
 
 /// What is timed of the calls with a graph.
-#[cfg(feature = "graphs")]
 pub fn for_graphs() -> Vec<Case> {
     let open = piece_bytes(&vec![Term::Unknown; 8]);
-    let rules = [Pattern::Variable(0), Pattern::Symbol(1)].map(|pattern| vec![pattern; 8]);
-    let too_many = SheetTree { arity: 8, rules: rules.to_vec() };
+    let open = |name, sheet| case(name, sheet, open.clone());
     vec![
         example(),
         case("8 rules of 4 readings", coins(8), coin(8)),
         case("32 rules of 4 readings", coins(32), coin(32)),
-        case("1,024 nodes", many_nodes(), open.clone()),
-        case("1,027 nodes", too_many.bytes(), open.clone()),
-        case("32 nested rules of 16 ranges", nested(), open),
+        open("32 rules of zeros and ones", known::zeros_and_ones()),
+        open("nested ranges at 8 places", known::nested_8()),
+        open("nested ranges at 16 places", known::nested_16()),
+        open("most nodes", known::nodes_1024()),
+        open("too many nodes", known::nodes_1027()),
+        open("longest graph", known::longest()),
     ]
 }
 

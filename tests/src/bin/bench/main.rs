@@ -3,11 +3,10 @@
 //! `cargo run --release --bin bench`. A ratio above 1 says that the library is slower.
 
 mod cases;
-#[cfg(feature = "graphs")]
 mod graphs;
 mod timing;
 
-use cases::{all, Case};
+use cases::Case;
 use timing::{against, Times};
 use voltunnis_tests::results::Refusal;
 use voltunnis_tests::{reference, voltunnis};
@@ -41,7 +40,6 @@ fn rows(Case { name, sheet, piece }: &Case) {
 fn main() {
     println!("| case | call | result | library, µs | reference, µs | ratio |");
     println!("|---|---|---|---|---|---|");
-    all().iter().for_each(rows);
-    #[cfg(feature = "graphs")]
+    cases::all().iter().for_each(rows);
     cases::for_graphs().iter().for_each(graphs::rows);
 }

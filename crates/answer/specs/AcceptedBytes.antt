@@ -1,0 +1,20 @@
+-- What the theorems about bytes speak of: a sheet and a piece that are accepted.
+use Prim.Native.Nat.{ℕ}
+use mathlib.Core.Path.{_≡_}
+use mathlib.Core.List.{List}
+use Rattle.records.specs.Fields.{IsByte}
+use Rattle.records.specs.Reading.{took}
+use Rattle.terms.specs.Lists.{All}
+use Rattle.sheet.specs.Sheet.{Sheet}
+use Rattle.tests.specs.CheckSheet.{acceptSheet}
+use Rattle.piece.specs.Piece.{Piece}
+use Rattle.piece.specs.ReadPiece.{readPiece}
+
+-- The bytes s and p are accepted as this sheet and this piece, of one arity.
+pub record AcceptedBytes (s p : List ℕ) (sheet : Sheet) (piece : Piece) : Type 0 where
+  pub areBytes : All IsByte s × All IsByte p
+  pub sheetBytes : ℕ
+  pub pieceBytes : ℕ
+  pub sheetAccepted : acceptSheet s ≡ took sheetBytes sheet
+  pub pieceAccepted : readPiece p ≡ took pieceBytes piece
+  pub sameArity : piece .arity ≡ sheet .arity

@@ -1,0 +1,3 @@
+-- What building answers, and the buffer that it leaves.
+pub mod BuildOutcome
+pub mod Tabled

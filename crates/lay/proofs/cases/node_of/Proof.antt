@@ -1,0 +1,28 @@
+-- `cases::node_of` meets its contract: the number is at most 1,024. Assumes nothing.
+use native.Mathlib.Omega.{arith}
+use denote.Ref.{now}
+use Rattle.edges.specs.VertexKey.{keyIn}
+use Rattle.lay.proofs.Numbers.{number-few}
+use borrow.Author.Needs.{needs}
+use Rattle.lay.proofs.cases.node_of.Statement.{statement}
+use Rattle.lay.proofs.cases.node_of.Tie as tie
+
+find-requires : tie.Need-find-requires
+find-requires c κs = search needs
+
+cast-result : tie.Need-cast-result
+cast-result c =
+    let start = c .before in
+    let a = start .args in
+    omega (arith, c .find .ensures, number-few (now (a .lives)) (now (a .pendings)) (a .count) (keyIn (a .key)) (start .pre .0))
+
+returns : tie.Need-returns
+returns c = search needs
+
+pub node-of-spec : {M : Type 1} → statement M
+node-of-spec =
+    tie.close
+    (tie.spec
+    find-requires
+    cast-result
+    returns)

@@ -1,0 +1,3 @@
+-- The definitions that the contracts of `lay` cite.
+pub mod Laid
+pub mod Written

@@ -1,0 +1,83 @@
+// The cases of a switch, each with the number of the node that it leads to.
+use crate::CasesEnd;
+use build::met::find;
+use edges::Key;
+use edges::cases::NextCase;
+use edges::cases::by_case;
+use edges::cases::next_case;
+use graph::CaseRecord;
+use graph::put_case;
+ghost use Prim.Native.Nat.{ℕ, _+_, _≤_, _<_};
+ghost use mathlib.Core.Path.{_≡_};
+ghost use mathlib.Core.List.{List};
+ghost use lib.ListN.{length};
+ghost use Rattle.terms.specs.Pattern.{Patterns};
+ghost use Rattle.decision.specs.Cases.{Case};
+ghost use Rattle.decision.specs.AcceptedGraph.{CaseFields};
+ghost use Rattle.decision.specs.GraphBytes.{caseBytes, casesBytes};
+ghost use Rattle.edges.specs.Codes.{caseLow, caseHigh};
+ghost use Rattle.edges.specs.VertexKey.{keyIn};
+ghost use Rattle.graph.specs.WriteNode.{caseRecordBytes};
+ghost use Rattle.build.specs.KeysMet.{keysIn, numberOf, Sized};
+ghost use Rattle.build.specs.Switching.{Switches};
+ghost use Rattle.lay.specs.Laid.{switchEdges};
+ghost use Rattle.lay.specs.Written.{Room, Wrote};
+
+// The record of the case whose codes run from one to another. Not the record of a symbol that has a compound's id, nor one of
+// numbers that ends at its low.
+pub fn case_record(first: u32, last: u32, node: u16) -> CaseRecord
+    ensures { λ r. ⌜ ((c : Case) → CaseFields c → first ≡ caseLow c → last ≡ caseHigh c → caseRecordBytes r ≡ caseBytes c node) ⌝ }
+{
+    if first < 0x200_0000 {
+        return CaseRecord::Symbol((first % 0x1_0000) as u16, node);
+    }
+    if first < 0x300_0000 {
+        return CaseRecord::Compound((first / 256 % 0x1_0000) as u16, (first % 256) as u8, node);
+    }
+    CaseRecord::Numbers((first % 0x1_0000) as u16, (last % 0x1_0000) as u16, node)
+}
+
+// The number of the node that has a key. Not that of a key with the same live rules alone, nor one that counts from 1.
+pub fn node_of(key: Key, lives: &[u64; 1024], pendings: &[u64; 1024], count: usize) -> u16
+    requires { ⌜ (count ≤ 1024) × Sized (now lives) (now pendings) ⌝ }
+    ensures { λ r. ⌜ r ≡ numberOf (keysIn (now (lives .entry)) (now (pendings .entry)) count) (keyIn key) ⌝ }
+{
+    find(lives, pendings, count, key.live, key.pending) as u16
+}
+
+// Writes the cases of the switch that a key's test t asks. Not one that leads to the node of another case, nor the last without
+// its record.
+pub fn put_cases(
+    buf: &mut [u8],
+    start: usize,
+    key: Key,
+    t: usize,
+    rows: &[u64; 64],
+    low: &[u32; 4096],
+    high: &[u32; 4096],
+    lives: &[u64; 1024],
+    pendings: &[u64; 1024],
+    count: usize,
+) -> CasesEnd
+    requires { ⌜ (count ≤ 1024) × Sized (now lives) (now pendings) × (t < 64) ⌝ }
+    requires { ⌜ ((rules : List Patterns) × ((n : ℕ) × Switches (now rows) (now low) (now high) (key .live) t rules n × Room (now buf) start (casesBytes (switchEdges rules (keysIn (now lives) (now pendings) count) (keyIn key) t n)))) ⌝ }
+    ensures { λ r. ⌜ ((rules : List Patterns) (n : ℕ) → Switches (now (rows .entry)) (now (low .entry)) (now (high .entry)) (key .live) t rules n → Room (now (buf .entry)) start (casesBytes (switchEdges rules (keysIn (now (lives .entry)) (now (pendings .entry)) count) (keyIn key) t n)) → Wrote (now (buf .entry)) start (casesBytes (switchEdges rules (keysIn (now (lives .entry)) (now (pendings .entry)) count) (keyIn key) t n)) (r .at) (now (buf .exit)) × (r .count ≡ length (switchEdges rules (keysIn (now (lives .entry)) (now (pendings .entry)) count) (keyIn key) t n))) ⌝ }
+{
+    let mut at = start;
+    let mut cases: u8 = 0;
+    let mut from: u32 = 0;
+    loop {
+        let next = next_case(t, key.live, from, rows, low, high);
+        let NextCase::Run(first, last) = next else {
+            return CasesEnd {
+                at: at,
+                count: cases,
+            };
+        };
+        let behind = by_case(key, t, first, rows, low, high);
+        let node = node_of(behind, lives, pendings, count);
+        at = put_case(buf, at, case_record(first, last, node));
+        cases += 1;
+        from = first + 1;
+    }
+}

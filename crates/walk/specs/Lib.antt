@@ -1,0 +1,2 @@
+-- What the walk of bytes is.
+pub mod Walking
