@@ -35,6 +35,9 @@
  *               23  nodes and rule in range, place or pair among the sheet's tests
  *               24  cases strictly ascending, low at most high, no number in two
  *   graph's end 25  no bytes are left
+ *   each switch 26  fewer than 64 edges have been walked
+ *   or pair     27  each place that it tests is in the piece, or below an unknown
+ *   walked
  *
  * Kinds are hexadecimal, all other numbers decimal.
  */
@@ -85,6 +88,17 @@ uint64_t vt_rewrite(const uint8_t *sheet, size_t sheet_len, const uint8_t *graph
  * graph stay as they are, and all do on a refusal. At most 1,836,037 bytes are written.
  * Fields: nodes (bits 8 to 23), bytes written (bits 24 to 55). */
 uint64_t vt_build(const uint8_t *sheet, size_t sheet_len, uint8_t *buffer, size_t buffer_len);
+
+/* Walks a piece over a graph: questions 1 to 17, 20, 21 to 25, then 26 and 27 along the way.
+ * Fields: word (bits 8 to 15), rule (bits 16 to 23, 0 for suspend and fail), edges walked (bits 24 to 31). */
+uint64_t vt_walk(const uint8_t *sheet, size_t sheet_len, const uint8_t *graph, size_t graph_len,
+                 const uint8_t *piece, size_t piece_len);
+
+/* The wait list of the same walk, test t being bit t: for suspend the tests met that are not known, for execute the tests of the
+ * rule that are not known, else none. The whole result is the list; on a refusal it is 0, so read it only where vt_walk is not
+ * refused. */
+uint64_t vt_wait(const uint8_t *sheet, size_t sheet_len, const uint8_t *graph, size_t graph_len,
+                 const uint8_t *piece, size_t piece_len);
 
 #ifdef __cplusplus
 }

@@ -8,6 +8,7 @@ use Rattle.answer.specs.Plain.{PlainValues}
 use Rattle.counter.specs.CheckGraph.{GraphValues}
 use Rattle.counter.specs.Rewritten.{Result}
 use Rattle.builder.specs.BuildOutcome.{BuildValues}
+use Rattle.walk.specs.Walking.{WalkValues}
 
 abbrev pub packed : ℕ → ℕ → ℕ → ℕ → ℕ
 packed refusal first second third = refusal + 0x100 * first + 0x1_0000 * second + 0x100_0000 * third
@@ -41,3 +42,7 @@ packedWritten x = packedWide (x .refusal) (x .bytes)
 -- "A build nodes and bytes written": 16 bits, then 32.
 abbrev pub packedBuilt : BuildValues → ℕ
 packedBuilt x = packedTwo (x .refusal) (x .nodes) (x .bytes)
+
+-- "An answer is commit, execute, suspend or fail, with the rule, edges walked": a byte each.
+abbrev pub packedWalk : WalkValues → ℕ
+packedWalk x = packed (x .refusal) (x .word) (x .rule) (x .edges)

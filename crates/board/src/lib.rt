@@ -6,6 +6,7 @@ use counter::GraphCheck;
 use counter::Rewrote;
 use piece::PieceCheck;
 use tests::SheetCheck;
+use walk::Walked;
 ghost use mathlib.Core.Path.{_≡_};
 ghost use Rattle.terms.specs.Answer.{wordOf, ruleOf};
 ghost use Rattle.tests.specs.CheckSheet.{acceptSheet, sheetValues};
@@ -15,7 +16,8 @@ ghost use Rattle.answer.specs.Plain.{answerOf, plainReading, readingValues};
 ghost use Rattle.counter.specs.CheckGraph.{graphReading, graphValues};
 ghost use Rattle.counter.specs.Rewritten.{rewritten};
 ghost use Rattle.builder.specs.BuildOutcome.{buildOutcome};
-ghost use Rattle.board.specs.Packed.{packed, packedWide, packedSheet, packedPiece, packedPlain, packedGraph, packedWritten, packedBuilt, packedTwo};
+ghost use Rattle.walk.specs.Walking.{walkReply, replyValues};
+ghost use Rattle.board.specs.Packed.{packed, packedWide, packedSheet, packedPiece, packedPlain, packedGraph, packedWritten, packedBuilt, packedTwo, packedWalk};
 
 // A refusal's number and three values as one number.
 fn pack(refusal: u8, first: u8, second: u8, third: u8) -> u64
@@ -139,5 +141,33 @@ pub extern "C" fn vt_build(sheet: &[u8], buffer: &mut [u8]) -> u64
     match built {
         Built::Written(nodes, bytes) => pack_two(0, nodes, bytes),
         Built::Refused(q) => pack_two(q, 0, 0),
+    }
+}
+
+// Walks a piece over a graph: the answer's word, its rule and the edges walked. Not suspend for every piece with an unknown, nor an
+// edge count of its own.
+#[no_mangle]
+pub extern "C" fn vt_walk(sheet: &[u8], graph: &[u8], piece: &[u8]) -> u64
+    ensures { λ r. ⌜ r ≡ packedWalk (replyValues (walkReply (now (sheet .entry)) (now (graph .entry)) (now (piece .entry)))) ⌝ }
+{
+    let walked = walk::call::walk(sheet, graph, piece);
+    match walked {
+        Walked::Answered(w) => {
+            let answer = w.answer;
+            pack(0, word(answer), rule(answer), w.edges)
+        }
+        Walked::Refused(q) => pack(q, 0, 0, 0),
+    }
+}
+
+// The wait list of a walk, test t being bit t; 0 on a refusal. Not the tests of every rule, nor the list of another answer.
+#[no_mangle]
+pub extern "C" fn vt_wait(sheet: &[u8], graph: &[u8], piece: &[u8]) -> u64
+    ensures { λ r. ⌜ r ≡ replyValues (walkReply (now (sheet .entry)) (now (graph .entry)) (now (piece .entry))) .waits ⌝ }
+{
+    let walked = walk::call::walk(sheet, graph, piece);
+    match walked {
+        Walked::Answered(w) => w.waits,
+        Walked::Refused(_) => 0,
     }
 }

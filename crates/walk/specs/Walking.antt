@@ -4,7 +4,7 @@ use mathlib.Core.List.{List}
 use lib.Dec.{eqb}
 use Rattle.records.specs.Reading.{Reading, took, refused, ask, andThen}
 use Rattle.terms.specs.Term.{Terms}
-use Rattle.terms.specs.Answer.{Answer, wordOf, ruleOf}
+use Rattle.terms.specs.Answer.{wordOf, ruleOf}
 use Rattle.sheet.specs.Sheet.{Sheet}
 use Rattle.tests.specs.CheckSheet.{acceptSheet}
 use Rattle.piece.specs.ReadPiece.{readPiece}

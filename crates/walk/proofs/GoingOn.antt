@@ -1,0 +1,122 @@
+-- A walk that is under way: the nodes passed, and the path from the node that it is at, make up the whole path.
+use Prim.Native.Nat.{ℕ, zero, suc, pred, _+_, _-_, _<_, _≤_}
+use mathlib.Core.Path.{_≡_, refl, sym, ap, ap₂, _∙_}
+use mathlib.Core.List.{List, [], _∷_, _++_}
+use mathlib.Core.Option.{none}
+use native.Mathlib.Omega.{arith}
+use lib.ListN.{length, length-append}
+use Rattle.tests.specs.SheetTests.{Test}
+use Rattle.decision.specs.Key.{Leaf}
+use Rattle.decision.specs.Node.{Node}
+use Rattle.decision.specs.Path.{Step, stop, goTo, noWay, Path, ends, refusedAt, through}
+use Rattle.walk.specs.CodeSteps.{stepCells, openAt}
+use Rattle.walk.specs.TestNumbers.{Once, withTest}
+use Rattle.walk.specs.Following.{lastOf, nextOf, pathBy, reached, stopped, node, metOpen, endOf, cellsPath, cellsEnd}
+use Rattle.walk.proofs.MetTests.{AskedIn, met-none, met-more}
+
+-- The path through nodes.
+abbrev throughAll : List ℕ → Path → Path
+throughAll [] p = p
+throughAll (n ∷ ns) p = through n (throughAll ns p)
+
+through-one : (ns : List ℕ) (n : ℕ) (p : Path) → throughAll (ns ++ n ∷ []) p ≡ throughAll ns (through n p)
+through-one [] n p = refl
+through-one (m ∷ ns) n p = ap (through m) (through-one ns n p)
+
+through-ends : (ns : List ℕ) (n : ℕ) (l : Leaf) → throughAll ns (ends (n ∷ []) l) ≡ ends (ns ++ n ∷ []) l
+through-ends [] n l = refl
+through-ends (m ∷ ns) n l = ap (through m) (through-ends ns n l)
+
+through-refused : (ns : List ℕ) (q : ℕ) → throughAll ns (refusedAt q) ≡ refusedAt q
+through-refused [] q = refl
+through-refused (m ∷ ns) q = ap (through m) (through-refused ns q)
+
+-- The path at a leaf, wherever it is reached, and where it goes on or stops while edges are left, or not.
+module _ (step : ℕ → Step ℕ) (n : ℕ) where
+  path-leaf : (more : ℕ) {l : Leaf} → step n ≡ stop l → pathBy step more n ≡ ends (n ∷ []) l
+  path-leaf zero e = ap (lastOf n) e
+  path-leaf (suc more) e = ap (nextOf (pathBy step more) n) e
+
+  path-next : (more : ℕ) {m k : ℕ} → more ≡ suc k → step n ≡ goTo m → pathBy step more n ≡ through n (pathBy step k m)
+  path-next more {m} {k} e f = ap (λ (j : ℕ). pathBy step j n) e ∙ ap (nextOf (pathBy step k) n) f
+
+  path-stuck : (more k : ℕ) → more ≡ suc k → step n ≡ noWay → pathBy step more n ≡ refusedAt 27
+  path-stuck more k e f = ap (λ (j : ℕ). pathBy step j n) e ∙ ap (nextOf (pathBy step k) n) f
+
+  path-out : (more : ℕ) {s : Step ℕ} → more ≡ 0 → step n ≡ s → lastOf n s ≡ refusedAt 26 → pathBy step more n ≡ refusedAt 26
+  path-out more e f g = ap (λ (j : ℕ). pathBy step j n) e ∙ ap (lastOf n) f ∙ g
+
+module _ (tests : List Test) (nodes : List (Node ℕ)) (cells : List ℕ) where
+  abbrev stepFrom : ℕ → Step ℕ
+  stepFrom n = stepCells cells (node tests nodes cells n)
+
+  -- i edges were walked to node n, and these tests met not known.
+  pub record Going (i n waits : ℕ) : Type 0 where
+    pub before : List ℕ
+    pub number : length before ≡ i
+    pub few : i ≤ 64
+    pub inside : n < length nodes
+    pub met : waits ≡ metOpen tests nodes cells before
+    pub path : cellsPath tests nodes cells ≡ throughAll before (pathBy stepFrom (64 - i) n)
+
+  -- At node 0.
+  pub going-starts : 1 ≤ length nodes → Going 0 0 0
+  going-starts some = record {
+    before = [];
+    number = refl;
+    few = omega arith;
+    inside = omega arith;
+    met = met-none tests nodes cells;
+    path = refl;
+  }
+
+  module _ (few-tests : length tests ≤ 64) (once : Once tests) {i n waits : ℕ} (g : Going i n waits)
+      (asked : AskedIn tests (node tests nodes cells n)) where
+    more-met
+        : withTest tests waits (openAt cells (node tests nodes cells n)) ≡ metOpen tests nodes cells (g .before ++ n ∷ [])
+    more-met =
+        ap (λ (w : ℕ). withTest tests w (openAt cells (node tests nodes cells n))) (g .met)
+        ∙ met-more tests nodes cells few-tests once (g .before) n asked
+
+    -- It goes on to a node,
+    pub going-on
+        : {m waits′ : ℕ} → i < 64 → goTo m ≡ stepFrom n → m < length nodes
+        → waits′ ≡ withTest tests waits (openAt cells (node tests nodes cells n)) → Going (i + 1) m waits′
+    going-on {m} more e inside w =
+        let left : 64 - i ≡ suc (64 - (i + 1)) = omega arith in
+        record {
+          before = g .before ++ n ∷ [];
+          number = omega (arith, length-append (g .before) (n ∷ []), g .number);
+          few = omega arith;
+          inside = inside;
+          met = w ∙ more-met;
+          path =
+              g .path
+              ∙ ap (throughAll (g .before)) (path-next stepFrom n (64 - i) left (sym e))
+              ∙ sym (through-one (g .before) n (pathBy stepFrom (64 - (i + 1)) m));
+        }
+
+    -- ends at a leaf,
+    pub going-ends
+        : {l : Leaf} → stop l ≡ stepFrom n → none ≡ openAt cells (node tests nodes cells n)
+        → reached l i waits ≡ cellsEnd tests nodes cells
+    going-ends {l} e f =
+        let walked = g .before ++ n ∷ [] in
+        let path : cellsPath tests nodes cells ≡ ends walked l =
+        g .path ∙ ap (throughAll (g .before)) (path-leaf stepFrom n (64 - i) (sym e)) ∙ through-ends (g .before) n l in
+        let edges : i ≡ pred (length walked) = omega (arith, length-append (g .before) (n ∷ []), g .number) in
+        let same : waits ≡ metOpen tests nodes cells walked = ap (withTest tests waits) f ∙ more-met in
+        ap₂ (λ (x y : ℕ). reached l x y) edges same ∙ sym (ap (endOf tests nodes cells) path)
+
+  module _ {i n waits : ℕ} (g : Going i n waits) where
+    refused-by : {q : ℕ} → pathBy stepFrom (64 - i) n ≡ refusedAt q → stopped q ≡ cellsEnd tests nodes cells
+    refused-by {q} e =
+        sym (ap (endOf tests nodes cells) (g .path ∙ ap (throughAll (g .before)) e ∙ through-refused (g .before) q))
+
+    -- or is refused by 27, or by 26.
+    pub going-stuck : i < 64 → noWay ≡ stepFrom n → stopped 27 ≡ cellsEnd tests nodes cells
+    going-stuck more e =
+        let left : 64 - i ≡ suc (63 - i) = omega arith in refused-by (path-stuck stepFrom n (64 - i) (63 - i) left (sym e))
+
+    pub going-out : {s : Step ℕ} → 64 ≤ i → s ≡ stepFrom n → lastOf n s ≡ refusedAt 26 → stopped 26 ≡ cellsEnd tests nodes cells
+    going-out full e out = refused-by (path-out stepFrom n (64 - i) (omega (arith, g .few)) (sym e) out)

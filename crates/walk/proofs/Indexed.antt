@@ -1,0 +1,110 @@
+-- The nodes of an index: each is read where its start says, asks a kept test, and leads to nodes.
+use Prim.Native.Nat.{ℕ, zero, suc, _+_, _<_}
+use mathlib.Core.Path.{_≡_, refl, sym, ap, subst, _∙_}
+use mathlib.Core.Bool.{Bool, true, false, _||_}
+use mathlib.Core.List.{List, [], _∷_, map}
+use native.Mathlib.Omega.{arith}
+use lib.Dec.{eqb}
+use lib.ListN.{length, getD, length-map}
+use Rattle.terms.specs.Lists.{All, countFrom}
+use Rattle.terms.specs.Outcome.{Outcome, holds, notKnown, contradicted}
+use Rattle.terms.proofs.ListLaws.{all-split}
+use Rattle.tests.specs.SheetTests.{place, pair}
+use Rattle.cells.specs.Choice.{choose}
+use Rattle.cells.specs.Look.{look}
+use Rattle.cells.specs.CellOutcome.{pairCells}
+use Rattle.decision.specs.Key.{fail}
+use Rattle.decision.specs.Node.{Node, CaseEdge, end, switch, pairNode, edges}
+use Rattle.decision.specs.Path.{Step, stop, goTo, noWay, byComparison}
+use Rattle.nodes.specs.CheckNode.{keptTest}
+use Rattle.piece.specs.Cells.{unknownCode}
+use Rattle.walk.specs.CodeSteps.{takesCode, followCode, stepCells, openCells, openIf, openAt, NearNode}
+use Rattle.tests.specs.TestsRead.{keptTests}
+use Rattle.walk.specs.TestNumbers.{KeptOpen}
+use Rattle.walk.specs.Following.{nodeFrom, nodesAt, KeptNode}
+use Rattle.walk.proofs.KeptNumbers.{kept-mem}
+use Rattle.walk.proofs.MetTests.{AskedIn}
+
+-- What holds of both things holds of the chosen one.
+chosen : {A : Type 0} (Q : A → Type 0) (b : Bool) {x y : A} → Q x → Q y → Q (choose b x y)
+chosen Q true h k = h
+chosen Q false h k = k
+
+module _ (nodes : ℕ) where
+  abbrev Leads : Step ℕ → Type 0
+  Leads (stop l) = Unit
+  Leads (goTo m) = m < nodes
+  Leads noWay = Unit
+
+  follow-inside
+      : (cs : List (CaseEdge ℕ)) (x code : ℕ) → All (λ (m : ℕ). m < nodes) (map (λ (c : CaseEdge ℕ). c .target) cs) → x < nodes
+      → followCode cs x code < nodes
+  follow-inside [] x code h k = k
+  follow-inside (c ∷ cs) x code h k =
+      chosen (λ (m : ℕ). m < nodes) (takesCode (c .case) code) (h .0) (follow-inside cs x code (h .1) k)
+
+  compared : (x y : ℕ) (o : Outcome) → x < nodes → y < nodes → Leads (byComparison x y o)
+  compared x y holds h k = k
+  compared x y notKnown h k = k
+  compared x y contradicted h k = h
+
+  -- A step leads to a node that an edge leads to.
+  step-leads : (cells : List ℕ) (n : Node ℕ) → All (λ (m : ℕ). m < nodes) (edges n) → Leads (stepCells cells n)
+  step-leads cells (end l) h = tt
+  step-leads cells (switch p cs x y) h =
+      let code = look cells p in
+      let (cases, others) = all-split (λ (m : ℕ). m < nodes) (map (λ (c : CaseEdge ℕ). c .target) cs) (x ∷ y ∷ []) h in
+      chosen Leads (eqb code 0) tt
+      (chosen (λ (m : ℕ). m < nodes) (eqb code unknownCode) (others .1 .0) (follow-inside cs x code cases (others .0)))
+  step-leads cells (pairNode p q x y) h =
+      chosen Leads (eqb (look cells p) 0 || eqb (look cells q) 0) tt (compared x y (pairCells cells p q) (h .0) (h .1 .0))
+
+  pub step-inside
+      : (cells : List ℕ) (n : Node ℕ) → All (λ (m : ℕ). m < nodes) (edges n) → {m : ℕ} → goTo m ≡ stepCells cells n → m < nodes
+  step-inside cells n h e = subst Leads (sym e) (step-leads cells n h)
+
+module _ (words codes : List ℕ) (count : ℕ) (size : length words ≡ 11) where
+  -- The test that a good node asks is a kept test,
+  pub good-asked
+      : (n : Node ℕ) → NearNode n → KeptNode (keptTest words codes count) n → AskedIn (keptTests words codes count) n
+  good-asked (end l) near kept = tt
+  good-asked (switch p cs x y) near kept = kept-mem words codes count (place p) near size kept
+  good-asked (pairNode p q x y) near kept = kept-mem words codes count (pair p q) near size kept
+
+  -- where it is not known, too.
+  pub good-open
+      : (cells : List ℕ) (n : Node ℕ) → NearNode n → KeptNode (keptTest words codes count) n
+      → KeptOpen words codes count (openAt cells n)
+  good-open cells (end l) near kept = tt
+  good-open cells (switch p cs x y) near kept = go (openCells cells (place p))
+    where
+      go : (b : Bool) → KeptOpen words codes count (openIf b (place p))
+      go true = (near, kept)
+      go false = tt
+  good-open cells (pairNode p q x y) near kept = go (openCells cells (pair p q))
+    where
+      go : (b : Bool) → KeptOpen words codes count (openIf b (pair p q))
+      go true = (near, kept)
+      go false = tt
+
+-- The nodes at the starts, by their numbers.
+count-length : (a k : ℕ) → length (countFrom a k) ≡ k
+count-length a zero = refl
+count-length a (suc k) = ap suc (count-length (suc a) k)
+
+mapped-at : (f : ℕ → Node ℕ) (a k n : ℕ) → n < k → getD (map f (countFrom a k)) n (end fail) ≡ f (a + n)
+mapped-at f a zero n h = absurd (omega arith)
+mapped-at f a (suc k) zero h = let here : a ≡ a + 0 = omega arith in ap f here
+mapped-at f a (suc k) (suc n) h =
+    let next : suc a + n ≡ a + suc n = omega arith in mapped-at f (suc a) k n (omega arith) ∙ ap f next
+
+module _ (graph starts : List ℕ) (nodes : ℕ) where
+  pub nodes-number : length (nodesAt graph starts nodes) ≡ nodes
+  unfolding nodesAt
+  nodes-number = length-map (countFrom 0 nodes) (nodeFrom graph starts) ∙ count-length 0 nodes
+
+  pub node-at : (k : ℕ) → k < nodes → getD (nodesAt graph starts nodes) k (end fail) ≡ nodeFrom graph starts k
+  unfolding nodesAt
+  node-at k h =
+      let here : 0 + k ≡ k = omega arith in
+      mapped-at (nodeFrom graph starts) 0 nodes k h ∙ ap (nodeFrom graph starts) here

@@ -1,0 +1,184 @@
+-- The nodes of an accepted graph, with where their records begin, are an index of it.
+use Prim.Native.Nat.{ℕ, suc, _+_, _*_, _/_, _%_, _<_, _≤_}
+use mathlib.Core.Path.{_≡_, refl, sym, ap, subst, _∙_}
+use mathlib.Core.Logic.{inl, inr, by-cases}
+use mathlib.Core.List.{List, [], _∷_, map}
+use native.Mathlib.Decide.{decLt}
+use native.Mathlib.Omega.{arith}
+use lib.Dec.{T, eqb, eqb-refl}
+use lib.ListN.{length, getD, take, drop, drop-of-length-le}
+use lib.Seq.{getD-take}
+use Rattle.records.specs.Fields.{IsByte}
+use Rattle.records.specs.Reading.{took}
+use Rattle.terms.specs.Lists.{All, Mem, countFrom}
+use Rattle.terms.proofs.Booleans.{true-both}
+use Rattle.terms.proofs.ListLaws.{all-map, all-at, all-join}
+use Rattle.tests.specs.SheetTests.{Test, place, pair, sheetTests}
+use Rattle.tests.specs.TestedPlaces.{hasPlace, placesIn}
+use Rattle.tests.specs.KeptPairs.{codePair}
+use Rattle.tests.proofs.NumberLists.{filter-mem}
+use Rattle.sheet.specs.Sheet.{Sheet, SoundSheet}
+use Rattle.decision.specs.Key.{fail, suspend, execute}
+use Rattle.decision.specs.Node.{Node, CaseEdge, end, switch, pairNode}
+use Rattle.decision.specs.GraphBytes.{nodeBytes, nodesBytes}
+use Rattle.decision.specs.AcceptedGraph.{AcceptedNode, AcceptedGraph}
+use Rattle.decision.proofs.BreadthFirst.{mem-join}
+use Rattle.decision.proofs.Filters.{map-mem, mem-any, all-mapped}
+use Rattle.decision.proofs.Sets.{is-true}
+use Rattle.decision.proofs.TestNumbers.{mem-at}
+use Rattle.graph.specs.ReadGraph.{readGraph}
+use Rattle.graph.specs.Rewriting.{IsTook, readOr, readRecord}
+use Rattle.graph.proofs.TestedPlaces.{Near, tests-near}
+use Rattle.graph.proofs.SpelledNodes.{NodeFields}
+use Rattle.graph.proofs.AcceptedNodes.{accepted-asked}
+use Rattle.graph.proofs.Spelled.{graph-read}
+use Rattle.nodes.specs.CheckNode.{isPair, keptTest, startsFrom}
+use Rattle.nodes.proofs.Starts.{start-reads}
+use Rattle.walk.specs.CodeSteps.{NearNode}
+use Rattle.tests.specs.TestsRead.{keptTests}
+use Rattle.walk.specs.TestNumbers.{NearTest}
+use Rattle.walk.specs.Following.{nodeFrom, nodesAt, GoodNode, Index}
+use Rattle.walk.specs.Ready.{LeafNode}
+use Rattle.walk.proofs.StepsAgree.{FieldsFit}
+
+-- A test that stands among the kept tests is kept.
+pub mem-kept
+    : (words codes : List ℕ) (count : ℕ) (t : Test) → Mem t (keptTests words codes count) → T (keptTest words codes count t)
+unfolding placesIn
+mem-kept words codes count (place n) m =
+    elim (mem-join (map place (placesIn words)) (map codePair (take count codes)) m) [
+      | inl k ↦
+          let r = map-mem place (placesIn words) k in
+          let same : n ≡ r .0 = cc (r .2) in
+          subst (λ (p : ℕ). T (hasPlace words p)) (sym same) (is-true (filter-mem (hasPlace words) (countFrom 0 (64 * length words)) (r .1) .1))
+      | inr k ↦
+          let r = map-mem codePair (take count codes) k in
+          absurd (let z : _≡_ {A = ℕ} 0 1 = cc (r .2) in let y : ⊥ = omega arith in y)
+    ]
+mem-kept words codes count (pair p q) m =
+    elim (mem-join (map place (placesIn words)) (map codePair (take count codes)) m) [
+      | inl k ↦
+          let r = map-mem place (placesIn words) k in
+          absurd (let z : _≡_ {A = ℕ} 0 1 = cc (r .2) in let y : ⊥ = omega arith in y)
+      | inr k ↦
+          let r = map-mem codePair (take count codes) k in
+          let c = r .0 in
+          let first : p ≡ c / 0x1_0000 = cc (r .2) in
+          let second : q ≡ c % 0x1_0000 = cc (r .2) in
+          mem-any (isPair p q) (r .1)
+          (true-both (eqb p (c / 0x1_0000)) (eqb q (c % 0x1_0000)) (subst (λ (x : ℕ). T (eqb p x)) first (eqb-refl p))
+          (subst (λ (x : ℕ). T (eqb q x)) second (eqb-refl q)))
+    ]
+
+-- Its places are among the 680.
+pub near-test : (t : Test) → Near t → NearTest t
+near-test (place n) h = h
+near-test (pair p q) h = h
+
+-- A record is read within the bytes.
+read-within : (s : List ℕ) (n : ℕ) → IsTook (readRecord (drop n s)) → n ≤ length s
+read-within s n h =
+    by-cases (decLt (length s) n)
+    (λ (l : length s < n). absurd (subst (λ (b : List ℕ). IsTook (readRecord b)) (drop-of-length-le s {i = n} (omega arith)) h))
+    (λ (l : length s < n → ⊥). omega arith)
+
+-- Nodes by their numbers are the list of them.
+listed
+    : (f : ℕ → Node ℕ) (a : ℕ) (ns : List (Node ℕ)) → ((k : ℕ) → k < length ns → f (a + k) ≡ getD ns k (end fail))
+    → map f (countFrom a (length ns)) ≡ ns
+listed f a [] h = refl
+listed f a (n ∷ ns) h =
+    let here : a ≡ a + 0 = omega arith in
+    (λ i. (ap f here ∙ h 0 (omega arith)) i ∷ listed f (suc a) ns (λ k l. let next : suc a + k ≡ a + suc k = omega arith in ap f next ∙ h (suc k) (omega arith)) i)
+
+module _ (sheet : Sheet) (sound : SoundSheet sheet) (s : List ℕ) (bytes : All IsByte s) {size : ℕ} {nodes : List (Node ℕ)}
+    (read : readGraph sheet s ≡ took size nodes) where
+  near : (t : Test) → Mem t (sheetTests (sheet .rules)) → Near t
+  near = tests-near sheet sound
+
+  accepted : AcceptedGraph (sheet .rules) nodes
+  accepted = graph-read sheet sound s bytes read .accepted
+
+  fields : (n : Node ℕ) → AcceptedNode (sheet .rules) (length nodes) n → NodeFields n
+  fields n a = accepted-asked (sheet .rules) (length nodes) near (accepted .fewNodes) n a .fields
+
+  node-near : (n : Node ℕ) → AcceptedNode (sheet .rules) (length nodes) n → NearNode n
+  node-near (end l) a = tt
+  node-near (switch p cs x y) a = near (place p) (a .tested)
+  node-near (pairNode p q x y) a = near (pair p q) (a .0)
+
+  node-fits : (n : Node ℕ) → AcceptedNode (sheet .rules) (length nodes) n → FieldsFit n
+  node-fits (end l) a = tt
+  node-fits (switch p cs x y) a = a .fields
+  node-fits (pairNode p q x y) a = tt
+
+  -- The places of an accepted graph's nodes are among the 680, and its cases' fields are those of records.
+  pub nodes-near : All NearNode nodes
+  nodes-near = all-map (AcceptedNode (sheet .rules) (length nodes)) NearNode node-near nodes (accepted .acceptedNodes)
+
+  pub nodes-fit : All FieldsFit nodes
+  nodes-fit = all-map (AcceptedNode (sheet .rules) (length nodes)) FieldsFit node-fits nodes (accepted .acceptedNodes)
+
+  node-leaf : (n : Node ℕ) → AcceptedNode (sheet .rules) (length nodes) n → LeafNode (length (sheet .rules)) n
+  node-leaf (end fail) a = tt
+  node-leaf (end suspend) a = tt
+  node-leaf (end (execute i)) a = a
+  node-leaf (switch p cs x y) a = tt
+  node-leaf (pairNode p q x y) a = tt
+
+  -- The rules of its leaves are the sheet's.
+  pub nodes-leaves : All (LeafNode (length (sheet .rules))) nodes
+  nodes-leaves =
+      all-map (AcceptedNode (sheet .rules) (length nodes)) (LeafNode (length (sheet .rules))) node-leaf nodes (accepted .acceptedNodes)
+
+  module _ (starts : List ℕ) (are : take (length nodes) starts ≡ startsFrom 5 nodes) where
+    reads : (k : ℕ) → k < length nodes
+        → readRecord (drop (getD starts k 0) s) ≡ took (length (nodeBytes (getD nodes k (end fail)))) (getD nodes k (end fail))
+    reads k h =
+        let node = getD nodes k (end fail) in
+        let start : getD starts k 0 ≡ getD (startsFrom 5 nodes) k 0 =
+        sym (getD-take (length nodes) starts k 0 h) ∙ ap (λ (l : List ℕ). getD l k 0) are in
+        let behind : drop 5 s ≡ nodesBytes nodes = sym (ap (drop 5) (graph-read sheet sound s bytes read .spelled)) in
+        ap (λ (n : ℕ). readRecord (drop n s)) start
+        ∙ start-reads s 5 nodes k (end fail) h behind
+        (fields node (all-at (AcceptedNode (sheet .rules) (length nodes)) (mem-at (end fail) nodes k h) (accepted .acceptedNodes)))
+
+    here-is : (k : ℕ) → k < length nodes → nodeFrom s starts k ≡ getD nodes k (end fail)
+    here-is k h = ap (readOr (end fail)) (reads k h)
+
+    -- They are the nodes at the starts,
+    pub nodes-are : nodesAt s starts (length nodes) ≡ nodes
+    unfolding nodesAt
+    nodes-are =
+        listed (nodeFrom s starts) 0 nodes
+        (λ k h. let none : 0 + k ≡ k = omega arith in ap (nodeFrom s starts) none ∙ here-is k h)
+
+    module _ (words codes : List ℕ) (count : ℕ) (kept : sheetTests (sheet .rules) ≡ keptTests words codes count) where
+      mem-test : (t : Test) → Mem t (sheetTests (sheet .rules)) → T (keptTest words codes count t)
+      mem-test t m = mem-kept words codes count t (subst (Mem t) kept m)
+
+      good : (n : Node ℕ) → AcceptedNode (sheet .rules) (length nodes) n → GoodNode (keptTest words codes count) (length nodes) n
+      good (end l) a = record { near = tt; kept = tt; inside = tt }
+      good (switch p cs x y) a = record {
+        near = near (place p) (a .tested);
+        kept = mem-test (place p) (a .tested);
+        inside =
+            all-join (λ (m : ℕ). m < length nodes) (map (λ (c : CaseEdge ℕ). c .target) cs) (x ∷ y ∷ [])
+            (all-mapped (λ (m : ℕ). m < length nodes) (λ (c : CaseEdge ℕ). c .target) cs (a .casesInside))
+            (a .neitherInside, (a .unknownInside, tt));
+      }
+      good (pairNode p q x y) a =
+          record { near = near (pair p q) (a .0); kept = mem-test (pair p q) (a .0); inside = (a .1, (a .2, tt)) }
+
+      -- and the starts are an index of them.
+      pub index-made : Index s starts (keptTest words codes count) (length nodes)
+      index-made = record {
+        someNode = accepted .someNode;
+        fewNodes = accepted .fewNodes;
+        begins = λ k h. read-within s (getD starts k 0) (subst IsTook (sym (reads k h)) tt);
+        whole = λ k h. subst IsTook (sym (reads k h)) tt;
+        good = λ k h.
+            subst (GoodNode (keptTest words codes count) (length nodes)) (sym (here-is k h))
+            (good (getD nodes k (end fail))
+            (all-at (AcceptedNode (sheet .rules) (length nodes)) (mem-at (end fail) nodes k h) (accepted .acceptedNodes)));
+      }

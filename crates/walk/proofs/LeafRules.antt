@@ -1,0 +1,82 @@
+-- The rule of the leaf at which a walk ends is one of the sheet's.
+use Prim.Native.Nat.{ℕ, zero, suc}
+use mathlib.Core.Path.{_≡_, sym, subst}
+use mathlib.Core.Bool.{Bool, true, false, _||_}
+use mathlib.Core.List.{List}
+use lib.Dec.{eqb}
+use lib.ListN.{getD}
+use Rattle.terms.specs.Lists.{All}
+use Rattle.terms.specs.Outcome.{Outcome, holds, notKnown, contradicted}
+use Rattle.tests.specs.SheetTests.{Test}
+use Rattle.cells.specs.Choice.{choose}
+use Rattle.cells.specs.Look.{look}
+use Rattle.cells.specs.CellOutcome.{pairCells}
+use Rattle.decision.specs.Key.{Leaf, fail}
+use Rattle.decision.specs.Node.{Node, end, switch, pairNode}
+use Rattle.decision.specs.Path.{Step, stop, goTo, noWay, Path, ends, refusedAt, through, byComparison}
+use Rattle.walk.specs.CodeSteps.{stepCells}
+use Rattle.walk.specs.Following.{lastOf, nextOf, pathBy, Ended, reached, stopped, endOf, cellsPath, cellsEnd}
+use Rattle.walk.specs.LeafAnswers.{LeafIn}
+use Rattle.walk.specs.Ready.{LeafNode}
+use Rattle.walk.proofs.PathsAgree.{nodes-each}
+
+module _ (count : ℕ) where
+  -- So of a step, of a path and of a walk's end.
+  abbrev LeafStep : Step ℕ → Type 0
+  LeafStep (stop l) = LeafIn count l
+  LeafStep (goTo m) = Unit
+  LeafStep noWay = Unit
+
+  abbrev pub LeafPath : Path → Type 0
+  LeafPath (ends walked l) = LeafIn count l
+  LeafPath (refusedAt q) = Unit
+
+  abbrev LeafEnd : Ended → Type 0
+  LeafEnd (reached l edges met) = LeafIn count l
+  LeafEnd (stopped q) = Unit
+
+  goes-on : (b : Bool) (s : Step ℕ) → LeafStep s → LeafStep (choose b noWay s)
+  goes-on true s h = tt
+  goes-on false s h = h
+
+  compared : (x y : ℕ) (o : Outcome) → LeafStep (byComparison x y o)
+  compared x y holds = tt
+  compared x y notKnown = tt
+  compared x y contradicted = tt
+
+  step-leaf : (cells : List ℕ) (n : Node ℕ) → LeafNode count n → LeafStep (stepCells cells n)
+  step-leaf cells (end l) h = h
+  step-leaf cells (switch n cs x y) h = goes-on (eqb (look cells n) 0) (goTo _) tt
+  step-leaf cells (pairNode p q x y) h =
+      goes-on (eqb (look cells p) 0 || eqb (look cells q) 0) (byComparison x y (pairCells cells p q)) (compared x y (pairCells cells p q))
+
+  through-leaf : (n : ℕ) (p : Path) → LeafPath p → LeafPath (through n p)
+  through-leaf n (ends walked l) h = h
+  through-leaf n (refusedAt q) h = tt
+
+  last-leaf : (n : ℕ) (s : Step ℕ) → LeafStep s → LeafPath (lastOf n s)
+  last-leaf n (stop l) h = h
+  last-leaf n (goTo m) h = tt
+  last-leaf n noWay h = tt
+
+  next-leaf : (f : ℕ → Path) → ((m : ℕ) → LeafPath (f m)) → (n : ℕ) (s : Step ℕ) → LeafStep s → LeafPath (nextOf f n s)
+  next-leaf f g n (stop l) h = h
+  next-leaf f g n (goTo m) h = through-leaf n (f m) (g m)
+  next-leaf f g n noWay h = tt
+
+  path-leaf : (step : ℕ → Step ℕ) → ((n : ℕ) → LeafStep (step n)) → (more n : ℕ) → LeafPath (pathBy step more n)
+  path-leaf step h zero n = last-leaf n (step n) (h n)
+  path-leaf step h (suc more) n = next-leaf (pathBy step more) (path-leaf step h more) n (step n) (h n)
+
+  module _ (tests : List Test) (nodes : List (Node ℕ)) (cells : List ℕ) (leaves : All (LeafNode count) nodes) where
+    pub cells-leaf : LeafPath (cellsPath tests nodes cells)
+    cells-leaf =
+        path-leaf (λ n. stepCells cells (getD nodes n (end fail)))
+        (λ n. step-leaf cells (getD nodes n (end fail)) (nodes-each (LeafNode count) nodes tt leaves n)) 64 0
+
+    end-leaf : (p : Path) → LeafPath p → LeafEnd (endOf tests nodes cells p)
+    end-leaf (ends walked l) h = h
+    end-leaf (refusedAt q) h = tt
+
+    pub reached-leaf : {l : Leaf} {edges met : ℕ} → reached l edges met ≡ cellsEnd tests nodes cells → LeafIn count l
+    reached-leaf e = subst LeafEnd (sym e) (end-leaf (cellsPath tests nodes cells) cells-leaf)

@@ -1,0 +1,101 @@
+-- What happens at a node, by the codes at its places and by its record.
+use Prim.Native.Nat.{ℕ, _+_, _≤_}
+use mathlib.Core.Path.{_≡_, refl, sym, ap, subst, _∙_}
+use mathlib.Core.Bool.{Bool, true, false}
+use mathlib.Core.Logic.{_⊎_}
+use mathlib.Core.List.{List, []}
+use mathlib.Core.Option.{none}
+use native.Mathlib.Omega.{arith}
+use lib.Dec.{leb, eqb}
+use lib.ListN.{length, drop, length-drop}
+use lib.Seq.{drop-drop}
+use Rattle.records.specs.Reading.{Reading, took, refused, ask, after}
+use Rattle.terms.specs.Outcome.{Outcome}
+use Rattle.tests.specs.SheetTests.{Test}
+use Rattle.piece.specs.Cells.{unknownCode}
+use Rattle.cells.specs.Choice.{choose}
+use Rattle.cells.specs.CellOutcome.{codesOutcome}
+use Rattle.cells.proofs.TwoTests.{one-is, none-is}
+use Rattle.cells.proofs.PairCells.{one-lacking}
+use Rattle.decision.specs.Key.{fail}
+use Rattle.decision.specs.Node.{Node, CaseEdge, end, switch, pairNode}
+use Rattle.decision.specs.Path.{noWay, goTo, byComparison}
+use Rattle.decision.specs.Walk.{isNotKnown}
+use Rattle.graph.specs.declared.Leaf.{Leaf}
+use Rattle.graph.specs.declared.Leaf.the-variants.{Fail, Suspend, Execute}
+use Rattle.graph.specs.declared.NodeRecord.the-variants.{End, Switch, Pair}
+use Rattle.graph.specs.declared.NodeHead.the-variants.{Whole}
+use Rattle.graph.specs.NodeRecord.{nodeHead}
+use Rattle.graph.specs.ReadGraph.{onNode, leafOf, readCases}
+use Rattle.graph.specs.Rewriting.{IsTook, readOr, readRecord}
+use Rattle.nodes.proofs.NodeHeads.{node-fits}
+use Rattle.nodes.proofs.CopiedNodes.{cases-there}
+use Rattle.walk.specs.CodeSteps.{followCode, codeStep, codesStep, openIf}
+
+-- A switch whose place is lacking, unknown or known.
+module _ (cs : List (CaseEdge ℕ)) (neither unknownEdge : ℕ) (t : Test) (code : ℕ) where
+  abbrev Switched : ℕ → Bool → Type 0
+  Switched n b = (goTo n ≡ codeStep cs neither unknownEdge code) × (openIf b t ≡ openIf (eqb code unknownCode) t)
+
+  pub switch-lacking : eqb code 0 ≡ true → eqb code unknownCode ≡ false
+      → (noWay ≡ codeStep cs neither unknownEdge code) × (none ≡ openIf (eqb code unknownCode) t)
+  switch-lacking e f = (rw e, ap (λ (b : Bool). openIf b t) (sym f))
+
+  pub switch-on
+      : (b : Bool) → eqb code 0 ≡ false → eqb code unknownCode ≡ b → Switched (choose b unknownEdge (followCode cs neither code)) b
+  switch-on b e f =
+      ((λ i. choose (sym e i) noWay (goTo (choose (sym f i) unknownEdge (followCode cs neither code)))), ap (λ (x : Bool). openIf x t) (sym f))
+
+-- A pair of which a place is lacking, or none.
+module _ (a b differ other : ℕ) (compared : Outcome) (t : Test) where
+  pub pair-lacking
+      : (a ≡ 0) ⊎ (eqb b 0 ≡ true)
+      → (noWay ≡ codesStep differ other a b (codesOutcome a b compared))
+      × (none ≡ openIf (isNotKnown (codesOutcome a b compared)) t)
+  pair-lacking h = (rw (one-is a b 0 h), ap (λ (o : Outcome). openIf (isNotKnown o) t) (one-lacking a b compared h))
+
+pub pair-there
+    : (a b differ other : ℕ) {o outcome : Outcome} (t : Test) → (a ≡ 0 → ⊥) → eqb b 0 ≡ false → o ≡ outcome
+    → (byComparison differ other o ≡ codesStep differ other a b outcome) × (openIf (isNotKnown o) t ≡ openIf (isNotKnown outcome) t)
+pair-there a b differ other t h k e =
+    (rw (none-is a b 0 h k) (ap (byComparison differ other) e), ap (λ (x : Outcome). openIf (isNotKnown x) t) e)
+
+-- The node of a record that s begins with.
+module _ (s : List ℕ) where
+  abbrev pub nodeIn : Node ℕ
+  nodeIn = readOr (end fail) (readRecord s)
+
+  pub leaf-node : (l : Leaf) → nodeHead s ≡ Whole (End l) → end (leafOf l) ≡ nodeIn
+  leaf-node Fail e = sym (ap (λ h. readOr (end fail) (onNode s h)) e)
+  leaf-node Suspend e = sym (ap (λ h. readOr (end fail) (onNode s h)) e)
+  leaf-node (Execute i) e = sym (ap (λ h. readOr (end fail) (onNode s h)) e)
+
+  pub pair-node : {p q x y : ℕ} → nodeHead s ≡ Whole (Pair p q x y) → pairNode p q x y ≡ nodeIn
+  pair-node e = sym (ap (λ h. readOr (end fail) (onNode s h)) e)
+
+  pub switch-node
+      : {n count x y : ℕ} → nodeHead s ≡ Whole (Switch n count x y) → IsTook (readRecord s)
+      → switch n (readOr [] (readCases count (drop 8 s))) x y ≡ nodeIn
+  switch-node {n} {count} {x} {y} e there =
+      sym
+      (ap (λ h. readOr (end fail) (onNode s h)) e
+      ∙ go (leb 1 count) (readCases count (drop 8 s)) (subst (λ h. IsTook (onNode s h)) e there))
+    where
+      go
+          : (b : Bool) (r : Reading (List (CaseEdge ℕ))) → IsTook (ask 22 b (after 8 (λ cs. switch n cs x y) r))
+          → readOr (end fail) (ask 22 b (after 8 (λ cs. switch n cs x y) r)) ≡ switch n (readOr [] r) x y
+      go true (took a cs) h = refl
+      go true (refused q) h = absurd h
+      go false r h = absurd h
+
+-- The cases of a switch whose record begins at a position are there to be read, 8 bytes behind it.
+module _ (s : List ℕ) (at : ℕ) (inside : at ≤ length s) {n count x y : ℕ}
+    (e : nodeHead (drop at s) ≡ Whole (Switch n count x y)) where
+  pub cases-inside : at + 8 ≤ length s
+  cases-inside = omega (arith, node-fits (drop at s) e, length-drop at s)
+
+  pub cases-begin : drop 8 (drop at s) ≡ drop (at + 8) s
+  cases-begin = drop-drop 8 at s
+
+  pub cases-read : IsTook (readRecord (drop at s)) → IsTook (readCases count (drop (at + 8) s))
+  cases-read there = subst (λ (l : List ℕ). IsTook (readCases count l)) cases-begin (cases-there (drop at s) e there)

@@ -1,0 +1,124 @@
+-- What a walk replies, question by question: from what was read of the sheet, the piece and the graph.
+use Prim.Native.Nat.{ℕ, _+_, _≤_}
+use mathlib.Core.Path.{_≡_, refl, sym, ap, subst, _∙_}
+use mathlib.Core.Bool.{Bool}
+use mathlib.Core.List.{List, []}
+use lib.Dec.{eqb}
+use lib.ListN.{length, drop, take}
+use borrow.Author.Tests.{eq-eqb, ne-eqb}
+use Rattle.records.specs.Fields.{IsByte}
+use Rattle.records.specs.Reading.{Reading, took, refused, ask, andThen}
+use Rattle.terms.specs.Lists.{All}
+use Rattle.terms.specs.Accepted.{AcceptedPiece}
+use Rattle.sheet.specs.Sheet.{Sheet, SoundSheet}
+use Rattle.sheet.specs.ReadSheet.{readRules}
+use Rattle.sheet.proofs.ReadsSound.{sheet-sound}
+use Rattle.tests.specs.TestedPlaces.{placesIn}
+use Rattle.tests.specs.TestsRead.{keptTests}
+use Rattle.tests.specs.CheckSheet.{acceptSheet}
+use Rattle.accepted.proofs.CheckedSheets.{accepted-read}
+use Rattle.accepted.proofs.FoundTests.{AcceptedTests}
+use Rattle.piece.specs.Piece.{Piece}
+use Rattle.piece.specs.ReadPiece.{readPiece}
+use Rattle.answer.proofs.PiecesRead.{ReadAs}
+use Rattle.decision.specs.Walk.{Walk, walk}
+use Rattle.graph.specs.ReadGraph.{readGraph}
+use Rattle.graph.specs.Rewriting.{IsTook, readOr}
+use Rattle.nodes.specs.CheckNode.{keptTest, startsFrom}
+use Rattle.counter.proofs.FoundGraph.{AcceptedGraphAs}
+use Rattle.walk.specs.declared.Walked.{Walked}
+use Rattle.walk.specs.declared.Walked.the-variants.{Answered, Refused}
+use Rattle.walk.specs.TestNumbers.{Once}
+use Rattle.walk.specs.Following.{Index, cellsEnd, nodesAt}
+use Rattle.walk.specs.LeafAnswers.{endWalk}
+use Rattle.walk.specs.Ready.{LeafNode, Ready}
+use Rattle.walk.specs.Walking.{readingOf, graphReply, pieceReply, walkReply, replyValues, walkedValues, walkedReading}
+use Rattle.walk.proofs.Numbers.{sheet-once}
+use Rattle.walk.proofs.Indexing.{nodes-are, nodes-leaves, index-made}
+use Rattle.walk.proofs.WalksAgree.{tests-all-near, walk-agrees}
+
+-- The values of what is handed back are those of its reading.
+pub values-read : (w : Walked) → walkedValues w ≡ replyValues (walkedReading w)
+values-read (Answered w) = refl
+values-read (Refused q) = refl
+
+-- The sheet is refused, or the piece is asked about.
+module _ (s g p : List ℕ) where
+  abbrev forSheet : ℕ → Sheet → Reading Walk
+  forSheet k sheet = pieceReply sheet g p
+
+  pub sheet-refuses : {q : ℕ} → acceptSheet s ≡ refused q → refused q ≡ walkReply s g p
+  unfolding walkReply
+  sheet-refuses e = sym (ap (λ x. andThen x forSheet) e)
+
+  pub sheet-accepts : {k : ℕ} {sheet : Sheet} → acceptSheet s ≡ took k sheet → pieceReply sheet g p ≡ walkReply s g p
+  unfolding walkReply
+  sheet-accepts e = sym (ap (λ x. andThen x forSheet) e)
+
+-- The piece is refused, by 20 too, or the graph is asked about.
+module _ (sheet : Sheet) (g p : List ℕ) where
+  abbrev forPiece : ℕ → Piece → Reading Walk
+  forPiece k piece = ask 20 (eqb (sheet .arity) (piece .arity)) (graphReply sheet g (piece .terms))
+
+  pub piece-refuses : {q : ℕ} → readPiece p ≡ refused q → refused q ≡ pieceReply sheet g p
+  piece-refuses e = sym (ap (λ x. andThen x forPiece) e)
+
+  module _ {k : ℕ} {piece : Piece} (read : readPiece p ≡ took k piece) where
+    pub arities-differ : (piece .arity ≡ sheet .arity → ⊥) → refused 20 ≡ pieceReply sheet g p
+    arities-differ differ =
+        sym
+        (ap (λ x. andThen x forPiece) read
+        ∙ ap (λ (b : Bool). ask 20 b (graphReply sheet g (piece .terms))) (ne-eqb (sheet .arity) (piece .arity) (λ e. differ (sym e))))
+
+    pub piece-accepts : piece .arity ≡ sheet .arity → graphReply sheet g (piece .terms) ≡ pieceReply sheet g p
+    piece-accepts same =
+        sym
+        (ap (λ x. andThen x forPiece) read
+        ∙ ap (λ (b : Bool). ask 20 b (graphReply sheet g (piece .terms))) (eq-eqb (sheet .arity) (piece .arity) (sym same)))
+
+module _ (s g words codes : List ℕ) {arity count pairs : ℕ} (t : AcceptedTests s words codes arity count pairs) where
+  abbrev sheet : Sheet
+  sheet = t .read .sheet
+
+  -- The graph is refused,
+  pub graph-refuses : (piece : Piece) {q : ℕ} → readGraph sheet g ≡ refused q → refused q ≡ graphReply sheet g (piece .terms)
+  graph-refuses piece e = sym (ap (λ r. andThen r (λ _ ns. readingOf (walk (sheet .rules) ns (piece .terms)))) e)
+
+  module _ (s-bytes : All IsByte s) (g-bytes : All IsByte g) (room : pairs ≤ length codes)
+      (fewTests : length (placesIn words) + pairs ≤ 64) (starts : List ℕ) {nodes : ℕ} (f : AcceptedGraphAs sheet g starts nodes) where
+    sound : SoundSheet sheet
+    sound = sheet-sound s s-bytes (accepted-read s (t .read .accepted))
+
+    begin : take (length (f .nodes)) starts ≡ startsFrom 5 (f .nodes)
+    begin = ap (λ (n : ℕ). take n starts) (f .countIs) ∙ sym (f .begin)
+
+    -- or walked over,
+    pub ready-made : Ready (drop 3 s) g starts words codes arity count pairs nodes
+    ready-made = record {
+      fewArguments = t .read .few;
+      rulesRead = subst IsTook (sym (t .read .rulesRead)) tt;
+      fewTests = fewTests;
+      near = tests-all-near sheet sound (t .tests);
+      once = subst Once (t .tests) (sheet-once (sheet .rules));
+      index =
+          subst (Index g starts (keptTest words codes pairs)) (f .countIs)
+          (index-made sheet sound g g-bytes (f .read) starts begin words codes pairs (t .tests));
+      leaves =
+          subst (λ (n : ℕ). All (LeafNode count) (nodesAt g starts n)) (f .countIs)
+          (subst (All (LeafNode count)) (sym (nodes-are sheet sound g g-bytes (f .read) starts begin))
+          (subst (λ (n : ℕ). All (LeafNode n) (f .nodes)) (t .countIs) (nodes-leaves sheet sound g g-bytes (f .read))));
+    }
+
+    -- which gives the reply.
+    pub graph-walked
+        : (p cells : List ℕ) (k : ReadAs p cells arity)
+        → endWalk (readOr [] (readRules arity count (drop 3 s))) words codes pairs cells
+        (cellsEnd (keptTests words codes pairs) (nodesAt g starts nodes) cells)
+        ≡ graphReply sheet g (k .piece .terms)
+    graph-walked p cells k =
+        (λ i.
+        endWalk (readOr [] (t .read .rulesRead i)) words codes pairs (k .laid i)
+        (cellsEnd (keptTests words codes pairs) (nodesAt g starts (sym (f .countIs) i)) (k .laid i)))
+        ∙ walk-agrees sheet sound words codes pairs room (t .tests) fewTests (k .piece .terms)
+        (subst (λ (n : ℕ). AcceptedPiece n (k .piece .terms)) (sym (t .read .arityIs)) (k .accepted)) (f .nodes) g g-bytes (f .read)
+        starts begin

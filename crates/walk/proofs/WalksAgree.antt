@@ -1,0 +1,107 @@
+-- The walk by cells over an accepted graph answers what the walk of the piece over its nodes does.
+use Prim.Native.Nat.{ℕ, pred, _+_, _≤_}
+use mathlib.Core.Path.{_≡_, refl, sym, ap, subst, _∙_}
+use mathlib.Core.Bool.{_&&_}
+use mathlib.Core.List.{List}
+use native.Mathlib.Omega.{arith}
+use lib.ListN.{length, take}
+use Rattle.records.specs.Fields.{IsByte}
+use Rattle.records.specs.Reading.{took, andThen}
+use Rattle.terms.specs.Lists.{All}
+use Rattle.terms.specs.Term.{Terms}
+use Rattle.terms.specs.Pattern.{Patterns, pnil}
+use Rattle.terms.specs.Outcome.{Outcome, holds, notKnown, contradicted, ruleOutcome}
+use Rattle.terms.specs.Accepted.{AcceptedRule, AcceptedPiece}
+use Rattle.terms.specs.Answer.{ruleAt, onlyRule}
+use Rattle.terms.proofs.ListLaws.{all-at, all-from}
+use Rattle.sheet.specs.Sheet.{Sheet, SoundSheet}
+use Rattle.sheet.specs.Noted.{ruleNotes}
+use Rattle.tests.specs.SheetTests.{Test, sheetTests}
+use Rattle.tests.specs.TestedPlaces.{placesIn}
+use Rattle.tests.specs.TestsRead.{keptTests}
+use Rattle.piece.specs.LaidOut.{pieceCells}
+use Rattle.answer.proofs.NotesRight.{rule-right}
+use Rattle.decision.specs.Key.{fail, suspend, execute}
+use Rattle.decision.specs.Node.{Node}
+use Rattle.decision.specs.Rules.{testAt, hasTest, testsWhere}
+use Rattle.decision.specs.Path.{Path, ends, refusedAt, path}
+use Rattle.decision.specs.Walk.{testNotKnown, executeWaits, atEnd, walk}
+use Rattle.decision.proofs.TestNumbers.{mem-at}
+use Rattle.graph.specs.ReadGraph.{readGraph}
+use Rattle.graph.proofs.TestedPlaces.{tests-near}
+use Rattle.nodes.specs.CheckNode.{startsFrom}
+use Rattle.walk.specs.TestNumbers.{NearTest}
+use Rattle.walk.specs.Following.{cellsEnd, nodesAt}
+use Rattle.walk.specs.LeafAnswers.{ownWaits, waitsOf, executed, endWalk}
+use Rattle.walk.specs.Walking.{readingOf, graphReply}
+use Rattle.walk.proofs.OwnWaits.{own-right}
+use Rattle.walk.proofs.PathsAgree.{pieceEnd, paths-same, path-agrees}
+use Rattle.walk.proofs.Indexing.{near-test, nodes-near, nodes-fit, nodes-are, nodes-leaves}
+use Rattle.walk.proofs.LeafRules.{LeafPath, cells-leaf}
+
+-- A wait list goes by the outcome.
+waits-by
+    : (rules : List Patterns) (nodes : List (Node ℕ)) (piece : Terms) (i : ℕ) (o : Outcome) {own : ℕ}
+    → own ≡ testsWhere rules (λ t. hasTest rules (pred i) t && testNotKnown piece (testAt rules t))
+    → waitsOf o own ≡ executeWaits rules nodes piece i o
+waits-by rules nodes piece i holds e = refl
+waits-by rules nodes piece i notKnown e = e
+waits-by rules nodes piece i contradicted e = refl
+
+module _ (sheet : Sheet) (sound : SoundSheet sheet) where
+  -- The tests of a sound sheet are of places among the 680.
+  pub tests-all-near : {tests : List Test} → sheetTests (sheet .rules) ≡ tests → All NearTest tests
+  tests-all-near e =
+      subst (All NearTest) e
+      (all-from NearTest (sheetTests (sheet .rules)) (λ t m. near-test t (tests-near sheet sound t m)))
+
+  module _ (words codes : List ℕ) (pairs : ℕ) (room : pairs ≤ length codes)
+      (tests : sheetTests (sheet .rules) ≡ keptTests words codes pairs) (fewTests : length (placesIn words) + pairs ≤ 64)
+      (piece : Terms) (ok : AcceptedPiece (sheet .arity) piece) (nodes : List (Node ℕ)) where
+    abbrev cells : List ℕ
+    cells = pieceCells piece
+
+    abbrev rules : List Patterns
+    rules = sheet .rules
+
+    -- What is answered at the end of a path.
+    leaf-agrees
+        : (p : Path) → LeafPath (length rules) p
+        → endWalk rules words codes pairs cells (pieceEnd rules nodes piece p) ≡ readingOf (atEnd rules nodes piece p)
+    leaf-agrees (ends walked fail) inside = refl
+    leaf-agrees (ends walked suspend) inside = refl
+    leaf-agrees (ends walked (execute i)) inside =
+        let few = sound .fewArguments in
+        let rule : AcceptedRule (sheet .arity) (ruleAt rules i) =
+        all-at (AcceptedRule (sheet .arity)) (mem-at pnil rules (pred i) (omega (arith, inside .0, inside .1))) (sound .acceptedRules) in
+        let outcome = rule-right piece ok few rule in
+        let own =
+        own-right (sheet .arity) rules few (sound .acceptedRules) words codes pairs room tests fewTests (tests-all-near tests) piece ok i
+        (inside .0) (inside .1) in
+        let waits = waits-by rules nodes piece i (ruleOutcome (ruleAt rules i) piece) own in
+        ap (λ (o : Outcome). took 0 (executed i (pred (length walked)) o (ownWaits words codes pairs cells (ruleNotes (ruleAt rules i))))) outcome
+        ∙ ap
+        (λ (w : ℕ). took 0 (record { answer = onlyRule i (ruleOutcome (ruleAt rules i) piece); edges = pred (length walked); waits = w }))
+        waits
+    leaf-agrees (refusedAt q) inside = refl
+
+    module _ (g : List ℕ) (bytes : All IsByte g) {size : ℕ} (read : readGraph sheet g ≡ took size nodes) where
+      -- The walk by cells, over the nodes at the starts, is the walk of the piece.
+      pub walk-agrees
+          : (starts : List ℕ) → take (length nodes) starts ≡ startsFrom 5 nodes
+          → endWalk rules words codes pairs cells (cellsEnd (keptTests words codes pairs) (nodesAt g starts (length nodes)) cells)
+          ≡ graphReply sheet g piece
+      walk-agrees starts are =
+          let near = nodes-near sheet sound g bytes read in
+          let fit = nodes-fit sheet sound g bytes read in
+          let few = sound .fewArguments in
+          let same = paths-same (sheet .arity) piece ok few nodes near fit 64 0 in
+          let leaf =
+          subst (LeafPath (length rules)) same
+          (cells-leaf (length rules) (sheetTests rules) nodes cells (nodes-leaves sheet sound g bytes read)) in
+          ap (λ (ns : List (Node ℕ)). endWalk rules words codes pairs cells (cellsEnd (keptTests words codes pairs) ns cells))
+          (nodes-are sheet sound g bytes read starts are)
+          ∙ ap (endWalk rules words codes pairs cells)
+          (path-agrees (sheet .arity) piece ok few nodes near fit rules (λ t m. near-test t (tests-near sheet sound t m)) (sym tests))
+          ∙ leaf-agrees (path nodes piece) leaf
+          ∙ sym (ap (λ r. andThen r (λ _ ns. readingOf (walk rules ns piece))) read)

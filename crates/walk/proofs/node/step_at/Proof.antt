@@ -1,0 +1,130 @@
+-- `walk::node::step_at` meets its contract, for each kind of node.
+use Prim.Native.Nat.{ℕ}
+use mathlib.Core.Path.{_≡_, sym, ap, subst, _∙_}
+use mathlib.Core.List.{List, []}
+use denote.Ref.{now}
+use lib.ListN.{drop}
+use Rattle.cells.specs.Look.{look}
+use Rattle.records.proofs.Parts.{rest}
+use Rattle.graph.specs.declared.NodeRecord.the-variants.{Switch, Pair}
+use Rattle.graph.specs.declared.NodeHead.the-variants.{Whole}
+use Rattle.graph.specs.Rewriting.{readOr}
+use Rattle.graph.specs.ReadGraph.{readCases}
+use Rattle.graph.specs.NodeRecord.{nodeHead}
+use Rattle.nodes.proofs.CopiedNodes.{node-there}
+use Rattle.walk.specs.CodeSteps.{stepCells, openAt, NearNode, codeStep}
+use Rattle.walk.proofs.NodeSteps.{leaf-node, pair-node, switch-node, cases-inside, cases-begin, cases-read}
+use borrow.Author.Needs.{needs}
+use Rattle.walk.proofs.node.step_at.Statement.{statement}
+use Rattle.walk.proofs.node.step_at.Tie as tie
+
+sub-node-head : tie.Need-sub-node-head
+sub-node-head c = search needs
+
+part-node-head-start : tie.Need-part-node-head-start
+part-node-head-start c = search needs
+
+part-node-head-end : tie.Need-part-node-head-end
+part-node-head-end c = search needs
+
+node-head-requires : tie.Need-node-head-requires
+node-head-requires c κs = search needs
+
+enum-known-head : tie.Need-enum-known-head
+enum-known-head c = search needs
+
+enum-told : tie.Need-enum-told
+enum-told c = search needs
+
+returns : tie.Need-returns
+returns c =
+    let a = c .before .before .before .before .before .args in
+    let s = now (a .graph) in
+    let cells = now (a .cells) in
+    let read = ap nodeHead (sym (rest s (a .at))) ∙ sym (c .before .before .node-head .ensures) in
+    absurd (node-there (drop (a .at) s) (c .before .before .before .before .before .pre .1) (read ∙ c .enum-told .given .1))
+
+enum-known-node : tie.Need-enum-known-node
+enum-known-node c = search needs
+
+enum-known-node-2 : tie.Need-enum-known-node-2
+enum-known-node-2 c = search needs
+
+add-switch-step : tie.Need-add-switch-step
+add-switch-step c = search needs
+
+switch-step-requires : tie.Need-switch-step-requires
+switch-step-requires c κs =
+    let a = c .before .before .before .before .before .before .before .before .before .args in
+    let s = now (a .graph) in
+    let cells = now (a .cells) in
+    let read = ap nodeHead (sym (rest s (a .at))) ∙ sym (c .before .before .before .before .before .before .node-head .ensures) in
+    let switching : nodeHead (drop (a .at) s) ≡ Whole (Switch (c .before .node2 .given .0 .0) (c .before .node2 .given .0 .1 .0) (c .before .node2 .given .0 .1 .1 .0) (c .before .node2 .given .0 .1 .1 .1 .0)) = read ∙ c .before .before .before .before .head .given .1 ∙ ap Whole (c .before .node2 .given .1) in (
+      cases-inside s (a .at) (c .before .before .before .before .before .before .before .before .before .pre .0) switching,
+      cases-read s (a .at) (c .before .before .before .before .before .before .before .before .before .pre .0) switching (c .before .before .before .before .before .before .before .before .before .pre .1),
+      subst NearNode (sym (switch-node (drop (a .at) s) switching (c .before .before .before .before .before .before .before .before .before .pre .1))) (c .before .before .before .before .before .before .before .before .before .pre .2),
+    )
+
+enum-known-node-3 : tie.Need-enum-known-node-3
+enum-known-node-3 c = search needs
+
+pair-step-requires : tie.Need-pair-step-requires
+pair-step-requires c κs =
+    let a = c .before .before .before .before .before .before .before .before .before .args in
+    let s = now (a .graph) in
+    let cells = now (a .cells) in
+    let read = ap nodeHead (sym (rest s (a .at))) ∙ sym (c .before .before .before .before .before .before .node-head .ensures) in
+    let pairing : nodeHead (drop (a .at) s) ≡ Whole (Pair (c .before .node3 .given .0 .0) (c .before .node3 .given .0 .1 .0) (c .before .node3 .given .0 .1 .1 .0) (c .before .node3 .given .0 .1 .1 .1 .0)) = read ∙ c .before .before .before .before .head .given .1 ∙ ap Whole (c .before .node3 .given .1) in
+    let near = subst NearNode (sym (pair-node (drop (a .at) s) pairing)) (c .before .before .before .before .before .before .before .before .before .pre .2) in
+    (near .0, near .1, c .before .before .before .before .before .before .before .before .before .pre .3)
+
+returns-2 : tie.Need-returns-2
+returns-2 c =
+    let a = c .before .before .before .before .before .before .before .before .before .args in
+    let s = now (a .graph) in
+    let cells = now (a .cells) in
+    let read = ap nodeHead (sym (rest s (a .at))) ∙ sym (c .before .before .before .before .before .before .node-head .ensures) in
+    let leaf = leaf-node (drop (a .at) s) (c .before .node .given .0 .0) (read ∙ c .before .before .before .before .head .given .1 ∙ ap Whole (c .before .node .given .1)) in
+    (ap (stepCells cells) leaf, ap (openAt cells) leaf)
+
+returns-3 : tie.Need-returns-3
+returns-3 c =
+    let a = c .before .before .before .before .before .before .before .before .before .before .args in
+    let s = now (a .graph) in
+    let cells = now (a .cells) in
+    let read = ap nodeHead (sym (rest s (a .at))) ∙ sym (c .before .before .before .before .before .before .before .node-head .ensures) in
+    let switching : nodeHead (drop (a .at) s) ≡ Whole (Switch (c .before .before .node2 .given .0 .0) (c .before .before .node2 .given .0 .1 .0) (c .before .before .node2 .given .0 .1 .1 .0) (c .before .before .node2 .given .0 .1 .1 .1 .0)) = read ∙ c .before .before .before .before .before .head .given .1 ∙ ap Whole (c .before .before .node2 .given .1) in
+    let node = switch-node (drop (a .at) s) switching (c .before .before .before .before .before .before .before .before .before .before .pre .1) in
+    let same = ap (λ (l : List ℕ). codeStep (readOr [] (readCases (c .before .before .node2 .given .0 .1 .0) l)) (c .before .before .node2 .given .0 .1 .1 .0) (c .before .before .node2 .given .0 .1 .1 .1 .0) (look cells (c .before .before .node2 .given .0 .0))) (sym (cases-begin s (a .at) (c .before .before .before .before .before .before .before .before .before .before .pre .0) switching)) in
+    (c .switch-step .ensures .0 ∙ same ∙ ap (stepCells cells) node, c .switch-step .ensures .1 ∙ ap (openAt cells) node)
+
+returns-4 : tie.Need-returns-4
+returns-4 c =
+    let a = c .before .before .before .before .before .before .before .before .before .before .args in
+    let s = now (a .graph) in
+    let cells = now (a .cells) in
+    let read = ap nodeHead (sym (rest s (a .at))) ∙ sym (c .before .before .before .before .before .before .before .node-head .ensures) in
+    let pairing : nodeHead (drop (a .at) s) ≡ Whole (Pair (c .before .before .node3 .given .0 .0) (c .before .before .node3 .given .0 .1 .0) (c .before .before .node3 .given .0 .1 .1 .0) (c .before .before .node3 .given .0 .1 .1 .1 .0)) = read ∙ c .before .before .before .before .before .head .given .1 ∙ ap Whole (c .before .before .node3 .given .1) in
+    let node = pair-node (drop (a .at) s) pairing in
+    (c .pair-step .ensures .0 ∙ ap (stepCells cells) node, c .pair-step .ensures .1 ∙ ap (openAt cells) node)
+
+pub step-at-spec : {M : Type 1} → statement M
+step-at-spec =
+    tie.close
+    (tie.spec
+    sub-node-head
+    part-node-head-start
+    part-node-head-end
+    node-head-requires
+    enum-known-head
+    enum-told
+    returns
+    enum-known-node
+    enum-known-node-2
+    add-switch-step
+    switch-step-requires
+    enum-known-node-3
+    pair-step-requires
+    returns-2
+    returns-3
+    returns-4)

@@ -1,0 +1,55 @@
+-- `walk::node::switch_step` meets its contract: a place that is lacking, unknown or known.
+use mathlib.Core.Path.{sym, ap, _∙_}
+use mathlib.Core.List.{[]}
+use mathlib.Core.Bool.{true, false}
+use native.Mathlib.Omega.{arith}
+use denote.Ref.{now}
+use lib.ListN.{drop}
+use borrow.Author.Tests.{eq-eqb, ne-eqb}
+use Rattle.decision.specs.Path.{goTo}
+use Rattle.piece.specs.Cells.{unknownCode}
+use Rattle.tests.specs.SheetTests.{place}
+use Rattle.graph.specs.Rewriting.{readOr}
+use Rattle.graph.specs.ReadGraph.{readCases}
+use Rattle.walk.proofs.NodeSteps.{switch-lacking, switch-on}
+use borrow.Author.Needs.{needs}
+use Rattle.walk.proofs.node.switch_step.Statement.{statement}
+use Rattle.walk.proofs.node.switch_step.Tie as tie
+
+look-requires : tie.Need-look-requires
+look-requires c κs = search needs
+
+returns : tie.Need-returns
+returns c =
+    let a = c .before .before .before .args in
+    let cs = readOr [] (readCases (a .count) (drop (a .start) (now (a .graph)))) in
+    let code = c .before .look .result in
+    let at = c .before .look .ensures in
+    let none = c .if1 .taken in
+    rw (sym at)
+    (switch-lacking cs (a .neither) (a .unknown) (place (a .tested)) code (eq-eqb code 0 none) (ne-eqb code unknownCode (λ e. omega arith)))
+
+returns-2 : tie.Need-returns-2
+returns-2 c =
+    let a = c .before .before .before .before .args in
+    let cs = readOr [] (readCases (a .count) (drop (a .start) (now (a .graph)))) in
+    let code = c .before .before .look .result in
+    let at = c .before .before .look .ensures in
+    rw (sym at)
+    (switch-on cs (a .neither) (a .unknown) (place (a .tested)) code true (ne-eqb code 0 (c .before .if1 .left)) (eq-eqb code unknownCode (c .if2 .taken)))
+
+find-case-requires : tie.Need-find-case-requires
+find-case-requires c κs = search needs
+
+returns-3 : tie.Need-returns-3
+returns-3 c =
+    let a = c .before .before .before .before .before .args in
+    let cs = readOr [] (readCases (a .count) (drop (a .start) (now (a .graph)))) in
+    let code = c .before .before .before .look .result in
+    let at = c .before .before .before .look .ensures in
+    let right = switch-on cs (a .neither) (a .unknown) (place (a .tested)) code false (ne-eqb code 0 (c .before .before .if1 .left)) (ne-eqb code unknownCode (c .before .if2 .left)) in
+    rw (sym at) (ap goTo (c .find-case .ensures) ∙ right .0, right .1)
+
+pub switch-step-spec : {M : Type 1} → statement M
+switch-step-spec =
+    tie.close (tie.spec look-requires returns returns-2 find-case-requires returns-3)

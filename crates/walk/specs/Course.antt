@@ -1,0 +1,15 @@
+-- What a walk goes over: the tests that are kept, each once and 64 at most, and the index of a graph.
+use Prim.Native.Nat.{ℕ, _≤_}
+use mathlib.Core.Path.{_≡_}
+use mathlib.Core.List.{List}
+use lib.ListN.{length}
+use Rattle.tests.specs.TestsRead.{keptTests}
+use Rattle.nodes.specs.CheckNode.{keptTest}
+use Rattle.walk.specs.TestNumbers.{Once}
+use Rattle.walk.specs.Following.{Index}
+
+pub record Course (graph starts words codes : List ℕ) (pairs nodes : ℕ) : Type 0 where
+  pub size : length words ≡ 11
+  pub few : length (keptTests words codes pairs) ≤ 64
+  pub once : Once (keptTests words codes pairs)
+  pub index : Index graph starts (keptTest words codes pairs) nodes

@@ -1,0 +1,76 @@
+-- What is answered at a leaf (document 01, "The walk"), as the cells of a piece tell it.
+use Prim.Native.Nat.{ℕ, _-_, _≤_}
+use mathlib.Core.Bool.{Bool, true, false, _&&_, _||_}
+use mathlib.Core.List.{List}
+use lib.Dec.{eqb, ltb}
+use lib.ListN.{length, getD, take, replicate}
+use Rattle.masks.specs.Mask.{has, maskOf}
+use Rattle.records.specs.Reading.{Reading, took, refused}
+use Rattle.terms.specs.Pattern.{Patterns}
+use Rattle.terms.specs.Outcome.{Outcome, holds, notKnown, contradicted}
+use Rattle.terms.specs.Answer.{ruleAt, onlyRule}
+use Rattle.terms.specs.Answer as answers
+use Rattle.sheet.specs.Noted.{Note, ruleNotes}
+use Rattle.tests.specs.SheetTests.{Test, place}
+use Rattle.tests.specs.TestedPlaces.{placesIn}
+use Rattle.tests.specs.KeptPairs.{codePair}
+use Rattle.tests.specs.TestsRead.{keptTests}
+use Rattle.tables.specs.Numbers.{numberAll}
+use Rattle.tables.specs.RuleTables.{notesRow}
+use Rattle.cells.specs.Choice.{choose}
+use Rattle.answer.specs.NotesOutcome.{cellsOutcome}
+use Rattle.decision.specs.Key.{Leaf, fail, suspend, execute}
+use Rattle.decision.specs.Walk.{Walk}
+use Rattle.walk.specs.CodeSteps.{openCells}
+use Rattle.walk.specs.Following.{Ended, reached, stopped}
+
+-- Test t, where m places and then pairs are listed.
+abbrev pub listedTest : List ℕ → ℕ → List ℕ → ℕ → Test
+listedTest places m codes t = choose (ltb t m) (place (getD places t 0)) (codePair (getD codes (t - m) 0))
+
+-- A set with t, or without it.
+abbrev pub withIf : Bool → ℕ → ℕ → ℕ
+withIf true set t = maskOf 64 (λ j. has set j || eqb t j)
+withIf false set t = set
+
+-- The tests of a list that are not known.
+unfoldable pub openSet : List Test → List ℕ → ℕ
+openSet tests cells = maskOf (length tests) (λ t. openCells cells (getD tests t (place 0)))
+
+module _ (words codes : List ℕ) (pairs : ℕ) (cells : List ℕ) where
+  -- The tests of the rule with these notes, by the numbers of the kept tests,
+  abbrev pub ownTests : List Note → ℕ
+  ownTests notes =
+      notesRow (numberAll (placesIn words) 0 (replicate 680 0)) (length (placesIn words)) (take pairs codes) notes
+
+  -- and those of them that are not known.
+  unfoldable pub ownWaits : List Note → ℕ
+  ownWaits notes = maskOf 64 (λ j. has (ownTests notes) j && has (openSet (keptTests words codes pairs) cells) j)
+
+-- A wait list holds "for execute those of rule i not known, else none".
+abbrev pub waitsOf : Outcome → ℕ → ℕ
+waitsOf holds own = 0
+waitsOf notKnown own = own
+waitsOf contradicted own = 0
+
+-- "At execute i all tests of rule i are made: one contradicted gives fail, all holding gives commit i, else execute i."
+abbrev pub executed : ℕ → ℕ → Outcome → ℕ → Walk
+executed rule edges outcome own = record { answer = onlyRule rule outcome; edges = edges; waits = waitsOf outcome own }
+
+module _ (rules : List Patterns) (words codes : List ℕ) (pairs : ℕ) (cells : List ℕ) where
+  -- The answer at a leaf that so many edges lead to, where these tests were met not known.
+  abbrev pub leafWalk : Leaf → ℕ → ℕ → Walk
+  leafWalk fail edges met = record { answer = answers.fail; edges = edges; waits = 0 }
+  leafWalk suspend edges met = record { answer = answers.suspend; edges = edges; waits = met }
+  leafWalk (execute i) edges met =
+      executed i edges (cellsOutcome cells (ruleAt rules i)) (ownWaits words codes pairs cells (ruleNotes (ruleAt rules i)))
+
+  abbrev pub endWalk : Ended → Reading Walk
+  endWalk (reached l edges met) = took 0 (leafWalk l edges met)
+  endWalk (stopped q) = refused q
+
+-- The rule of an execute is one of so many.
+abbrev pub LeafIn : ℕ → Leaf → Type 0
+LeafIn count fail = Unit
+LeafIn count suspend = Unit
+LeafIn count (execute i) = (1 ≤ i) × (i ≤ count)

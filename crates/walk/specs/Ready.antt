@@ -1,0 +1,30 @@
+-- What a walk begins with: a sheet whose rules and tests were read, and a graph that was accepted for it.
+use Prim.Native.Nat.{ℕ, _+_, _≤_}
+use mathlib.Core.List.{List}
+use lib.ListN.{length}
+use Rattle.terms.specs.Lists.{All}
+use Rattle.sheet.specs.ReadSheet.{readRules}
+use Rattle.tests.specs.TestedPlaces.{placesIn}
+use Rattle.tests.specs.TestsRead.{keptTests}
+use Rattle.decision.specs.Node.{Node, end, switch, pairNode}
+use Rattle.graph.specs.Rewriting.{IsTook}
+use Rattle.nodes.specs.CheckNode.{keptTest}
+use Rattle.walk.specs.TestNumbers.{NearTest, Once}
+use Rattle.walk.specs.Following.{Index, nodesAt}
+use Rattle.walk.specs.LeafAnswers.{LeafIn}
+
+-- The rule of an execute node is one of so many.
+abbrev pub LeafNode : ℕ → Node ℕ → Type 0
+LeafNode count (end l) = LeafIn count l
+LeafNode count (switch n cs x y) = Unit
+LeafNode count (pairNode p q x y) = Unit
+
+-- Rules, so many, that s begins with; the tests that are kept, 64 at most; and the index of a graph whose rules are among them.
+pub record Ready (s graph starts words codes : List ℕ) (arity count pairs nodes : ℕ) : Type 0 where
+  pub fewArguments : arity ≤ 8
+  pub rulesRead : IsTook (readRules arity count s)
+  pub fewTests : length (placesIn words) + pairs ≤ 64
+  pub near : All NearTest (keptTests words codes pairs)
+  pub once : Once (keptTests words codes pairs)
+  pub index : Index graph starts (keptTest words codes pairs) nodes
+  pub leaves : All (LeafNode count) (nodesAt graph starts nodes)

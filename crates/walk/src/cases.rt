@@ -1,0 +1,35 @@
+// Where the cases of a switch lead.
+use graph::CaseHead;
+use graph::case_head;
+use nodes::cases::both;
+use nodes::cases::case_range;
+ghost use Prim.Native.Nat.{_≤_};
+ghost use mathlib.Core.Path.{_≡_};
+ghost use mathlib.Core.List.{[]};
+ghost use lib.ListN.{length, drop};
+ghost use Rattle.graph.specs.ReadGraph.{readCases};
+ghost use Rattle.graph.specs.Rewriting.{IsTook, readOr};
+ghost use Rattle.walk.specs.CodeSteps.{followCode};
+
+// Where the cases, so many from a position of the graph on, lead for a code. Not by the last case that takes it, nor by neither
+// where a case takes it.
+pub fn find_case(graph: &[u8], start: usize, count: u8, code: u32, neither: u16) -> u16
+    requires { ⌜ (start ≤ length (now graph)) × IsTook (readCases count (drop start (now graph))) ⌝ }
+    ensures { λ r. ⌜ r ≡ followCode (readOr [] (readCases count (drop start (now (graph .entry))))) neither code ⌝ }
+{
+    let mut at = start;
+    let mut i: u8 = 0;
+    while i < count {
+        let head = case_head(&graph[at..]);
+        let CaseHead::Whole(c) = head else {
+            return neither;
+        };
+        let range = case_range(c);
+        if both(range.first <= code, code <= range.last) {
+            return range.node;
+        }
+        at += range.bytes;
+        i += 1;
+    }
+    neither
+}

@@ -1,0 +1,122 @@
+// What is answered at a leaf.
+use crate::Walk;
+use crate::waits::own_waits;
+use answer::Answer;
+use answer::rule::rule_outcome;
+use cells::TestOutcome;
+use graph::Leaf;
+use sheet::Took;
+ghost use Prim.Native.Nat.{_+_, _≤_};
+ghost use mathlib.Core.Path.{_≡_};
+ghost use mathlib.Core.List.{[]};
+ghost use lib.ListN.{length};
+ghost use Rattle.terms.specs.Lists.{All};
+ghost use Rattle.terms.specs.Answer.{ruleAt};
+ghost use Rattle.sheet.specs.Noted.{ruleNotes};
+ghost use Rattle.sheet.specs.NoteArray.{notesIn};
+ghost use Rattle.sheet.specs.ReadSheet.{readRules};
+ghost use Rattle.tests.specs.NoteTests.{Placed};
+ghost use Rattle.tests.specs.TestedPlaces.{placesIn};
+ghost use Rattle.tests.specs.TestsRead.{keptTests};
+ghost use Rattle.cells.specs.CompareCells.{Narrow};
+ghost use Rattle.decision.specs.Key.{execute};
+ghost use Rattle.graph.specs.ReadGraph.{leafOf};
+ghost use Rattle.graph.specs.Rewriting.{IsTook, readOr};
+ghost use Rattle.walk.specs.Walking.{walkOf};
+ghost use Rattle.walk.specs.TestNumbers.{NearTest};
+ghost use Rattle.walk.specs.LeafAnswers.{leafWalk, LeafIn};
+
+// The notes of a rule, from 1, of the rules, so many, that the input begins with: how many there are. Not those of the rule after
+// it, nor of the first.
+pub fn notes_at(s: &[u8], arity: usize, count: u8, rule: u8, notes: &mut [u64; 680]) -> usize
+    requires { ⌜ (arity ≤ 8) × (length (now notes) ≡ 680) × (1 ≤ rule) × (rule ≤ count) × IsTook (readRules arity count (now s)) ⌝ }
+    ensures { λ r. ⌜ notesIn (now (notes .exit)) r ≡ ruleNotes (ruleAt (readOr [] (readRules arity count (now (s .entry)))) rule) ⌝ }
+    ensures { λ r. ⌜ (r ≤ 680) × (length (now (notes .exit)) ≡ 680) × All Placed (notesIn (now (notes .exit)) r) ⌝ }
+{
+    let mut at: usize = 0;
+    let mut i: u8 = 0;
+    while i < count {
+        let read = sheet::read_rule(&s[at..], arity, notes);
+        let Took::Used(bytes, n) = read else {
+            return 0;
+        };
+        i += 1;
+        if i == rule {
+            return n;
+        }
+        at += bytes;
+    }
+    0
+}
+
+// The answer at an execute of a rule: all its tests are made. Not commit where a test is not known, nor a wait list beside a commit
+// or a fail.
+pub fn at_rule(
+    s: &[u8],
+    arity: usize,
+    count: u8,
+    rule: u8,
+    edges: u8,
+    words: &[u64; 11],
+    codes: &[u32; 65],
+    pairs: usize,
+    cells: &[u32; 680],
+) -> Walk
+    requires { ⌜ (arity ≤ 8) × (1 ≤ rule) × (rule ≤ count) × IsTook (readRules arity count (now s)) × Narrow (now cells) ⌝ }
+    requires { ⌜ (length (now words) ≡ 11) × (length (now codes) ≡ 65) × (length (placesIn (now words)) + pairs ≤ 64) × All NearTest (keptTests (now words) (now codes) pairs) ⌝ }
+    ensures { λ r. ⌜ walkOf r ≡ leafWalk (readOr [] (readRules arity count (now (s .entry)))) (now (words .entry)) (now (codes .entry)) pairs (now (cells .entry)) (execute rule) edges 0 ⌝ }
+{
+    let mut notes = [0u64; 680];
+    let n = notes_at(s, arity, count, rule, &mut notes);
+    let outcome = rule_outcome(&notes, n, cells);
+    match outcome {
+        TestOutcome::Holds => Walk {
+            answer: Answer::Commit(rule),
+            edges: edges,
+            waits: 0,
+        },
+        TestOutcome::NotKnown => Walk {
+            answer: Answer::Execute(rule),
+            edges: edges,
+            waits: own_waits(&notes, n, words, codes, pairs, cells),
+        },
+        TestOutcome::Contradicted => Walk {
+            answer: Answer::Fail,
+            edges: edges,
+            waits: 0,
+        },
+    }
+}
+
+// The answer at a leaf that so many edges lead to, where these tests were met not known. Not a wait list at a fail, nor the tests
+// met for those of the rule.
+pub fn at_leaf(
+    s: &[u8],
+    arity: usize,
+    count: u8,
+    leaf: Leaf,
+    edges: u8,
+    met: u64,
+    words: &[u64; 11],
+    codes: &[u32; 65],
+    pairs: usize,
+    cells: &[u32; 680],
+) -> Walk
+    requires { ⌜ (arity ≤ 8) × LeafIn count (leafOf leaf) × IsTook (readRules arity count (now s)) × Narrow (now cells) ⌝ }
+    requires { ⌜ (length (now words) ≡ 11) × (length (now codes) ≡ 65) × (length (placesIn (now words)) + pairs ≤ 64) × All NearTest (keptTests (now words) (now codes) pairs) ⌝ }
+    ensures { λ r. ⌜ walkOf r ≡ leafWalk (readOr [] (readRules arity count (now (s .entry)))) (now (words .entry)) (now (codes .entry)) pairs (now (cells .entry)) (leafOf leaf) edges met ⌝ }
+{
+    match leaf {
+        Leaf::Fail => Walk {
+            answer: Answer::Fail,
+            edges: edges,
+            waits: 0,
+        },
+        Leaf::Suspend => Walk {
+            answer: Answer::Suspend,
+            edges: edges,
+            waits: met,
+        },
+        Leaf::Execute(rule) => at_rule(s, arity, count, rule, edges, words, codes, pairs, cells),
+    }
+}

@@ -1,0 +1,88 @@
+// What happens at a node, by its record and the cells of a piece.
+use crate::Open;
+use crate::Step;
+use crate::cases::find_case;
+use cells::TestOutcome;
+use cells::look;
+use cells::pair_outcome;
+use graph::NodeHead;
+use graph::NodeRecord;
+use graph::node_head;
+use piece::UNKNOWN;
+ghost use Prim.Native.Nat.{_≤_, _<_};
+ghost use mathlib.Core.Path.{_≡_};
+ghost use mathlib.Core.List.{[]};
+ghost use lib.ListN.{length, drop};
+ghost use Rattle.tests.specs.SheetTests.{place, pair};
+ghost use Rattle.cells.specs.Look.{look};
+ghost use Rattle.cells.specs.CompareCells.{Narrow};
+ghost use Rattle.cells.specs.CellOutcome.{pairCells};
+ghost use Rattle.decision.specs.Key.{fail};
+ghost use Rattle.decision.specs.Node.{end};
+ghost use Rattle.graph.specs.ReadGraph.{readCases};
+ghost use Rattle.graph.specs.Rewriting.{IsTook, readOr, readRecord};
+ghost use Rattle.walk.specs.CodeSteps.{codeStep, codesStep, stepCells, openCells, openIf, openAt, NearNode, stepOf, openIn};
+
+// The step at a switch, whose cases, so many, begin at a position of the graph.
+fn switch_step(
+    graph: &[u8],
+    start: usize,
+    count: u8,
+    tested: u16,
+    neither: u16,
+    unknown: u16,
+    cells: &[u32; 680],
+) -> Step
+    requires { ⌜ (start ≤ length (now graph)) × IsTook (readCases count (drop start (now graph))) × (tested < 680) ⌝ }
+    ensures { λ r. ⌜ stepOf r ≡ codeStep (readOr [] (readCases count (drop start (now (graph .entry))))) neither unknown (look (now (cells .entry)) tested) ⌝ }
+    ensures { λ r. ⌜ openIn r ≡ openIf (openCells (now (cells .entry)) (place tested)) (place tested) ⌝ }
+{
+    let code = look(cells, tested as usize);
+    if code == 0 {
+        return Step::NoWay;
+    }
+    if code == UNKNOWN {
+        return Step::GoTo(unknown, Open::Place(tested));
+    }
+    Step::GoTo(find_case(graph, start, count, code, neither), Open::Nothing)
+}
+
+// The step at a pair.
+fn pair_step(cells: &[u32; 680], p: u16, q: u16, differ: u16, other: u16) -> Step
+    requires { ⌜ (p < 680) × (q < 680) × Narrow (now cells) ⌝ }
+    ensures { λ r. ⌜ stepOf r ≡ codesStep differ other (look (now (cells .entry)) p) (look (now (cells .entry)) q) (pairCells (now (cells .entry)) p q) ⌝ }
+    ensures { λ r. ⌜ openIn r ≡ openIf (openCells (now (cells .entry)) (pair p q)) (pair p q) ⌝ }
+{
+    if look(cells, p as usize) == 0 {
+        return Step::NoWay;
+    }
+    if look(cells, q as usize) == 0 {
+        return Step::NoWay;
+    }
+    let outcome = pair_outcome(cells, p as usize, q as usize);
+    match outcome {
+        TestOutcome::Holds => Step::GoTo(other, Open::Nothing),
+        TestOutcome::NotKnown => Step::GoTo(other, Open::Pair(p, q)),
+        TestOutcome::Contradicted => Step::GoTo(differ, Open::Nothing),
+    }
+}
+
+// The step at the node whose record begins at a position of the graph. Not by neither where the place is unknown, nor by other
+// where a place is lacking.
+pub fn step_at(graph: &[u8], at: usize, cells: &[u32; 680]) -> Step
+    requires { ⌜ (at ≤ length (now graph)) × IsTook (readRecord (drop at (now graph))) × NearNode (readOr (end fail) (readRecord (drop at (now graph)))) × Narrow (now cells) ⌝ }
+    ensures { λ r. ⌜ stepOf r ≡ stepCells (now (cells .entry)) (readOr (end fail) (readRecord (drop at (now (graph .entry))))) ⌝ }
+    ensures { λ r. ⌜ openIn r ≡ openAt (now (cells .entry)) (readOr (end fail) (readRecord (drop at (now (graph .entry))))) ⌝ }
+{
+    let head = node_head(&graph[at..]);
+    let NodeHead::Whole(node) = head else {
+        return Step::NoWay;
+    };
+    match node {
+        NodeRecord::End(leaf) => Step::Stop(leaf),
+        NodeRecord::Switch(tested, count, neither, unknown) => {
+            switch_step(graph, at + 8, count, tested, neither, unknown, cells)
+        }
+        NodeRecord::Pair(p, q, differ, other) => pair_step(cells, p, q, differ, other),
+    }
+}
