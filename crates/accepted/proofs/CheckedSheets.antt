@@ -18,6 +18,7 @@ use Rattle.sheet.proofs.ReadsSound.{sheet-sound}
 use Rattle.tests.specs.declared.SheetCheck.the-variants.{Accepted, Refused}
 use Rattle.tests.specs.SheetTests.{sheetTests}
 use Rattle.tests.specs.CheckSheet.{SheetValues, mostTests, askTests, acceptSheet, checkValues, sheetValues}
+use Rattle.accepted.specs.AcceptedAs.{AcceptedAs}
 use Rattle.accepted.proofs.Named.{Named}
 use Rattle.accepted.proofs.Questions.{SheetQuestion, sheet-named}
 
@@ -29,16 +30,6 @@ accepted-read s {k} {sheet} e = go (readSheet s) refl e
     go : (r : Reading Sheet) → readSheet s ≡ r → askTests r ≡ took k sheet → readSheet s ≡ took k sheet
     go (took a x) d h = d ∙ ask-took 11 (leb (length (sheetTests (x .rules))) mostTests) (took a x) h .1
     go (refused q) d h = let z : _≡_ {A = ℕ} 0 1 = cc in absurd (omega arith)
-
--- A sheet that was accepted, of so many arguments and rules.
-pub record AcceptedAs (s : List ℕ) (arity count : ℕ) : Type 0 where
-  pub bytes : ℕ
-  pub sheet : Sheet
-  pub accepted : acceptSheet s ≡ took bytes sheet
-  pub whole : 3 ≤ length s
-  pub few : arity ≤ 8
-  pub arityIs : sheet .arity ≡ arity
-  pub rulesRead : readRules arity count (drop 3 s) ≡ took (length s - 3) (sheet .rules)
 
 module _ (s : List ℕ) where
   -- A check that accepts says that the sheet is accepted,

@@ -10,13 +10,8 @@ use Rattle.tests.specs.SheetTests.{sheetTests}
 use Rattle.tests.specs.CheckSheet.{acceptSheet}
 use Rattle.tests.specs.TestsRead.{TestsFound, keptTests, testsFound, sheetFound, foundValues}
 use Rattle.tests.proofs.Checking.{values-found}
-use Rattle.accepted.proofs.CheckedSheets.{AcceptedAs, check-accepts, check-refuses}
-
--- A sheet that was accepted, of so many arguments and rules, and whose tests the arrays hold.
-pub record AcceptedTests (s words codes : List ℕ) (arity count pairs : ℕ) : Type 0 where
-  pub read : AcceptedAs s arity count
-  pub countIs : length (read .sheet .rules) ≡ count
-  pub tests : sheetTests (read .sheet .rules) ≡ keptTests words codes pairs
+use Rattle.accepted.specs.AcceptedAs.{AcceptedTests}
+use Rattle.accepted.proofs.CheckedSheets.{check-accepts, check-refuses}
 
 module _ (s words codes : List ℕ) {r : TestsRead} (found : testsFound words codes r ≡ sheetFound (acceptSheet s)) where
   -- Where the tests were read the sheet is accepted, and the tests are its own,

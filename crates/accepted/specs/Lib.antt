@@ -1,1 +1,2 @@
--- This crate has laws alone.
+-- What is known of bytes that were accepted.
+pub mod AcceptedAs

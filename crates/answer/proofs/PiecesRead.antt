@@ -16,15 +16,7 @@ use Rattle.piece.specs.LaidOut.{LaidOut, layOut, pieceCells, pieceRead}
 use Rattle.piece.proofs.Spelled.{piece-spelled}
 use Rattle.cells.specs.CompareCells.{Narrow}
 use Rattle.cells.proofs.LookFinds.{narrow}
-
--- A piece that was read into the cells, of so many arguments.
-pub record ReadAs (p cells : List ℕ) (arity : ℕ) : Type 0 where
-  pub piece : Piece
-  pub read : readPiece p ≡ took (length p) piece
-  pub arityIs : piece .arity ≡ arity
-  pub laid : cells ≡ pieceCells (piece .terms)
-  pub accepted : AcceptedPiece arity (piece .terms)
-  pub few : arity ≤ 8
+use Rattle.answer.specs.AcceptedBytes.{ReadAs}
 
 module _ (p cells : List ℕ) (r : PieceCheck) (told : pieceRead (length p) cells r ≡ mapReading layOut (readPiece p)) where
   -- The reader refused, so the piece is refused.

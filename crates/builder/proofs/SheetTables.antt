@@ -19,7 +19,7 @@ use Rattle.tests.specs.CheckSheet.{acceptSheet}
 use Rattle.tests.specs.TestsRead.{keptTests, Held}
 use Rattle.tests.proofs.Checking.{kept-count, read-counted}
 use Rattle.accepted.proofs.Acceptance.{sheet-accepted}
-use Rattle.accepted.proofs.FoundTests.{AcceptedTests}
+use Rattle.accepted.specs.AcceptedAs.{AcceptedTests}
 use Rattle.decision.specs.Graph.{graphOf}
 use Rattle.edges.specs.Compiled.{Compiled}
 use Rattle.builder.specs.declared.Built.the-variants.{Refused}

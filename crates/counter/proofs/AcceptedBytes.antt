@@ -23,7 +23,7 @@ use Rattle.graph.proofs.AcceptedNodes.{accepted-asked}
 use Rattle.graph.proofs.Spelled.{SpelledGraph, graph-read}
 use Rattle.nodes.proofs.NodesPass.{node-size}
 use Rattle.nodes.proofs.Starts.{start-reads}
-use Rattle.counter.proofs.FoundGraph.{AcceptedGraphAs}
+use Rattle.counter.specs.GraphIndex.{AcceptedGraphAs}
 
 -- Nodes have at most 1,793 bytes each.
 pub nodes-size : (ns : List (Node ℕ)) → All NodeFields ns → length (nodesBytes ns) ≤ 1793 * length ns

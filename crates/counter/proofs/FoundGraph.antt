@@ -6,21 +6,14 @@ use lib.ListN.{length, take}
 use Rattle.records.specs.Reading.{took, refused, mapReading}
 use Rattle.records.proofs.Rows.{took-view, refused-view}
 use Rattle.sheet.specs.Sheet.{Sheet}
-use Rattle.accepted.proofs.FoundTests.{AcceptedTests}
+use Rattle.accepted.specs.AcceptedAs.{AcceptedTests}
 use Rattle.decision.specs.Node.{Node}
 use Rattle.graph.specs.ReadGraph.{isTest, readBy, readGraph}
 use Rattle.nodes.specs.CheckNode.{keptTest, startsFrom}
 use Rattle.counter.specs.declared.GraphCheck.{GraphCheck}
 use Rattle.counter.specs.declared.GraphCheck.the-variants.{Accepted, Refused}
-use Rattle.counter.specs.GraphIndex.{GraphIndex, graphIndex, indexed}
+use Rattle.counter.specs.GraphIndex.{GraphIndex, graphIndex, indexed, AcceptedGraphAs}
 use Rattle.counter.proofs.TestsKept.{kept-reading}
-
--- A graph that was accepted for the sheet: so many nodes, which begin at the starts.
-pub record AcceptedGraphAs (sheet : Sheet) (g starts : List ℕ) (count : ℕ) : Type 0 where
-  pub nodes : List (Node ℕ)
-  pub read : readGraph sheet g ≡ took (length g) nodes
-  pub countIs : length nodes ≡ count
-  pub begin : startsFrom 5 nodes ≡ take count starts
 
 module _
     (s g words codes starts : List ℕ) {arity rules pairs : ℕ} (t : AcceptedTests s words codes arity rules pairs) (r : GraphCheck)

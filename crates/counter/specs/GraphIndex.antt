@@ -1,11 +1,14 @@
 -- A graph's first record and where its nodes begin, where the sheet's arity, its number of rules and its tests are known
 -- (document 01, "Questions at the counter", 21 to 25).
 use Prim.Native.Nat.{ℕ}
+use mathlib.Core.Path.{_≡_}
 use mathlib.Core.Bool.{Bool, true, false}
 use mathlib.Core.List.{List}
 use lib.ListN.{length, take}
 use Rattle.records.specs.Reading.{Reading, took, refused}
+use Rattle.sheet.specs.Sheet.{Sheet}
 use Rattle.decision.specs.Node.{Node}
+use Rattle.graph.specs.ReadGraph.{readGraph}
 use Rattle.nodes.specs.CheckNode.{startsFrom}
 use Rattle.counter.specs.declared.GraphCheck.{GraphCheck}
 use Rattle.counter.specs.declared.GraphCheck.the-variants.{Accepted, Refused}
@@ -28,3 +31,10 @@ graphIndex nodes = record { nodes = length nodes; starts = startsFrom 5 nodes }
 abbrev pub indexed : ℕ → List ℕ → GraphCheck → Reading GraphIndex
 indexed bytes starts (Accepted n) = took bytes (record { nodes = n; starts = take n starts })
 indexed bytes starts (Refused q) = refused q
+
+-- A graph that was accepted for the sheet: so many nodes, which begin at the starts.
+pub record AcceptedGraphAs (sheet : Sheet) (g starts : List ℕ) (count : ℕ) : Type 0 where
+  pub nodes : List (Node ℕ)
+  pub read : readGraph sheet g ≡ took (length g) nodes
+  pub countIs : length nodes ≡ count
+  pub begin : startsFrom 5 nodes ≡ take count starts

@@ -17,21 +17,21 @@ use Rattle.tests.specs.TestedPlaces.{placesIn}
 use Rattle.tests.specs.TestsRead.{keptTests}
 use Rattle.tests.specs.CheckSheet.{acceptSheet}
 use Rattle.accepted.proofs.CheckedSheets.{accepted-read}
-use Rattle.accepted.proofs.FoundTests.{AcceptedTests}
+use Rattle.accepted.specs.AcceptedAs.{AcceptedTests}
 use Rattle.piece.specs.Piece.{Piece}
 use Rattle.piece.specs.ReadPiece.{readPiece}
-use Rattle.answer.proofs.PiecesRead.{ReadAs}
+use Rattle.answer.specs.AcceptedBytes.{ReadAs}
 use Rattle.decision.specs.Walk.{Walk, walk}
 use Rattle.graph.specs.ReadGraph.{readGraph}
 use Rattle.graph.specs.Rewriting.{IsTook, readOr}
 use Rattle.nodes.specs.CheckNode.{keptTest, startsFrom}
-use Rattle.counter.proofs.FoundGraph.{AcceptedGraphAs}
+use Rattle.counter.specs.GraphIndex.{AcceptedGraphAs}
 use Rattle.walk.specs.declared.Walked.{Walked}
 use Rattle.walk.specs.declared.Walked.the-variants.{Answered, Refused}
 use Rattle.walk.specs.TestNumbers.{Once}
 use Rattle.walk.specs.Following.{Index, cellsEnd, nodesAt}
 use Rattle.walk.specs.LeafAnswers.{endWalk}
-use Rattle.walk.specs.Ready.{LeafNode, Ready}
+use Rattle.walk.specs.Ready.{LeafNode, Ready, Checked}
 use Rattle.walk.specs.Walking.{readingOf, graphReply, pieceReply, walkReply, replyValues, walkedValues, walkedReading}
 use Rattle.walk.proofs.Numbers.{sheet-once}
 use Rattle.walk.proofs.Indexing.{nodes-are, nodes-leaves, index-made}
@@ -84,6 +84,15 @@ module _ (s g words codes : List ℕ) {arity count pairs : ℕ} (t : AcceptedTes
   pub graph-refuses : (piece : Piece) {q : ℕ} → readGraph sheet g ≡ refused q → refused q ≡ graphReply sheet g (piece .terms)
   graph-refuses piece e = sym (ap (λ r. andThen r (λ _ ns. readingOf (walk (sheet .rules) ns (piece .terms)))) e)
 
+  -- or accepted for the one sheet that the bytes are,
+  pub checked-graph
+      : (starts : List ℕ) {nodes : ℕ} → Checked s g starts words codes arity count pairs nodes → AcceptedGraphAs sheet g starts nodes
+  checked-graph starts {nodes} checked =
+      let first = checked .sheet .read in
+      let read : took (first .bytes) (first .sheet) ≡ took (t .read .bytes) sheet = sym (first .accepted) ∙ t .read .accepted in
+      let same : first .sheet ≡ sheet = cc in
+      subst (λ (x : Sheet). AcceptedGraphAs x g starts nodes) same (checked .graph)
+
   module _ (s-bytes : All IsByte s) (g-bytes : All IsByte g) (room : pairs ≤ length codes)
       (fewTests : length (placesIn words) + pairs ≤ 64) (starts : List ℕ) {nodes : ℕ} (f : AcceptedGraphAs sheet g starts nodes) where
     sound : SoundSheet sheet
@@ -92,7 +101,7 @@ module _ (s g words codes : List ℕ) {arity count pairs : ℕ} (t : AcceptedTes
     begin : take (length (f .nodes)) starts ≡ startsFrom 5 (f .nodes)
     begin = ap (λ (n : ℕ). take n starts) (f .countIs) ∙ sym (f .begin)
 
-    -- or walked over,
+    -- and walked over,
     pub ready-made : Ready (drop 3 s) g starts words codes arity count pairs nodes
     ready-made = record {
       fewArguments = t .read .few;

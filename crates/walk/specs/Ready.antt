@@ -9,6 +9,8 @@ use Rattle.tests.specs.TestsRead.{keptTests}
 use Rattle.decision.specs.Node.{Node, end, switch, pairNode}
 use Rattle.graph.specs.Rewriting.{IsTook}
 use Rattle.nodes.specs.CheckNode.{keptTest}
+use Rattle.accepted.specs.AcceptedAs.{AcceptedTests}
+use Rattle.counter.specs.GraphIndex.{AcceptedGraphAs}
 use Rattle.walk.specs.TestNumbers.{NearTest, Once}
 use Rattle.walk.specs.Following.{Index, nodesAt}
 use Rattle.walk.specs.LeafAnswers.{LeafIn}
@@ -28,3 +30,9 @@ pub record Ready (s graph starts words codes : List ℕ) (arity count pairs node
   pub once : Once (keptTests words codes pairs)
   pub index : Index graph starts (keptTest words codes pairs) nodes
   pub leaves : All (LeafNode count) (nodesAt graph starts nodes)
+
+-- Questions 1 to 11 and 21 to 25 refuse nothing of the bytes s and g: the sheet is accepted, the arrays hold its tests, and the graph
+-- is accepted for it, with so many nodes, which begin at the starts.
+pub record Checked (s g starts words codes : List ℕ) (arity count pairs nodes : ℕ) : Type 0 where
+  pub sheet : AcceptedTests s words codes arity count pairs
+  pub graph : AcceptedGraphAs (sheet .read .sheet) g starts nodes

@@ -14,13 +14,13 @@ ghost use lib.ListN.{length};
 ghost use Rattle.sheet.specs.ReadSheet.{readRules};
 ghost use Rattle.tests.specs.TestedPlaces.{placesIn};
 ghost use Rattle.tests.specs.TestsRead.{keptTests};
-ghost use Rattle.accepted.proofs.FoundTests.{AcceptedTests};
+ghost use Rattle.accepted.specs.AcceptedAs.{AcceptedTests};
 ghost use Rattle.cells.specs.CompareCells.{Narrow};
-ghost use Rattle.answer.proofs.PiecesRead.{ReadAs};
+ghost use Rattle.answer.specs.AcceptedBytes.{ReadAs};
 ghost use Rattle.graph.specs.Rewriting.{readOr};
 ghost use Rattle.walk.specs.Following.{cellsEnd, nodesAt};
 ghost use Rattle.walk.specs.LeafAnswers.{endWalk};
-ghost use Rattle.walk.specs.Ready.{Ready};
+ghost use Rattle.walk.specs.Ready.{Ready, Checked};
 ghost use Rattle.walk.specs.Walking.{graphReply, pieceReply, walkReply, replyValues, walkedValues, walkedReading};
 
 // Follows the edges of an accepted graph, and answers at the leaf.
@@ -60,6 +60,38 @@ fn walk_nodes(
     }
 }
 
+// The walk of a piece that was read, where questions 21 to 25 refuse nothing of the sheet and the graph: 26 and 27 are asked on the
+// way. Not an answer where an edge leads on after 64, nor another node than the one with the number.
+pub fn walk_checked(
+    sheet: &[u8],
+    graph: &[u8],
+    starts: &[u32; 1024],
+    nodes: u16,
+    arity: u8,
+    count: u8,
+    words: &[u64; 11],
+    codes: &[u32; 65],
+    pairs: usize,
+    cells: &[u32; 680],
+) -> Walked
+    requires { ⌜ (length (now words) ≡ 11) × (length (now codes) ≡ 65) × (length (placesIn (now words)) + pairs ≤ 64) × (length (now starts) ≡ 1024) × Narrow (now cells) ⌝ }
+    requires { ⌜ Checked (now sheet) (now graph) (now starts) (now words) (now codes) arity count pairs nodes ⌝ }
+    ensures { λ r. ⌜ ((t : AcceptedTests (now (sheet .entry)) (now (words .entry)) (now (codes .entry)) arity count pairs) (p : List ℕ) (k : ReadAs p (now (cells .entry)) arity) → walkedReading r ≡ graphReply (t .read .sheet) (now (graph .entry)) (k .piece .terms)) ⌝ }
+{
+    walk_nodes(
+        &sheet[3..],
+        graph,
+        starts,
+        nodes,
+        arity,
+        count,
+        words,
+        codes,
+        pairs,
+        cells,
+    )
+}
+
 // The walk of a piece that was read over a graph, for an accepted sheet: questions 21 to 25, then 26 and 27 on the way.
 fn walk_graph(
     sheet: &[u8],
@@ -80,8 +112,8 @@ fn walk_graph(
     match index {
         GraphCheck::Refused(q) => Walked::Refused(q),
         GraphCheck::Accepted(nodes) => {
-            walk_nodes(
-                &sheet[3..],
+            walk_checked(
+                sheet,
                 graph,
                 &starts,
                 nodes,

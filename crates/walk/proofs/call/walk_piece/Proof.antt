@@ -1,6 +1,7 @@
 -- `walk::call::walk_piece` meets its contract: the piece is refused, or the graph is asked about.
 use Rattle.walk.proofs.Replies.{piece-refuses, arities-differ, piece-accepts}
-use Rattle.answer.proofs.PiecesRead.{ReadAs, reader-refused, reader-accepted, read-narrow}
+use Rattle.answer.specs.AcceptedBytes.{ReadAs}
+use Rattle.answer.proofs.PiecesRead.{reader-refused, reader-accepted, read-narrow}
 use Rattle.records.specs.Fields.{IsByte}
 use lib.ListN.{getD}
 use denote.Ref.{now}
