@@ -1,0 +1,9 @@
+-- The laws of lines, for the proofs of this crate and of those that use it.
+pub mod Digits
+pub mod Wrote
+pub mod LineParts
+pub mod LineSizes
+pub mod ExampleLines
+pub mod LeastPiece
+pub mod PieceLines
+pub mod Progress

@@ -1,0 +1,3 @@
+-- The lines of the listing, and its whole output.
+pub mod Lines
+pub mod Listing

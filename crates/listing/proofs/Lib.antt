@@ -1,0 +1,3 @@
+-- The laws of the listing's turns.
+pub mod Turns
+pub mod Outcomes

@@ -1,0 +1,155 @@
+-- Laws of one turn of the listing: what the reading of a piece and the reply of the walk say of it.
+use Prim.Native.Nat.{ℕ, _+_, _≤_, min}
+use mathlib.Core.Path.{_≡_, refl, sym, ap, _∙_}
+use mathlib.Core.List.{List}
+use native.Mathlib.Omega.{arith}
+use native.Mathlib.Nat.{min-le-left, min-le-right, min-eq-left, min-eq-right}
+use lib.Dec.{leb}
+use lib.ListN.{length, take, drop, length-append}
+use lib.Seq.{length-take-le, take-length, take-all}
+use borrow.Author.Tests.{leb-true, leb-false}
+use mathlib.Core.Bool.{Bool, true, false}
+use Rattle.io.specs.Counts.{Counts}
+use Rattle.records.specs.Reading.{Reading, took, refused}
+use Rattle.records.specs.Writing.{splice}
+use Rattle.terms.specs.Answer.{Answer, commit, execute, suspend, fail, wordOf, ruleOf}
+use Rattle.piece.specs.Piece.{Piece}
+use Rattle.piece.specs.ReadPiece.{readPrefix}
+use Rattle.decision.specs.Walk.{Walk}
+use Rattle.lines.specs.Lines.{pieceLine, refusedLine}
+use Rattle.lines.specs.Listing.{goesOn, ends, replyTurn, pieceTurn, turnOf}
+use Rattle.lines.specs.Listing as listing
+use Rattle.lines.proofs.Wrote.{Wrote}
+use Rattle.listing.specs.declared.Turn.{Turn}
+use Rattle.listing.specs.declared.Turn.the-variants.{More, Last}
+use Rattle.walk.specs.Walking.{walkValues, refusalValues, replyValues}
+use Rattle.listing.specs.Turned.{Turned, turned}
+
+-- An answer is known by its word and its rule.
+same-answer : (a b : Answer) → wordOf a ≡ wordOf b → ruleOf a ≡ ruleOf b → a ≡ b
+same-answer (commit i) (commit j) w r = ap commit r
+same-answer (commit i) (execute j) w r = absurd (omega arith)
+same-answer (commit i) suspend w r = absurd (omega arith)
+same-answer (commit i) fail w r = absurd (omega arith)
+same-answer (execute i) (commit j) w r = absurd (omega arith)
+same-answer (execute i) (execute j) w r = ap execute r
+same-answer (execute i) suspend w r = absurd (omega arith)
+same-answer (execute i) fail w r = absurd (omega arith)
+same-answer suspend (commit j) w r = absurd (omega arith)
+same-answer suspend (execute j) w r = absurd (omega arith)
+same-answer suspend suspend w r = refl
+same-answer suspend fail w r = absurd (omega arith)
+same-answer fail (commit j) w r = absurd (omega arith)
+same-answer fail (execute j) w r = absurd (omega arith)
+same-answer fail suspend w r = absurd (omega arith)
+same-answer fail fail w r = refl
+
+no-word : (a : Answer) → wordOf a ≡ 0 → ⊥
+no-word (commit i) e = omega arith
+no-word (execute i) e = omega arith
+no-word suspend e = omega arith
+no-word fail e = omega arith
+
+same-walk : (v w : Walk) → walkValues v ≡ walkValues w → v ≡ w
+same-walk v w e =
+    let answer = same-answer (v .answer) (w .answer) (ap (λ x. x .word) e) (ap (λ x. x .rule) e) in
+    let edges : v .edges ≡ w .edges = ap (λ x. x .edges) e in
+    let waits : v .waits ≡ w .waits = ap (λ x. x .waits) e in
+    λ i. record { answer = answer i; edges = edges i; waits = waits i }
+
+-- The values that are handed back say what the walk replies.
+pub reply-refused : (x : Reading Walk) (q : ℕ) → refusalValues q ≡ replyValues x → x ≡ refused q
+reply-refused (took a w) q e = absurd (no-word (w .answer) (sym (ap (λ x. x .word) e)))
+reply-refused (refused p) q e = ap refused (sym (ap (λ x. x .refusal) e))
+
+pub reply-answered : (x : Reading Walk) (w : Walk) → walkValues w ≡ replyValues x → (a : ℕ) × (x ≡ took a w)
+reply-answered (took a v) w e = (a, ap (took a) (sym (same-walk w v e)))
+reply-answered (refused p) w e = absurd (no-word (w .answer) (ap (λ x. x .word) e))
+
+module _ (reply : List ℕ → Reading Walk) (number : ℕ) (s : List ℕ) where
+  -- The turn where no piece is read, where its walk is refused, and where it is answered.
+  pub turn-unread : {q : ℕ} → readPrefix s ≡ refused q → turnOf reply number s ≡ ends (refusedLine q)
+  turn-unread e = ap (pieceTurn reply number s) e
+
+  pub turn-refused
+      : {k q : ℕ} {piece : Piece} → readPrefix s ≡ took k piece → reply (take k s) ≡ refused q
+      → turnOf reply number s ≡ ends (refusedLine q)
+  turn-refused {k} e r = ap (pieceTurn reply number s) e ∙ ap (replyTurn number k) r
+
+  pub turn-answered
+      : {k a : ℕ} {piece : Piece} {w : Walk} → readPrefix s ≡ took k piece → reply (take k s) ≡ took a w
+      → turnOf reply number s ≡ goesOn k (pieceLine number (w .answer) (w .edges) (w .waits))
+  turn-answered {k} e r = ap (pieceTurn reply number s) e ∙ ap (replyTurn number k) r
+
+module _ (xs : List ℕ) (at : ℕ) (line : List ℕ) {t : listing.Turn} {end : ℕ} {ys : List ℕ} (w : Wrote xs at line end ys) where
+  pub turned-last : t ≡ ends line → _≡_ {A = Turned} (record { turn = Last end; buffer = ys }) (turned xs at t)
+  turned-last e = (λ i. record { turn = Last (w .0 i); buffer = w .1 i }) ∙ sym (ap (turned xs at) e)
+
+  pub turned-more
+      : {k : ℕ} → t ≡ goesOn k line → _≡_ {A = Turned} (record { turn = More k end; buffer = ys }) (turned xs at t)
+  turned-more {k} e = (λ i. record { turn = More k (w .0 i); buffer = w .1 i }) ∙ sym (ap (turned xs at) e)
+
+-- The turn and the input by other names.
+pub told-as
+    : (reply : List ℕ → Reading Walk) (number : ℕ) (xs : List ℕ) (at : ℕ) {r r' : Turn} {s s' ys : List ℕ} → r ≡ r' → s ≡ s'
+    → _≡_ {A = Turned} (record { turn = r; buffer = ys }) (turned xs at (turnOf reply number s))
+    → _≡_ {A = Turned} (record { turn = r'; buffer = ys }) (turned xs at (turnOf reply number s'))
+told-as reply number xs at {ys = ys} e f g =
+    sym (ap (λ (t : Turn). record { turn = t; buffer = ys }) e)
+    ∙ g
+    ∙ ap (λ (l : List ℕ). turned xs at (turnOf reply number l)) f
+
+-- What is handed back says which turn it was, and what was written.
+pub told-last
+    : (xs : List ℕ) (at : ℕ) (t : listing.Turn) {end : ℕ} {ys : List ℕ}
+    → _≡_ {A = Turned} (record { turn = Last end; buffer = ys }) (turned xs at t)
+    → (line : List ℕ) × (t ≡ ends line) × Wrote xs at line end ys
+told-last xs at (ends line) {end} {ys} e =
+    let turn : Last end ≡ Last (at + length line) = ap (λ x. x .turn) e in
+    let where-ended : end ≡ at + length line = cc in
+    (line, refl, (where-ended, ap (λ x. x .buffer) e))
+told-last xs at (goesOn k line) {end} {ys} e =
+    let turn : Last end ≡ More k (at + length line) = ap (λ x. x .turn) e in
+    let z : _≡_ {A = ℕ} 0 1 = cc in absurd (omega arith)
+
+pub told-more
+    : (xs : List ℕ) (at : ℕ) (t : listing.Turn) {k end : ℕ} {ys : List ℕ}
+    → _≡_ {A = Turned} (record { turn = More k end; buffer = ys }) (turned xs at t)
+    → (line : List ℕ) × (t ≡ goesOn k line) × Wrote xs at line end ys
+told-more xs at (goesOn j line) {k} {end} {ys} e =
+    let turn : More k end ≡ More j (at + length line) = ap (λ x. x .turn) e in
+    let bytes : j ≡ k = cc in
+    let where-ended : end ≡ at + length line = cc in
+    (line, ap (λ (i : ℕ). goesOn i line) bytes, (where-ended, ap (λ x. x .buffer) e))
+told-more xs at (ends line) {k} {end} e =
+    let turn : More k end ≡ Last (at + length line) = ap (λ x. x .turn) e in
+    let z : _≡_ {A = ℕ} 0 1 = cc in absurd (omega arith)
+
+-- What is written at a buffer's start.
+pub from-start
+    : (xs line : List ℕ) {end : ℕ} {ys : List ℕ} → Wrote xs 0 line end ys → (end ≡ length line) × (ys ≡ splice xs 0 line)
+from-start xs line w = (omega (arith, w .0), w .1)
+
+-- An input that is cut: as many bytes as there are, at most so many.
+pub cut-length : (s : List ℕ) (most : ℕ) {k : ℕ} → k ≡ min (length s) most → k ≡ length (take k s)
+cut-length s most {k} e = sym (length-take-le k s (omega (arith, e, min-le-left (length s) most)))
+
+pub cut-take : (s : List ℕ) (most : ℕ) {k : ℕ} → k ≡ min (length s) most → take k s ≡ take most s
+cut-take s most {k} e = by (leb (length s) most) refl
+  where
+    by : (t : Bool) → leb (length s) most ≡ t → take k s ≡ take most s
+    by true h =
+        let all : length s ≤ most = leb-true (length s) most h in
+        ap (λ (j : ℕ). take j s) (e ∙ min-eq-left all) ∙ take-length s ∙ sym (take-all most s all)
+    by false h = ap (λ (j : ℕ). take j s) (e ∙ min-eq-right (omega (arith, leb-false (length s) most h)))
+
+pub cut-most : (s : List ℕ) (most : ℕ) {k : ℕ} → k ≡ min (length s) most → length (take k s) ≤ most
+cut-most s most e = omega (arith, e, cut-length s most e, min-le-right (length s) most)
+
+-- What was written at a buffer's start is in the buffer.
+pub counted
+    : (xs line : List ℕ) {end : ℕ} {ys : List ℕ} → (end ≡ length line) × (ys ≡ splice xs 0 line) → Counts end ys
+counted xs line {end} {ys} w =
+    let inside : end ≤ length ys =
+    omega (arith, w .0, ap length (w .1), length-append line (drop (0 + length line) xs)) in
+    (inside, sym (length-take-le end ys inside))

@@ -1,0 +1,12 @@
+-- `whole::output` meets its contract.
+use Prim.Native.Nat.{ℕ}
+use mathlib.Core.Path.{sym}
+use lib.ListN.{length-replicate}
+use Rattle.listing.proofs.whole.output.Statement.{statement}
+use Rattle.listing.proofs.whole.output.Tie as tie
+
+returns : tie.Need-returns
+returns c = sym (length-replicate {A = ℕ} 1048576 0)
+
+pub output-spec : {M : Type 1} → statement M
+output-spec = tie.close (tie.spec returns)

@@ -1,0 +1,142 @@
+-- `whole::put_pieces` meets its contract: in each turn what was printed so far stands in the buffer.
+use Prim.Native.Nat.{_+_, _-_, _*_, _≤_}
+use mathlib.Core.Path.{_≡_, refl, subst}
+use native.Mathlib.Omega.{arith}
+use lib.ListN.{length, drop}
+use denote.Ref.{now}
+use borrow.Author.Needs.{needs}
+use Rattle.records.proofs.Parts.{rest, rest-length}
+use Rattle.lines.specs.Listing.{turnOf}
+use Rattle.lines.proofs.Progress.{Progress, at-start, at-end, at-refusal, at-piece}
+use Rattle.walk.specs.Walking.{walkReply}
+use Rattle.listing.specs.Turned.{Within}
+use Rattle.listing.proofs.Turns.{told-as, told-last, told-more}
+use Rattle.listing.proofs.whole.put_pieces.Statement.{statement}
+use Rattle.listing.proofs.whole.put_pieces.Tie as tie
+
+abbrev Inv-loop : tie.InvT-loop
+Inv-loop sheet graph input out₀ at from₀ number₀ end₀ out from number end =
+    (from ≤ length input)
+    × (1 ≤ number)
+    × (3 * number ≤ from + 3)
+    × (end + 44 ≤ at + 44 * number)
+    × (length out ≡ length out₀)
+    × Progress (walkReply sheet graph) input out₀ at from number end out
+
+abbrev μ-loop : tie.MeasureT-loop
+μ-loop sheet graph input out₀ at from₀ number₀ end₀ out from number end = length input - from
+
+-- A piece has three bytes or more, all of them there, and its line 44 or less.
+inside
+    : (c : tie.After-known-told2 Inv-loop μ-loop)
+    → (3 ≤ c .before .turn2 .given .0 .0)
+    × (c .before .before .before .before .before .before .before .before .before .loop .from + c .before .turn2 .given .0 .0 ≤ length (now (c .before .before .before .before .before .before .before .before .before .before .before .before .before .before .args .input)))
+    × (c .before .turn2 .given .0 .1 .0 ≤ c .before .before .before .before .before .before .before .before .before .loop .end + 44)
+inside c =
+    let loop = c .before .before .before .before .before .before .before .before .before .loop in
+    let more = c .before .before .before .before .before .before .before .before .loop-test .taken in
+    let within = subst (Within _ (loop .end)) (c .before .turn2 .given .1) (c .before .before .before .before .before .put-piece .ensures .1) in
+    (within .0, omega (arith, within .1, rest-length (now (c .before .before .before .before .before .before .before .before .before .before .before .before .before .before .args .input)) (loop .from)), within .2)
+
+loop-holds : tie.Need-loop-holds Inv-loop μ-loop
+loop-holds c =
+    let a = c .before .before .before .before .args in (
+      omega arith,
+      omega arith,
+      omega arith,
+      omega arith,
+      refl,
+      at-start (walkReply (now (a .sheet)) (now (a .graph))) (now (a .input)) (now (a .out)) (a .at),
+    )
+
+sub-put-piece : tie.Need-sub-put-piece Inv-loop μ-loop
+sub-put-piece c = search needs
+
+part-put-piece-start : tie.Need-part-put-piece-start Inv-loop μ-loop
+part-put-piece-start c = search needs
+
+part-put-piece-end : tie.Need-part-put-piece-end Inv-loop μ-loop
+part-put-piece-end c = search needs
+
+put-piece-requires : tie.Need-put-piece-requires Inv-loop μ-loop
+put-piece-requires c κs = search needs
+
+enum-known-turn : tie.Need-enum-known-turn Inv-loop μ-loop
+enum-known-turn c = search needs
+
+same-length : tie.Need-same-length Inv-loop μ-loop
+same-length c = search needs
+
+returns : tie.Need-returns Inv-loop μ-loop
+returns c =
+    let a = c .before .before .before .before .before .before .before .before .before .before .before .before .before .before .args in
+    let loop = c .before .before .before .before .before .before .before .before .before .loop in
+    let call = c .before .before .before .before .before .put-piece in
+    let reply = walkReply (now (a .sheet)) (now (a .graph)) in
+    let more = c .before .before .before .before .before .before .before .before .loop-test .taken in
+    let inside = subst (Within _ (loop .end)) (c .before .turn .given .1) (call .ensures .1) in
+    let (line, is, wrote) =
+    told-last (loop .out) (loop .end) (turnOf reply (loop .number) (drop (loop .from) (now (a .input))))
+    (told-as reply (loop .number) (loop .out) (loop .end) (c .before .turn .given .1) (rest (now (a .input)) (loop .from)) (call .ensures .0)) in
+    at-refusal reply (now (a .input)) (now (a .out)) (a .at) (loop .inv .5) (omega arith) more line (omega arith) wrote is
+
+enum-known-turn-2 : tie.Need-enum-known-turn-2 Inv-loop μ-loop
+enum-known-turn-2 c = search needs
+
+add-from : tie.Need-add-from Inv-loop μ-loop
+add-from c = omega (arith, inside c .1)
+
+add-number : tie.Need-add-number Inv-loop μ-loop
+add-number c = search needs
+
+loop-less : tie.Need-loop-less Inv-loop μ-loop
+loop-less c = omega (arith, inside c .0, inside c .1)
+
+loop-again : tie.Need-loop-again Inv-loop μ-loop
+loop-again c =
+    let a = c .before .before .before .before .before .before .before .before .before .before .before .before .before .before .args in
+    let loop = c .before .before .before .before .before .before .before .before .before .loop in
+    let call = c .before .before .before .before .before .put-piece in
+    let reply = walkReply (now (a .sheet)) (now (a .graph)) in
+    let more = c .before .before .before .before .before .before .before .before .loop-test .taken in
+    let (line, is, wrote) =
+    told-more (loop .out) (loop .end) (turnOf reply (loop .number) (drop (loop .from) (now (a .input))))
+    (told-as reply (loop .number) (loop .out) (loop .end) (c .before .turn2 .given .1) (rest (now (a .input)) (loop .from)) (call .ensures .0)) in (
+      inside c .1,
+      omega arith,
+      omega (arith, inside c .0),
+      omega (arith, inside c .2),
+      search needs,
+      at-piece reply (now (a .input)) (now (a .out)) (a .at) (loop .inv .5) (omega arith) more line (omega (arith, inside c .2)) wrote is,
+    )
+
+same-length-2 : tie.Need-same-length-2 Inv-loop μ-loop
+same-length-2 c = search needs
+
+returns-2 : tie.Need-returns-2 Inv-loop μ-loop
+returns-2 c =
+    let a = c .before .before .before .before .before .before .args in
+    let loop = c .before .loop in
+    at-end (walkReply (now (a .sheet)) (now (a .graph))) (now (a .input)) (now (a .out)) (a .at) (loop .inv .5) (c .loop-test .left)
+
+pub put-pieces-spec : {M : Type 1} → statement M
+put-pieces-spec =
+    tie.close
+    (tie.spec
+    Inv-loop
+    μ-loop
+    loop-holds
+    sub-put-piece
+    part-put-piece-start
+    part-put-piece-end
+    put-piece-requires
+    enum-known-turn
+    same-length
+    returns
+    enum-known-turn-2
+    add-from
+    add-number
+    loop-less
+    loop-again
+    same-length-2
+    returns-2)

@@ -1,0 +1,123 @@
+// The whole output for given bytes of sheet and input.
+use crate::Turn;
+use builder::Built;
+use piece::Prefix;
+use tests::SheetCheck;
+use walk::Walked;
+ghost use Prim.Native.Nat.{_+_, _≤_, min};
+ghost use mathlib.Core.Path.{_≡_};
+ghost use lib.ListN.{length};
+ghost use Rattle.io.specs.Counts.{Counts};
+ghost use Rattle.records.specs.Writing.{splice};
+ghost use Rattle.lines.specs.Listing.{turnOf, listingBytes, mostBytes};
+ghost use Rattle.walk.specs.Walking.{walkReply};
+ghost use Rattle.listing.specs.Turned.{turned, Within, pieceOutput, builtOutput};
+
+// The line of the piece that the input begins with, at a position. Not a line for a piece whose walk is refused, nor a refusal that
+// lets the run go on.
+fn put_piece(
+    sheet: &[u8],
+    graph: &[u8],
+    input: &[u8],
+    number: u32,
+    out: &mut [u8],
+    at: usize,
+) -> Turn
+    requires { ⌜ at + 44 ≤ length (now out) ⌝ }
+    ensures { λ r. ⌜ record { turn = r; buffer = now (out .exit) } ≡ turned (now (out .entry)) at (turnOf (walkReply (now (sheet .entry)) (now (graph .entry))) number (now (input .entry))) ⌝ }
+    ensures { λ r. ⌜ Within (length (now (input .entry))) at r ⌝ }
+{
+    let mut cells = [0u32; 680];
+    let prefix = piece::read_prefix(input, &mut cells);
+    match prefix {
+        Prefix::Refused(q) => Turn::Last(lines::put_refused(out, at, q)),
+        Prefix::Read(_, bytes) => {
+            let walked = walk::call::walk(sheet, graph, &input[..bytes]);
+            match walked {
+                Walked::Refused(q) => Turn::Last(lines::put_refused(out, at, q)),
+                Walked::Answered(w) => {
+                    let answer = w.answer;
+                    let end = lines::put_piece_line(out, at, number, answer, w.edges, w.waits);
+                    Turn::More(bytes, end)
+                }
+            }
+        }
+    }
+}
+
+// The lines of the pieces that the input holds, from a position on, and the position behind them. Not those of the first piece
+// alone, nor a line after a refusal.
+fn put_pieces(sheet: &[u8], graph: &[u8], input: &[u8], out: &mut [u8], at: usize) -> usize
+    requires { ⌜ (length (now input) ≤ 65536) × (at + 961224 ≤ length (now out)) ⌝ }
+    ensures { λ r. ⌜ (r ≡ at + length (pieceOutput (now (sheet .entry)) (now (graph .entry)) (now (input .entry)))) × (now (out .exit) ≡ splice (now (out .entry)) at (pieceOutput (now (sheet .entry)) (now (graph .entry)) (now (input .entry)))) ⌝ }
+{
+    let mut from: usize = 0;
+    let mut number: u32 = 1;
+    let mut end = at;
+    while from < input.len() {
+        let turn = put_piece(sheet, graph, &input[from..], number, out, end);
+        match turn {
+            Turn::Last(last) => return last,
+            Turn::More(bytes, next) => {
+                from += bytes;
+                number += 1;
+                end = next;
+            }
+        }
+    }
+    end
+}
+
+// The lines after a build of so many nodes that refused nothing.
+fn put_built(sheet: &[u8], graph: &[u8], nodes: u16, input: &[u8], out: &mut [u8]) -> usize
+    requires { ⌜ (length (now input) ≤ 65536) × (961248 ≤ length (now out)) ⌝ }
+    ensures { λ r. ⌜ (r ≡ length (builtOutput (now (sheet .entry)) (now (graph .entry)) nodes (now (input .entry)))) × (now (out .exit) ≡ splice (now (out .entry)) 0 (builtOutput (now (sheet .entry)) (now (graph .entry)) nodes (now (input .entry)))) ⌝ }
+{
+    let checked = tests::check_sheet(sheet);
+    match checked {
+        SheetCheck::Refused(q) => lines::put_refused(out, 0, q),
+        SheetCheck::Accepted(arity, rules, tests) => {
+            let at = lines::put_sheet_line(out, 0, arity, rules, tests, nodes);
+            put_pieces(sheet, graph, input, out, at)
+        }
+    }
+}
+
+// How many of so many bytes are read.
+fn cut(bytes: usize) -> usize
+    ensures { λ r. ⌜ r ≡ min bytes mostBytes ⌝ }
+{
+    if bytes < 65536 { bytes } else { 65536 }
+}
+
+// Room for the whole output: 21,845 pieces of three bytes or more, each with a line of 44 bytes or less.
+pub fn output() -> [u8; 1048576]
+    ensures { λ r. ⌜ 1048576 ≡ length r ⌝ }
+{
+    [0; 1048576]
+}
+
+// The whole output, and its length. Not the lines of a sheet whose graph does not fit, nor a line after a refusal.
+pub fn listing(sheet: &[u8], input: &[u8], out: &mut [u8]) -> usize
+    requires { ⌜ 1048576 ≤ length (now out) ⌝ }
+    ensures { λ r. ⌜ (r ≡ length (listingBytes walkReply (now (sheet .entry)) (now (input .entry)))) × (now (out .exit) ≡ splice (now (out .entry)) 0 (listingBytes walkReply (now (sheet .entry)) (now (input .entry)))) ⌝ }
+    ensures { λ r. ⌜ Counts r (now (out .exit)) ⌝ }
+{
+    let sheet_end = cut(sheet.len());
+    let input_end = cut(input.len());
+    let mut graph = [0u8; 65536];
+    let built = builder::build(&sheet[..sheet_end], &mut graph);
+    match built {
+        Built::Refused(q) => lines::put_refused(out, 0, q),
+        Built::Written(nodes, bytes) => {
+            let graph_end = bytes as usize;
+            put_built(
+                &sheet[..sheet_end],
+                &graph[..graph_end],
+                nodes,
+                &input[..input_end],
+                out,
+            )
+        }
+    }
+}
