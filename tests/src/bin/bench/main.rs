@@ -1,9 +1,11 @@
 //! Times the library against the reference, call by call in the same run, and prints a table.
 //!
-//! `cargo run --release --bin bench`. A ratio above 1 says that the library is slower.
+//! `cargo run --release --bin bench`, after `rt staticlib board` and `rt check listing`. A ratio above 1 says that the library
+//! is slower.
 
 mod cases;
 mod graphs;
+mod listing;
 mod timing;
 
 use cases::Case;
@@ -38,8 +40,12 @@ fn rows(Case { name, sheet, piece }: &Case) {
 }
 
 fn main() {
+    if std::env::args().nth(1).as_deref() == Some(listing::WORD) {
+        return listing::print();
+    }
     println!("| case | call | result | library, µs | reference, µs | ratio |");
     println!("|---|---|---|---|---|---|");
     cases::all().iter().for_each(rows);
     cases::for_graphs().iter().for_each(graphs::rows);
+    cases::for_graphs().iter().for_each(listing::rows);
 }
