@@ -1,5 +1,6 @@
 //! What a walk promises, tried on random pieces: on a built graph its answer is the plain answer, it
-//! is never refused, and a suspended piece stays suspended while its listed tests are not known.
+//! is never refused, a piece filled in further keeps what was answered, and a suspended piece stays
+//! suspended while its listed tests are not known.
 
 use voltunnis_tests::both::walk;
 use voltunnis_tests::generate::graphs::foreign;
@@ -91,6 +92,43 @@ fn a_walk_on_a_built_graph_gives_the_plain_answer() {
     }
     println!("by word {words:?}");
     assert!(words[1..].iter().all(|count| *count >= 300));
+}
+
+/// Whether an answer keeps what the one for the same piece with less filled in promised.
+fn keeps(before: Plain, after: Plain) -> bool {
+    match before.word {
+        Word::Commit | Word::Fail => after == before,
+        Word::Execute => {
+            after.word == Word::Fail || (after.word != Word::Suspend && after.rule == before.rule)
+        }
+        Word::Suspend => true,
+    }
+}
+
+#[test]
+fn a_piece_filled_in_further_keeps_the_promise() {
+    let mut random = Random::new(0x6b65_6570);
+    let mut changed = [0; 5];
+    for _ in 0..6_000 {
+        let Some(made) = made(&mut random) else { continue };
+        let Ok(nodes) = reference::build::nodes(&made.sheet) else { continue };
+        let graph = made.graph(&nodes);
+        let Some(piece) = made.piece(&mut random) else { continue };
+        let answer = |piece: &[Term]| {
+            let walked = walk(&made.bytes, &graph, &piece_bytes(piece)).expect("an answer").walk;
+            Plain { word: walked.word, rule: walked.rule }
+        };
+        let before = answer(&piece);
+        for _ in 0..4 {
+            let chance = random.pick(&[20, 50, 100]);
+            let further = filled_in(&mut random, &piece, 1, chance);
+            let after = answer(&further);
+            assert!(keeps(before, after), "{before:?}, then {after:?}");
+            changed[before.word as usize] += usize::from(further != piece);
+        }
+    }
+    println!("filled in further, by the word before {changed:?}");
+    assert!(changed[1..].iter().all(|count| *count >= 200), "{changed:?}");
 }
 
 /// A built graph or another maker's.

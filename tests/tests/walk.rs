@@ -159,29 +159,48 @@ fn a_built_graph_may_take_64_edges() {
     assert_eq!(answer.to_string(), "suspend 0 64 8000000000000000");
 }
 
+/// How often walks were refused by each question, and answered by each word.
+#[derive(Default)]
+struct Seen {
+    refusals: [usize; 28],
+    words: [usize; 5],
+}
+
+impl Seen {
+    /// Walks a piece of the sheet over the graph; now and then piece or sheet is damaged.
+    fn walk(&mut self, random: &mut Random, tree: &SheetTree, graph: &[u8]) {
+        let mut bytes = tree.bytes();
+        let mut piece = piece_bytes(&piece(random, tree, Stock::FULL));
+        if random.percent(3) {
+            piece = damaged(random, &piece);
+        } else if random.percent(2) {
+            bytes = damaged(random, &bytes);
+        }
+        match walk(&bytes, graph, &piece) {
+            Ok(answer) => self.words[answer.walk.word as usize] += 1,
+            Err(refusal) => self.refusals[usize::from(refusal)] += 1,
+        }
+    }
+}
+
 #[test]
 fn library_and_reference_agree_on_random_walks() {
     let mut random = Random::new(0x7761_6c6b);
-    let (mut refusals, mut words) = ([0; 28], [0; 5]);
+    let mut seen = Seen::default();
     for _ in 0..30_000 {
         let tree = if random.percent(3) { crowded(&mut random) } else { sheet(&mut random) };
-        let mut bytes = tree.bytes();
-        let Ok(sheet) = Sheet::read(&bytes) else {
+        let Ok(sheet) = Sheet::read(&tree.bytes()) else {
             continue;
         };
         let graph = graph(&mut random, &sheet);
-        let mut piece = piece_bytes(&piece(&mut random, &tree, Stock::FULL));
-        if random.percent(3) {
-            piece = damaged(&mut random, &piece);
-        } else if random.percent(2) {
-            bytes = damaged(&mut random, &bytes);
-        }
-        match walk(&bytes, &graph, &piece) {
-            Ok(answer) => words[answer.walk.word as usize] += 1,
-            Err(refusal) => refusals[usize::from(refusal)] += 1,
+        for _ in 0..5 {
+            seen.walk(&mut random, &tree, &graph);
         }
     }
-    println!("by refusal {refusals:?}, by word {words:?}");
+    let Seen { refusals, words } = seen;
+    let walks = refusals.iter().sum::<usize>() + words.iter().sum::<usize>();
+    println!("{walks} walks, by refusal {refusals:?}, by word {words:?}");
+    assert!(walks >= 100_000, "{walks} walks");
     for (refusal, calls) in refusals.iter().enumerate().skip(20) {
         assert!(*calls >= 50, "{refusal}: {calls} calls");
     }

@@ -1,4 +1,4 @@
-//! The calls that build, check, write again and walk the graph of a case, as far as the library has them.
+//! The calls that build, check, write again and walk the graph of a case.
 
 use crate::cases::Case;
 use crate::timing::against;
@@ -17,16 +17,13 @@ pub fn rows(case: &Case) {
         Ok(Built { nodes, bytes }) => format!("{nodes} nodes, {bytes} bytes"),
         Err(_) => outcome(&built),
     };
-    #[cfg(feature = "build")]
     build_row(case, &size);
     let Ok(built) = built else { return };
     buffer.truncate(built.bytes as usize);
     written_rows(case, &buffer, &size);
-    #[cfg(feature = "walk")]
     walk_row(case, &buffer, &size);
 }
 
-#[cfg(feature = "build")]
 fn build_row(Case { name, sheet, .. }: &Case, size: &str) {
     let (one, two) = (&mut vec![0; ENOUGH], &mut vec![0; ENOUGH]);
     let times = against(|| voltunnis::build(sheet, one), || reference::build(sheet, two));
@@ -41,7 +38,6 @@ fn written_rows(Case { name, sheet, .. }: &Case, graph: &[u8], size: &str) {
     row(name, "vt_rewrite", size, times);
 }
 
-#[cfg(feature = "walk")]
 fn walk_row(Case { name, sheet, piece }: &Case, graph: &[u8], size: &str) {
     let walked = reference::walk(sheet, graph, piece);
     let times = against(|| voltunnis::walk(sheet, graph, piece), || reference::walk(sheet, graph, piece));
