@@ -11,7 +11,7 @@ use voltunnis_tests::generate::pieces::piece;
 use voltunnis_tests::generate::random::Random;
 use voltunnis_tests::generate::sheets::sheet;
 use voltunnis_tests::generate::stock::Stock;
-use voltunnis_tests::generate::trees::{piece_bytes, Pattern, SheetTree};
+use voltunnis_tests::generate::trees::{piece_bytes, Pattern, SheetTree, Term};
 use voltunnis_tests::reference::listing::listing;
 use voltunnis_tests::vectors;
 
@@ -111,6 +111,27 @@ fn inputs_are_cut_after_65536_bytes() {
     }
     let long = SheetTree { arity: 8, rules: vec![vec![full(1); 8]; 32] }.bytes();
     assert_eq!(lines(&folder, &long, &[]), "refused 4\n");
+}
+
+#[test]
+fn a_piece_may_take_64_edges() {
+    fn tree(depth: usize) -> Pattern {
+        match depth {
+            4 => Pattern::Anything,
+            _ => Pattern::Compound(1, vec![tree(depth + 1); 4]),
+        }
+    }
+    fn open(depth: usize) -> Term {
+        match depth {
+            4 => Term::Unknown,
+            _ => Term::Compound(1, vec![open(depth + 1); 4]),
+        }
+    }
+    let rule = vec![tree(1), tree(1), tree(1), Pattern::Symbol(1)];
+    let sheet = SheetTree { arity: 4, rules: vec![rule; 2] }.bytes();
+    let piece = piece_bytes(&[open(1), open(1), open(1), Term::Unknown]);
+    let lines = lines(&folder("edges"), &sheet, &piece);
+    assert!(lines.ends_with("\n1 suspend 0 64 8000000000000000\n"), "{lines}");
 }
 
 #[test]
