@@ -6,7 +6,6 @@ use lib.ListN.{length}
 use Rattle.records.specs.Reading.{refused}
 use Rattle.tests.specs.declared.TestsRead.{TestsRead}
 use Rattle.tests.specs.declared.TestsRead.the-variants.{Accepted, Refused}
-use Rattle.tests.specs.SheetTests.{sheetTests}
 use Rattle.tests.specs.CheckSheet.{acceptSheet}
 use Rattle.tests.specs.TestsRead.{TestsFound, keptTests, testsFound, sheetFound, foundValues}
 use Rattle.tests.proofs.Checking.{values-found}

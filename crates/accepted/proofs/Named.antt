@@ -3,7 +3,7 @@ use Prim.Native.Nat.{ℕ, zero, suc, _≤_}
 use mathlib.Core.Bool.{Bool, true, false}
 use mathlib.Core.List.{List}
 use lib.ListN.{drop}
-use Rattle.records.specs.Reading.{Reading, took, refused, ask, after, mapReading, andThen, readRow}
+use Rattle.records.specs.Reading.{Reading, took, refused, ask, after, andThen, readRow}
 
 -- The number is one of those from the first to the last.
 abbrev pub Between : ℕ → ℕ → ℕ → Type 0

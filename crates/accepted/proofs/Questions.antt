@@ -13,7 +13,7 @@ use Rattle.sheet.specs.declared.PatternRecord.the-variants.{Anything, Symbol, R
 use Rattle.sheet.specs.declared.PatternHead.{PatternHead}
 use Rattle.sheet.specs.declared.PatternHead.the-variants.{Whole, Refused}
 use Rattle.sheet.specs.PatternRecord.{wholeIf, isKind, patternHead}
-use Rattle.sheet.specs.Sheet.{Sheet, SheetHead, mostRules}
+use Rattle.sheet.specs.Sheet.{SheetHead, mostRules}
 use Rattle.sheet.specs.ReadSheet.{onRecord, onHead, readPattern, readPatterns, rangesMeet, readRule, endSheet, readHeader, readRules, readSheet}
 use Rattle.tests.specs.SheetTests.{sheetTests}
 use Rattle.tests.specs.CheckSheet.{mostTests, acceptSheet}

@@ -1,12 +1,12 @@
 -- What a build that is not refused wrote: the graph of an accepted sheet.
 use Prim.Native.Nat.{ℕ, _≤_}
-use mathlib.Core.Path.{_≡_, refl, sym, ap, _∙_}
+use mathlib.Core.Path.{_≡_, refl, ap, _∙_}
 use mathlib.Core.Bool.{Bool, true, false}
-use mathlib.Core.List.{List, _++_}
+use mathlib.Core.List.{List}
 use mathlib.Core.Option.{Option, some, none}
 use native.Mathlib.Omega.{arith}
 use lib.Dec.{leb}
-use lib.ListN.{length, drop}
+use lib.ListN.{length}
 use borrow.Author.Tests.{leb-true, le-leb}
 use Rattle.records.specs.Reading.{Reading, took, refused}
 use Rattle.sheet.specs.Sheet.{Sheet}
@@ -16,7 +16,7 @@ use Rattle.decision.specs.Graph.{graphOf}
 use Rattle.decision.specs.GraphBytes.{graphBytes}
 use Rattle.accepted.proofs.Named.{Named}
 use Rattle.accepted.proofs.Questions.{SheetQuestion, sheet-named}
-use Rattle.builder.specs.BuildOutcome.{BuildOutcome, notBuilt, writtenIf, nodesWritten, graphWritten, sheetBuilt, buildOutcome}
+use Rattle.builder.specs.BuildOutcome.{writtenIf, graphWritten, sheetBuilt, buildOutcome}
 
 -- The bytes of a sheet's graph.
 abbrev pub bytesOf : Sheet → List (Node ℕ) → List ℕ

@@ -1,17 +1,13 @@
 -- Demand 1, over bytes: "Any bytes handed in as sheet, piece or graph get an answer or the refusal number that document 01 names. A
 -- refusal changes no byte of a lent buffer. Every walk ends within 64 edges."
-use Prim.Native.Nat.{ℕ, zero, suc, pred, _≤_}
-use mathlib.Core.Path.{_≡_, refl, sym, ap, subst, _∙_}
-use mathlib.Core.Bool.{Bool, true, false}
+use Prim.Native.Nat.{ℕ}
+use mathlib.Core.Path.{_≡_, refl}
 use mathlib.Core.Logic.{_⊎_, inl, inr}
-use mathlib.Core.List.{List, [], _∷_}
-use mathlib.Core.Option.{Option, some, none}
+use mathlib.Core.List.{List}
 use native.Mathlib.Omega.{arith}
-use lib.Dec.{leb, eqb}
-use lib.ListN.{length}
-use Rattle.records.specs.Reading.{Reading, took, refused, ask, andThen, mapReading}
+use lib.Dec.{eqb}
+use Rattle.records.specs.Reading.{Reading, took, refused, ask}
 use Rattle.terms.specs.Term.{Terms}
-use Rattle.terms.specs.Pattern.{Patterns}
 use Rattle.terms.specs.Answer.{Answer, plainAnswer}
 use Rattle.sheet.specs.Sheet.{Sheet}
 use Rattle.tests.specs.CheckSheet.{acceptSheet, sheetValues}
@@ -19,22 +15,17 @@ use Rattle.piece.specs.Piece.{Piece}
 use Rattle.piece.specs.ReadPiece.{readPiece}
 use Rattle.piece.specs.LaidOut.{checkedPiece}
 use Rattle.answer.specs.Plain.{pieceReading, plainReading, readingValues}
-use Rattle.decision.specs.Key.{Leaf, fail, suspend, execute}
 use Rattle.decision.specs.Node.{Node}
-use Rattle.decision.specs.Graph.{graphOf}
-use Rattle.decision.specs.GraphBytes.{graphBytes}
-use Rattle.decision.specs.Path.{Path, ends, refusedAt, Step, stop, goTo, noWay, through, nodeAt, stepAt, lastStep, nextStep, pathFrom, mostEdges, path}
-use Rattle.decision.specs.Walk.{Walk, Reply, answered, atLeaf, atEnd, walk}
+use Rattle.decision.specs.Path.{ends}
+use Rattle.decision.specs.Walk.{Walk, Reply, answered, walk}
 use Rattle.decision.specs.Walk as reply
 use Rattle.graph.specs.ReadGraph.{readGraph}
 use Rattle.counter.specs.CheckGraph.{graphReading, graphValues}
-use Rattle.counter.specs.Rewritten.{Result, bytesReading, askFits, resultOf, rewritten}
-use Rattle.builder.specs.BuildOutcome.{BuildOutcome, notBuilt, writtenIf, graphWritten, sheetBuilt, buildOutcome}
 use Rattle.walk.specs.Walking.{readingOf, graphReply, pieceReply, walkReply, replyValues}
 use Rattle.accepted.proofs.Named.{Between, Named, ask-named, then-named, named-wider}
 use Rattle.accepted.proofs.Questions.{SheetQuestion, sheet-named}
 use Rattle.promises.proofs.PieceQuestions.{PieceQuestion, piece-named}
-use Rattle.promises.proofs.GraphQuestions.{GraphQuestion, PathQuestion, ReplyNamed, graph-named, walk-named}
+use Rattle.promises.proofs.GraphQuestions.{GraphQuestion, ReplyNamed, graph-named, walk-named}
 
 -- A call answers, with 0 for the refusal's number, or refuses with a number that document 01 names for it.
 abbrev pub AnswersOr : (ℕ → Type 0) → ℕ → Type 0

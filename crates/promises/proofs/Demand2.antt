@@ -4,9 +4,7 @@ use Prim.Native.Nat.{ℕ, _+_, _≤_}
 use mathlib.Core.Path.{_≡_, refl, sym, ap, subst, _∙_}
 use mathlib.Core.Bool.{Bool}
 use mathlib.Core.List.{List}
-use mathlib.Core.Option.{some}
 use native.Mathlib.Omega.{arith}
-use lib.Dec.{leb}
 use lib.ListN.{length, take, drop}
 use lib.Seq.{take-append-seam}
 use borrow.Author.Tests.{le-leb}
@@ -18,14 +16,14 @@ use Rattle.sheet.specs.Sheet.{Sheet}
 use Rattle.tests.specs.CheckSheet.{acceptSheet, AcceptedSheet}
 use Rattle.accepted.proofs.Acceptance.{sheet-accepted}
 use Rattle.decision.specs.Node.{Node}
-use Rattle.decision.specs.Graph.{graphOf, lowestFirst}
+use Rattle.decision.specs.Graph.{lowestFirst}
 use Rattle.decision.specs.GraphBytes.{graphBytes}
 use Rattle.decision.specs.AcceptedGraph.{AcceptedGraph}
 use Rattle.decision.proofs.BuiltGraph.{built-graph-accepted}
 use Rattle.graph.specs.ReadGraph.{readGraph}
-use Rattle.graph.proofs.Spelled.{SpelledGraph, graph-brought, graph-read}
+use Rattle.graph.proofs.Spelled.{graph-brought, graph-read}
 use Rattle.counter.specs.CheckGraph.{graphReading}
-use Rattle.counter.specs.Rewritten.{Result, resultOf, askFits, bytesReading, rewritten}
+use Rattle.counter.specs.Rewritten.{resultOf, askFits, rewritten}
 use Rattle.builder.specs.BuildOutcome.{BuildOutcome, buildOutcome}
 use Rattle.builder.proofs.BuiltBytes.{Building, bytesOf, built-outcome, outcome-built}
 use Rattle.promises.specs.BuiltGraph.{BuiltGraph}

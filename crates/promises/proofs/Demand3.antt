@@ -2,7 +2,7 @@
 -- missing, the walk answers and never refuses, and its answer is commit i, execute i, fail or suspend exactly when the sentence over
 -- fillings says so; for every accepted piece filled in further the same graph keeps what it promised.
 use Prim.Native.Nat.{ℕ, pred, _≤_}
-use mathlib.Core.Path.{_≡_, refl, sym, ap, subst, _∙_}
+use mathlib.Core.Path.{_≡_, refl, sym, ap, _∙_}
 use mathlib.Core.Bool.{Bool}
 use mathlib.Core.List.{List}
 use native.Mathlib.Omega.{arith}

@@ -1,7 +1,7 @@
 -- "Every walk ends within 64 edges", whatever bytes it is handed.
 use Prim.Native.Nat.{ℕ, zero, suc, pred, _≤_}
 use mathlib.Core.Path.{_≡_, refl, ap}
-use mathlib.Core.List.{List, [], _∷_}
+use mathlib.Core.List.{List}
 use native.Mathlib.Omega.{arith}
 use lib.Dec.{eqb}
 use lib.ListN.{length}

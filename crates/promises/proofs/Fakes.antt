@@ -4,7 +4,7 @@ use mathlib.Core.Path.{_≡_, refl, sym, ap, _∙_}
 use mathlib.Core.List.{List, [], _∷_}
 use mathlib.Core.Option.{Option, some, none}
 use native.Mathlib.Omega.{arith}
-use lib.ListN.{length, replicate, getD}
+use lib.ListN.{replicate, getD}
 use Rattle.masks.specs.Mask.{has, maskOf, members, listFrom, anyBelow}
 use Rattle.records.specs.Reading.{Reading, took, readRow}
 use Rattle.terms.specs.Answer.{wordOf, execute}
@@ -13,7 +13,7 @@ use Rattle.sheet.specs.Sheet.{Sheet}
 use Rattle.sheet.specs.ReadSheet.{readPattern, allBelow, readHeader, readSheet}
 use Rattle.tests.specs.CheckSheet.{acceptSheet}
 use Rattle.decision.specs.Key.{fail}
-use Rattle.decision.specs.Node.{Node, end}
+use Rattle.decision.specs.Node.{end}
 use Rattle.decision.specs.Graph.{graphOf}
 use Rattle.decision.specs.Walk.{Walk}
 use Rattle.decision.proofs.MarkedWalks.{walkedIf}

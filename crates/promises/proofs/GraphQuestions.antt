@@ -1,6 +1,6 @@
 -- A graph is refused by one of its own questions, 21 to 25, and a walk over its nodes by 26 or 27.
 use Prim.Native.Nat.{ℕ, zero, suc, _-_}
-use mathlib.Core.Bool.{Bool, true, false, _&&_}
+use mathlib.Core.Bool.{Bool, true, false}
 use mathlib.Core.List.{List, [], _∷_}
 use native.Mathlib.Omega.{arith}
 use lib.Dec.{leb, eqb}
@@ -15,7 +15,7 @@ use Rattle.decision.specs.Node.{Node, CaseEdge, switch}
 use Rattle.decision.specs.Path.{Path, ends, refusedAt, Step, stop, goTo, noWay, through, nodeAt, stepAt, lastStep, nextStep, pathFrom, mostEdges, path}
 use Rattle.decision.specs.Walk.{Reply, answered, atEnd, walk}
 use Rattle.decision.specs.Walk as reply
-use Rattle.graph.specs.declared.Leaf.the-variants.{Fail, Suspend, Execute}
+use Rattle.graph.specs.declared.Leaf.the-variants.{Execute}
 use Rattle.graph.specs.declared.NodeRecord.{NodeRecord}
 use Rattle.graph.specs.declared.NodeRecord.the-variants.{End, Switch, Pair}
 use Rattle.graph.specs.declared.CaseRecord.{CaseRecord}

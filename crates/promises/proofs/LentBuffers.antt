@@ -9,7 +9,7 @@ use mathlib.Core.Option.{Option, some, none}
 use native.Mathlib.Omega.{arith}
 use lib.Dec.{leb}
 use lib.ListN.{length}
-use Rattle.records.specs.Reading.{Reading, took, refused, ask, andThen, mapReading}
+use Rattle.records.specs.Reading.{Reading, took, refused, andThen, mapReading}
 use Rattle.sheet.specs.Sheet.{Sheet}
 use Rattle.tests.specs.CheckSheet.{acceptSheet}
 use Rattle.decision.specs.Node.{Node}
@@ -21,7 +21,7 @@ use Rattle.builder.specs.BuildOutcome.{BuildOutcome, writtenIf, graphWritten, s
 use Rattle.accepted.proofs.Named.{Named, ask-named, then-named, named-wider}
 use Rattle.accepted.proofs.Questions.{SheetQuestion, sheet-named}
 use Rattle.promises.proofs.GraphQuestions.{GraphQuestion, graph-named}
-use Rattle.promises.proofs.Demand1.{AnswersOr, BuildQuestion, RewriteQuestion}
+use Rattle.promises.proofs.Demand1.{BuildQuestion, RewriteQuestion}
 
 -- Of a build: it answers, or it refuses with a number named for it and the buffer is as it was.
 abbrev pub BuildEnds : List ℕ → BuildOutcome → Type 0

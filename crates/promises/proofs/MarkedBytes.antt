@@ -1,15 +1,15 @@
 -- The cases that document 01 marks (M), through bytes: one list, and one theorem for the list.
 use Prim.Native.Nat.{ℕ}
 use mathlib.Core.Path.{_≡_, refl, sym, ap, _∙_}
-use mathlib.Core.Bool.{Bool, true, false, _&&_}
+use mathlib.Core.Bool.{Bool, true, _&&_}
 use mathlib.Core.List.{List, [], _∷_}
-use mathlib.Core.Option.{Option, some, none}
+use mathlib.Core.Option.{some}
 use lib.Dec.{T, ltb, ltb→lt}
 use Rattle.records.specs.Fields.{IsByte}
 use Rattle.records.specs.Reading.{took, readRow}
 use Rattle.terms.specs.Lists.{All}
 use Rattle.terms.proofs.Booleans.{both-true}
-use Rattle.terms.specs.Marked.{Walked, MarkedCase, markedCases}
+use Rattle.terms.specs.Marked.{MarkedCase, markedCases}
 use Rattle.sheet.specs.Sheet.{Sheet}
 use Rattle.sheet.specs.WriteSheet.{sheetBytes}
 use Rattle.sheet.specs.ReadSheet.{readPattern, allBelow, readHeader, readSheet}
@@ -18,7 +18,6 @@ use Rattle.piece.specs.Piece.{Piece}
 use Rattle.piece.specs.WritePiece.{pieceBytes}
 use Rattle.piece.specs.ReadPiece.{readTerm, readPrefix, readPiece}
 use Rattle.answer.specs.AcceptedBytes.{AcceptedBytes}
-use Rattle.decision.specs.Node.{Node}
 use Rattle.decision.specs.Graph.{graphOf}
 use Rattle.decision.specs.Walk.{Walk, walk}
 use Rattle.decision.proofs.MarkedWalks.{Told, walkedIf, toldBy, walkIn, AsMarked, marked-walks}

@@ -14,7 +14,7 @@ use Rattle.piece.specs.declared.TermHead.{TermHead}
 use Rattle.piece.specs.declared.TermHead.the-variants.{Whole, Refused}
 use Rattle.piece.specs.TermRecord.{wholeIf, isKind, termHead}
 use Rattle.piece.specs.Piece.{Piece}
-use Rattle.piece.specs.ReadPiece.{onRecord, onHead, readTerm, readTerms, readArity, readPrefix, readPiece}
+use Rattle.piece.specs.ReadPiece.{onHead, readTerm, readTerms, readArity, readPrefix, readPiece}
 use Rattle.accepted.proofs.Named.{Between, Named, ask-named, then-named, after-named, row-named}
 
 -- The questions of a piece.
