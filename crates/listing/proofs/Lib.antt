@@ -1,3 +1,4 @@
--- The laws of the listing's turns.
+-- The laws of the listing: one turn of it, the walk of a piece, and the whole output.
 pub mod Turns
+pub mod Walks
 pub mod Outcomes

@@ -1,28 +1,36 @@
 -- What the answer of a build says of the whole output.
-use Prim.Native.Nat.{ℕ, _≤_, min}
-use mathlib.Core.Path.{_≡_, refl, sym, ap, _∙_}
+use Prim.Native.Nat.{ℕ, zero, suc, _≤_, min}
+use mathlib.Core.Path.{_≡_, sym, ap, _∙_}
 use mathlib.Core.Bool.{Bool, true, false}
-use mathlib.Core.List.{List, _++_}
+use mathlib.Core.List.{List, [], _∷_, _++_}
 use mathlib.Core.Option.{Option, some, none}
 use native.Mathlib.Omega.{arith}
 use lib.Dec.{leb}
 use lib.ListN.{length, take}
 use lib.Seq.{take-at}
-use borrow.Author.Tests.{leb-true}
+use borrow.Author.Tests.{le-leb}
+use Rattle.records.specs.Fields.{IsByte}
 use Rattle.records.specs.Reading.{Reading, took, refused}
+use Rattle.terms.specs.Lists.{All}
 use Rattle.sheet.specs.Sheet.{Sheet}
 use Rattle.tests.specs.CheckSheet.{acceptSheet, SheetValues, checkValues, sheetValues}
 use Rattle.tests.specs.declared.SheetCheck.the-variants as check
+use Rattle.accepted.proofs.Acceptance.{sheet-accepted}
 use Rattle.accepted.proofs.CheckedSheets.{check-accepts, check-refuses}
 use Rattle.decision.specs.Node.{Node}
-use Rattle.decision.specs.Graph.{graphOf}
+use Rattle.decision.specs.Graph.{lowestFirst, graphOf}
 use Rattle.decision.specs.GraphBytes.{graphBytes}
 use Rattle.decision.specs.Walk.{Walk}
+use Rattle.decision.proofs.BuiltGraph.{built-graph-accepted}
+use Rattle.counter.specs.CheckGraph.{graphReading}
+use Rattle.counter.proofs.GraphBytes.{written-brought}
 use Rattle.lines.specs.Lines.{sheetLine, refusedLine}
 use Rattle.lines.specs.Listing.{pieceLines, mostBytes, fittedLines, graphLines, sheetLines, listed, listingBytes}
 use Rattle.builder.specs.declared.Built.{Built}
 use Rattle.builder.specs.declared.Built.the-variants.{Written, Refused}
 use Rattle.builder.specs.BuildOutcome.{BuildOutcome, builtValues, writtenIf, graphWritten, sheetBuilt, buildOutcome}
+use Rattle.builder.proofs.BuiltBytes.{Building, bytesOf, built-outcome, outcome-built}
+use Rattle.listing.specs.Known.{GraphFor}
 use Rattle.listing.specs.Turned.{linesAfter}
 use Rattle.listing.proofs.Turns.{cut-take}
 
@@ -78,47 +86,63 @@ module _ (walk : List ℕ → List ℕ → List ℕ → Reading Walk) (s input b
     unfolding buildOutcome listed
     built-refused e = sym (refused-sheet (acceptSheet s) e)
 
-  module _ {n b : ℕ} {g : List ℕ} where
-    written-fit
-        : (sheet : Sheet) (nodes : List (Node ℕ)) (k : ℕ) (t : Bool) → fits sheet nodes ≡ t
-        → outcome (Written n b) g
-        ≡ writtenIf t (length nodes) (graphBytes (sheet .arity) (length (sheet .rules)) nodes) buf
-        → (linesAfter (walk s (take b g)) n input (took k sheet) ≡ fittedLines walk s input sheet nodes t) × (b ≤ length buf)
-    written-fit sheet nodes k true h e =
-        let many : n ≡ length nodes = ap (λ (x : BuildOutcome). x .values .nodes) e in
-        let long : b ≡ length (graphBytes (sheet .arity) (length (sheet .rules)) nodes) = ap (λ (x : BuildOutcome). x .values .bytes) e in
-        let graph : take b g ≡ graphBytes (sheet .arity) (length (sheet .rules)) nodes =
-        ap (take b) (ap (λ (x : BuildOutcome). x .buffer) e)
-        ∙ take-at (graphBytes (sheet .arity) (length (sheet .rules)) nodes) _ b (sym long) in (
-          (λ i. linesAfter (walk s (graph i)) (many i) input (took k sheet)),
-          omega (arith, leb-true (length (graphBytes (sheet .arity) (length (sheet .rules)) nodes)) mostBytes h, long, size),
-        )
-    written-fit sheet nodes k false h e = absurd (omega (arith, ap (λ (x : BuildOutcome). x .values .refusal) e))
+-- A build that is not refused leaves the graph of its sheet at the front of its buffer:
+module _ (s buf : List ℕ) {n b : ℕ} {g : List ℕ} (e : outcome (Written n b) g ≡ buildOutcome s buf) where
+  made : Building s buf
+  made = outcome-built s buf (sym (ap (λ (x : BuildOutcome). x .values .refusal) e))
 
-    written-graph
-        : (sheet : Sheet) (k : ℕ) (x : Option (List (Node ℕ)))
-        → outcome (Written n b) g ≡ graphWritten (sheet .arity) (length (sheet .rules)) x buf
-        → (linesAfter (walk s (take b g)) n input (took k sheet) ≡ graphLines walk s input sheet x) × (b ≤ length buf)
-    written-graph sheet k none e = absurd (omega (arith, ap (λ (x : BuildOutcome). x .values .refusal) e))
-    written-graph sheet k (some nodes) e =
-        written-fit sheet nodes k (fits sheet nodes) refl
-        (e ∙ ap (λ (m : ℕ). writtenIf (leb (length (graphBytes (sheet .arity) (length (sheet .rules)) nodes)) m) (length nodes)
-        (graphBytes (sheet .arity) (length (sheet .rules)) nodes) buf) size)
+  abbrev sheet : Sheet
+  sheet = made .sheet
 
-    written-sheet
-        : (r : Reading Sheet) → outcome (Written n b) g ≡ sheetBuilt r buf
-        → (linesAfter (walk s (take b g)) n input r ≡ sheetLines walk s input r) × (b ≤ length buf)
-    written-sheet (took k sheet) e = written-graph sheet k (graphOf (sheet .rules)) e
-    written-sheet (refused p) e = (refl, omega (arith, ap (λ (x : BuildOutcome). x .values .bytes) e))
+  abbrev nodes : List (Node ℕ)
+  nodes = made .nodes
 
-    -- A build that is not refused leaves the graph at the front of its buffer, and the lines after it are the output.
-    pub built-written
-        : outcome (Written n b) g ≡ buildOutcome s buf
-        → (linesAfter (walk s (take b g)) n input (acceptSheet s) ≡ listed walk s input) × (b ≤ length buf)
-    unfolding buildOutcome listed
-    built-written e = written-sheet (acceptSheet s) e
+  is : outcome (Written n b) g ≡ writtenIf true (length nodes) (bytesOf sheet nodes) buf
+  is = e ∙ built-outcome s buf made
+
+  many : n ≡ length nodes
+  many = ap (λ (x : BuildOutcome). x .values .nodes) is
+
+  long : b ≡ length (bytesOf sheet nodes)
+  long = ap (λ (x : BuildOutcome). x .values .bytes) is
+
+  graph : take b g ≡ bytesOf sheet nodes
+  graph = ap (take b) (ap (λ (x : BuildOutcome). x .buffer) is) ∙ take-at (bytesOf sheet nodes) _ b (sym long)
+
+  -- it fits, and the lines after the build are the output;
+  pub built-written
+      : (walk : List ℕ → List ℕ → List ℕ → Reading Walk) (input : List ℕ) → length buf ≡ mostBytes
+      → (linesAfter (walk s (take b g)) n input (acceptSheet s) ≡ listed walk s input) × (b ≤ length buf)
+  unfolding listed
+  built-written walk input size =
+      let fits = le-leb (length (bytesOf sheet nodes)) mostBytes (omega (arith, made .fits, size)) in (
+        ap (linesAfter (walk s (take b g)) n input) (made .accepted)
+            ∙ (λ i. linesAfter (walk s (graph i)) (many i) input (took (made .taken) sheet))
+            ∙ sym (ap (fittedLines walk s input sheet nodes) fits)
+            ∙ sym (ap (graphLines walk s input sheet) (made .graph))
+            ∙ sym (ap (sheetLines walk s input) (made .accepted)),
+        omega (arith, made .fits, long),
+      )
+
+  -- and the check accepts it for the sheet.
+  pub built-accepted : All IsByte s → GraphFor s (take b g) n
+  built-accepted areBytes =
+      let (ok, same, all) = sheet-accepted s areBytes (made .taken) sheet .0 (made .accepted) in
+      let accepted = built-graph-accepted sheet ok (lowestFirst (sheet .rules)) nodes (made .graph) in
+      record {
+        nodes = nodes;
+        read =
+            (λ i. graphReading (sym same i) (graph i)) ∙ written-brought sheet ok nodes accepted
+            ∙ ap (λ (l : List ℕ). took (length l) nodes) (sym graph);
+        countIs = sym many;
+      }
 
 -- Inputs that are cut.
+pub bytes-take : (k : ℕ) (s : List ℕ) → All IsByte s → All IsByte (take k s)
+bytes-take zero s h = tt
+bytes-take (suc k) [] h = tt
+bytes-take (suc k) (b ∷ s) h = (h .0, bytes-take k s (h .1))
+
 pub cut-both
     : (walk : List ℕ → List ℕ → List ℕ → Reading Walk) (s input : List ℕ) {j k : ℕ} → j ≡ min (length s) mostBytes
     → k ≡ min (length input) mostBytes → listed walk (take j s) (take k input) ≡ listingBytes walk s input

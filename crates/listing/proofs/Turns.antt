@@ -12,7 +12,6 @@ use mathlib.Core.Bool.{Bool, true, false}
 use Rattle.io.specs.Counts.{Counts}
 use Rattle.records.specs.Reading.{Reading, took, refused}
 use Rattle.records.specs.Writing.{splice}
-use Rattle.terms.specs.Answer.{Answer, commit, execute, suspend, fail, wordOf, ruleOf}
 use Rattle.piece.specs.Piece.{Piece}
 use Rattle.piece.specs.ReadPiece.{readPrefix}
 use Rattle.decision.specs.Walk.{Walk}
@@ -22,49 +21,7 @@ use Rattle.lines.specs.Listing as listing
 use Rattle.lines.proofs.Wrote.{Wrote}
 use Rattle.listing.specs.declared.Turn.{Turn}
 use Rattle.listing.specs.declared.Turn.the-variants.{More, Last}
-use Rattle.walk.specs.Walking.{walkValues, refusalValues, replyValues}
 use Rattle.listing.specs.Turned.{Turned, turned}
-
--- An answer is known by its word and its rule.
-same-answer : (a b : Answer) → wordOf a ≡ wordOf b → ruleOf a ≡ ruleOf b → a ≡ b
-same-answer (commit i) (commit j) w r = ap commit r
-same-answer (commit i) (execute j) w r = absurd (omega arith)
-same-answer (commit i) suspend w r = absurd (omega arith)
-same-answer (commit i) fail w r = absurd (omega arith)
-same-answer (execute i) (commit j) w r = absurd (omega arith)
-same-answer (execute i) (execute j) w r = ap execute r
-same-answer (execute i) suspend w r = absurd (omega arith)
-same-answer (execute i) fail w r = absurd (omega arith)
-same-answer suspend (commit j) w r = absurd (omega arith)
-same-answer suspend (execute j) w r = absurd (omega arith)
-same-answer suspend suspend w r = refl
-same-answer suspend fail w r = absurd (omega arith)
-same-answer fail (commit j) w r = absurd (omega arith)
-same-answer fail (execute j) w r = absurd (omega arith)
-same-answer fail suspend w r = absurd (omega arith)
-same-answer fail fail w r = refl
-
-no-word : (a : Answer) → wordOf a ≡ 0 → ⊥
-no-word (commit i) e = omega arith
-no-word (execute i) e = omega arith
-no-word suspend e = omega arith
-no-word fail e = omega arith
-
-same-walk : (v w : Walk) → walkValues v ≡ walkValues w → v ≡ w
-same-walk v w e =
-    let answer = same-answer (v .answer) (w .answer) (ap (λ x. x .word) e) (ap (λ x. x .rule) e) in
-    let edges : v .edges ≡ w .edges = ap (λ x. x .edges) e in
-    let waits : v .waits ≡ w .waits = ap (λ x. x .waits) e in
-    λ i. record { answer = answer i; edges = edges i; waits = waits i }
-
--- The values that are handed back say what the walk replies.
-pub reply-refused : (x : Reading Walk) (q : ℕ) → refusalValues q ≡ replyValues x → x ≡ refused q
-reply-refused (took a w) q e = absurd (no-word (w .answer) (sym (ap (λ x. x .word) e)))
-reply-refused (refused p) q e = ap refused (sym (ap (λ x. x .refusal) e))
-
-pub reply-answered : (x : Reading Walk) (w : Walk) → walkValues w ≡ replyValues x → (a : ℕ) × (x ≡ took a w)
-reply-answered (took a v) w e = (a, ap (took a) (sym (same-walk w v e)))
-reply-answered (refused p) w e = absurd (no-word (w .answer) (ap (λ x. x .word) e))
 
 module _ (reply : List ℕ → Reading Walk) (number : ℕ) (s : List ℕ) where
   -- The turn where no piece is read, where its walk is refused, and where it is answered.

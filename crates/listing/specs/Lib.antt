@@ -1,2 +1,3 @@
--- What the program writes.
+-- What the program writes, and what it knows of a sheet and a graph.
 pub mod Turned
+pub mod Known

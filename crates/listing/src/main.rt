@@ -9,6 +9,14 @@ pub enum Turn {
     Last(usize),
 }
 
+// What was read once of a sheet and a graph: arity, rules, pairs among the tests, and nodes.
+pub struct Sizes {
+    pub arity: u8,
+    pub rules: u8,
+    pub pairs: usize,
+    pub nodes: u16,
+}
+
 // The bytes of sheet.bin, none where it is missing or cannot be read.
 fn read_sheet(buf: &mut [u8]) -> usize
     ensures { λ r. ⌜ Counts r (now (buf .exit)) ⌝ }

@@ -1,28 +1,74 @@
-// The whole output for given bytes of sheet and input.
+// The whole output for given bytes of sheet and input: the sheet and its graph are read and checked once, then each piece is.
+use crate::Sizes;
 use crate::Turn;
 use builder::Built;
+use counter::GraphCheck;
+use counter::index_graph;
 use piece::Prefix;
-use tests::SheetCheck;
+use tests::TestsRead;
 use walk::Walked;
-ghost use Prim.Native.Nat.{_+_, _≤_, min};
+use walk::call::walk_checked;
+ghost use Prim.Native.Nat.{ℕ, _+_, _≤_, min};
 ghost use mathlib.Core.Path.{_≡_};
+ghost use mathlib.Core.List.{List};
 ghost use lib.ListN.{length};
 ghost use Rattle.io.specs.Counts.{Counts};
 ghost use Rattle.records.specs.Writing.{splice};
+ghost use Rattle.cells.specs.CompareCells.{Narrow};
+ghost use Rattle.answer.specs.AcceptedBytes.{ReadAs};
 ghost use Rattle.lines.specs.Listing.{turnOf, listingBytes, mostBytes};
-ghost use Rattle.walk.specs.Walking.{walkReply};
+ghost use Rattle.walk.specs.Walking.{walkReply, walkedReading};
+ghost use Rattle.listing.specs.Known.{Known, GraphFor};
 ghost use Rattle.listing.specs.Turned.{turned, Within, pieceOutput, builtOutput};
+
+// The walk of a piece of so many arguments that was read into the cells: question 20, then over the graph. Not 20 for a piece of
+// the sheet's arity, nor a walk of a piece of another.
+fn walk_read(
+    sheet: &[u8],
+    graph: &[u8],
+    starts: &[u32; 1024],
+    words: &[u64; 11],
+    codes: &[u32; 65],
+    sizes: Sizes,
+    arity: u8,
+    cells: &[u32; 680],
+) -> Walked
+    requires { ⌜ Known (now sheet) (now graph) (now starts) (now words) (now codes) sizes ⌝ }
+    requires { ⌜ Narrow (now cells) ⌝ }
+    ensures { λ r. ⌜ ((p : List ℕ) → ReadAs p (now (cells .entry)) arity → walkedReading r ≡ walkReply (now (sheet .entry)) (now (graph .entry)) p) ⌝ }
+{
+    if arity != sizes.arity {
+        return Walked::Refused(20);
+    }
+    walk_checked(
+        sheet,
+        graph,
+        starts,
+        sizes.nodes,
+        sizes.arity,
+        sizes.rules,
+        words,
+        codes,
+        sizes.pairs,
+        cells,
+    )
+}
 
 // The line of the piece that the input begins with, at a position. Not a line for a piece whose walk is refused, nor a refusal that
 // lets the run go on.
 fn put_piece(
     sheet: &[u8],
     graph: &[u8],
+    starts: &[u32; 1024],
+    words: &[u64; 11],
+    codes: &[u32; 65],
+    sizes: Sizes,
     input: &[u8],
     number: u32,
     out: &mut [u8],
     at: usize,
 ) -> Turn
+    requires { ⌜ Known (now sheet) (now graph) (now starts) (now words) (now codes) sizes ⌝ }
     requires { ⌜ at + 44 ≤ length (now out) ⌝ }
     ensures { λ r. ⌜ record { turn = r; buffer = now (out .exit) } ≡ turned (now (out .entry)) at (turnOf (walkReply (now (sheet .entry)) (now (graph .entry))) number (now (input .entry))) ⌝ }
     ensures { λ r. ⌜ Within (length (now (input .entry))) at r ⌝ }
@@ -31,8 +77,8 @@ fn put_piece(
     let prefix = piece::read_prefix(input, &mut cells);
     match prefix {
         Prefix::Refused(q) => Turn::Last(lines::put_refused(out, at, q)),
-        Prefix::Read(_, bytes) => {
-            let walked = walk::call::walk(sheet, graph, &input[..bytes]);
+        Prefix::Read(arity, bytes) => {
+            let walked = walk_read(sheet, graph, starts, words, codes, sizes, arity, &cells);
             match walked {
                 Walked::Refused(q) => Turn::Last(lines::put_refused(out, at, q)),
                 Walked::Answered(w) => {
@@ -45,22 +91,34 @@ fn put_piece(
     }
 }
 
-// The lines of the pieces that the input holds, from a position on, and the position behind them. Not those of the first piece
-// alone, nor a line after a refusal.
-fn put_pieces(sheet: &[u8], graph: &[u8], input: &[u8], out: &mut [u8], at: usize) -> usize
+// The lines of the pieces that the input holds, from a position on, and the position behind them; the next piece has number n. Not
+// the line of the first piece alone, nor a line after a refusal.
+fn put_pieces(
+    sheet: &[u8],
+    graph: &[u8],
+    starts: &[u32; 1024],
+    words: &[u64; 11],
+    codes: &[u32; 65],
+    sizes: Sizes,
+    input: &[u8],
+    out: &mut [u8],
+    at: usize,
+) -> usize
+    requires { ⌜ Known (now sheet) (now graph) (now starts) (now words) (now codes) sizes ⌝ }
     requires { ⌜ (length (now input) ≤ 65536) × (at + 961224 ≤ length (now out)) ⌝ }
     ensures { λ r. ⌜ (r ≡ at + length (pieceOutput (now (sheet .entry)) (now (graph .entry)) (now (input .entry)))) × (now (out .exit) ≡ splice (now (out .entry)) at (pieceOutput (now (sheet .entry)) (now (graph .entry)) (now (input .entry)))) ⌝ }
 {
     let mut from: usize = 0;
-    let mut number: u32 = 1;
+    let mut n: u32 = 1;
     let mut end = at;
     while from < input.len() {
-        let turn = put_piece(sheet, graph, &input[from..], number, out, end);
+        let rest = &input[from..];
+        let turn = put_piece(sheet, graph, starts, words, codes, sizes, rest, n, out, end);
         match turn {
             Turn::Last(last) => return last,
             Turn::More(bytes, next) => {
                 from += bytes;
-                number += 1;
+                n += 1;
                 end = next;
             }
         }
@@ -68,17 +126,35 @@ fn put_pieces(sheet: &[u8], graph: &[u8], input: &[u8], out: &mut [u8], at: usiz
     end
 }
 
-// The lines after a build of so many nodes that refused nothing.
+// The lines after a build of so many nodes that refused nothing. Not the places alone counted as the sheet's tests, nor its line
+// without those of the pieces.
 fn put_built(sheet: &[u8], graph: &[u8], nodes: u16, input: &[u8], out: &mut [u8]) -> usize
+    requires { ⌜ GraphFor (now sheet) (now graph) nodes ⌝ }
     requires { ⌜ (length (now input) ≤ 65536) × (961248 ≤ length (now out)) ⌝ }
     ensures { λ r. ⌜ (r ≡ length (builtOutput (now (sheet .entry)) (now (graph .entry)) nodes (now (input .entry)))) × (now (out .exit) ≡ splice (now (out .entry)) 0 (builtOutput (now (sheet .entry)) (now (graph .entry)) nodes (now (input .entry)))) ⌝ }
 {
-    let checked = tests::check_sheet(sheet);
-    match checked {
-        SheetCheck::Refused(q) => lines::put_refused(out, 0, q),
-        SheetCheck::Accepted(arity, rules, tests) => {
-            let at = lines::put_sheet_line(out, 0, arity, rules, tests, nodes);
-            put_pieces(sheet, graph, input, out, at)
+    let mut words = [0u64; 11];
+    let mut codes = [0u32; 65];
+    let read = tests::read_tests(sheet, &mut words, &mut codes);
+    match read {
+        TestsRead::Refused(q) => lines::put_refused(out, 0, q),
+        TestsRead::Accepted(arity, rules, places, pairs) => {
+            let mut starts = [0u32; 1024];
+            let index = index_graph(graph, &words, &codes, pairs, arity, rules, &mut starts);
+            match index {
+                GraphCheck::Refused(q) => lines::put_refused(out, 0, q),
+                GraphCheck::Accepted(_) => {
+                    let tests = (places + pairs) as u8;
+                    let at = lines::put_sheet_line(out, 0, arity, rules, tests, nodes);
+                    let sizes = Sizes {
+                        arity,
+                        rules,
+                        pairs,
+                        nodes,
+                    };
+                    put_pieces(sheet, graph, &starts, &words, &codes, sizes, input, out, at)
+                }
+            }
         }
     }
 }

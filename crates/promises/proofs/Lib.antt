@@ -7,6 +7,7 @@ pub mod LentBuffers
 pub mod EdgeCount
 pub mod Demand2
 pub mod Demand3
+pub mod Unchecked
 pub mod Waiting
 pub mod MarkedBytes
 pub mod Example

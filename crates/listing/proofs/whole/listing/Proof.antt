@@ -7,13 +7,19 @@ use lib.ListN.{length, take, replicate, length-replicate}
 use lib.Seq.{length-take-le}
 use denote.Ref.{now}
 use borrow.Author.Needs.{needs}
+use Rattle.records.specs.Fields.{IsByte}
 use Rattle.records.specs.Writing.{splice}
+use Rattle.terms.specs.Lists.{All}
 use Rattle.lines.specs.Listing.{mostBytes, listed, listingBytes}
 use Rattle.lines.proofs.Wrote.{wrote-as}
 use Rattle.walk.specs.Walking.{walkReply}
+use Rattle.graph.proofs.FieldBytes.{bytes-all}
+use Rattle.builder.specs.declared.Built.the-variants.{Written}
+use Rattle.builder.specs.BuildOutcome.{buildOutcome}
 use Rattle.listing.specs.Turned.{builtOutput}
+use Rattle.listing.specs.Known.{GraphFor}
 use Rattle.listing.proofs.Turns.{from-start, counted, cut-length, cut-most}
-use Rattle.listing.proofs.Outcomes.{outcome, built-refused, built-written, cut-both}
+use Rattle.listing.proofs.Outcomes.{outcome, built-refused, built-written, built-accepted, bytes-take, cut-both}
 use Rattle.listing.proofs.whole.listing.Statement.{statement}
 use Rattle.listing.proofs.whole.listing.Tie as tie
 
@@ -44,10 +50,20 @@ module _ (c : tie.After-known-told2) where
   abbrev graph : List ℕ
   graph = build-place .build .last .1 .0
 
+  is-built : outcome (Written nodes bytes) graph ≡ buildOutcome sheet emptyGraph
+  is-built = sym (ap (λ r. outcome r graph) (c .before .built2 .given .1)) ∙ build-place .build .ensures
+
   told : (builtOutput sheet (take bytes graph) nodes input ≡ listed walkReply sheet input) × (bytes ≤ length emptyGraph)
-  told =
-      built-written walkReply sheet input emptyGraph (length-replicate {A = ℕ} mostBytes 0)
-      (sym (ap (λ r. outcome r graph) (c .before .built2 .given .1)) ∙ build-place .build .ensures)
+  told = built-written sheet emptyGraph is-built walkReply input (length-replicate {A = ℕ} mostBytes 0)
+
+  areBytes : All IsByte sheet
+  areBytes =
+      let whole = now (start .args .sheet) in
+      let known = build-place .before .before .before .before .before .before .before .shared-slice-known in
+      bytes-take (build-place .before .before .before .before .cut .result) whole (bytes-all whole (λ i. omega (arith, known .given i)))
+
+  accepted : GraphFor sheet (take bytes graph) nodes
+  accepted = built-accepted sheet emptyGraph is-built areBytes
 
   after-build : builtOutput sheet (take bytes graph) nodes input ≡ listed walkReply sheet input
   after-build = told .0
@@ -104,7 +120,7 @@ put-built-requires : tie.Need-put-built-requires
 put-built-requires c κs =
     let known = c .before .before .before .before in
     let cut-place = c .before .before .before .before .before .before .before .before .before .before .before in
-    (cut-most (now (start known .args .input)) mostBytes (cut-place .cut2 .ensures), omega (arith, start known .pre))
+    (accepted known, (cut-most (now (start known .args .input)) mostBytes (cut-place .cut2 .ensures), omega (arith, start known .pre)))
 
 same-length : tie.Need-same-length
 same-length c = search needs

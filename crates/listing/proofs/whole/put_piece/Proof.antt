@@ -1,42 +1,43 @@
 -- `whole::put_piece` meets its contract: the line of a refused reading, of a refused walk, and of an answer.
 use Prim.Native.Nat.{ℕ, _≤_}
 use mathlib.Core.Path.{_≡_, sym, ap, _∙_}
+use mathlib.Core.List.{List}
 use native.Mathlib.Omega.{arith}
 use lib.ListN.{length, take}
-use lib.Seq.{length-take-le}
 use denote.Ref.{now}
 use borrow.Author.Needs.{needs}
 use Rattle.records.specs.Reading.{took}
-use Rattle.records.proofs.Rows.{took-view, refused-view}
-use Rattle.answer.specs.Plain.{answerOf}
-use Rattle.piece.specs.Piece.{Piece}
 use Rattle.piece.specs.ReadPiece.{readPrefix}
-use Rattle.piece.specs.LaidOut.{layOut, prefixRead, prefixBytes}
+use Rattle.piece.specs.LaidOut.{prefixBytes}
+use Rattle.answer.specs.AcceptedBytes.{ReadAs}
+use Rattle.answer.specs.Plain.{answerOf}
+use Rattle.answer.proofs.PiecesRead.{read-narrow}
 use Rattle.lines.specs.Lines.{pieceLine, refusedLine}
 use Rattle.lines.proofs.LeastPiece.{least-piece}
-use Rattle.walk.specs.Walking.{walkReply, walkedValues, walkOf}
-use Rattle.listing.proofs.Turns.{reply-refused, reply-answered, turn-unread, turn-refused, turn-answered, turned-last, turned-more}
+use Rattle.walk.specs.Walking.{walkReply, walkedReading}
+use Rattle.listing.proofs.Turns.{turn-unread, turn-refused, turn-answered, turned-last, turned-more}
+use Rattle.listing.proofs.Walks.{prefix-refused, prefix-accepted}
 use Rattle.listing.proofs.whole.put_piece.Statement.{statement}
 use Rattle.listing.proofs.whole.put_piece.Tie as tie
 
 -- Where a piece was read: its bytes are there, and the definition reads it too.
 module _ (c : tie.After-known-told2) where
+  abbrev input : List ℕ
+  input = now (c .before .before .before .before .before .before .before .before .before .args .input)
+
+  abbrev cells : List ℕ
+  cells = c .before .before .before .read-prefix .last .1 .0
+
   abbrev bytes : ℕ
   bytes = c .before .prefix2 .given .0 .1 .0
 
-  there : bytes ≤ length (now (c .before .before .before .before .before .before .before .before .before .args .input))
+  there : bytes ≤ length input
   there = omega (arith, ap prefixBytes (c .before .prefix2 .given .1), c .before .before .before .read-prefix .ensures .1)
 
-  read
-      : (piece : Piece)
-      × (readPrefix (now (c .before .before .before .before .before .before .before .before .before .args .input))
-      ≡ took bytes piece)
+  read : (a : ReadAs (take bytes input) cells (c .before .prefix2 .given .0 .0)) × (readPrefix input ≡ took bytes (a .piece))
   read =
-      let (piece, is, view) =
-      took-view layOut (readPrefix (now (c .before .before .before .before .before .before .before .before .before .args .input)))
-      (sym (ap (prefixRead (c .before .before .before .read-prefix .last .1 .0)) (c .before .prefix2 .given .1))
-      ∙ c .before .before .before .read-prefix .ensures .0) in
-      (piece, is)
+      prefix-accepted input cells (c .before .before .before .read-prefix .result) (c .before .before .before .read-prefix .ensures .0) (c .before .prefix2 .given .1)
+      (λ i. omega (arith, c .before .before .before .before .before .before .shared-slice-known3 .given i))
 
 read-prefix-requires : tie.Need-read-prefix-requires
 read-prefix-requires c κs = search needs
@@ -45,28 +46,25 @@ enum-known-prefix : tie.Need-enum-known-prefix
 enum-known-prefix c = search needs
 
 put-refused-requires : tie.Need-put-refused-requires
-put-refused-requires c κs = search needs
+put-refused-requires c κs = omega (arith, c .before .before .before .before .before .before .before .before .before .before .pre .1)
 
 enum-known-prefix-2 : tie.Need-enum-known-prefix-2
 enum-known-prefix-2 c = search needs
 
-slice-aggregate-walk : tie.Need-slice-aggregate-walk
-slice-aggregate-walk c = sym (length-take-le (bytes (c .before)) _ (there (c .before)))
-
-walk-requires : tie.Need-walk-requires
-walk-requires c κs = search needs
+walk-read-requires : tie.Need-walk-read-requires
+walk-read-requires c κs = (c .before .before .before .before .before .before .before .before .before .before .pre .0, read-narrow (read (c .before) .0))
 
 enum-known-walked : tie.Need-enum-known-walked
 enum-known-walked c = search needs
 
 put-refused-requires-2 : tie.Need-put-refused-requires-2
-put-refused-requires-2 c κs = search needs
+put-refused-requires-2 c κs = omega (arith, c .before .before .before .before .before .before .before .before .before .before .before .before .before .before .before .pre .1)
 
 enum-known-walked-2 : tie.Need-enum-known-walked-2
 enum-known-walked-2 c = search needs
 
 put-piece-line-requires : tie.Need-put-piece-line-requires
-put-piece-line-requires c κs = search needs
+put-piece-line-requires c κs = c .before .before .before .before .before .before .before .before .before .before .before .before .before .before .before .pre .1
 
 same-length : tie.Need-same-length
 same-length c = search needs
@@ -74,11 +72,9 @@ same-length c = search needs
 returns : tie.Need-returns
 returns c =
     let a = c .before .before .before .before .before .before .before .before .before .before .before .before .before .args in
-    let q = c .before .before .before .before .before .prefix .given .0 .0 in
     let call = c .before .before .put-refused in
-    let unread = refused-view layOut (readPrefix (now (a .input)))
-    (sym (ap (prefixRead (c .before .before .before .before .before .before .before .read-prefix .last .1 .0)) (c .before .before .before .before .before .prefix .given .1)) ∙ c .before .before .before .before .before .before .before .read-prefix .ensures .0) in (
-      turned-last (now (a .out)) (a .at) (refusedLine q) (call .ensures .0)
+    let unread = prefix-refused (now (a .input)) (c .before .before .before .before .before .before .before .read-prefix .last .1 .0) (c .before .before .before .before .before .before .before .read-prefix .result) (c .before .before .before .before .before .before .before .read-prefix .ensures .0) (c .before .before .before .before .before .prefix .given .1) in (
+      turned-last (now (a .out)) (a .at) (refusedLine (c .before .before .before .before .before .prefix .given .0 .0)) (call .ensures .0)
           (turn-unread (walkReply (now (a .sheet)) (now (a .graph))) (a .number) (now (a .input)) unread),
       omega (arith, call .ensures .1),
     )
@@ -90,11 +86,9 @@ returns-2 : tie.Need-returns-2
 returns-2 c =
     let known = c .before .before .before .before .before .before .before .before .before in
     let a = c .before .before .before .before .before .before .before .before .before .before .before .before .before .before .before .before .before .before .args in
-    let q = c .before .before .before .before .before .walked .given .0 .0 in
     let call = c .before .before .put-refused2 in
-    let replied = reply-refused (walkReply (now (a .sheet)) (now (a .graph)) (take (bytes known) (now (a .input)))) q
-    (sym (ap walkedValues (c .before .before .before .before .before .walked .given .1)) ∙ c .before .before .before .before .before .before .before .walk .ensures) in (
-      turned-last (now (a .out)) (a .at) (refusedLine q) (call .ensures .0)
+    let replied = sym (c .before .before .before .before .before .before .before .walk-read .ensures (take (bytes known) (input known)) (read known .0)) ∙ ap walkedReading (c .before .before .before .before .before .walked .given .1) in (
+      turned-last (now (a .out)) (a .at) (refusedLine (c .before .before .before .before .before .walked .given .0 .0)) (call .ensures .0)
           (turn-refused (walkReply (now (a .sheet)) (now (a .graph))) (a .number) (now (a .input)) (read known .1) replied),
       omega (arith, call .ensures .1),
     )
@@ -108,10 +102,9 @@ returns-3 c =
     let a = c .before .before .before .before .before .before .before .before .before .before .before .before .before .before .before .before .before .before .args in
     let w = c .before .before .before .before .before .walked2 .given .0 .0 in
     let call = c .before .before .put-piece-line in
-    let replied = reply-answered (walkReply (now (a .sheet)) (now (a .graph)) (take (bytes known) (now (a .input)))) (walkOf w)
-    (sym (ap walkedValues (c .before .before .before .before .before .walked2 .given .1)) ∙ c .before .before .before .before .before .before .before .walk .ensures) in (
+    let replied = sym (c .before .before .before .before .before .before .before .walk-read .ensures (take (bytes known) (input known)) (read known .0)) ∙ ap walkedReading (c .before .before .before .before .before .walked2 .given .1) in (
       turned-more (now (a .out)) (a .at) (pieceLine (a .number) (answerOf (w .answer)) (w .edges) (w .waits)) (call .ensures .0)
-          (turn-answered (walkReply (now (a .sheet)) (now (a .graph))) (a .number) (now (a .input)) (read known .1) (replied .1)),
+          (turn-answered (walkReply (now (a .sheet)) (now (a .graph))) (a .number) (now (a .input)) (read known .1) replied),
       (least-piece (now (a .input)) (read known .1), there known, call .ensures .1),
     )
 
@@ -123,8 +116,7 @@ put-piece-spec =
     enum-known-prefix
     put-refused-requires
     enum-known-prefix-2
-    slice-aggregate-walk
-    walk-requires
+    walk-read-requires
     enum-known-walked
     put-refused-requires-2
     enum-known-walked-2

@@ -15,16 +15,16 @@ use Rattle.listing.proofs.whole.put_pieces.Statement.{statement}
 use Rattle.listing.proofs.whole.put_pieces.Tie as tie
 
 abbrev Inv-loop : tie.InvT-loop
-Inv-loop sheet graph input out₀ at from₀ number₀ end₀ out from number end =
+Inv-loop sheet graph starts words codes sizes input out₀ at from₀ n₀ end₀ out from n end =
     (from ≤ length input)
-    × (1 ≤ number)
-    × (3 * number ≤ from + 3)
-    × (end + 44 ≤ at + 44 * number)
+    × (1 ≤ n)
+    × (3 * n ≤ from + 3)
+    × (end + 44 ≤ at + 44 * n)
     × (length out ≡ length out₀)
-    × Progress (walkReply sheet graph) input out₀ at from number end out
+    × Progress (walkReply sheet graph) input out₀ at from n end out
 
 abbrev μ-loop : tie.MeasureT-loop
-μ-loop sheet graph input out₀ at from₀ number₀ end₀ out from number end = length input - from
+μ-loop sheet graph starts words codes sizes input out₀ at from₀ n₀ end₀ out from n end = length input - from
 
 -- A piece has three bytes or more, all of them there, and its line 44 or less.
 inside
@@ -49,17 +49,20 @@ loop-holds c =
       at-start (walkReply (now (a .sheet)) (now (a .graph))) (now (a .input)) (now (a .out)) (a .at),
     )
 
-sub-put-piece : tie.Need-sub-put-piece Inv-loop μ-loop
-sub-put-piece c = search needs
+sub-rest : tie.Need-sub-rest Inv-loop μ-loop
+sub-rest c = search needs
 
-part-put-piece-start : tie.Need-part-put-piece-start Inv-loop μ-loop
-part-put-piece-start c = search needs
+part-rest-start : tie.Need-part-rest-start Inv-loop μ-loop
+part-rest-start c = search needs
 
-part-put-piece-end : tie.Need-part-put-piece-end Inv-loop μ-loop
-part-put-piece-end c = search needs
+part-rest-end : tie.Need-part-rest-end Inv-loop μ-loop
+part-rest-end c = search needs
 
 put-piece-requires : tie.Need-put-piece-requires Inv-loop μ-loop
-put-piece-requires c κs = search needs
+put-piece-requires c κs =
+    let inv = c .before .before .before .loop .inv in
+    let pre = c .before .before .before .before .before .before .before .before .pre in
+    (pre .0, omega (arith, inv .2, inv .3, inv .4, pre .1 .0, pre .1 .1, c .before .before .loop-test .taken))
 
 enum-known-turn : tie.Need-enum-known-turn Inv-loop μ-loop
 enum-known-turn c = search needs
@@ -74,11 +77,12 @@ returns c =
     let call = c .before .before .before .before .before .put-piece in
     let reply = walkReply (now (a .sheet)) (now (a .graph)) in
     let more = c .before .before .before .before .before .before .before .before .loop-test .taken in
+    let room = c .before .before .before .before .before .before .before .before .before .before .before .before .before .before .pre .1 in
     let inside = subst (Within _ (loop .end)) (c .before .turn .given .1) (call .ensures .1) in
     let (line, is, wrote) =
-    told-last (loop .out) (loop .end) (turnOf reply (loop .number) (drop (loop .from) (now (a .input))))
-    (told-as reply (loop .number) (loop .out) (loop .end) (c .before .turn .given .1) (rest (now (a .input)) (loop .from)) (call .ensures .0)) in
-    at-refusal reply (now (a .input)) (now (a .out)) (a .at) (loop .inv .5) (omega arith) more line (omega arith) wrote is
+    told-last (loop .out) (loop .end) (turnOf reply (loop .n) (drop (loop .from) (now (a .input))))
+    (told-as reply (loop .n) (loop .out) (loop .end) (c .before .turn .given .1) (rest (now (a .input)) (loop .from)) (call .ensures .0)) in
+    at-refusal reply (now (a .input)) (now (a .out)) (a .at) (loop .inv .5) (omega arith) more line (omega (arith, room .0, room .1, inside)) wrote is
 
 enum-known-turn-2 : tie.Need-enum-known-turn-2 Inv-loop μ-loop
 enum-known-turn-2 c = search needs
@@ -86,8 +90,8 @@ enum-known-turn-2 c = search needs
 add-from : tie.Need-add-from Inv-loop μ-loop
 add-from c = omega (arith, inside c .1)
 
-add-number : tie.Need-add-number Inv-loop μ-loop
-add-number c = search needs
+add-n : tie.Need-add-n Inv-loop μ-loop
+add-n c = search needs
 
 loop-less : tie.Need-loop-less Inv-loop μ-loop
 loop-less c = omega (arith, inside c .0, inside c .1)
@@ -99,15 +103,16 @@ loop-again c =
     let call = c .before .before .before .before .before .put-piece in
     let reply = walkReply (now (a .sheet)) (now (a .graph)) in
     let more = c .before .before .before .before .before .before .before .before .loop-test .taken in
+    let room = c .before .before .before .before .before .before .before .before .before .before .before .before .before .before .pre .1 in
     let (line, is, wrote) =
-    told-more (loop .out) (loop .end) (turnOf reply (loop .number) (drop (loop .from) (now (a .input))))
-    (told-as reply (loop .number) (loop .out) (loop .end) (c .before .turn2 .given .1) (rest (now (a .input)) (loop .from)) (call .ensures .0)) in (
+    told-more (loop .out) (loop .end) (turnOf reply (loop .n) (drop (loop .from) (now (a .input))))
+    (told-as reply (loop .n) (loop .out) (loop .end) (c .before .turn2 .given .1) (rest (now (a .input)) (loop .from)) (call .ensures .0)) in (
       inside c .1,
       omega arith,
       omega (arith, inside c .0),
       omega (arith, inside c .2),
       search needs,
-      at-piece reply (now (a .input)) (now (a .out)) (a .at) (loop .inv .5) (omega arith) more line (omega (arith, inside c .2)) wrote is,
+      at-piece reply (now (a .input)) (now (a .out)) (a .at) (loop .inv .5) (omega arith) more line (omega (arith, room .0, room .1, inside c .2)) wrote is,
     )
 
 same-length-2 : tie.Need-same-length-2 Inv-loop μ-loop
@@ -126,16 +131,16 @@ put-pieces-spec =
     Inv-loop
     μ-loop
     loop-holds
-    sub-put-piece
-    part-put-piece-start
-    part-put-piece-end
+    sub-rest
+    part-rest-start
+    part-rest-end
     put-piece-requires
     enum-known-turn
     same-length
     returns
     enum-known-turn-2
     add-from
-    add-number
+    add-n
     loop-less
     loop-again
     same-length-2

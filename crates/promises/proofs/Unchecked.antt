@@ -1,0 +1,29 @@
+-- A built graph needs no check before it is walked over.
+use Prim.Native.Nat.{ℕ}
+use mathlib.Core.Path.{_≡_, refl, sym, ap, _∙_}
+use mathlib.Core.List.{List}
+use lib.ListN.{length, take}
+use Rattle.records.specs.Fields.{IsByte}
+use Rattle.records.specs.Reading.{took}
+use Rattle.terms.specs.Lists.{All}
+use Rattle.sheet.specs.Sheet.{Sheet}
+use Rattle.accepted.specs.AcceptedAs.{AcceptedTests}
+use Rattle.graph.specs.ReadGraph.{readGraph}
+use Rattle.nodes.specs.CheckNode.{startsFrom}
+use Rattle.walk.specs.Ready.{Checked}
+use Rattle.promises.specs.BuiltGraph.{BuiltGraph}
+use Rattle.promises.proofs.Demand2.{building, graph-read-back}
+
+-- With the tests that were read from its sheet and with starts that are where its nodes begin, a built graph is all that the walk
+-- of a checked graph asks for.
+pub built-checked
+    : {s buffer g words codes starts : List ℕ} {arity count pairs : ℕ} (built : BuiltGraph s buffer g) → All IsByte s
+    → AcceptedTests s words codes arity count pairs
+    → startsFrom 5 (building built .nodes) ≡ take (length (building built .nodes)) starts
+    → Checked s g starts words codes arity count pairs (length (building built .nodes))
+built-checked {g = g} built areBytes t begin =
+    let b = building built in
+    let read : took (t .read .bytes) (t .read .sheet) ≡ took (b .taken) (b .sheet) = sym (t .read .accepted) ∙ b .accepted in
+    let same : t .read .sheet ≡ b .sheet = cc in
+    let graph = ap (λ (x : Sheet). readGraph x g) same ∙ graph-read-back built areBytes in
+    record { sheet = t; graph = record { nodes = b .nodes; read = graph; countIs = refl; begin = begin } }
