@@ -6,13 +6,13 @@ use native.Mathlib.Omega.{arith}
 use lib.Dec.{leb, eqb}
 use lib.ListN.{length, getD, drop}
 use Rattle.records.specs.Fields.{wideAt}
-use Rattle.records.specs.Reading.{Reading, took, refused, ask, after}
+use Rattle.records.specs.Reading.{Reading, took, refused, ask, isKind, after}
 use Rattle.terms.specs.Pattern.{Pattern, Patterns, theRange, theCompound, variable, rangedVariable, pnil, pcons}
 use Rattle.sheet.specs.declared.PatternRecord.{PatternRecord}
 use Rattle.sheet.specs.declared.PatternRecord.the-variants.{Anything, Symbol, Range, Compound, Variable, Ranged}
 use Rattle.sheet.specs.declared.PatternHead.{PatternHead}
 use Rattle.sheet.specs.declared.PatternHead.the-variants.{Whole, Refused}
-use Rattle.sheet.specs.PatternRecord.{wholeIf, isKind, patternHead}
+use Rattle.sheet.specs.PatternRecord.{wholeIf, patternHead}
 use Rattle.sheet.specs.Sheet.{SheetHead, mostRules}
 use Rattle.sheet.specs.ReadSheet.{onRecord, onHead, readPattern, readPatterns, rangesMeet, readRule, endSheet, readHeader, readRules, readSheet}
 use Rattle.tests.specs.SheetTests.{sheetTests}

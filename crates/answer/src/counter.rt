@@ -13,7 +13,7 @@ ghost use Rattle.terms.specs.Accepted.{AcceptedRule};
 ghost use Rattle.sheet.specs.ReadSheet.{readRules};
 ghost use Rattle.answer.specs.Plain.{pieceReading, plainReading, plainValues, readingValues};
 
-// The answer for a piece, by the rules of an accepted sheet.
+// The answer for a piece by an accepted sheet's rules, which s begins with: the piece's questions, then 20.
 fn answer_piece(s: &[u8], arity: u8, count: u8, p: &[u8]) -> Plain
     requires { ⌜ arity ≤ 8 ⌝ }
     ensures { λ r. ⌜ ((bytes : ℕ) (rules : List Patterns) → readRules arity count (now (s .entry)) ≡ took bytes rules → All (AcceptedRule arity) rules → plainValues r ≡ readingValues (pieceReading arity rules (now (p .entry)))) ⌝ }

@@ -17,9 +17,10 @@ ghost use Rattle.sheet.specs.NoteArray.{notesIn};
 ghost use Rattle.tests.specs.NoteTests.{notesVariables, Placed};
 ghost use Rattle.cells.specs.CompareCells.{Narrow};
 ghost use Rattle.cells.specs.CellOutcome.{outcomeOf};
-ghost use Rattle.answer.specs.NotesOutcome.{rangeOutcome, recordOutcome, placesOutcome, pairOutcome, pairsOutcome, notesOutcome};
+ghost use Rattle.answer.specs.NotesOutcome.{rangeOutcome, recordOutcome, placesOutcome};
+ghost use Rattle.answer.specs.NotesOutcome.{pairOutcome, pairsOutcome, notesOutcome};
 
-// The outcome of the test of a variable's common range at a place: it holds where there is no range.
+// The outcome of the test of a variable's common range at a place. A high above every number stands for no range, so no test.
 fn range_outcome(cells: &[u32; 680], place: usize, low: u16, high: u32) -> TestOutcome
     requires { ⌜ place < 680 ⌝ }
     ensures { λ r. ⌜ outcomeOf r ≡ rangeOutcome (now (cells .entry)) place low high ⌝ }
@@ -74,7 +75,7 @@ fn record_outcome(
     }
 }
 
-// The outcome of all place tests of a rule.
+// The outcome of all place tests of a rule. One contradicted settles it, so the others are not made.
 fn places_outcome(notes: &[u64; 680], n: usize, ranges: Ranges, cells: &[u32; 680]) -> TestOutcome
     requires { ⌜ (n ≤ 680) × (length (now notes) ≡ 680) × All Placed (notesIn (now notes) n) ⌝ }
     ensures { λ r. ⌜ outcomeOf r ≡ placesOutcome (now (cells .entry)) (ranges .low) (ranges .high) (notesIn (now (notes .entry)) n) ⌝ }
@@ -143,7 +144,8 @@ fn pairs_outcome(notes: &[u64; 680], n: usize, cells: &[u32; 680]) -> TestOutcom
     outcome
 }
 
-// The outcome of all tests of a rule. Not known where one is not known and none contradicted, contradicted where one is.
+// The outcome of all tests of a rule: of its place tests and, where none is contradicted, its equality tests. Not contradicted
+// because a test is not known, nor holding where only the place tests hold.
 pub fn rule_outcome(notes: &[u64; 680], n: usize, cells: &[u32; 680]) -> TestOutcome
     requires { ⌜ (n ≤ 680) × (length (now notes) ≡ 680) × All Placed (notesIn (now notes) n) × Narrow (now cells) ⌝ }
     ensures { λ r. ⌜ outcomeOf r ≡ notesOutcome (now (cells .entry)) (notesIn (now (notes .entry)) n) ⌝ }

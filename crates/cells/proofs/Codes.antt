@@ -1,7 +1,8 @@
--- Laws of codes: different things have different codes.
-use Prim.Native.Nat.{ℕ, _+_, _*_, _≤_}
+-- Laws of codes: different things have different codes, and which codes are in a range.
+use Prim.Native.Nat.{ℕ, _+_, _*_, _≤_, _<_}
 use mathlib.Core.Path.{_≡_, refl}
-use mathlib.Core.Bool.{true, false, _&&_, and-eq-true-iff}
+use mathlib.Core.Bool.{Bool, true, false, _&&_, and-eq-true-iff}
+use mathlib.Core.Logic.{inr}
 use native.Mathlib.Omega.{arith}
 use lib.Dec.{leb, eqb}
 use borrow.Author.Tests.{leb-true, eqb-true, le-leb, lt-leb, le-ltb, lt-ltb, eq-eqb, ne-eqb}
@@ -11,7 +12,7 @@ use Rattle.terms.specs.Filling.{WellFormed}
 use Rattle.terms.proofs.TermPlaces.{IfFound}
 use Rattle.piece.specs.Cells.{symbolCode, numberCode, compoundCode, unknownCode, termCode, foundCode}
 use Rattle.cells.specs.CompareCells.{isCompound, arityOf}
-use Rattle.cells.proofs.TwoTests.{same-truth}
+use Rattle.cells.proofs.TwoTests.{same-truth, not-both}
 use Rattle.cells.proofs.Hidden.{isUnknown}
 
 -- Something has a code.
@@ -37,6 +38,27 @@ code-arity (found unknown) ok = omega arith
 code-arity (found (symbol a)) ok = omega arith
 code-arity (found (number a)) ok = omega arith
 code-arity (found (compound a ts)) ok = omega (arith, ok .2)
+
+-- A code below a range is not in it,
+pub under : (low high code : ℕ) → code < low → leb low code && leb code high ≡ false
+under low high code h = rw (lt-leb low code h)
+
+-- nor is one above it.
+pub over : (low high code : ℕ) → high < code → leb low code && leb code high ≡ false
+over low high code h = not-both (leb low code) (leb code high) (inr (lt-leb code high h))
+
+-- A code is from c to c exactly where it is c.
+pub only : (c code : ℕ) (y : Bool) → (c ≡ code → y ≡ true) → (y ≡ true → c ≡ code) → leb c code && leb code c ≡ y
+only c code y to from =
+    same-truth (leb c code && leb code c) y
+    (λ h.
+    let both = and-eq-true-iff (leb c code) (leb code c) .0 h in
+    let up = leb-true c code (both .0) in
+    let down = leb-true code c (both .1) in
+    to (omega arith))
+    (λ h.
+    let same = from h in
+    and-eq-true-iff (leb c code) (leb code c) .1 (le-leb c code (omega arith), le-leb code c (omega arith)))
 
 -- Codes of one sort are in the order of their ids or numbers.
 pub in-order : (k a b : ℕ) → leb (k + a * 256) (k + b * 256) ≡ leb a b

@@ -5,12 +5,12 @@ use mathlib.Core.Bool.{Bool, true, false, _&&_, _||_}
 use native.Mathlib.Omega.{arith}
 use lib.Dec.{eqb}
 use borrow.Author.Tests.{ne-eqb}
+use Rattle.terms.specs.Choice.{choose}
 use Rattle.terms.specs.Term.{Term, count, unknown, symbol, number, compound}
 use Rattle.terms.specs.Lookup.{found}
 use Rattle.terms.specs.Outcome.{Outcome, holds, notKnown, contradicted, known, compare}
 use Rattle.terms.specs.Filling.{WellFormed}
 use Rattle.piece.specs.Cells.{symbolCode, numberCode, compoundCode, unknownCode, termCode}
-use Rattle.cells.specs.Choice.{choose}
 use Rattle.cells.specs.CompareCells.{isCompound, compareCodes}
 use Rattle.cells.proofs.Hidden.{isUnknown}
 use Rattle.cells.proofs.Codes.{code-unknown, same-of-sort, same-compound, symbol-leaf, number-leaf, compound-code}

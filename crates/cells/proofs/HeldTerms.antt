@@ -8,6 +8,7 @@ use lib.ListN.{getD}
 use lib.Dec.{eqb}
 use borrow.Author.Tests.{eqb-true, eqb-false}
 use Rattle.places.specs.Numbering.{stride}
+use Rattle.terms.specs.Choice.{choose}
 use Rattle.terms.specs.Term.{Term, Terms, count, unknown, symbol, number, compound, nil, cons}
 use Rattle.terms.specs.Lookup.{lacking}
 use Rattle.terms.specs.Outcome.{Outcome, holds, notKnown, contradicted, known, _and_, compare, compares}
@@ -16,7 +17,6 @@ use Rattle.terms.specs.Accepted.{Shallow, Shallows}
 use Rattle.terms.proofs.TermPlaces.{extent}
 use Rattle.piece.proofs.Rooms.{no-arguments}
 use Rattle.piece.specs.Cells.{termCode, foundCode}
-use Rattle.cells.specs.Choice.{choose}
 use Rattle.cells.specs.CompareCells.{arityOf, compareCodes, compareRow, compareAt}
 use Rattle.cells.proofs.Comparing.{compareBelow, by-codes}
 use Rattle.cells.proofs.FindWith.{findWith, findsWith, with-zero, with-here, with-there}

@@ -12,6 +12,7 @@ use Rattle.places.specs.Numbering.{stride, levelsAt, parentAt}
 use Rattle.places.proofs.Rows.{child-fit, stride-grows}
 use Rattle.places.proofs.Levels.{levels-range}
 use Rattle.places.proofs.Parents.{child-of-parent, parent-before, argument-without-parent}
+use Rattle.terms.specs.Choice.{choose}
 use Rattle.terms.specs.Term.{Term, Terms, count, unknown}
 use Rattle.terms.specs.Lookup.{Found, lacking, found, termAt}
 use Rattle.terms.specs.Accepted.{AcceptedPiece}
@@ -20,7 +21,6 @@ use Rattle.terms.proofs.TermPlaces.{extent, extent-le, IfFound}
 use Rattle.terms.proofs.WellFormed.{finds-well-formed}
 use Rattle.piece.specs.Cells.{unknownCode, foundCode}
 use Rattle.piece.specs.LaidOut.{emptyCells, pieceCells}
-use Rattle.cells.specs.Choice.{choose}
 use Rattle.cells.specs.Look.{nearest, look}
 use Rattle.cells.specs.CompareCells.{Narrow}
 use Rattle.cells.proofs.Climbing.{no-parent, has-cell, has-none}

@@ -7,6 +7,7 @@ use lib.Dec.{eqb}
 use borrow.Author.Tests.{ne-eqb}
 use Rattle.places.specs.Numbering.{stride, levelsAt}
 use Rattle.places.proofs.Levels.{levels-range, levels-fit-row}
+use Rattle.terms.specs.Choice.{choose}
 use Rattle.terms.specs.Term.{Term, Terms, unknown, symbol, number, compound}
 use Rattle.terms.specs.RuleTests.{both}
 use Rattle.terms.specs.Lookup.{Found, lacking, found, termAt}
@@ -17,7 +18,6 @@ use Rattle.terms.proofs.TermPlaces.{IfFound}
 use Rattle.terms.proofs.WellFormed.{finds-well-formed}
 use Rattle.piece.specs.Cells.{unknownCode, termCode, foundCode}
 use Rattle.piece.specs.LaidOut.{pieceCells}
-use Rattle.cells.specs.Choice.{choose}
 use Rattle.cells.specs.CompareCells.{compareAt}
 use Rattle.cells.specs.CellOutcome.{codesOutcome, pairCells}
 use Rattle.cells.proofs.FindWith.{findWith, finds-is, row-composes, lacking-stays, goOn}

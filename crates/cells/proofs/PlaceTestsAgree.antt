@@ -1,10 +1,11 @@
 -- In the cells of an accepted piece, a place test has the outcome that it has in the piece.
 use Prim.Native.Nat.{ℕ, _≤_, _<_}
 use mathlib.Core.Path.{_≡_, refl, ap, _∙_}
-use mathlib.Core.Bool.{Bool, true, false, _&&_, and-eq-true-iff}
+use mathlib.Core.Bool.{_&&_, and-eq-true-iff}
 use native.Mathlib.Omega.{arith}
 use lib.Dec.{leb, eqb}
-use borrow.Author.Tests.{leb-true, eqb-true, le-leb, lt-leb, eq-eqb}
+use borrow.Author.Tests.{eqb-true, eq-eqb}
+use Rattle.terms.specs.Choice.{choose}
 use Rattle.terms.specs.Term.{Terms, count, unknown, symbol, number, compound, Wide}
 use Rattle.terms.specs.RuleTests.{Want, aSymbol, aNumber, aCompound, at}
 use Rattle.terms.specs.Lookup.{Found, lacking, found, termAt}
@@ -15,11 +16,9 @@ use Rattle.terms.proofs.TermPlaces.{IfFound}
 use Rattle.terms.proofs.WellFormed.{finds-well-formed}
 use Rattle.piece.specs.Cells.{symbolCode, numberCode, compoundCode, foundCode}
 use Rattle.piece.specs.LaidOut.{pieceCells}
-use Rattle.cells.specs.Choice.{choose}
 use Rattle.cells.specs.CellOutcome.{wantLow, wantHigh, codeOutcome, placeCells}
-use Rattle.cells.proofs.TwoTests.{same-truth}
 use Rattle.cells.proofs.Hidden.{isUnknown}
-use Rattle.cells.proofs.Codes.{code-unknown, in-order}
+use Rattle.cells.proofs.Codes.{code-unknown, in-order, under, over, only}
 use Rattle.cells.proofs.LookFinds.{look-finds}
 
 -- A want of an accepted rule: its id fits a record, and so does its arity.
@@ -27,27 +26,6 @@ abbrev pub SoundWant : Want → Type 0
 SoundWant (aSymbol a) = Wide a
 SoundWant (aNumber l h) = Unit
 SoundWant (aCompound a n) = Wide a × (n < 256)
-
--- Outside the codes from low to high nothing holds: below them,
-under : (low high code : ℕ) → code < low → known (leb low code && leb code high) ≡ known false
-under low high code h = rw (lt-leb low code h)
-
--- and above them.
-over : (low high code : ℕ) → low ≤ code → high < code → known (leb low code && leb code high) ≡ known false
-over low high code l h = rw (le-leb low code l, lt-leb code high h)
-
--- A code is from c to c exactly where it is c.
-only : (c code : ℕ) (y : Bool) → (c ≡ code → y ≡ true) → (y ≡ true → c ≡ code) → leb c code && leb code c ≡ y
-only c code y to from =
-    same-truth (leb c code && leb code c) y
-    (λ h.
-    let both = and-eq-true-iff (leb c code) (leb code c) .0 h in
-    let up = leb-true c code (both .0) in
-    let down = leb-true code c (both .1) in
-    to (omega arith))
-    (λ h.
-    let same = from h in
-    and-eq-true-iff (leb c code) (leb code c) .1 (le-leb c code (omega arith), le-leb code c (omega arith)))
 
 -- A want of known things at a code.
 abbrev Between : Want → ℕ → Outcome
@@ -57,9 +35,9 @@ Between w code = known (leb (wantLow w) code && leb code (wantHigh w))
 want-agrees
     : (w : Want) (f : Found) → SoundWant w → IfFound WellFormed f
     → choose (isUnknown f) notKnown (Between w (foundCode f)) ≡ atPlace (fits w) f
-want-agrees (aSymbol a) lacking sound ok = under (symbolCode a) (symbolCode a) 0 (omega arith)
-want-agrees (aNumber l h) lacking sound ok = under (numberCode l) (numberCode h) 0 (omega arith)
-want-agrees (aCompound a n) lacking sound ok = under (compoundCode a n) (compoundCode a n) 0 (omega arith)
+want-agrees (aSymbol a) lacking sound ok = ap known (under (symbolCode a) (symbolCode a) 0 (omega arith))
+want-agrees (aNumber l h) lacking sound ok = ap known (under (numberCode l) (numberCode h) 0 (omega arith))
+want-agrees (aCompound a n) lacking sound ok = ap known (under (compoundCode a n) (compoundCode a n) 0 (omega arith))
 want-agrees (aSymbol a) (found unknown) sound ok = refl
 want-agrees (aNumber l h) (found unknown) sound ok = refl
 want-agrees (aCompound a n) (found unknown) sound ok = refl
@@ -67,18 +45,18 @@ want-agrees (aSymbol a) (found (symbol b)) sound ok =
     ap known
     (only (symbolCode a) (symbolCode b) (eqb a b) (λ e. eq-eqb a b (omega arith)) (λ e. let same = eqb-true a b e in omega arith))
 want-agrees (aSymbol a) (found (number b)) sound ok =
-    over (symbolCode a) (symbolCode a) (numberCode b) (omega arith) (omega arith)
+    ap known (over (symbolCode a) (symbolCode a) (numberCode b) (omega arith))
 want-agrees (aSymbol a) (found (compound b ts)) sound ok =
-    over (symbolCode a) (symbolCode a) (compoundCode b (count ts)) (omega arith) (omega arith)
-want-agrees (aNumber l h) (found (symbol b)) sound ok = under (numberCode l) (numberCode h) (symbolCode b) (omega arith)
+    ap known (over (symbolCode a) (symbolCode a) (compoundCode b (count ts)) (omega arith))
+want-agrees (aNumber l h) (found (symbol b)) sound ok =
+    ap known (under (numberCode l) (numberCode h) (symbolCode b) (omega arith))
 want-agrees (aNumber l h) (found (number b)) sound ok = rw (in-order 0x3000000 l b, in-order 0x3000000 b h)
 want-agrees (aNumber l h) (found (compound b ts)) sound ok =
-    under (numberCode l) (numberCode h) (compoundCode b (count ts)) (omega (arith, ok .0, ok .2))
+    ap known (under (numberCode l) (numberCode h) (compoundCode b (count ts)) (omega (arith, ok .0, ok .2)))
 want-agrees (aCompound a n) (found (symbol b)) sound ok =
-    under (compoundCode a n) (compoundCode a n) (symbolCode b) (omega arith)
+    ap known (under (compoundCode a n) (compoundCode a n) (symbolCode b) (omega arith))
 want-agrees (aCompound a n) (found (number b)) sound ok =
-    over (compoundCode a n) (compoundCode a n) (numberCode b) (omega (arith, sound .0, sound .1))
-    (omega (arith, sound .0, sound .1))
+    ap known (over (compoundCode a n) (compoundCode a n) (numberCode b) (omega (arith, sound .0, sound .1)))
 want-agrees (aCompound a n) (found (compound b ts)) sound ok =
     ap known
     (only (compoundCode a n) (compoundCode b (count ts)) (eqb a b && eqb n (count ts))

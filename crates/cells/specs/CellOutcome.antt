@@ -4,12 +4,12 @@ use mathlib.Core.Bool.{_&&_, _||_}
 use mathlib.Core.List.{List}
 use lib.Dec.{leb, eqb}
 use Rattle.places.specs.Numbering.{levelsAt}
+use Rattle.terms.specs.Choice.{choose}
 use Rattle.terms.specs.RuleTests.{Want, aSymbol, aNumber, aCompound}
 use Rattle.terms.specs.Outcome.{Outcome, holds, notKnown, contradicted, known}
 use Rattle.piece.specs.Cells.{symbolCode, compoundCode, numberCode, unknownCode}
 use Rattle.cells.specs.declared.TestOutcome.{TestOutcome}
 use Rattle.cells.specs.declared.TestOutcome.the-variants as test
-use Rattle.cells.specs.Choice.{choose}
 use Rattle.cells.specs.Look.{look}
 use Rattle.cells.specs.CompareCells.{compareAt}
 

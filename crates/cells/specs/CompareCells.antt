@@ -5,9 +5,9 @@ use mathlib.Core.List.{List}
 use lib.ListN.{getD}
 use lib.Dec.{leb, ltb, eqb}
 use Rattle.places.specs.Numbering.{stride}
+use Rattle.terms.specs.Choice.{choose}
 use Rattle.terms.specs.Outcome.{Outcome, holds, notKnown, contradicted, _and_}
 use Rattle.piece.specs.Cells.{compoundCode, numberCode, unknownCode}
-use Rattle.cells.specs.Choice.{choose}
 
 -- The codes of compounds stand between those of symbols and of numbers; the lowest byte is the arity.
 abbrev pub isCompound : ℕ → Bool

@@ -1,5 +1,4 @@
 -- What the numbers of a piece's places say.
-pub mod Choice
 pub mod Look
 pub mod CompareCells
 pub mod CellOutcome

@@ -4,8 +4,8 @@ use mathlib.Core.List.{List}
 use lib.ListN.{getD}
 use lib.Dec.{eqb}
 use Rattle.places.specs.Numbering.{parentAt}
+use Rattle.terms.specs.Choice.{choose}
 use Rattle.piece.specs.Cells.{unknownCode}
-use Rattle.cells.specs.Choice.{choose}
 
 -- The cell of the nearest place that has one, of p and the places above it, so many in all; 0 where none has. The
 -- parents are those of the table, 680 where there is none.

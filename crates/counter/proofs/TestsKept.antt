@@ -16,10 +16,10 @@ use Rattle.tests.specs.KeptPairs.{codePair}
 use Rattle.tests.specs.TestsRead.{keptTests}
 use Rattle.tests.proofs.NumberLists.{mem-count}
 use Rattle.decision.specs.Rules.{anyOf, sameTest}
+use Rattle.decision.proofs.Truth.{same-truth}
 use Rattle.decision.proofs.Filters.{mem-filter, filter-mem, mem-any, any-mem}
 use Rattle.graph.specs.ReadGraph.{isTest, readBy}
 use Rattle.nodes.specs.CheckNode.{isPair, keptTest}
-use Rattle.nodes.proofs.CodeOrder.{same-truth}
 use Rattle.nodes.proofs.KeptTests.{place-lacking}
 
 -- A place is looked for among the places, a pair among the pairs.

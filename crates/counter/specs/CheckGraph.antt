@@ -29,7 +29,7 @@ abbrev pub graphValues : Reading (List (Node ℕ)) → GraphValues
 graphValues (took k nodes) = record { refusal = 0; nodes = length nodes }
 graphValues (refused q) = record { refusal = q; nodes = 0 }
 
--- The fields of an accepted graph's first record: the sheet's arity and rule count, and the number of nodes.
+-- "12 (arity, number of rules, wide node count)": the fields of an accepted graph's first record.
 pub record Fields : Type 0 where
   pub arity : ℕ
   pub rules : ℕ

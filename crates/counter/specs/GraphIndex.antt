@@ -19,7 +19,8 @@ abbrev pub countIf : Bool → ℕ → GraphCheck
 countIf true nodes = Accepted nodes
 countIf false nodes = Refused 21
 
--- How many nodes there are, and where the record of each begins: that of the first behind the header's 5 bytes.
+-- "12 (arity, number of rules, wide node count), then nodes 0, 1, ..": how many nodes there are, and where the record of each
+-- begins, that of the first behind the header's 5 bytes.
 pub record GraphIndex : Type 0 where
   pub nodes : ℕ
   pub starts : List ℕ
@@ -32,7 +33,7 @@ abbrev pub indexed : ℕ → List ℕ → GraphCheck → Reading GraphIndex
 indexed bytes starts (Accepted n) = took bytes (record { nodes = n; starts = take n starts })
 indexed bytes starts (Refused q) = refused q
 
--- A graph that was accepted for the sheet: so many nodes, which begin at the starts.
+-- A graph of which 21 to 25 refuse nothing for the sheet: so many nodes, which begin at the starts.
 pub record AcceptedGraphAs (sheet : Sheet) (g starts : List ℕ) (count : ℕ) : Type 0 where
   pub nodes : List (Node ℕ)
   pub read : readGraph sheet g ≡ took (length g) nodes

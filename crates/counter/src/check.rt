@@ -7,7 +7,8 @@ ghost use mathlib.Core.Path.{_≡_};
 ghost use lib.ListN.{length};
 ghost use Rattle.counter.specs.CheckGraph.{graphReading, checkValues, graphValues, fieldsReading, fieldsRead};
 
-// The fields of the first record of an accepted graph, as the sheet and the count of its nodes give them.
+// The fields of an accepted graph's first record: the sheet's arity and rule count, and the number of nodes. Not fields of a
+// graph that a later question refuses, nor the arity where the rule count stands.
 pub fn graph_header(sheet: &[u8], graph: &[u8]) -> GraphHeader
     ensures { λ r. ⌜ fieldsRead (length (now (graph .entry))) r ≡ fieldsReading (now (sheet .entry)) (now (graph .entry)) ⌝ }
 {

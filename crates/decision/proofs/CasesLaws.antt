@@ -23,6 +23,7 @@ use Rattle.decision.specs.Edges.{keeps, gatherWants}
 use Rattle.decision.proofs.Truth.{same-truth, choose-by, holds-true, known-contradicted, open-known}
 use Rattle.decision.proofs.WantedRanges.{numberRuns, runs-all}
 use Rattle.decision.proofs.Runs.{run-uncut, in-run}
+use Rattle.decision.proofs.LiveWants.{mem-gather}
 use Rattle.decision.proofs.CaseList.{compoundOf, cases-all, symbol-listed, compound-listed, run-listed}
 
 -- Two numbers are equal either way round.
@@ -151,26 +152,20 @@ abbrev pub wantsNothing : Option Want → Bool
 wantsNothing none = true
 wantsNothing (some w) = false
 
--- What some rule wants is gathered.
-gather-mem : {w : Want} {xs : List (Option Want)} → Mem (some w) xs → Mem w (gatherWants xs)
-gather-mem here = here
-gather-mem (there {y = none} m) = gather-mem m
-gather-mem (there {y = some v} m) = there (gather-mem m)
-
 module _ (xs : List (Option Want)) (t : Term) where
   -- A case that agrees with the term keeps the rules that are open at it.
   case-keeps
       : (c : Case) → ((w : Want) → Mem w (gatherWants xs) → fits w t ≡ known (isWanted c w))
       → (x : Option Want) → Mem x xs → keeps c x ≡ openAt t x
   case-keeps c h none m = refl
-  case-keeps c h (some w) m = rw (h w (gather-mem m)) (sym (open-known (isWanted c w)))
+  case-keeps c h (some w) m = rw (h w (mem-gather m)) (sym (open-known (isWanted c w)))
 
   -- Where all wants are contradicted, the rules that want nothing are open.
   neither-keeps
       : ((w : Want) → Mem w (gatherWants xs) → fits w t ≡ contradicted)
       → (x : Option Want) → Mem x xs → wantsNothing x ≡ openAt t x
   neither-keeps h none m = refl
-  neither-keeps h (some w) m = rw (h w (gather-mem m))
+  neither-keeps h (some w) m = rw (h w (mem-gather m))
 
   -- Where the live rules want xs, each something or nothing, a known term takes an edge that keeps exactly those which
   -- it does not contradict: the edge of a case, or neither, which keeps those that want nothing there.

@@ -8,7 +8,7 @@ use borrow.Author.Tests.{le-leb, ne-eqb}
 use lib.Dec.{T, leb, eqb, eqb→eq, leb→le}
 use lib.ListN.{length, getD}
 use Rattle.records.specs.Fields.{IsByte, wideAt}
-use Rattle.records.specs.Reading.{Reading, took}
+use Rattle.records.specs.Reading.{Reading, took, isKind}
 use Rattle.records.proofs.WideFields.{wide-of}
 use Rattle.terms.specs.Lists.{All}
 use Rattle.terms.specs.Term.{Wide}
@@ -20,7 +20,7 @@ use Rattle.graph.specs.declared.CaseRecord.{CaseRecord}
 use Rattle.graph.specs.declared.CaseRecord.the-variants.{Symbol, Compound, Numbers}
 use Rattle.graph.specs.declared.CaseHead.{CaseHead}
 use Rattle.graph.specs.declared.CaseHead.the-variants.{Whole}
-use Rattle.graph.specs.NodeRecord.{isKind, wholeCase, caseHead}
+use Rattle.graph.specs.NodeRecord.{wholeCase, caseHead}
 use Rattle.graph.specs.ReadGraph.{onCase, readCases, edge}
 use Rattle.graph.proofs.Spelling.{Reads, Spelled, GoodRow, row-spelled}
 use Rattle.graph.proofs.FieldBytes.{byte-at, wide-at, byte-then, kind-then, wide-then}

@@ -1,14 +1,13 @@
 -- The places of a sheet's tests: a sheet of at most 8 arguments tests places below 680, so each fits a wide field.
 use Prim.Native.Nat.{ℕ, _+_, _≤_, _<_}
-use mathlib.Core.Path.{_≡_, sym, subst}
+use mathlib.Core.Path.{sym, subst}
 use mathlib.Core.List.{List, [], _∷_, map}
 use native.Mathlib.Omega.{arith}
-use lib.Dec.{T, eqb, eqb→eq, eqb-refl}
+use lib.Dec.{T}
 use Rattle.terms.specs.Lists.{All, Mem}
 use Rattle.terms.specs.Pattern.{Patterns, countPatterns}
 use Rattle.terms.specs.RuleTests.{PlaceTest, PairTest, Occurrence, placeTests, pairTests, ruleVariables, patternsRange}
 use Rattle.terms.specs.Accepted.{AcceptedRule}
-use Rattle.terms.proofs.Booleans.{both-true, true-both}
 use Rattle.terms.proofs.ListLaws.{all-join, all-at, all-map}
 use Rattle.terms.proofs.TermPlaces.{extent, extent-le}
 use Rattle.terms.proofs.Ascending.{ascends-below}
@@ -19,22 +18,8 @@ use Rattle.tests.proofs.TestOrder.{ascending-mem}
 use Rattle.sheet.specs.Sheet.{Sheet, SoundSheet}
 use Rattle.decision.specs.Rules.{sameTest}
 use Rattle.decision.proofs.Filters.{any-mem, mem-any}
+use Rattle.decision.proofs.TestsOfRules.{same-test, test-same}
 use Rattle.graph.specs.ReadGraph.{isTest}
-
--- The same test.
-same-test : (t u : Test) → T (sameTest t u) → t ≡ u
-same-test (place m) (place n) h = let e = eqb→eq m n h in λ i. place (e i)
-same-test (place m) (pair p q) h = absurd h
-same-test (pair p q) (place n) h = absurd h
-same-test (pair p q) (pair x y) h =
-    let both = both-true (eqb p x) (eqb q y) h in
-    let e = eqb→eq p x (both .0) in
-    let f = eqb→eq q y (both .1) in
-    λ i. pair (e i) (f i)
-
-test-same : (t : Test) → T (sameTest t t)
-test-same (place n) = eqb-refl n
-test-same (pair p q) = true-both (eqb p p) (eqb q q) (eqb-refl p) (eqb-refl q)
 
 -- "Its place or pair among the sheet's tests": the test is passed exactly by the sheet's tests.
 pub test-mem : (rules : List Patterns) (t : Test) → T (isTest rules t) → Mem t (sheetTests rules)

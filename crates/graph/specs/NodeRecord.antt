@@ -5,6 +5,7 @@ use mathlib.Core.List.{List}
 use lib.ListN.{length, getD}
 use lib.Dec.{leb, eqb}
 use Rattle.records.specs.Fields.{wideAt}
+pub use Rattle.records.specs.Reading.{isKind}
 use Rattle.graph.specs.declared.Leaf.the-variants.{Fail, Suspend, Execute}
 use Rattle.graph.specs.declared.NodeRecord.{NodeRecord}
 use Rattle.graph.specs.declared.NodeRecord.the-variants.{End, Switch, Pair}
@@ -23,10 +24,6 @@ wholeNode false r = Refused 22
 abbrev pub wholeCase : Bool → CaseRecord → CaseHead
 wholeCase true r = case.Whole r
 wholeCase false r = case.Refused 22
-
-abbrev pub isKind : {A : Type 0} → Bool → A → A → A
-isKind true this others = this
-isKind false this others = others
 
 -- "42 execute (rule, from 1)", "43 switch (wide place, number of cases, wide node for neither, wide node for unknown)", "47 pair
 -- (wide place p, wide place q, wide node for no, wide node for other)".

@@ -14,15 +14,9 @@ use Rattle.piece.specs.Cells.{symbolCode, compoundCode, numberCode}
 use Rattle.decision.specs.Cases.{Case, symbolCase, compoundCase, numbersCase}
 use Rattle.decision.specs.Node.{CaseEdge}
 use Rattle.decision.specs.AcceptedGraph.{CaseFields}
+use Rattle.decision.proofs.Truth.{same-truth}
 use Rattle.graph.specs.ReadGraph.{caseBefore, lowAtMostHigh, beforeNext, casesAscend}
 use Rattle.nodes.specs.CaseCodes.{firstCode, lastCode}
-
--- Two tests of which each follows from the other are the same.
-pub same-truth : (a b : Bool) → (T a → T b) → (T b → T a) → a ≡ b
-same-truth true true f g = refl
-same-truth true false f g = absurd (f tt)
-same-truth false true f g = absurd (g tt)
-same-truth false false f g = refl
 
 -- Codes of compounds ascend by id, then by arity.
 compound-order : (a n b m : ℕ) → n < 256 → m < 256 → ltb (compoundCode a n) (compoundCode b m) ≡ pairBefore a n b m

@@ -17,11 +17,11 @@ use Rattle.graph.proofs.FieldBytes.{bytes-drop}
 use Rattle.graph.proofs.Spelling.{Spelled, begins-read, begins-length}
 
 -- What was read behind something else.
-after-took : {A B : Type 0} (a : ℕ) (f : A → B) (r : Reading A) → IsTook (after a f r) → IsTook r
+pub after-took : {A B : Type 0} (a : ℕ) (f : A → B) (r : Reading A) → IsTook (after a f r) → IsTook r
 after-took a f (took b x) h = tt
 after-took a f (refused q) h = h
 
-after-or : {A : Type 0} (a : ℕ) (x : A) (r : Reading (List A)) → IsTook r → readOr [] (after a (_∷_ x) r) ≡ x ∷ readOr [] r
+pub after-or : {A : Type 0} (a : ℕ) (x : A) (r : Reading (List A)) → IsTook r → readOr [] (after a (_∷_ x) r) ≡ x ∷ readOr [] r
 after-or a x (took b xs) h = refl
 after-or a x (refused q) h = absurd h
 

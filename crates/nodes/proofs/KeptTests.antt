@@ -12,9 +12,10 @@ use lib.Seq.{drop-cons}
 use Rattle.masks.specs.Mask.{has}
 use Rattle.masks.proofs.Membership.{has-empty}
 use Rattle.terms.proofs.Booleans.{both-true, true-both}
+use Rattle.tests.specs.TestedPlaces.{hasPlace}
 use Rattle.decision.specs.Rules.{anyOf}
-use Rattle.nodes.specs.CheckNode.{hasPlace, isPair}
-use Rattle.nodes.proofs.CodeOrder.{same-truth}
+use Rattle.decision.proofs.Truth.{same-truth}
+use Rattle.nodes.specs.CheckNode.{isPair}
 
 -- A place whose word is lacking is not in the set.
 pub place-lacking : (words : List ℕ) (n : ℕ) → length words ≤ n / 64 → false ≡ hasPlace words n

@@ -4,10 +4,10 @@ use Prim.Native.Nat.{ℕ, _+_, _/_, _%_}
 use mathlib.Core.Bool.{Bool, false, _&&_}
 use mathlib.Core.List.{List, [], _∷_}
 use lib.Dec.{leb, eqb}
-use lib.ListN.{length, getD, take}
-use Rattle.masks.specs.Mask.{has}
+use lib.ListN.{length, take}
 use Rattle.records.specs.Reading.{Reading, took, refused, ask, andThen}
 use Rattle.tests.specs.SheetTests.{Test, place, pair}
+use Rattle.tests.specs.TestedPlaces.{hasPlace}
 use Rattle.decision.specs.Rules.{anyOf}
 use Rattle.decision.specs.Node.{Node}
 use Rattle.decision.specs.GraphBytes.{nodeBytes}
@@ -18,11 +18,7 @@ use Rattle.nodes.specs.declared.NodeCheck.{NodeCheck}
 use Rattle.nodes.specs.declared.NodeCheck.the-variants.{Used, Refused}
 use Rattle.graph.specs.ReadGraph.{allInside, casesAscend, readCases, onNode, askNode}
 
--- Place n is in a set of places kept in words of 64 bits; a pair is among the first so many codes, each of which has p in its
--- two high bytes and q in its two low ones.
-abbrev pub hasPlace : List ℕ → ℕ → Bool
-hasPlace words n = has (getD words (n / 64) 0) (n % 64)
-
+-- A pair is among the first so many codes, each of which has p in its two high bytes and q in its two low ones.
 abbrev pub isPair : ℕ → ℕ → ℕ → Bool
 isPair p q code = eqb p (code / 0x1_0000) && eqb q (code % 0x1_0000)
 

@@ -2,7 +2,8 @@
 ghost use Prim.Native.Nat.{_≤_};
 ghost use mathlib.Core.Path.{_≡_};
 ghost use lib.ListN.{length};
-ghost use Rattle.nodes.specs.CheckNode.{hasPlace, hasPair};
+ghost use Rattle.tests.specs.TestedPlaces.{hasPlace};
+ghost use Rattle.nodes.specs.CheckNode.{hasPair};
 
 // Is the place in the set? Not the place with the same bit in another word.
 pub fn has_place(words: &[u64; 11], place: u16) -> bool

@@ -7,7 +7,8 @@ use lib.ListN.{length, getD, drop}
 use lib.Seq.{drop-cons}
 use lib.Dec.{eqb·suc-zero}
 use borrow.Author.Tests.{le-leb}
-use Rattle.records.specs.Fields.{IsByte, wideOf, wideAt, highOf, lowOf, wideThen}
+use Rattle.records.specs.Fields.{IsByte, wideAt, wideThen}
+use Rattle.records.proofs.WideFields.{wide-bound, high-of, low-of, wide-of}
 use Rattle.terms.specs.Term.{Wide}
 use Rattle.piece.specs.declared.TermRecord.{TermRecord}
 use Rattle.piece.specs.declared.TermRecord.the-variants.{Unknown, Symbol, Number, Compound}
@@ -34,22 +35,6 @@ WideRecord (Symbol a) = Wide a
 WideRecord (Number a) = Wide a
 WideRecord (Compound a n) = Wide a
 
--- A wide field holds the number that its two bytes were made from,
-pub wide-holds : (a : ℕ) → Wide a → wideOf (highOf a) (lowOf a) ≡ a
-wide-holds a wide = omega arith
-
--- and its two bytes make the number.
-pub wide-of : (high low : ℕ) → IsByte high → IsByte low → Wide (wideOf high low)
-wide-of high low h l = omega arith
-
--- The high byte is the first of them,
-pub high-of : (high low : ℕ) → IsByte high → IsByte low → highOf (wideOf high low) ≡ high
-high-of high low h l = omega arith
-
--- and the low byte the second.
-pub low-of : (high low : ℕ) → IsByte high → IsByte low → lowOf (wideOf high low) ≡ low
-low-of high low h l = omega arith
-
 -- A head says that the bytes spell its record.
 abbrev pub HeadSpells : List ℕ → TermHead → Type 0
 HeadSpells s (Whole r) = (s ≡ recordThen r (drop (recordBytes r) s)) × WideRecord r
@@ -73,7 +58,7 @@ module _ (s : List ℕ) (bytes : AreBytes s) where
   -- What is read as a record is spelled.
   pub head-spells : HeadSpells s (termHead s)
   head-spells =
-      let wide = wide-of (getD s 1 0) (getD s 2 0) (bytes 1) (bytes 2) in
+      let wide = wide-bound (getD s 1 0) (getD s 2 0) (bytes 1) (bytes 2) in
       head-cases (HeadSpells s) s tt
       (λ there kind. (first there ∙ ap (λ x. x ∷ drop 1 s) kind, tt))
       (λ there kind. (wide-field there ∙ ap (λ x. x ∷ wideThen (wideAt s 1) (drop 3 s)) kind, wide))
@@ -89,10 +74,10 @@ pub spelled-head : (r : TermRecord) (rest : List ℕ) → WideRecord r → termH
 spelled-head Unknown rest wide = rw (eqb·suc-zero (length rest))
 spelled-head (Symbol a) rest wide =
     let n = length rest in
-    simp (eqb·suc-zero (suc (suc n)), le-leb 3 (suc (suc (suc n))) (omega arith), wide-holds a wide)
+    simp (eqb·suc-zero (suc (suc n)), le-leb 3 (suc (suc (suc n))) (omega arith), wide-of a wide)
 spelled-head (Number a) rest wide =
     let n = length rest in
-    simp (eqb·suc-zero (suc (suc n)), le-leb 3 (suc (suc (suc n))) (omega arith), wide-holds a wide)
+    simp (eqb·suc-zero (suc (suc n)), le-leb 3 (suc (suc (suc n))) (omega arith), wide-of a wide)
 spelled-head (Compound a n) rest wide =
     let k = length rest in
-    simp (eqb·suc-zero (suc (suc (suc k))), le-leb 4 (suc (suc (suc (suc k)))) (omega arith), wide-holds a wide)
+    simp (eqb·suc-zero (suc (suc (suc k))), le-leb 4 (suc (suc (suc (suc k)))) (omega arith), wide-of a wide)

@@ -8,18 +8,13 @@ use lib.ListN.{length, getD}
 use lib.Dec.{leb, eqb}
 use borrow.Author.Tests.{leb-true, eqb-true, eqb-false}
 use Rattle.records.specs.Fields.{wideAt}
+use Rattle.records.specs.Reading.{isKind}
+use Rattle.records.proofs.Questions.{kind-cases}
 use Rattle.piece.specs.declared.TermRecord.{TermRecord}
 use Rattle.piece.specs.declared.TermRecord.the-variants.{Unknown, Symbol, Number, Compound}
 use Rattle.piece.specs.declared.TermHead.{TermHead}
 use Rattle.piece.specs.declared.TermHead.the-variants.{Whole, Refused}
-use Rattle.piece.specs.TermRecord.{termHead, wholeIf, isKind}
-
--- What holds of both heads holds of the one that the test chooses.
-kind-cases
-    : (P : TermHead → Type 0) (b : Bool) (this others : TermHead) → (b ≡ true → P this) → (b ≡ false → P others)
-    → P (isKind b this others)
-kind-cases P true this others h k = h refl
-kind-cases P false this others h k = k refl
+use Rattle.piece.specs.TermRecord.{termHead, wholeIf}
 
 -- What holds of a refusal and of the whole record holds of the record that may be cut.
 whole-cases

@@ -5,6 +5,7 @@ use mathlib.Core.List.{List}
 use lib.ListN.{length, getD}
 use lib.Dec.{leb, eqb}
 use Rattle.records.specs.Fields.{wideAt}
+pub use Rattle.records.specs.Reading.{isKind}
 use Rattle.piece.specs.declared.TermRecord.{TermRecord}
 use Rattle.piece.specs.declared.TermRecord.the-variants.{Unknown, Symbol, Number, Compound}
 use Rattle.piece.specs.declared.TermHead.{TermHead}
@@ -14,10 +15,6 @@ use Rattle.piece.specs.declared.TermHead.the-variants.{Whole, Refused}
 abbrev pub wholeIf : Bool → TermRecord → TermHead
 wholeIf true r = Whole r
 wholeIf false r = Refused 14
-
-abbrev pub isKind : Bool → TermHead → TermHead → TermHead
-isKind true this others = this
-isKind false this others = others
 
 -- "14 Is each term a whole record of kinds 30 to 33?"
 abbrev pub termHead : List ℕ → TermHead

@@ -8,17 +8,15 @@ use lib.ListN.{length, getD}
 use lib.Dec.{leb, eqb}
 use borrow.Author.Tests.{leb-true, eqb-true, eqb-false}
 use Rattle.records.specs.Fields.{wideAt}
+use Rattle.records.specs.Reading.{isKind}
+use Rattle.records.proofs.Questions.{kind-cases}
 use Rattle.sheet.specs.declared.PatternRecord.{PatternRecord}
 use Rattle.sheet.specs.declared.PatternRecord.the-variants.{Anything, Symbol, Range, Compound, Variable, Ranged}
 use Rattle.sheet.specs.declared.PatternHead.{PatternHead}
 use Rattle.sheet.specs.declared.PatternHead.the-variants.{Whole, Refused}
-use Rattle.sheet.specs.PatternRecord.{recordBytes, wholeIf, isKind, patternHead}
+use Rattle.sheet.specs.PatternRecord.{recordBytes, wholeIf, patternHead}
 
 module _ (P : PatternHead → Type 0) where
-  either : (b : Bool) (x y : PatternHead) → (b ≡ true → P x) → (b ≡ false → P y) → P (isKind b x y)
-  either true x y yes-case no-case = yes-case refl
-  either false x y yes-case no-case = no-case refl
-
   whole : (k n : ℕ) (r : PatternRecord) → P (Refused 4) → (k ≤ n → P (Whole r)) → P (wholeIf (leb k n) r)
   whole k n r short long = go (leb k n) refl
     where
@@ -33,7 +31,7 @@ module _ (P : PatternHead → Type 0) where
         → (k ≤ length s → getD s 0 0 ≡ kind → P (Whole r)) → P others
         → P (isKind (eqb (getD s 0 0) kind) (wholeIf (leb k (length s)) r) others)
     kind-case kind k r others short long other =
-        either (eqb (getD s 0 0) kind) _ others
+        kind-cases P (eqb (getD s 0 0) kind) _ others
         (λ is. whole k (length s) r short (λ there. long there (eqb-true (getD s 0 0) kind is))) (λ not. other)
 
     -- A head, by its kind.
@@ -46,8 +44,8 @@ module _ (P : PatternHead → Type 0) where
         → (6 ≤ length s → getD s 0 0 ≡ 0x25 → P (Whole (Ranged (getD s 1 0) (wideAt s 2) (wideAt s 4))))
         → P (patternHead s)
     head-cases short any symbol range compound variable ranged =
-        either (eqb (length s) 0) _ _ (λ empty. short) (λ some.
-        either (eqb (getD s 0 0) 0x20) _ _
+        kind-cases P (eqb (length s) 0) _ _ (λ empty. short) (λ some.
+        kind-cases P (eqb (getD s 0 0) 0x20) _ _
         (λ is. any (omega (arith, eqb-false (length s) 0 some)) (eqb-true (getD s 0 0) 0x20 is)) (λ not.
         kind-case 0x21 3 _ _ short symbol
         (kind-case 0x22 5 _ _ short range

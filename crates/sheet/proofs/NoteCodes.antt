@@ -4,10 +4,10 @@ use mathlib.Core.Path.{_≡_, ap, _∙_}
 use mathlib.Core.Bool.{Bool, true, false}
 use native.Mathlib.Omega.{arith}
 use lib.Dec.{eqb}
+use Rattle.records.specs.Reading.{isKind}
 use Rattle.terms.specs.Term.{Wide}
 use Rattle.sheet.specs.declared.PatternRecord.{PatternRecord}
 use Rattle.sheet.specs.declared.PatternRecord.the-variants.{Anything, Symbol, Range, Compound, Variable, Ranged}
-use Rattle.sheet.specs.PatternRecord.{isKind}
 use Rattle.sheet.specs.Noted.{note}
 use Rattle.sheet.specs.NoteCode.{packed, noteCode, noteOf, codePlace, codeKind, codeVariable, codeFirst, codeSecond, codeRecord, Fitting}
 

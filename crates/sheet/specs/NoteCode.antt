@@ -2,10 +2,10 @@
 -- the kind of the record (its kind byte less 0x20), the variable (4 bits) and two fields of 16 bits.
 use Prim.Native.Nat.{ℕ, _+_, _*_, _/_, _%_, _<_}
 use lib.Dec.{eqb}
+use Rattle.records.specs.Reading.{isKind}
 use Rattle.terms.specs.Term.{Wide}
 use Rattle.sheet.specs.declared.PatternRecord.{PatternRecord}
 use Rattle.sheet.specs.declared.PatternRecord.the-variants.{Anything, Symbol, Range, Compound, Variable, Ranged}
-use Rattle.sheet.specs.PatternRecord.{isKind}
 use Rattle.sheet.specs.Noted.{Note, note}
 
 abbrev pub packed : ℕ → ℕ → ℕ → ℕ → ℕ → ℕ

@@ -5,6 +5,7 @@ use mathlib.Core.List.{List}
 use lib.ListN.{length, getD}
 use lib.Dec.{leb, eqb}
 use Rattle.records.specs.Fields.{wideAt}
+use Rattle.records.specs.Reading.{isKind}
 use Rattle.sheet.specs.declared.PatternRecord.{PatternRecord}
 use Rattle.sheet.specs.declared.PatternRecord.the-variants.{Anything, Symbol, Range, Compound, Variable, Ranged}
 use Rattle.sheet.specs.declared.PatternHead.{PatternHead}
@@ -23,11 +24,6 @@ recordBytes (Ranged v l h) = 6
 abbrev pub wholeIf : Bool → PatternRecord → PatternHead
 wholeIf true r = Whole r
 wholeIf false r = Refused 4
-
--- This where the answer is yes, else the others.
-abbrev pub isKind : {A : Type 0} → Bool → A → A → A
-isKind true this others = this
-isKind false this others = others
 
 -- A record of kind 22 or 25, by the bytes that are there.
 abbrev pub rangeHead : List ℕ → PatternHead

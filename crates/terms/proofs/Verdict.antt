@@ -145,14 +145,18 @@ module _ (rules : List Patterns) (piece : Terms)
       asked-right rules piece fail
       (λ i isRule. contradicted-none (ruleAt rules i) piece (outcome i) (law i isRule) (all i isRule))
 
+  -- Where no filling meets rule i, nor another, fail is asked for.
+  all-missed : (i : ℕ) → NoneMeets rules piece i → NoneMeetsAnother rules piece i → Fails rules piece
+  all-missed i missed none j other =
+      elim (ℕ-discrete j i) [ yes e ↦ subst (NoneMeets rules piece) (sym e) missed | no d ↦ none j other d ]
+
   -- What is asked for where no filling meets a rule but rule i, by what the outcome of rule i says.
   only-asked
       : (i : ℕ) → IsRule rules piece i → NoneMeetsAnother rules piece i
       → (o : Outcome) → Says o (ruleAt rules i) piece → Asked rules piece (onlyRule i o)
   only-asked i isRule none holds says = (isRule, says, none)
   only-asked i isRule none notKnown says = (isRule, says .0, says .1, none)
-  only-asked i isRule none contradicted says = λ j other.
-      elim (ℕ-discrete j i) [ yes e ↦ subst (NoneMeets rules piece) (sym e) says | no d ↦ none j other d ]
+  only-asked i isRule none contradicted says = all-missed i says none
 
   -- Where each rule but rule i is contradicted, the answer by the outcome of rule i is right: commit, execute or fail.
   pub right-only

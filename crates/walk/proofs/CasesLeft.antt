@@ -8,7 +8,7 @@ use lib.Dec.{leb}
 use lib.ListN.{length, drop, length-drop}
 use Rattle.records.specs.Reading.{took}
 use Rattle.records.proofs.Rows.{row-none}
-use Rattle.cells.specs.Choice.{choose}
+use Rattle.terms.specs.Choice.{choose}
 use Rattle.decision.specs.Node.{CaseEdge}
 use Rattle.graph.specs.declared.CaseRecord.{CaseRecord}
 use Rattle.graph.specs.declared.CaseRecord.the-variants.{Symbol, Compound, Numbers}

@@ -1,42 +1,21 @@
 -- A case takes exactly the terms whose codes lie in its range, so a code leads where its term does.
-use Prim.Native.Nat.{ℕ, _<_}
-use mathlib.Core.Path.{_≡_, refl, ap, _∙_}
-use mathlib.Core.Bool.{Bool, true, false, _&&_, and-eq-true-iff}
-use mathlib.Core.Logic.{inl, inr}
+use Prim.Native.Nat.{ℕ}
+use mathlib.Core.Path.{_≡_, refl}
+use mathlib.Core.Bool.{_&&_, and-eq-true-iff}
 use mathlib.Core.List.{List, [], _∷_}
 use native.Mathlib.Omega.{arith}
-use lib.Dec.{leb, eqb}
-use borrow.Author.Tests.{leb-true, eqb-true, le-leb, lt-leb, eq-eqb}
+use lib.Dec.{eqb}
+use borrow.Author.Tests.{eqb-true, eq-eqb}
+use Rattle.terms.specs.Choice.{choose}
 use Rattle.terms.specs.Lists.{All}
 use Rattle.terms.specs.Term.{Term, count, unknown, symbol, number, compound}
 use Rattle.terms.specs.Filling.{WellFormed}
-use Rattle.terms.proofs.Booleans as booleans
 use Rattle.piece.specs.Cells.{symbolCode, compoundCode, numberCode, unknownCode, termCode}
-use Rattle.cells.specs.Choice.{choose}
-use Rattle.cells.proofs.TwoTests.{same-truth, not-both}
-use Rattle.cells.proofs.Codes.{in-order}
+use Rattle.cells.proofs.Codes.{in-order, under, over, only}
 use Rattle.decision.specs.Cases.{Case, symbolCase, compoundCase, numbersCase, takes}
 use Rattle.decision.specs.Node.{CaseEdge, follow}
 use Rattle.decision.specs.AcceptedGraph.{CaseFields}
 use Rattle.walk.specs.CodeSteps.{takesCode, followCode}
-
--- A code below a range, or above it, is not in it.
-under : (low high code : ℕ) → code < low → leb low code && leb code high ≡ false
-under low high code h = not-both (leb low code) (leb code high) (inl (lt-leb low code h))
-
-over : (low high code : ℕ) → high < code → leb low code && leb code high ≡ false
-over low high code h = not-both (leb low code) (leb code high) (inr (lt-leb code high h))
-
--- A code is from c to c exactly where it is c.
-only : (c code : ℕ) (y : Bool) → (c ≡ code → y ≡ true) → (y ≡ true → c ≡ code) → leb c code && leb code c ≡ y
-only c code y to from =
-    same-truth (leb c code && leb code c) y
-    (λ h.
-    let both = and-eq-true-iff (leb c code) (leb code c) .0 h in
-    to (omega (arith, leb-true c code (both .0), leb-true code c (both .1))))
-    (λ h.
-    let same = from h in
-    and-eq-true-iff (leb c code) (leb code c) .1 (le-leb c code (omega arith), le-leb code c (omega arith)))
 
 -- A case takes a term exactly where its range holds the term's code.
 pub takes-code : (c : Case) (t : Term) → CaseFields c → WellFormed t → takesCode c (termCode t) ≡ takes c t
@@ -71,11 +50,4 @@ pub follow-code
     → followCode cs neither (termCode t) ≡ follow cs neither t
 follow-code [] neither t h ok = refl
 follow-code (c ∷ cs) neither t h ok =
-    ap (λ (b : Bool). choose b (c .target) (followCode cs neither (termCode t))) (takes-code (c .case) t (h .0) ok)
-    ∙ go (takes (c .case) t) (follow-code cs neither t (h .1) ok)
-  where
-    go
-        : (b : Bool) → followCode cs neither (termCode t) ≡ follow cs neither t
-        → choose b (c .target) (followCode cs neither (termCode t)) ≡ booleans.choose b (c .target) (follow cs neither t)
-    go true e = refl
-    go false e = e
+    λ i. choose (takes-code (c .case) t (h .0) ok i) (c .target) (follow-code cs neither t (h .1) ok i)

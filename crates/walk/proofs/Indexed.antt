@@ -8,9 +8,9 @@ use lib.Dec.{eqb}
 use lib.ListN.{length, getD, length-map}
 use Rattle.terms.specs.Lists.{All, countFrom}
 use Rattle.terms.specs.Outcome.{Outcome, holds, notKnown, contradicted}
+use Rattle.terms.proofs.Booleans.{choose-holds}
 use Rattle.terms.proofs.ListLaws.{all-split}
 use Rattle.tests.specs.SheetTests.{place, pair}
-use Rattle.cells.specs.Choice.{choose}
 use Rattle.cells.specs.Look.{look}
 use Rattle.cells.specs.CellOutcome.{pairCells}
 use Rattle.decision.specs.Key.{fail}
@@ -25,11 +25,6 @@ use Rattle.walk.specs.Following.{nodeFrom, nodesAt, KeptNode}
 use Rattle.walk.proofs.KeptNumbers.{kept-mem}
 use Rattle.walk.proofs.MetTests.{AskedIn}
 
--- What holds of both things holds of the chosen one.
-chosen : {A : Type 0} (Q : A → Type 0) (b : Bool) {x y : A} → Q x → Q y → Q (choose b x y)
-chosen Q true h k = h
-chosen Q false h k = k
-
 module _ (nodes : ℕ) where
   abbrev Leads : Step ℕ → Type 0
   Leads (stop l) = Unit
@@ -41,7 +36,7 @@ module _ (nodes : ℕ) where
       → followCode cs x code < nodes
   follow-inside [] x code h k = k
   follow-inside (c ∷ cs) x code h k =
-      chosen (λ (m : ℕ). m < nodes) (takesCode (c .case) code) (h .0) (follow-inside cs x code (h .1) k)
+      choose-holds (λ (m : ℕ). m < nodes) (takesCode (c .case) code) _ _ (h .0) (follow-inside cs x code (h .1) k)
 
   compared : (x y : ℕ) (o : Outcome) → x < nodes → y < nodes → Leads (byComparison x y o)
   compared x y holds h k = k
@@ -54,10 +49,10 @@ module _ (nodes : ℕ) where
   step-leads cells (switch p cs x y) h =
       let code = look cells p in
       let (cases, others) = all-split (λ (m : ℕ). m < nodes) (map (λ (c : CaseEdge ℕ). c .target) cs) (x ∷ y ∷ []) h in
-      chosen Leads (eqb code 0) tt
-      (chosen (λ (m : ℕ). m < nodes) (eqb code unknownCode) (others .1 .0) (follow-inside cs x code cases (others .0)))
+      choose-holds Leads (eqb code 0) _ _ tt
+      (choose-holds (λ (m : ℕ). m < nodes) (eqb code unknownCode) _ _ (others .1 .0) (follow-inside cs x code cases (others .0)))
   step-leads cells (pairNode p q x y) h =
-      chosen Leads (eqb (look cells p) 0 || eqb (look cells q) 0) tt (compared x y (pairCells cells p q) (h .0) (h .1 .0))
+      choose-holds Leads (eqb (look cells p) 0 || eqb (look cells q) 0) _ _ tt (compared x y (pairCells cells p q) (h .0) (h .1 .0))
 
   pub step-inside
       : (cells : List ℕ) (n : Node ℕ) → All (λ (m : ℕ). m < nodes) (edges n) → {m : ℕ} → goTo m ≡ stepCells cells n → m < nodes

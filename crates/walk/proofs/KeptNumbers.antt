@@ -14,6 +14,7 @@ use lib.Seq.{drop-cons}
 use Rattle.masks.specs.Mask.{has, maskOf, consIf, listFrom, members}
 use Rattle.masks.proofs.Extensionality.{has-is}
 use Rattle.masks.proofs.Members.{list-same, members-maskOf}
+use Rattle.terms.specs.Choice.{choose}
 use Rattle.terms.specs.Lists.{Mem, filter, countFrom}
 use Rattle.terms.proofs.Booleans.{both-true}
 use Rattle.terms.proofs.ListLaws.{all-from}
@@ -22,7 +23,6 @@ use Rattle.tests.specs.TestedPlaces.{hasPlace, placesIn}
 use Rattle.tests.specs.KeptPairs.{codePair}
 use Rattle.tests.proofs.NumberLists.{count-mem, mem-count, count-append, filter-mem, mem-filter, filter-append, filter-count, filter-listed}
 use Rattle.tests.proofs.PlaceSets.{placesBelow}
-use Rattle.cells.specs.Choice.{choose}
 use Rattle.decision.specs.Rules.{sameTest}
 use Rattle.decision.proofs.Filters.{mem-left, mem-right, mem-map, any-mem, all-mapped, mapped-always}
 use Rattle.decision.proofs.Sets.{true-is}

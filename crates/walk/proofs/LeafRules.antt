@@ -5,10 +5,10 @@ use mathlib.Core.Bool.{Bool, true, false, _||_}
 use mathlib.Core.List.{List}
 use lib.Dec.{eqb}
 use lib.ListN.{getD}
+use Rattle.terms.specs.Choice.{choose}
 use Rattle.terms.specs.Lists.{All}
 use Rattle.terms.specs.Outcome.{Outcome, holds, notKnown, contradicted}
 use Rattle.tests.specs.SheetTests.{Test}
-use Rattle.cells.specs.Choice.{choose}
 use Rattle.cells.specs.Look.{look}
 use Rattle.cells.specs.CellOutcome.{pairCells}
 use Rattle.decision.specs.Key.{Leaf, fail}

@@ -10,10 +10,10 @@ use lib.Dec.{leb, eqb}
 use lib.ListN.{length, drop, length-drop}
 use lib.Seq.{drop-drop}
 use Rattle.records.specs.Reading.{Reading, took, refused, ask, after}
+use Rattle.terms.specs.Choice.{choose}
 use Rattle.terms.specs.Outcome.{Outcome}
 use Rattle.tests.specs.SheetTests.{Test}
 use Rattle.piece.specs.Cells.{unknownCode}
-use Rattle.cells.specs.Choice.{choose}
 use Rattle.cells.specs.CellOutcome.{codesOutcome}
 use Rattle.cells.proofs.TwoTests.{one-is, none-is}
 use Rattle.cells.proofs.PairCells.{one-lacking}

@@ -8,13 +8,13 @@ use native.Mathlib.Omega.{arith}
 use borrow.Author.Tests.{eq-eqb, ne-eqb}
 use lib.Dec.{T, eqb, eqb·suc-suc}
 use lib.ListN.{length, getD}
+use Rattle.terms.specs.Choice.{choose}
 use Rattle.terms.specs.Lists.{Mem, All}
 use Rattle.terms.proofs.ListLaws.{mem-cases, mem-none, all-at, all-map}
 use Rattle.terms.proofs.Sorted.{Ascending}
 use Rattle.tests.specs.SheetTests.{Test, before, sheetTests, allTests}
 use Rattle.tests.proofs.TestOrder.{before-order, ascending-ascends}
 use Rattle.terms.specs.Pattern.{Patterns}
-use Rattle.cells.specs.Choice.{choose}
 use Rattle.decision.specs.Rules.{sameTest}
 use Rattle.decision.proofs.TestsOfRules.{same-test, test-same}
 use Rattle.decision.proofs.TestNumbers.{mem-at}

@@ -12,9 +12,9 @@ use Rattle.masks.specs.Mask.{maskOf}
 use Rattle.masks.proofs.Extensionality.{maskOf-lt}
 use Rattle.masks.proofs.Loops.{turn-yes, turn-no}
 use Rattle.masks.proofs.Operations.{insert-is}
+use Rattle.terms.specs.Choice.{choose}
 use Rattle.tests.specs.SheetTests.{place}
 use Rattle.tests.specs.KeptPairs.{codePair}
-use Rattle.cells.specs.Choice.{choose}
 use Rattle.walk.specs.LeafAnswers.{listedTest, withIf}
 
 -- One test more.

@@ -1,6 +1,6 @@
 -- Things that are read one after another: the first of those that are left, and the others behind it.
 use Prim.Native.Nat.{ℕ, suc, _+_, _-_}
-use mathlib.Core.Path.{_≡_, refl, ap, subst, _∙_}
+use mathlib.Core.Path.{_≡_, ap, subst, _∙_}
 use mathlib.Core.List.{List, [], _∷_}
 use native.Mathlib.Omega.{arith}
 use lib.ListN.{drop}
@@ -8,15 +8,7 @@ use lib.Seq.{drop-drop}
 use Rattle.records.specs.Reading.{Reading, took, refused, after, readRow}
 use Rattle.records.proofs.Rows.{row-next, row-refused}
 use Rattle.graph.specs.Rewriting.{IsTook, readOr}
-
--- What was read behind something else.
-after-took : {A B : Type 0} (a : ℕ) (f : A → B) (r : Reading A) → IsTook (after a f r) → IsTook r
-after-took a f (took b x) h = tt
-after-took a f (refused q) h = h
-
-after-or : {A : Type 0} (a : ℕ) (x : A) (r : Reading (List A)) → IsTook r → readOr [] (after a (_∷_ x) r) ≡ x ∷ readOr [] r
-after-or a x (took b xs) h = refl
-after-or a x (refused q) h = absurd h
+use Rattle.nodes.proofs.Copying.{after-took, after-or}
 
 -- n things, one more than m, are read from a position.
 module _ {A : Type 0} (one : List ℕ → Reading A) (s : List ℕ) (n m at : ℕ) (more : n ≡ suc m)

@@ -5,6 +5,7 @@ use mathlib.Core.Bool.{Bool, true, false, _||_}
 use mathlib.Core.List.{List}
 use lib.Dec.{eqb}
 use borrow.Author.Tests.{ne-eqb}
+use Rattle.terms.specs.Choice.{choose}
 use Rattle.terms.specs.Lists.{All}
 use Rattle.terms.specs.Term.{Terms, unknown, symbol, number, compound}
 use Rattle.terms.specs.Lookup.{Found, lacking, found, termAt}
@@ -16,7 +17,6 @@ use Rattle.terms.proofs.WellFormed.{finds-well-formed}
 use Rattle.tests.specs.SheetTests.{Test, place, pair}
 use Rattle.piece.specs.Cells.{unknownCode, termCode, foundCode}
 use Rattle.piece.specs.LaidOut.{pieceCells}
-use Rattle.cells.specs.Choice.{choose}
 use Rattle.cells.proofs.Hidden as hidden
 use Rattle.cells.proofs.Codes.{code-some, code-unknown}
 use Rattle.cells.proofs.LookFinds.{look-finds}

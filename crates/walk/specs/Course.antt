@@ -1,4 +1,4 @@
--- What a walk goes over: the tests that are kept, each once and 64 at most, and the index of a graph.
+-- What a walk goes over: the sheet's tests as they are kept, "distinct" and "at most 64", and the index of a graph.
 use Prim.Native.Nat.{ℕ, _≤_}
 use mathlib.Core.Path.{_≡_}
 use mathlib.Core.List.{List}

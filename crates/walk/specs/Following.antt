@@ -34,7 +34,7 @@ abbrev pub pathBy : (ℕ → Step ℕ) → ℕ → ℕ → Path
 pathBy step zero n = lastOf n (step n)
 pathBy step (suc more) n = nextOf (pathBy step more) n (step n)
 
--- A walk that ended at a leaf, with the edges walked and the set of tests met not known, or that was refused.
+-- A walk that ended at a leaf, with the "edges walked" and the set of tests met not known, or that was refused.
 pub data Ended : Type 0 where
   reached : Leaf → ℕ → ℕ → Ended
   stopped : ℕ → Ended
@@ -71,19 +71,20 @@ nodeFrom graph starts k = readOr (end fail) (readRecord (drop (getD starts k 0) 
 unfoldable pub nodesAt : List ℕ → List ℕ → ℕ → List (Node ℕ)
 nodesAt graph starts nodes = map (nodeFrom graph starts) (countFrom 0 nodes)
 
--- The test that a node asks is kept.
+-- "Its place or pair among the sheet's tests" (question 23): the test that a node asks is kept.
 abbrev pub KeptNode : (Test → Bool) → Node ℕ → Type 0
 KeptNode isTest (end l) = Unit
 KeptNode isTest (switch n cs x y) = T (isTest (place n))
 KeptNode isTest (pairNode p q x y) = T (isTest (pair p q))
 
--- A node of a graph of so many: its places are among the 680, its test is one of the sheet's, its edges lead to nodes.
+-- A node of a graph of so many, as question 23 leaves it: its places are among the 680, its test is one of the sheet's, its edges
+-- lead to nodes.
 pub record GoodNode (isTest : Test → Bool) (nodes : ℕ) (n : Node ℕ) : Type 0 where
   pub near : NearNode n
   pub kept : KeptNode isTest n
   pub inside : All (λ (m : ℕ). m < nodes) (edges n)
 
--- What the check of a graph leaves: start k is where a whole record of a good node begins.
+-- What questions 21 to 25 leave: "1 to 1,024 nodes", and start k is where a whole record of a good node begins.
 pub record Index (graph starts : List ℕ) (isTest : Test → Bool) (nodes : ℕ) : Type 0 where
   pub someNode : 1 ≤ nodes
   pub fewNodes : nodes ≤ 1024

@@ -6,6 +6,7 @@ use lib.Dec.{eqb, ltb}
 use lib.ListN.{length, getD, take, replicate}
 use Rattle.masks.specs.Mask.{has, maskOf}
 use Rattle.records.specs.Reading.{Reading, took, refused}
+use Rattle.terms.specs.Choice.{choose}
 use Rattle.terms.specs.Pattern.{Patterns}
 use Rattle.terms.specs.Outcome.{Outcome, holds, notKnown, contradicted}
 use Rattle.terms.specs.Answer.{ruleAt, onlyRule}
@@ -17,18 +18,17 @@ use Rattle.tests.specs.KeptPairs.{codePair}
 use Rattle.tests.specs.TestsRead.{keptTests}
 use Rattle.tables.specs.Numbers.{numberAll}
 use Rattle.tables.specs.RuleTables.{notesRow}
-use Rattle.cells.specs.Choice.{choose}
 use Rattle.answer.specs.NotesOutcome.{cellsOutcome}
 use Rattle.decision.specs.Key.{Leaf, fail, suspend, execute}
 use Rattle.decision.specs.Walk.{Walk}
 use Rattle.walk.specs.CodeSteps.{openCells}
 use Rattle.walk.specs.Following.{Ended, reached, stopped}
 
--- Test t, where m places and then pairs are listed.
+-- Test t, where m places and then pairs are listed: "its distinct tested places ascending, then its distinct pairs".
 abbrev pub listedTest : List ℕ → ℕ → List ℕ → ℕ → Test
 listedTest places m codes t = choose (ltb t m) (place (getD places t 0)) (codePair (getD codes (t - m) 0))
 
--- A set with t, or without it.
+-- "A set of tests, test t being bit t of 64": with t, or as it is.
 abbrev pub withIf : Bool → ℕ → ℕ → ℕ
 withIf true set t = maskOf 64 (λ j. has set j || eqb t j)
 withIf false set t = set
@@ -58,7 +58,8 @@ abbrev pub executed : ℕ → ℕ → Outcome → ℕ → Walk
 executed rule edges outcome own = record { answer = onlyRule rule outcome; edges = edges; waits = waitsOf outcome own }
 
 module _ (rules : List Patterns) (words codes : List ℕ) (pairs : ℕ) (cells : List ℕ) where
-  -- The answer at a leaf that so many edges lead to, where these tests were met not known.
+  -- The answer at a leaf that so many edges lead to, where these tests were met not known: "for suspend it holds the tests met
+  -- not known on the walk".
   abbrev pub leafWalk : Leaf → ℕ → ℕ → Walk
   leafWalk fail edges met = record { answer = answers.fail; edges = edges; waits = 0 }
   leafWalk suspend edges met = record { answer = answers.suspend; edges = edges; waits = met }
@@ -69,7 +70,7 @@ module _ (rules : List Patterns) (words codes : List ℕ) (pairs : ℕ) (cells :
   endWalk (reached l edges met) = took 0 (leafWalk l edges met)
   endWalk (stopped q) = refused q
 
--- The rule of an execute is one of so many.
+-- "Are its nodes and rule in range": the rule of an execute is one of so many.
 abbrev pub LeafIn : ℕ → Leaf → Type 0
 LeafIn count fail = Unit
 LeafIn count suspend = Unit

@@ -15,7 +15,7 @@ use Rattle.walk.specs.TestNumbers.{NearTest, Once}
 use Rattle.walk.specs.Following.{Index, nodesAt}
 use Rattle.walk.specs.LeafAnswers.{LeafIn}
 
--- The rule of an execute node is one of so many.
+-- "Are its nodes and rule in range": so with the rule of an execute node.
 abbrev pub LeafNode : ℕ → Node ℕ → Type 0
 LeafNode count (end l) = LeafIn count l
 LeafNode count (switch n cs x y) = Unit
@@ -31,8 +31,8 @@ pub record Ready (s graph starts words codes : List ℕ) (arity count pairs node
   pub index : Index graph starts (keptTest words codes pairs) nodes
   pub leaves : All (LeafNode count) (nodesAt graph starts nodes)
 
--- Questions 1 to 11 and 21 to 25 refuse nothing of the bytes s and g: the sheet is accepted, the arrays hold its tests, and the graph
--- is accepted for it, with so many nodes, which begin at the starts.
+-- Questions 1 to 11 and 21 to 25 refuse nothing of the bytes s and g: the sheet is accepted, the arrays hold its tests, and the
+-- graph is accepted for it, with so many nodes, which begin at the starts.
 pub record Checked (s g starts words codes : List ℕ) (arity count pairs nodes : ℕ) : Type 0 where
   pub sheet : AcceptedTests s words codes arity count pairs
   pub graph : AcceptedGraphAs (sheet .read .sheet) g starts nodes

@@ -30,7 +30,7 @@ abbrev pub pieceReply : Sheet → List ℕ → List ℕ → Reading Walk
 pieceReply sheet g p =
     andThen (readPiece p) (λ _ piece. ask 20 (eqb (sheet .arity) (piece .arity)) (graphReply sheet g (piece .terms)))
 
--- The walk of a piece of bytes p over a graph of bytes g, with a sheet of bytes s.
+-- The walk of a piece of bytes p over a graph of bytes g, with a sheet of bytes s: 20 to 27 are asked "after sheet and piece".
 unfoldable pub walkReply : List ℕ → List ℕ → List ℕ → Reading Walk
 walkReply s g p = andThen (acceptSheet s) (λ _ sheet. pieceReply sheet g p)
 

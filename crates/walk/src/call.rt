@@ -60,8 +60,8 @@ fn walk_nodes(
     }
 }
 
-// The walk of a piece that was read, where questions 21 to 25 refuse nothing of the sheet and the graph: 26 and 27 are asked on the
-// way. Not an answer where an edge leads on after 64, nor another node than the one with the number.
+// The walk of a piece that was read, where the sheet's questions and 21 to 25 refuse nothing: 26 and 27 are asked on the way. Not
+// an answer where an edge leads on after 64, nor one by another node than that with the number.
 pub fn walk_checked(
     sheet: &[u8],
     graph: &[u8],
@@ -156,8 +156,8 @@ fn walk_piece(
     }
 }
 
-// The walk: the sheet's questions, the piece's, 20, the graph's, then 26 and 27 on the way. Not 20 where the piece itself is refused,
-// nor an answer that counts a leaf among the edges.
+// The walk: the sheet's questions, the piece's, 20, the graph's, then 26 and 27 on the way. Not 20 where the piece itself is
+// refused, nor an answer that counts the nodes walked for the edges.
 pub fn walk(sheet: &[u8], graph: &[u8], piece: &[u8]) -> Walked
     ensures { λ r. ⌜ walkedValues r ≡ replyValues (walkReply (now (sheet .entry)) (now (graph .entry)) (now (piece .entry))) ⌝ }
 {

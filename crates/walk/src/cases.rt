@@ -11,8 +11,8 @@ ghost use Rattle.graph.specs.ReadGraph.{readCases};
 ghost use Rattle.graph.specs.Rewriting.{IsTook, readOr};
 ghost use Rattle.walk.specs.CodeSteps.{followCode};
 
-// Where the cases, so many from a position of the graph on, lead for a code. Not by the last case that takes it, nor by neither
-// where a case takes it.
+// Where the cases, so many from a position of the graph on, lead for a code; they are whole, so none is refused here. Not by the
+// case behind the one that takes it, nor by neither where a case takes it.
 pub fn find_case(graph: &[u8], start: usize, count: u8, code: u32, neither: u16) -> u16
     requires { ⌜ (start ≤ length (now graph)) × IsTook (readCases count (drop start (now graph))) ⌝ }
     ensures { λ r. ⌜ r ≡ followCode (readOr [] (readCases count (drop start (now (graph .entry))))) neither code ⌝ }

@@ -26,8 +26,8 @@ ghost use Rattle.walk.specs.Walking.{walkOf};
 ghost use Rattle.walk.specs.TestNumbers.{NearTest};
 ghost use Rattle.walk.specs.LeafAnswers.{leafWalk, LeafIn};
 
-// The notes of a rule, from 1, of the rules, so many, that the input begins with: how many there are. Not those of the rule after
-// it, nor of the first.
+// The notes of a rule, from 1, of the rules, so many, that the input begins with: how many there are. The rules were read before,
+// so none is refused here. Not the notes of the rule after it, nor those of the first.
 pub fn notes_at(s: &[u8], arity: usize, count: u8, rule: u8, notes: &mut [u64; 680]) -> usize
     requires { ⌜ (arity ≤ 8) × (length (now notes) ≡ 680) × (1 ≤ rule) × (rule ≤ count) × IsTook (readRules arity count (now s)) ⌝ }
     ensures { λ r. ⌜ notesIn (now (notes .exit)) r ≡ ruleNotes (ruleAt (readOr [] (readRules arity count (now (s .entry)))) rule) ⌝ }
@@ -49,8 +49,8 @@ pub fn notes_at(s: &[u8], arity: usize, count: u8, rule: u8, notes: &mut [u64; 6
     0
 }
 
-// The answer at an execute of a rule: all its tests are made. Not commit where a test is not known, nor a wait list beside a commit
-// or a fail.
+// The answer at an execute of a rule: all its tests are made. Not commit where a test is not known, nor a wait list beside a
+// commit or a fail.
 pub fn at_rule(
     s: &[u8],
     arity: usize,

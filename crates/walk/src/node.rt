@@ -21,9 +21,10 @@ ghost use Rattle.decision.specs.Key.{fail};
 ghost use Rattle.decision.specs.Node.{end};
 ghost use Rattle.graph.specs.ReadGraph.{readCases};
 ghost use Rattle.graph.specs.Rewriting.{IsTook, readOr, readRecord};
-ghost use Rattle.walk.specs.CodeSteps.{codeStep, codesStep, stepCells, openCells, openIf, openAt, NearNode, stepOf, openIn};
+ghost use Rattle.walk.specs.CodeSteps.{codeStep, codesStep, stepCells, NearNode, stepOf};
+ghost use Rattle.walk.specs.CodeSteps.{openCells, openIf, openAt, openIn};
 
-// The step at a switch, whose cases, so many, begin at a position of the graph.
+// The step at a switch, whose cases, so many, begin at a position of the graph: code 0 says that the piece lacks the place.
 fn switch_step(
     graph: &[u8],
     start: usize,
@@ -47,7 +48,7 @@ fn switch_step(
     Step::GoTo(find_case(graph, start, count, code, neither), Open::Nothing)
 }
 
-// The step at a pair.
+// The step at a pair: by differ only where its test is contradicted, and no way where a place is lacking.
 fn pair_step(cells: &[u32; 680], p: u16, q: u16, differ: u16, other: u16) -> Step
     requires { ⌜ (p < 680) × (q < 680) × Narrow (now cells) ⌝ }
     ensures { λ r. ⌜ stepOf r ≡ codesStep differ other (look (now (cells .entry)) p) (look (now (cells .entry)) q) (pairCells (now (cells .entry)) p q) ⌝ }
@@ -67,8 +68,8 @@ fn pair_step(cells: &[u32; 680], p: u16, q: u16, differ: u16, other: u16) -> Ste
     }
 }
 
-// The step at the node whose record begins at a position of the graph. Not by neither where the place is unknown, nor by other
-// where a place is lacking.
+// The step at the node whose record, which is whole, begins at a position of the graph. Not by neither where the place is
+// unknown, nor by other where a place is lacking.
 pub fn step_at(graph: &[u8], at: usize, cells: &[u32; 680]) -> Step
     requires { ⌜ (at ≤ length (now graph)) × IsTook (readRecord (drop at (now graph))) × NearNode (readOr (end fail) (readRecord (drop at (now graph)))) × Narrow (now cells) ⌝ }
     ensures { λ r. ⌜ stepOf r ≡ stepCells (now (cells .entry)) (readOr (end fail) (readRecord (drop at (now (graph .entry))))) ⌝ }

@@ -24,8 +24,8 @@ pub fn places_under(words: &[u64; 11], place: usize) -> usize
     total + masks::size(masks::intersect(words[i], masks::full(place % 64)))
 }
 
-// The number of a pair among the first so many codes; so many where it is not there. Not that of another pair with the same first
-// place.
+// The number of a pair among the first so many codes; so many where it is not there. Not that of another pair with the same
+// first place, nor that of a code behind those.
 pub fn pair_number(codes: &[u32; 65], count: usize, p: u16, q: u16) -> usize
     requires { ⌜ (count ≤ 65) × (length (now codes) ≡ 65) ⌝ }
     ensures { λ r. ⌜ r ≡ numberIn (map codePair (take count (now (codes .entry)))) (pair p q) ⌝ }

@@ -11,8 +11,8 @@ ghost use Rattle.tests.specs.TestsRead.{keptTests};
 ghost use Rattle.walk.specs.Following.{cellsEnd, nodesAt, endedOf};
 ghost use Rattle.walk.specs.Course.{Course};
 
-// Follows edges from node 0, 64 at most, to a leaf; how many nodes there are only the contract asks. Not to the leaf after the first
-// unknown, nor with a test among those met that is known.
+// Follows edges from node 0 to a leaf. After 64 edges only a leaf is handed back: 26 is asked before 27. How many nodes there are
+// only the contract asks. Not the suspend leaf at the first unknown, nor a known test among those met.
 pub fn follow_path(
     graph: &[u8],
     starts: &[u32; 1024],

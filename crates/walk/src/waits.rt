@@ -17,7 +17,7 @@ ghost use Rattle.walk.specs.CodeSteps.{openCells};
 ghost use Rattle.walk.specs.TestNumbers.{NearTest};
 ghost use Rattle.walk.specs.LeafAnswers.{listedTest, withIf, ownWaits};
 
-// A set with a number, or as it is. Not that number alone, nor without it where it was in the set.
+// A set with a number where it is wanted, else as it is.
 fn with_if(wanted: bool, set: u64, number: usize) -> u64
     requires { ⌜ number < 64 ⌝ }
     ensures { λ r. ⌜ r ≡ withIf wanted set number ⌝ }
@@ -28,7 +28,7 @@ fn with_if(wanted: bool, set: u64, number: usize) -> u64
     set
 }
 
-// Is a test not known, where m places and then pairs are listed?
+// Is the test with a number not known, where m places and then pairs are listed?
 fn is_open(
     places: &[u16; 64],
     m: usize,
