@@ -41,12 +41,6 @@ low-before (numbersCase l h) (symbolCase b) f g k = absurd k
 low-before (numbersCase l h) (compoundCase b m) f g k = absurd k
 low-before (numbersCase l h) (numbersCase x y) f g k = omega (arith, f .1)
 
--- Codes of cases are below the code that stands after all.
-pub low-small : (c : Case) → Sound c → caseLow c < 0x400_0000
-low-small (symbolCase a) f = omega (arith, f .0)
-low-small (compoundCase a n) f = omega (arith, f .0 .0, f .0 .1)
-low-small (numbersCase l h) f = omega (arith, f .0 .0)
-
 -- The lengths of records: of a symbol's,
 pub symbol-length : (code : ℕ) → code < 0x200_0000 → lengthAt code ≡ 5
 symbol-length code h = ap (λ (b : Bool). choose b 5 (choose (ltb code 0x300_0000) 6 7)) (lt-ltb code 0x200_0000 h)

@@ -5,9 +5,9 @@ use mathlib.Core.List.{List, [], _∷_, _++_, map}
 use native.Mathlib.Numerals.{add-one}
 use native.Mathlib.Omega.{arith}
 use lib.Dec.{T}
-use lib.ListN.{length, getD, set, take, length-append, List·getD-map}
+use lib.ListN.{length, getD, set, take, length-append}
 use lib.Seq.{take-all, take-suc, take-append-le}
-use Rattle.terms.specs.Lists.{Mem, All, countFrom}
+use Rattle.terms.specs.Lists.{All}
 use Rattle.terms.specs.Pattern.{Patterns}
 use Rattle.terms.proofs.ListLaws.{all-at}
 use Rattle.decision.specs.Key.{Key, Vertex, asking, sameKey}
@@ -21,7 +21,7 @@ use Rattle.build.specs.KeyGraph.{nameOf, nodeBy, nextKeys, keyedNode}
 use Rattle.build.specs.NodeKind.{Fits}
 use Rattle.build.specs.Expanding.{recordLength, EdgesMet}
 use Rattle.build.specs.Grown.{rootName, graphKeys, Grown}
-use Rattle.build.proofs.Searching.{keys-length, keys-added}
+use Rattle.build.proofs.Searching.{keys-length, key-at, key-among, keys-added}
 use Rattle.build.proofs.Meeting.{meet-all, meet-longer}
 use Rattle.build.proofs.Growing.{leftFrom, left-turn, left-done, left-many}
 use Rattle.build.proofs.Measures.{length-anywhere}
@@ -33,27 +33,6 @@ key-sound x y h = let e : asking x ≡ asking y = same-vertex (asking x) (asking
 
 pub key-same : (x : Key) → T (sameKey x x)
 key-same x = vertex-same (asking x)
-
--- The number counted at a position.
-count-at : (i n k : ℕ) → k < n → getD (countFrom i n) k 0 ≡ i + k
-count-at i zero k h = absurd (let z : ⊥ = omega arith in z)
-count-at i (suc n) zero h = omega arith
-count-at i (suc n) (suc k) h = omega (arith, count-at (suc i) n k (omega arith))
-
--- The key at a number, of those in two arrays.
-key-at
-    : (lives pendings : List ℕ) (count k : ℕ) → k < count
-    → getD (keysIn lives pendings count) k (keyAt lives pendings 0) ≡ keyAt lives pendings k
-key-at lives pendings count k h =
-    let e : getD (countFrom 0 count) k 0 ≡ k = omega (arith, count-at 0 count k h) in
-    List·getD-map (keyAt lives pendings) (countFrom 0 count) k 0 ∙ ap (keyAt lives pendings) e
-
--- So it is among them.
-key-among
-    : (lives pendings : List ℕ) (count k : ℕ) → k < count → Mem (keyAt lives pendings k) (keysIn lives pendings count)
-key-among lives pendings count k h =
-    subst (λ (key : Key). Mem key (keysIn lives pendings count)) (key-at lives pendings count k h)
-    (mem-at (keyAt lives pendings 0) (keysIn lives pendings count) k (omega (arith, keys-length lives pendings count)))
 
 module _ (rules : List Patterns) where
   -- The rules are at most 64.

@@ -8,13 +8,13 @@ use native.Mathlib.Omega.{arith}
 use lib.ListN.{length, length-map}
 use Rattle.terms.specs.Lists.{Mem, All}
 use Rattle.terms.specs.Pattern.{Patterns}
-use Rattle.terms.proofs.ListLaws.{all-map, all-from}
+use Rattle.terms.proofs.ListLaws.{all-map, all-from, mem-none}
 use Rattle.decision.specs.Key.{Key, sameKey}
 use Rattle.decision.specs.Graph.{mostNodes, graphOf}
 use Rattle.decision.specs.GraphBytes.{graphBytes}
 use Rattle.decision.proofs.BreadthFirst.{explore-closed}
-use Rattle.decision.proofs.MetOnce.{number-right}
-use Rattle.build.specs.KeysMet.{keysIn, numberOf}
+use Rattle.decision.proofs.MetOnce.{Distinct, explore-distinct, number-right}
+use Rattle.build.specs.KeysMet.{keysIn, numberOf, Once}
 use Rattle.build.specs.KeyGraph.{nextKeys, keyedNode, keyedNodes}
 use Rattle.build.specs.NodeKind.{Fits}
 use Rattle.build.specs.Grown.{rootName, Grown}
@@ -22,6 +22,11 @@ use Rattle.build.proofs.Searching.{keys-length}
 use Rattle.build.proofs.KeyedNodes.{keyed-graph, no-graph}
 use Rattle.build.proofs.NamedKeys.{Named, named-fits, all-named}
 use Rattle.build.proofs.GrowingKeys.{key-sound, key-same}
+
+-- Keys that are distinct stand once each.
+once-each : (keys : List Key) → Distinct keys → Once keys
+once-each [] d = tt
+once-each (k ∷ keys) d = (d .0, once-each keys (d .1))
 
 module _ (rules : List Patterns) (few : length rules ≤ 64) (lives pendings : List ℕ) (count : ℕ) {bytes : ℕ}
     (grown : Grown rules count bytes lives pendings) where
@@ -54,6 +59,13 @@ module _ (rules : List Patterns) (few : length rules ≤ 64) (lives pendings : L
     -- so its live rules and pending tests are the sheet's,
     pub keys-fit : All (Fits rules) keys
     keys-fit = all-map (Named rules) (Fits rules) (named-fits rules) keys keys-named
+
+    -- each is met once,
+    pub keys-once : Once keys
+    keys-once =
+        once-each keys
+        (explore-distinct sameKey (nextKeys rules) key-sound key-same mostNodes (rootName rules ∷ []) (rootName rules ∷ []) keys
+        (λ m. mem-none m, tt) (grown .within small))
 
     -- and each key behind its edges is among the keys met, at a number below their count.
     pub edges-met : All (λ (key : Key). All (λ (next : Key). numberOf keys next < count) (nextKeys rules key)) keys

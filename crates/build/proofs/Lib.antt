@@ -15,3 +15,4 @@ pub mod NamedKeys
 pub mod GrowingKeys
 pub mod RootKeys
 pub mod GrownGraph
+pub mod KeysOnce

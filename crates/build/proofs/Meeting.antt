@@ -4,14 +4,16 @@ use mathlib.Core.Path.{_≡_, refl, sym, ap, subst, _∙_}
 use mathlib.Core.Bool.{Bool, true, false}
 use mathlib.Core.List.{List, [], _∷_, _++_, append-nil}
 use native.Mathlib.Omega.{arith}
+use lib.Dec.{T}
 use lib.ListN.{length, set, length-set, length-append}
 use Rattle.terms.proofs.Booleans.{choose}
 use Rattle.decision.specs.Rules.{anyOf}
 use Rattle.decision.specs.Key.{Key, sameKey}
 use Rattle.decision.specs.Graph.{newOnes}
 use Rattle.decision.proofs.ExploreSteps.{meet-one}
-use Rattle.build.specs.KeysMet.{keyWith, keysIn, numberOf, meet, meetAll, Sized, Met}
-use Rattle.build.proofs.Searching.{met-before, not-met-before, keys-length, keys-added}
+use Rattle.decision.proofs.Filters.{mem-any}
+use Rattle.build.specs.KeysMet.{keyWith, keysIn, numberOf, isAt, meet, meetAll, Sized, Met}
+use Rattle.build.proofs.Searching.{met-before, not-met-before, keys-length, keys-added, at-member}
 
 -- Where a key is among those met, nothing is added,
 pub meet-old : (keys : List Key) (key : Key) → anyOf (sameKey key) keys ≡ true → meet keys key ≡ keys
@@ -60,6 +62,25 @@ module _ (lives pendings : List ℕ) (count live pending number : ℕ) (sizeOfLi
     within = λ f. keys-added lives pendings live pending count (omega arith) (omega arith) ∙ sym (is-new h);
     beyond = λ b. absurd (let z : ⊥ = omega arith in z);
   }
+
+-- A key that a hint leads to was met before.
+pub meets-hinted
+    : (lives pendings : List ℕ) (count live pending i : ℕ) → count ≤ 1024
+    → isAt lives pendings count (keyWith live pending) i ≡ true
+    → Met count lives pendings (meet (keysIn lives pendings count) (keyWith live pending))
+meets-hinted lives pendings count live pending i few e =
+    let keys = keysIn lives pendings count in
+    let key = keyWith live pending in
+    let at = at-member lives pendings count key i e in
+    let found : T (anyOf (sameKey key) keys) = mem-any (sameKey key) (at .2) (subst T (sym (at .1)) tt) in
+    record {
+      within = λ f. sym (meet-old keys key (holds (anyOf (sameKey key) keys) found));
+      beyond = λ b. absurd (let z : ⊥ = omega arith in z);
+    }
+  where
+    holds : (b : Bool) → T b → b ≡ true
+    holds true h = refl
+    holds false h = absurd h
 
 -- One key more of the two arrays is met in them, which stay as they are, or one key more is stored.
 pub sized-set : (lives pendings : List ℕ) (count live pending : ℕ) → Sized lives pendings

@@ -1,19 +1,21 @@
 -- Laws of the search for a key among those met, and of a key that is added to them.
 use Prim.Native.Nat.{ℕ, zero, suc, _+_, _-_, _≤_, _<_}
-use mathlib.Core.Path.{_≡_, refl, sym, ap, _∙_}
+use mathlib.Core.Path.{_≡_, refl, sym, ap, subst, _∙_}
 use mathlib.Core.Bool.{Bool, true, false, _&&_, _||_}
 use mathlib.Core.Logic.{_⊎_, inl, inr}
 use mathlib.Core.List.{List, [], _∷_, _++_, map}
 use native.Mathlib.Omega.{arith}
-use lib.Dec.{eqb}
-use lib.ListN.{length, getD, set, length-map}
+use lib.Dec.{eqb, ltb}
+use lib.ListN.{length, getD, set, length-map, List·getD-map}
 use lib.Seq.{getD-set-same, getD-set-other}
-use borrow.Author.Tests.{eq-eqb, ne-eqb}
-use Rattle.terms.specs.Lists.{countFrom}
+use borrow.Author.Tests.{eq-eqb, ne-eqb, lt-ltb, le-ltb, ltb-true}
+use Rattle.masks.proofs.Membership.{and-both}
+use Rattle.terms.specs.Lists.{Mem, countFrom}
 use Rattle.terms.proofs.Booleans.{choose}
 use Rattle.decision.specs.Rules.{anyOf}
 use Rattle.decision.specs.Key.{Key, sameKey}
-use Rattle.build.specs.KeysMet.{keyWith, keyAt, keysIn, numberOf, meet}
+use Rattle.decision.proofs.TestNumbers.{mem-at}
+use Rattle.build.specs.KeysMet.{keyWith, keyAt, keysIn, numberOf, isAt, meet}
 
 -- So many numbers are counted.
 count-length : (i n : ℕ) → length (countFrom i n) ≡ n
@@ -82,6 +84,23 @@ module _ (lives pendings : List ℕ) (live pending : ℕ) where
       ∙ (let z : i + suc (numberFrom (suc i) (n - (i + 1))) ≡ (i + 1) + numberFrom (suc i) (n - (i + 1)) = omega arith in z)
       ∙ (let z : suc i ≡ i + 1 = omega arith in ap (λ (k : ℕ). (i + 1) + numberFrom k (n - (i + 1))) z)
 
+  -- A number past the last key is no key's,
+  pub at-past : (i n : ℕ) → n ≤ i → false ≡ isAt lives pendings n (keyWith live pending) i
+  at-past i n h =
+      sym (ap (λ (t : Bool). t && sameKey (keyWith live pending) (keyAt lives pendings i)) (le-ltb i n h))
+
+  -- nor is that of another key this one's,
+  pub at-other
+      : (i n : ℕ) → i < n → (getD lives i 0 ≡ live → ⊥) ⊎ (getD pendings i 0 ≡ pending → ⊥)
+      → false ≡ isAt lives pendings n (keyWith live pending) i
+  at-other i n h d = sym (λ j. lt-ltb i n h j && other-key live pending (getD lives i 0) (getD pendings i 0) d j)
+
+  -- but that of the same is.
+  pub at-here
+      : (i n : ℕ) → i < n → getD lives i 0 ≡ live → getD pendings i 0 ≡ pending
+      → true ≡ isAt lives pendings n (keyWith live pending) i
+  at-here i n h d e = sym (λ j. lt-ltb i n h j && same-key live pending (getD lives i 0) (getD pendings i 0) d e j)
+
 -- A key whose number is below the count is met,
 pub met-before : (keys : List Key) (key : Key) → numberOf keys key < length keys → anyOf (sameKey key) keys ≡ true
 met-before [] key h = absurd (let z : ⊥ = omega arith in z)
@@ -104,9 +123,54 @@ not-met-before (k ∷ keys) key h = go (sameKey key k) (not-met-before keys key)
     go true f h = absurd (let z : ⊥ = omega arith in z)
     go false f h = f (omega arith)
 
+-- A key's number is at most the number of keys.
+number-most : (keys : List Key) (key : Key) → numberOf keys key ≤ length keys
+number-most [] key = omega arith
+number-most (k ∷ keys) key = go (sameKey key k) (number-most keys key)
+  where
+    go : (b : Bool) → numberOf keys key ≤ length keys → choose b 0 (suc (numberOf keys key)) ≤ suc (length keys)
+    go true h = omega arith
+    go false h = omega arith
+
 -- There are so many keys.
 pub keys-length : (lives pendings : List ℕ) (count : ℕ) → length (keysIn lives pendings count) ≡ count
 keys-length lives pendings count = length-map (countFrom 0 count) (keyAt lives pendings) ∙ count-length 0 count
+
+-- So it fits a wide field.
+pub number-few
+    : (lives pendings : List ℕ) (count : ℕ) (key : Key) → count ≤ 1024 → numberOf (keysIn lives pendings count) key ≤ 1024
+number-few lives pendings count key h =
+    omega (arith, number-most (keysIn lives pendings count) key, keys-length lives pendings count)
+
+-- The number counted at a position.
+count-at : (i n k : ℕ) → k < n → getD (countFrom i n) k 0 ≡ i + k
+count-at i zero k h = absurd (let z : ⊥ = omega arith in z)
+count-at i (suc n) zero h = omega arith
+count-at i (suc n) (suc k) h = omega (arith, count-at (suc i) n k (omega arith))
+
+-- The key at a number, of those in two arrays.
+pub key-at
+    : (lives pendings : List ℕ) (count k : ℕ) → k < count
+    → getD (keysIn lives pendings count) k (keyAt lives pendings 0) ≡ keyAt lives pendings k
+key-at lives pendings count k h =
+    let e : getD (countFrom 0 count) k 0 ≡ k = omega (arith, count-at 0 count k h) in
+    List·getD-map (keyAt lives pendings) (countFrom 0 count) k 0 ∙ ap (keyAt lives pendings) e
+
+-- So it is among them.
+pub key-among
+    : (lives pendings : List ℕ) (count k : ℕ) → k < count → Mem (keyAt lives pendings k) (keysIn lives pendings count)
+key-among lives pendings count k h =
+    subst (λ (key : Key). Mem key (keysIn lives pendings count)) (key-at lives pendings count k h)
+    (mem-at (keyAt lives pendings 0) (keysIn lives pendings count) k (omega (arith, keys-length lives pendings count)))
+
+-- What a hint leads to is among them.
+pub at-member
+    : (lives pendings : List ℕ) (count : ℕ) (key : Key) (i : ℕ) → isAt lives pendings count key i ≡ true
+    → (i < count) × (sameKey key (keyAt lives pendings i) ≡ true) × Mem (keyAt lives pendings i) (keysIn lives pendings count)
+at-member lives pendings count key i e =
+    let both = and-both (ltb i count) (sameKey key (keyAt lives pendings i)) e in
+    let below = ltb-true i count (both .0) in
+    (below, both .1, key-among lives pendings count i below)
 
 -- A store behind the keys changes none.
 keys-kept

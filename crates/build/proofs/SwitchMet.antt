@@ -23,7 +23,7 @@ use Rattle.build.specs.KeysMet.{keysIn, meet, meetAll, Met}
 use Rattle.build.specs.KeyGraph.{nameOf}
 use Rattle.build.specs.Switching.{Switches, casesFrom, switchCases, caseKeys, casesLength, lengthAt}
 use Rattle.build.proofs.Meeting.{meet-longer}
-use Rattle.build.proofs.CasesInTurn.{Sound, NextIs, low-small, length-at, next-run, next-none, wanted-sound}
+use Rattle.build.proofs.CasesInTurn.{Sound, NextIs, length-at, next-run, next-none, wanted-sound}
 
 module _ (rules : List Patterns) (key : Key) (t n : ℕ) where
   -- The cases from a code on are still to come, where the keys met at the start are given.
@@ -54,12 +54,6 @@ module _ (rules : List Patterns) (key : Key) (t n : ℕ) where
     pub the-next : {from x y : ℕ} → Run x y ≡ firstCase from cases → NextIs from x y cases
     the-next {from} {x} {y} e =
         next-run from x y cases cases-sound (cases-ascend (liveWants rules (key .live) n)) (sym e)
-
-    -- Its code is below the one after all, and at or above the one searched from.
-    pub next-small : {from x y : ℕ} → Run x y ≡ firstCase from cases → (from ≤ x) × (x < 0x400_0000)
-    next-small e =
-        let next = the-next e in
-        (next .above, omega (arith, next .low, low-small (next .it) (all-at Sound (next .listed) cases-sound)))
 
     module _ {keys : List Key} {lives pendings : List ℕ} {count bytes from : ℕ}
         (state : CasesLeft keys lives pendings count bytes from) where

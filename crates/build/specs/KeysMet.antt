@@ -2,10 +2,11 @@
 -- place among them.
 use Prim.Native.Nat.{ℕ, _≤_, _<_}
 use mathlib.Core.Path.{_≡_}
-use mathlib.Core.Bool.{true, false}
+use mathlib.Core.Bool.{Bool, true, false, _&&_}
 use mathlib.Core.List.{List, [], _∷_, _++_, map}
+use lib.Dec.{ltb}
 use lib.ListN.{length, getD}
-use Rattle.terms.specs.Lists.{countFrom}
+use Rattle.terms.specs.Lists.{Mem, countFrom}
 use Rattle.decision.specs.Rules.{anyOf}
 use Rattle.decision.specs.Key.{Key, sameKey}
 use Rattle.decision.specs.Graph.{numberIn, mostNodes}
@@ -25,6 +26,10 @@ keysIn lives pendings count = map (keyAt lives pendings) (countFrom 0 count)
 abbrev pub numberOf : List Key → Key → ℕ
 numberOf keys key = numberIn sameKey (λ (k : Key). []) keys key
 
+-- Key i of the first so many is this one.
+abbrev pub isAt : List ℕ → List ℕ → ℕ → Key → ℕ → Bool
+isAt lives pendings count key i = ltb i count && sameKey key (keyAt lives pendings i)
+
 -- What is met once one key more is.
 abbrev pub meet : List Key → Key → List Key
 meet keys key = elim (anyOf (sameKey key) keys) [ true ↦ keys | false ↦ keys ++ key ∷ [] ]
@@ -37,6 +42,11 @@ meetAll keys (k ∷ ks) = meetAll (meet keys k) ks
 -- The arrays have room for 1,024 keys.
 abbrev pub Sized : List ℕ → List ℕ → Type 0
 Sized lives pendings = (length lives ≡ 1024) × (length pendings ≡ 1024)
+
+-- No key stands twice.
+abbrev pub Once : List Key → Type 0
+Once [] = Unit
+Once (k ∷ keys) = (Mem k keys → ⊥) × Once keys
 
 -- Keys are met in two arrays up to a count, where that is at most 1,024; else there are more than 1,024.
 pub record Met (count : ℕ) (lives pendings : List ℕ) (keys : List Key) : Type 0 where

@@ -3,6 +3,7 @@ use crate::Expanded;
 use crate::Kind;
 use crate::grow::meet_cases;
 use crate::met::meet_two;
+use crate::met::wide;
 use crate::node::kind_of;
 use edges::Key;
 use edges::keys::by_none;
@@ -38,17 +39,11 @@ fn leaf_length(leaf: Leaf) -> usize
     }
 }
 
-// The same number at another width.
-fn wide(x: u16) -> usize
-    ensures { λ r. ⌜ r ≡ x ⌝ }
-{
-    x as usize
-}
-
 // A switch that asks test t, with the key behind its unknown. Not neither before a case, nor unknown before neither.
 fn expand_switch(
     lives: &mut [u64; 1024],
     pendings: &mut [u64; 1024],
+    hints: &mut [u16; 1024],
     start: usize,
     key: Key,
     t: usize,
@@ -62,12 +57,12 @@ fn expand_switch(
     ensures { λ r. ⌜ ((rules : List Patterns) (n : ℕ) → Switches (now (rows .entry)) (now (low .entry)) (now (high .entry)) (key .live) t rules n → unknown ≡ vertexKey (byUnknown rules (keyIn key) n) → EdgesMet (askNode rules (keyIn key) t (testAt rules t)) (keysIn (now (lives .entry)) (now (pendings .entry)) start) (r .count) (r .bytes) (now (lives .exit)) (now (pendings .exit))) ⌝ }
     ensures { λ r. ⌜ (r .count ≤ 1025) × (r .bytes ≤ 0x2000_0008) × Sized (now (lives .exit)) (now (pendings .exit)) ⌝ }
 {
-    let met = meet_cases(lives, pendings, start, key, t, rows, low, high);
+    let met = meet_cases(lives, pendings, hints, start, key, t, rows, low, high);
     if 1024 < met.count {
         return met;
     }
     let neither = by_none(key, t, rows);
-    let count = meet_two(lives, pendings, met.count, neither, unknown);
+    let count = meet_two(lives, pendings, hints, met.count, neither, unknown);
     Expanded {
         count: count,
         bytes: met.bytes + 8,
@@ -78,6 +73,7 @@ fn expand_switch(
 fn expand_pair(
     lives: &mut [u64; 1024],
     pendings: &mut [u64; 1024],
+    hints: &mut [u16; 1024],
     start: usize,
     key: Key,
     t: usize,
@@ -89,7 +85,7 @@ fn expand_pair(
 {
     let differ = by_none(key, t, rows);
     let other = by_other(key, t, rows);
-    let count = meet_two(lives, pendings, start, differ, other);
+    let count = meet_two(lives, pendings, hints, start, differ, other);
     Expanded {
         count: count,
         bytes: 9,
@@ -101,6 +97,7 @@ fn expand_pair(
 pub fn expand(
     lives: &mut [u64; 1024],
     pendings: &mut [u64; 1024],
+    hints: &mut [u16; 1024],
     count: usize,
     k: usize,
     rows: &[u64; 64],
@@ -127,10 +124,21 @@ pub fn expand(
         },
         Kind::Ask(t) => {
             if n <= t {
-                return expand_pair(lives, pendings, count, key, t, rows);
+                return expand_pair(lives, pendings, hints, count, key, t, rows);
             }
             let unknown = by_unknown(key, wide(place[t]), rows, place, pairs, n);
-            expand_switch(lives, pendings, count, key, t, unknown, rows, low, high)
+            expand_switch(
+                lives,
+                pendings,
+                hints,
+                count,
+                key,
+                t,
+                unknown,
+                rows,
+                low,
+                high,
+            )
         }
     }
 }

@@ -7,6 +7,7 @@ use edges::Key;
 use edges::cases::NextCase;
 use edges::cases::by_case;
 use edges::cases::next_case;
+use edges::cases::next_cut;
 use edges::keys::lead;
 ghost use mathlib.Core.Path.{_≡_};
 ghost use mathlib.Core.List.{List};
@@ -38,6 +39,7 @@ fn case_length(code: u32) -> usize
 pub fn meet_cases(
     lives: &mut [u64; 1024],
     pendings: &mut [u64; 1024],
+    hints: &mut [u16; 1024],
     start: usize,
     key: Key,
     t: usize,
@@ -52,19 +54,20 @@ pub fn meet_cases(
 {
     let mut count = start;
     let mut bytes: usize = 0;
-    let mut from: u32 = 0;
+    let mut cut = next_cut(t, key.live, 0, rows, low, high);
     while count <= 1024 {
-        let next = next_case(t, key.live, from, rows, low, high);
-        let NextCase::Run(first, _) = next else {
+        let step = next_case(t, key.live, cut, rows, low, high);
+        let next = step.case;
+        let NextCase::Run(first, last) = next else {
             return Expanded {
                 count: count,
                 bytes: bytes,
             };
         };
-        let behind = by_case(key, t, first, rows, low, high);
-        count = meet(lives, pendings, count, behind.live, behind.pending);
+        let behind = by_case(key, t, step.kept, rows);
+        count = meet(lives, pendings, hints, count, behind.live, behind.pending);
         bytes += case_length(first);
-        from = first + 1;
+        cut = last + 1;
     }
     Expanded {
         count: count,
@@ -99,13 +102,26 @@ pub fn grow(
     ensures { λ r. ⌜ ((rules : List Patterns) → Compiled rules (now (rows .entry)) (now (low .entry)) (now (high .entry)) (now (place .entry)) (now (pairs .entry)) n → keyIn root ≡ rootName rules → Grown rules (r .count) (r .bytes) (now (lives .exit)) (now (pendings .exit))) ⌝ }
     ensures { λ r. ⌜ (r .count ≤ 1025) × (r .bytes ≤ 0x100_0000_0000) × Sized (now (lives .exit)) (now (pendings .exit)) ⌝ }
 {
+    let mut hints = [0u16; 1024];
     lives[0] = root.live;
     pendings[0] = root.pending;
     let mut count: usize = 1;
     let mut bytes: usize = 0;
     let mut k: usize = 0;
     while k < count {
-        let met = expand(lives, pendings, count, k, rows, low, high, place, pairs, n);
+        let met = expand(
+            lives,
+            pendings,
+            &mut hints,
+            count,
+            k,
+            rows,
+            low,
+            high,
+            place,
+            pairs,
+            n,
+        );
         if 1024 < met.count {
             return Expanded {
                 count: 1025,

@@ -1,6 +1,6 @@
 -- Going over the cases of a switch, as a loop does that asks for the first case after the last one.
 use Prim.Native.Nat.{ℕ, _+_, _≤_, _<_}
-use mathlib.Core.Path.{_≡_, refl, sym, ap, _∙_}
+use mathlib.Core.Path.{_≡_, refl, sym, ap, subst, _∙_}
 use mathlib.Core.Bool.{Bool, true, false}
 use mathlib.Core.List.{List, [], _∷_}
 use native.Mathlib.Omega.{arith}
@@ -11,9 +11,10 @@ use Rattle.terms.proofs.Booleans.{choose}
 use Rattle.terms.proofs.ListLaws.{all-at, all-map}
 use Rattle.terms.proofs.Sorted.{AscendingBy}
 use Rattle.decision.specs.Cases.{Case}
+use Rattle.edges.specs.declared.cases.NextCase.{NextCase}
 use Rattle.edges.specs.declared.cases.NextCase.the-variants.{Run, Nothing}
 use Rattle.edges.specs.Codes.{caseLow, caseHigh}
-use Rattle.edges.specs.FirstCase.{firstCase}
+use Rattle.edges.specs.FirstCase.{firstCase, OfRun}
 
 -- The cases that begin at a code or above it, of cases in order.
 abbrev pub casesFrom : ℕ → List Case → List Case
@@ -91,3 +92,7 @@ cases-next from x y (c ∷ cs) a f e = go (leb from (caseLow c)) (cases-next fro
           high = n .high;
           left = n .left ∙ ap (λ (l : List Case). n .case ∷ l) (sym (passed (omega (arith, f .0, n .high))));
         }
+
+-- What holds of the case that there is holds of the run that it is.
+pub of-run : (P : ℕ → ℕ → Type 0) {c : NextCase} {x y : ℕ} → c ≡ Run x y → OfRun c P → P x y
+of-run P e h = subst (λ (z : NextCase). OfRun z P) e h

@@ -14,3 +14,8 @@ abbrev pub firstCase : ℕ → List Case → NextCase
 firstCase from [] = Nothing
 firstCase from (c ∷ cs) =
     elim (leb from (caseLow c)) [ true ↦ Run (caseLow c) (caseHigh c) | false ↦ firstCase from cs ]
+
+-- Where there is a case, this holds of its lowest and its highest code.
+abbrev pub OfRun : NextCase → (ℕ → ℕ → Type 0) → Type 0
+OfRun Nothing P = Unit
+OfRun (Run x y) P = P x y

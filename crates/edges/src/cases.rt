@@ -2,7 +2,6 @@
 // and the highest code of what rule i wants by place test t.
 use crate::Key;
 use crate::keys::lead;
-use crate::keys::without;
 ghost use mathlib.Core.Path.{_≡_};
 ghost use mathlib.Core.List.{List};
 ghost use Prim.Native.Nat.{ℕ, _+_, _≤_, _<_};
@@ -15,13 +14,26 @@ ghost use Rattle.decision.specs.Edges.{liveWants, byCase};
 ghost use Rattle.edges.specs.VertexKey.{vertexKey, keyIn};
 ghost use Rattle.edges.specs.Codes.{caseLow, cutCodes};
 ghost use Rattle.edges.specs.Compiled.{CodeTable, Asked};
-ghost use Rattle.edges.specs.FirstCase.{firstCase};
-ghost use Rattle.edges.specs.Tables.{those, stays, noCut, firstFrom, nearerOf};
+ghost use Rattle.edges.specs.FirstCase.{firstCase, OfRun};
+ghost use Rattle.edges.specs.Tables.{those, lacks, stays, noCut, firstFrom, nearerOf};
 
 // A case as the codes from its lowest to its highest, or that there is none.
 pub enum NextCase {
     Run(u32, u32),
     Nothing,
+}
+
+// The next case, and where there is one the live rules that stay there.
+pub struct Step {
+    pub case: NextCase,
+    pub kept: u64,
+}
+
+// What stands at a cut: the live rules that stay there, those without the test, and the next cut.
+struct Standing {
+    kept: u64,
+    free: u64,
+    next: u32,
 }
 
 // Does rule i stay live at a code: has it not test t, or wants it such a term there?
@@ -46,46 +58,14 @@ fn stays_at(
     false
 }
 
-// The live rules that stay at a code. Not those alone that want such a term, nor all that want something there.
-pub fn kept(
-    t: usize,
-    live: u64,
-    code: u32,
-    rows: &[u64; 64],
-    low: &[u32; 4096],
-    high: &[u32; 4096],
-) -> u64
-    requires { ⌜ t < 64 ⌝ }
-    ensures { λ r. ⌜ r ≡ those live (stays (now (rows .entry)) (now (low .entry)) (now (high .entry)) t code) ⌝ }
-{
-    let mut all: u64 = 0;
-    let mut left = live;
-    while left != 0 {
-        let i = u64::trailing_zeros(left) as usize;
-        if stays_at(t, i, code, rows, low, high) {
-            all |= 1 << i;
-        }
-        left &= left - 1;
-    }
-    all
-}
-
-// The key behind the case that begins at a code. Not with a rule that wants something else there, nor with the test
+// The key behind a case at which these live rules stay. Not with a rule that wants something else there, nor with the test
 // pending.
-pub fn by_case(
-    key: Key,
-    t: usize,
-    code: u32,
-    rows: &[u64; 64],
-    low: &[u32; 4096],
-    high: &[u32; 4096],
-) -> Key
+pub fn by_case(key: Key, t: usize, kept: u64, rows: &[u64; 64]) -> Key
     requires { ⌜ t < 64 ⌝ }
-    ensures { λ r. ⌜ ((rules : List Patterns) → Asked rules (now (rows .entry)) (key .live) t → CodeTable rules (now (low .entry)) (now (high .entry)) → (n : ℕ) (c : Case) → testAt rules t ≡ place n → Mem c (casesOf (liveWants rules (key .live) n)) → code ≡ caseLow c → r ≡ vertexKey (byCase rules (keyIn key) t n c)) ⌝ }
+    ensures { λ r. ⌜ ((rules : List Patterns) (low high : List ℕ) → Asked rules (now (rows .entry)) (key .live) t → CodeTable rules low high → (n : ℕ) (c : Case) → testAt rules t ≡ place n → Mem c (casesOf (liveWants rules (key .live) n)) → kept ≡ those (key .live) (stays (now (rows .entry)) low high t (caseLow c)) → r ≡ vertexKey (byCase rules (keyIn key) t n c)) ⌝ }
 {
-    let live = kept(t, key.live, code, rows, low, high);
     let left = masks::remove(key.pending, t);
-    lead(live, left, rows)
+    lead(kept, left, rows)
 }
 
 // The nearer of the best cut so far and another one, which counts from a code on.
@@ -140,30 +120,80 @@ pub fn next_cut(
     best
 }
 
-// The first case of the switch that begins at a code or above it. Not one that no live rule wants, nor one that a
-// live rule wants in part.
-pub fn next_case(
+// What stands at a code, read off each live rule once.
+fn read_cut(
     t: usize,
     live: u64,
-    from: u32,
+    code: u32,
     rows: &[u64; 64],
     low: &[u32; 4096],
     high: &[u32; 4096],
-) -> NextCase
-    requires { ⌜ t < 64 ⌝ }
-    ensures { λ r. ⌜ ((rules : List Patterns) → Asked rules (now (rows .entry)) live t → CodeTable rules (now (low .entry)) (now (high .entry)) → (n : ℕ) → testAt rules t ≡ place n → r ≡ firstCase from (casesOf (liveWants rules live n))) ⌝ }
+) -> Standing
+    requires { ⌜ (t < 64) × (code < noCut) ⌝ }
+    ensures { λ r. ⌜ r .kept ≡ those live (stays (now (rows .entry)) (now (low .entry)) (now (high .entry)) t code) ⌝ }
+    ensures { λ r. ⌜ r .free ≡ those live (lacks (now (rows .entry)) t) ⌝ }
+    ensures { λ r. ⌜ (r .next ≤ noCut) × (r .next < noCut → code + 1 ≤ r .next) ⌝ }
+    ensures { λ r. ⌜ ((rules : List Patterns) → Asked rules (now (rows .entry)) live t → CodeTable rules (now (low .entry)) (now (high .entry)) → (n : ℕ) → testAt rules t ≡ place n → r .next ≡ firstFrom (code + 1) (cutCodes (liveWants rules live n))) ⌝ }
 {
-    let free = without(t, live, rows);
-    let mut x = next_cut(t, live, from, rows, low, high);
-    while x < 0x400_0000 {
-        let y = next_cut(t, live, x + 1, rows, low, high);
-        if y == 0x400_0000 {
-            return NextCase::Nothing;
+    let mut kept: u64 = 0;
+    let mut free: u64 = 0;
+    let mut best: u32 = 0x400_0000;
+    let mut left = live;
+    while left != 0 {
+        let i = u64::trailing_zeros(left) as usize;
+        if stays_at(t, i, code, rows, low, high) {
+            kept |= 1 << i;
         }
-        if kept(t, live, x, rows, low, high) != free {
-            return NextCase::Run(x, y - 1);
+        if masks::has(rows[i], t) {
+            let at = 64 * i + t;
+            best = nearest(best, code + 1, low[at], high[at]);
+        } else {
+            free |= 1 << i;
+        }
+        left &= left - 1;
+    }
+    Standing {
+        kept: kept,
+        free: free,
+        next: best,
+    }
+}
+
+// The first case of the switch from a code on, of which `cut` is the first cut, with the live rules that stay there. Not one that
+// no live rule wants, nor one that a live rule wants in part.
+pub fn next_case(
+    t: usize,
+    live: u64,
+    cut: u32,
+    rows: &[u64; 64],
+    low: &[u32; 4096],
+    high: &[u32; 4096],
+) -> Step
+    requires { ⌜ (t < 64) × (cut ≤ noCut) ⌝ }
+    ensures { λ r. ⌜ ((rules : List Patterns) → Asked rules (now (rows .entry)) live t → CodeTable rules (now (low .entry)) (now (high .entry)) → (n : ℕ) → testAt rules t ≡ place n → (from : ℕ) → cut ≡ firstFrom from (cutCodes (liveWants rules live n)) → r .case ≡ firstCase from (casesOf (liveWants rules live n))) ⌝ }
+    ensures { λ r. ⌜ OfRun (r .case) (λ (x y : ℕ). (cut ≤ x) × (x ≤ y) × (y < noCut) × (r .kept ≡ those live (stays (now (rows .entry)) (now (low .entry)) (now (high .entry)) t x))) ⌝ }
+    ensures { λ r. ⌜ ((rules : List Patterns) → Asked rules (now (rows .entry)) live t → CodeTable rules (now (low .entry)) (now (high .entry)) → (n : ℕ) → testAt rules t ≡ place n → OfRun (r .case) (λ (x y : ℕ). y + 1 ≡ firstFrom (x + 1) (cutCodes (liveWants rules live n)))) ⌝ }
+{
+    let mut x = cut;
+    while x < 0x400_0000 {
+        let at = read_cut(t, live, x, rows, low, high);
+        let y = at.next;
+        if y == 0x400_0000 {
+            return Step {
+                case: NextCase::Nothing,
+                kept: 0,
+            };
+        }
+        if at.kept != at.free {
+            return Step {
+                case: NextCase::Run(x, y - 1),
+                kept: at.kept,
+            };
         }
         x = y;
     }
-    NextCase::Nothing
+    Step {
+        case: NextCase::Nothing,
+        kept: 0,
+    }
 }

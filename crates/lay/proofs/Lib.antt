@@ -1,7 +1,6 @@
 -- The laws that `lay` is proved by.
 pub mod WritingOn
 pub mod CaseRecords
-pub mod Numbers
 pub mod CasesWritten
 pub mod AskedTests
 pub mod KeyNodes

@@ -1,10 +1,11 @@
 // The cases of a switch, each with the number of the node that it leads to.
 use crate::CasesEnd;
-use build::met::find;
+use build::met::number_of;
 use edges::Key;
 use edges::cases::NextCase;
 use edges::cases::by_case;
 use edges::cases::next_case;
+use edges::cases::next_cut;
 use graph::CaseRecord;
 use graph::put_case;
 ghost use Prim.Native.Nat.{ℕ, _+_, _≤_, _<_};
@@ -18,7 +19,7 @@ ghost use Rattle.decision.specs.GraphBytes.{caseBytes, casesBytes};
 ghost use Rattle.edges.specs.Codes.{caseLow, caseHigh};
 ghost use Rattle.edges.specs.VertexKey.{keyIn};
 ghost use Rattle.graph.specs.WriteNode.{caseRecordBytes};
-ghost use Rattle.build.specs.KeysMet.{keysIn, numberOf, Sized};
+ghost use Rattle.build.specs.KeysMet.{keysIn, numberOf, Sized, Once};
 ghost use Rattle.build.specs.Switching.{Switches};
 ghost use Rattle.lay.specs.Laid.{switchEdges};
 ghost use Rattle.lay.specs.Written.{Room, Wrote};
@@ -38,11 +39,17 @@ pub fn case_record(first: u32, last: u32, node: u16) -> CaseRecord
 }
 
 // The number of the node that has a key. Not that of a key with the same live rules alone, nor one that counts from 1.
-pub fn node_of(key: Key, lives: &[u64; 1024], pendings: &[u64; 1024], count: usize) -> u16
-    requires { ⌜ (count ≤ 1024) × Sized (now lives) (now pendings) ⌝ }
+pub fn node_of(
+    key: Key,
+    lives: &[u64; 1024],
+    pendings: &[u64; 1024],
+    hints: &mut [u16; 1024],
+    count: usize,
+) -> u16
+    requires { ⌜ (count ≤ 1024) × Sized (now lives) (now pendings) × Once (keysIn (now lives) (now pendings) count) ⌝ }
     ensures { λ r. ⌜ r ≡ numberOf (keysIn (now (lives .entry)) (now (pendings .entry)) count) (keyIn key) ⌝ }
 {
-    find(lives, pendings, count, key.live, key.pending) as u16
+    number_of(lives, pendings, hints, count, key.live, key.pending) as u16
 }
 
 // Writes the cases of the switch that a key's test t asks. Not one that leads to the node of another case, nor the last without
@@ -57,27 +64,29 @@ pub fn put_cases(
     high: &[u32; 4096],
     lives: &[u64; 1024],
     pendings: &[u64; 1024],
+    hints: &mut [u16; 1024],
     count: usize,
 ) -> CasesEnd
-    requires { ⌜ (count ≤ 1024) × Sized (now lives) (now pendings) × (t < 64) ⌝ }
+    requires { ⌜ (count ≤ 1024) × Sized (now lives) (now pendings) × (t < 64) × Once (keysIn (now lives) (now pendings) count) ⌝ }
     requires { ⌜ ((rules : List Patterns) × ((n : ℕ) × Switches (now rows) (now low) (now high) (key .live) t rules n × Room (now buf) start (casesBytes (switchEdges rules (keysIn (now lives) (now pendings) count) (keyIn key) t n)))) ⌝ }
     ensures { λ r. ⌜ ((rules : List Patterns) (n : ℕ) → Switches (now (rows .entry)) (now (low .entry)) (now (high .entry)) (key .live) t rules n → Room (now (buf .entry)) start (casesBytes (switchEdges rules (keysIn (now (lives .entry)) (now (pendings .entry)) count) (keyIn key) t n)) → Wrote (now (buf .entry)) start (casesBytes (switchEdges rules (keysIn (now (lives .entry)) (now (pendings .entry)) count) (keyIn key) t n)) (r .at) (now (buf .exit)) × (r .count ≡ length (switchEdges rules (keysIn (now (lives .entry)) (now (pendings .entry)) count) (keyIn key) t n))) ⌝ }
 {
     let mut at = start;
     let mut cases: u8 = 0;
-    let mut from: u32 = 0;
+    let mut cut = next_cut(t, key.live, 0, rows, low, high);
     loop {
-        let next = next_case(t, key.live, from, rows, low, high);
+        let step = next_case(t, key.live, cut, rows, low, high);
+        let next = step.case;
         let NextCase::Run(first, last) = next else {
             return CasesEnd {
                 at: at,
                 count: cases,
             };
         };
-        let behind = by_case(key, t, first, rows, low, high);
-        let node = node_of(behind, lives, pendings, count);
+        let behind = by_case(key, t, step.kept, rows);
+        let node = node_of(behind, lives, pendings, hints, count);
         at = put_case(buf, at, case_record(first, last, node));
         cases += 1;
-        from = first + 1;
+        cut = last + 1;
     }
 }

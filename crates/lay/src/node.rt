@@ -18,7 +18,7 @@ ghost use Rattle.tests.specs.SheetTests.{pair};
 ghost use Rattle.decision.specs.Rules.{testAt};
 ghost use Rattle.edges.specs.Compiled.{Asked, Compiled};
 ghost use Rattle.edges.specs.VertexKey.{keyIn};
-ghost use Rattle.build.specs.KeysMet.{keysIn, Sized};
+ghost use Rattle.build.specs.KeysMet.{keysIn, Sized, Once};
 ghost use Rattle.build.specs.NodeKind.{Fits};
 ghost use Rattle.lay.specs.Laid.{askBytes, keyBytes};
 ghost use Rattle.lay.specs.Written.{Room, Wrote};
@@ -34,15 +34,16 @@ fn put_pair(
     rows: &[u64; 64],
     lives: &[u64; 1024],
     pendings: &[u64; 1024],
+    hints: &mut [u16; 1024],
     count: usize,
 ) -> usize
-    requires { ⌜ (count ≤ 1024) × Sized (now lives) (now pendings) × (t < 64) × (at + 9 ≤ length (now buf)) ⌝ }
+    requires { ⌜ (count ≤ 1024) × Sized (now lives) (now pendings) × (t < 64) × (at + 9 ≤ length (now buf)) × Once (keysIn (now lives) (now pendings) count) ⌝ }
     ensures { λ r. ⌜ ((rules : List Patterns) (p q : ℕ) → Asked rules (now (rows .entry)) (key .live) t → testAt rules t ≡ pair p q → (q < 0x1_0000) × (code ≡ p * 0x1_0000 + q) → Wrote (now (buf .entry)) at (askBytes rules (keysIn (now (lives .entry)) (now (pendings .entry)) count) (keyIn key) t) r (now (buf .exit))) ⌝ }
 {
     let none = by_none(key, t, rows);
-    let differ = node_of(none, lives, pendings, count);
+    let differ = node_of(none, lives, pendings, hints, count);
     let rest = by_other(key, t, rows);
-    let other = node_of(rest, lives, pendings, count);
+    let other = node_of(rest, lives, pendings, hints, count);
     let p = (code / 0x1_0000) as u16;
     let q = (code % 0x1_0000) as u16;
     put_node(buf, at, NodeRecord::Pair(p, q, differ, other))
@@ -64,22 +65,35 @@ fn put_asked(
     places: usize,
     lives: &[u64; 1024],
     pendings: &[u64; 1024],
+    hints: &mut [u16; 1024],
     count: usize,
 ) -> usize
-    requires { ⌜ (count ≤ 1024) × Sized (now lives) (now pendings) × (t < 64) ⌝ }
+    requires { ⌜ (count ≤ 1024) × Sized (now lives) (now pendings) × (t < 64) × Once (keysIn (now lives) (now pendings) count) ⌝ }
     requires { ⌜ ((rules : List Patterns) × Compiled rules (now rows) (now low) (now high) (now place) (now pairs) places × Asked rules (now rows) (key .live) t × Room (now buf) at (askBytes rules (keysIn (now lives) (now pendings) count) (keyIn key) t)) ⌝ }
     ensures { λ r. ⌜ ((rules : List Patterns) → Compiled rules (now (rows .entry)) (now (low .entry)) (now (high .entry)) (now (place .entry)) (now (pairs .entry)) places → Asked rules (now (rows .entry)) (key .live) t → Room (now (buf .entry)) at (askBytes rules (keysIn (now (lives .entry)) (now (pendings .entry)) count) (keyIn key) t) → Wrote (now (buf .entry)) at (askBytes rules (keysIn (now (lives .entry)) (now (pendings .entry)) count) (keyIn key) t) r (now (buf .exit))) ⌝ }
 {
     if places <= t {
         let code = pairs[t - places];
-        return put_pair(buf, at, key, t, code, rows, lives, pendings, count);
+        return put_pair(buf, at, key, t, code, rows, lives, pendings, hints, count);
     }
     let p = place[t];
-    let cases = put_cases(buf, at + 8, key, t, rows, low, high, lives, pendings, count);
+    let cases = put_cases(
+        buf,
+        at + 8,
+        key,
+        t,
+        rows,
+        low,
+        high,
+        lives,
+        pendings,
+        hints,
+        count,
+    );
     let none = by_none(key, t, rows);
-    let neither = node_of(none, lives, pendings, count);
+    let neither = node_of(none, lives, pendings, hints, count);
     let unread = by_unknown(key, p as usize, rows, place, pairs, places);
-    let unknown = node_of(unread, lives, pendings, count);
+    let unknown = node_of(unread, lives, pendings, hints, count);
     put_node(
         buf,
         at,
@@ -101,9 +115,10 @@ pub fn put_one(
     places: usize,
     lives: &[u64; 1024],
     pendings: &[u64; 1024],
+    hints: &mut [u16; 1024],
     count: usize,
 ) -> usize
-    requires { ⌜ (count ≤ 1024) × Sized (now lives) (now pendings) ⌝ }
+    requires { ⌜ (count ≤ 1024) × Sized (now lives) (now pendings) × Once (keysIn (now lives) (now pendings) count) ⌝ }
     requires { ⌜ ((rules : List Patterns) × Compiled rules (now rows) (now low) (now high) (now place) (now pairs) places × Fits rules (keyIn key) × Room (now buf) at (keyBytes rules (keysIn (now lives) (now pendings) count) (keyIn key))) ⌝ }
     ensures { λ r. ⌜ ((rules : List Patterns) → Compiled rules (now (rows .entry)) (now (low .entry)) (now (high .entry)) (now (place .entry)) (now (pairs .entry)) places → Fits rules (keyIn key) → Room (now (buf .entry)) at (keyBytes rules (keysIn (now (lives .entry)) (now (pendings .entry)) count) (keyIn key)) → Wrote (now (buf .entry)) at (keyBytes rules (keysIn (now (lives .entry)) (now (pendings .entry)) count) (keyIn key)) r (now (buf .exit))) ⌝ }
 {
@@ -123,6 +138,7 @@ pub fn put_one(
             places,
             lives,
             pendings,
+            hints,
             count,
         ),
     }

@@ -7,7 +7,7 @@ ghost use mathlib.Core.List.{List};
 ghost use Rattle.terms.specs.Pattern.{Patterns};
 ghost use Rattle.decision.specs.GraphBytes.{graphBytes};
 ghost use Rattle.edges.specs.VertexKey.{keyIn};
-ghost use Rattle.build.specs.KeysMet.{keyAt, keysIn, Sized};
+ghost use Rattle.build.specs.KeysMet.{keyAt, keysIn, Sized, Once};
 ghost use Rattle.build.specs.KeyGraph.{keyedNodes};
 ghost use Rattle.lay.specs.Laid.{Laid, keysBytes};
 ghost use Rattle.lay.specs.Written.{Room, Wrote, headerBytes};
@@ -54,9 +54,10 @@ pub fn put_nodes(
     places: usize,
     lives: &[u64; 1024],
     pendings: &[u64; 1024],
+    hints: &mut [u16; 1024],
     count: usize,
 ) -> usize
-    requires { ⌜ (count ≤ 1024) × Sized (now lives) (now pendings) ⌝ }
+    requires { ⌜ (count ≤ 1024) × Sized (now lives) (now pendings) × Once (keysIn (now lives) (now pendings) count) ⌝ }
     requires { ⌜ ((rules : List Patterns) × Laid rules (now rows) (now low) (now high) (now place) (now pairs) places (keysIn (now lives) (now pendings) count) × Room (now buf) start (keysBytes rules (keysIn (now lives) (now pendings) count))) ⌝ }
     ensures { λ r. ⌜ ((rules : List Patterns) → Laid rules (now (rows .entry)) (now (low .entry)) (now (high .entry)) (now (place .entry)) (now (pairs .entry)) places (keysIn (now (lives .entry)) (now (pendings .entry)) count) → Room (now (buf .entry)) start (keysBytes rules (keysIn (now (lives .entry)) (now (pendings .entry)) count)) → Wrote (now (buf .entry)) start (keysBytes rules (keysIn (now (lives .entry)) (now (pendings .entry)) count)) r (now (buf .exit))) ⌝ }
 {
@@ -76,6 +77,7 @@ pub fn put_nodes(
             places,
             lives,
             pendings,
+            hints,
             count,
         );
         i += 1;
@@ -99,10 +101,11 @@ pub fn put_graph(
     pendings: &[u64; 1024],
     count: usize,
 ) -> usize
-    requires { ⌜ (count ≤ 1024) × Sized (now lives) (now pendings) ⌝ }
+    requires { ⌜ (count ≤ 1024) × Sized (now lives) (now pendings) × Once (keysIn (now lives) (now pendings) count) ⌝ }
     requires { ⌜ ((ps : List Patterns) × Laid ps (now rows) (now low) (now high) (now place) (now pairs) places (keysIn (now lives) (now pendings) count) × Room (now buf) 0 (graphBytes arity rules (keyedNodes ps (keysIn (now lives) (now pendings) count)))) ⌝ }
     ensures { λ r. ⌜ ((ps : List Patterns) → Laid ps (now (rows .entry)) (now (low .entry)) (now (high .entry)) (now (place .entry)) (now (pairs .entry)) places (keysIn (now (lives .entry)) (now (pendings .entry)) count) → Room (now (buf .entry)) 0 (graphBytes arity rules (keyedNodes ps (keysIn (now (lives .entry)) (now (pendings .entry)) count))) → Wrote (now (buf .entry)) 0 (graphBytes arity rules (keyedNodes ps (keysIn (now (lives .entry)) (now (pendings .entry)) count))) r (now (buf .exit))) ⌝ }
 {
+    let mut hints = [0u16; 1024];
     let at = put_header(buf, arity, rules, count as u16);
     put_nodes(
         buf,
@@ -115,6 +118,7 @@ pub fn put_graph(
         places,
         lives,
         pendings,
+        &mut hints,
         count,
     )
 }

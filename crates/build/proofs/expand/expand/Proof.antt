@@ -10,17 +10,17 @@ use Rattle.build.proofs.AskedNodes.{asked-below, node-met, leaf-met, as
 use Rattle.build.proofs.expand.expand.Statement.{statement}
 use Rattle.build.proofs.expand.expand.Tie as tie
 
-mul-t16 : tie.Need-mul-t16
-mul-t16 c = search needs
+mul-t17 : tie.Need-mul-t17
+mul-t17 c = search needs
 
-element-copy-out-t19 : tie.Need-element-copy-out-t19
-element-copy-out-t19 c = search needs
+element-copy-out-t20 : tie.Need-element-copy-out-t20
+element-copy-out-t20 c = search needs
 
-mul-t20 : tie.Need-mul-t20
-mul-t20 c = search needs
+mul-t21 : tie.Need-mul-t21
+mul-t21 c = search needs
 
-element-copy-out-t23 : tie.Need-element-copy-out-t23
-element-copy-out-t23 c = search needs
+element-copy-out-t24 : tie.Need-element-copy-out-t24
+element-copy-out-t24 c = search needs
 
 kind-of-requires : tie.Need-kind-of-requires
 kind-of-requires c κs = search needs
@@ -36,21 +36,21 @@ enum-known-kind-2 c = search needs
 
 expand-pair-requires : tie.Need-expand-pair-requires
 expand-pair-requires c κs =
-    let start = c .before .before .before .before .before .before .before .before .before in
-    let asks = c .before .before .before .before .kind2 .given .1 in
-    let kind = c .before .before .before .before .before .before .kind-of .ensures in
+    let start = c .before .before .before .before .before .before .before .before .before .before in
+    let asks = c .before .before .before .before .before .kind2 .given .1 in
+    let kind = c .before .before .before .before .before .before .before .kind-of .ensures in
     (start .pre .0 .0, start .pre .0 .1, asked-below asks (kind .1))
 
 returns : tie.Need-returns
 returns c =
-    let a = c .before .before .before .before .before .before .before .before .before .before .args in
+    let a = c .before .before .before .before .before .before .before .before .before .before .before .args in
     let key = keyAt (now (a .lives)) (now (a .pendings)) (a .k) in
-    let kind = c .before .before .before .before .before .before .before .kind-of .ensures in
-    let asks = c .before .before .before .before .before .kind2 .given .1 in
+    let kind = c .before .before .before .before .before .before .before .before .kind-of .ensures in
+    let asks = c .before .before .before .before .before .before .kind2 .given .1 in
     let met = c .expand-pair .ensures in (
       λ rules tables fits.
           let known = kind .0 rules fits in
-          let test = pair-known rules key tables fits asks known (c .before .before .before .if1 .taken) in
+          let test = pair-known rules key tables fits asks known (c .before .before .before .before .if1 .taken) in
           node-met rules key (asks-node rules key tables fits asks known)
           (met .0 rules (test .0) (test .1 .0) (is-asked rules key tables fits asks known) (test .1 .1)),
       (met .1 .0, omega (arith, met .1 .1), met .1 .2),
@@ -79,14 +79,14 @@ by-unknown-requires c κs =
 
 expand-switch-requires : tie.Need-expand-switch-requires
 expand-switch-requires c κs =
-    let start = c .before .before .before .before .before .before .before .before .before .before .before .before in
+    let start = c .before .before .before .before .before .before .before .before .before .before .before .before .before in
     let a = start .args in
     let key = keyAt (now (a .lives)) (now (a .pendings)) (a .k) in
     let rules = start .pre .1 .0 in
     let fits = start .pre .1 .2 in
-    let asks = c .before .before .before .before .before .before .before .kind2 .given .1 in
-    let kind = c .before .before .before .before .before .before .before .before .before .kind-of .ensures in
-    let place = c .before .before .before .before .before .if1 .left in
+    let asks = c .before .before .before .before .before .before .before .before .kind2 .given .1 in
+    let kind = c .before .before .before .before .before .before .before .before .before .before .kind-of .ensures in
+    let place = c .before .before .before .before .before .before .if1 .left in
     let test = switch-known rules key (start .pre .1 .1) fits asks (kind .0 rules fits) place in
     ((start .pre .0 .0, start .pre .0 .1, asked-below asks (kind .1)), (rules, (test .0, test .1)))
 
@@ -103,18 +103,18 @@ returns-2 c =
 
 returns-3 : tie.Need-returns-3
 returns-3 c =
-    let a = c .before .before .before .before .before .before .before .before .before .before .before .before .before .args in
+    let a = c .before .before .before .before .before .before .before .before .before .before .before .before .before .before .args in
     let key = keyAt (now (a .lives)) (now (a .pendings)) (a .k) in
-    let kind = c .before .before .before .before .before .before .before .before .before .before .kind-of .ensures in
-    let asks = c .before .before .before .before .before .before .before .before .kind2 .given .1 in
-    let unknown = c .before .before .before .by-unknown .ensures in
+    let kind = c .before .before .before .before .before .before .before .before .before .before .before .kind-of .ensures in
+    let asks = c .before .before .before .before .before .before .before .before .before .kind2 .given .1 in
+    let unknown = c .before .before .before .before .by-unknown .ensures in
     let met = c .expand-switch .ensures in (
       λ rules tables fits.
           let known = kind .0 rules fits in
-          let place = c .before .before .before .before .before .before .if1 .left in
+          let place = c .before .before .before .before .before .before .before .if1 .left in
           let test = switch-known rules key tables fits asks known place in
           let led = unknown rules (tables .tests) (tables .spots) (fits .lives)
-          ∙ ap (λ p. vertexKey (byUnknown rules key p)) (c .before .before .before .before .wide .ensures ∙ test .2) in
+          ∙ ap (λ p. vertexKey (byUnknown rules key p)) (c .before .before .before .before .before .wide .ensures ∙ test .2) in
           node-met rules key (asks-node rules key tables fits asks known) (met .0 rules (test .0) (test .1) led),
       met .1,
     )
@@ -123,10 +123,10 @@ pub expand-spec : {M : Type 1} → statement M
 expand-spec =
     tie.close
     (tie.spec
-    mul-t16
-    element-copy-out-t19
-    mul-t20
-    element-copy-out-t23
+    mul-t17
+    element-copy-out-t20
+    mul-t21
+    element-copy-out-t24
     kind-of-requires
     enum-known-kind
     leaf-length-requires

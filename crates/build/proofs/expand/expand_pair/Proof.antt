@@ -17,10 +17,10 @@ meet-two-requires c κs = search needs
 
 returns : tie.Need-returns
 returns c =
-    let a = c .before .before .before .before .before .args in
+    let a = c .before .before .before .before .before .before .args in
     let met = c .meet-two .ensures in
-    let other = c .before .before .before .by-other .ensures in
-    let differ = c .before .before .before .before .by-none .ensures in (
+    let other = c .before .before .before .before .by-other .ensures in
+    let differ = c .before .before .before .before .before .by-none .ensures in (
       λ rules p q asked test.
           asked-met rules (keyIn (a .key)) (a .t) test
           (pair-met rules (keyIn (a .key)) (a .t) (differ rules asked) (other rules asked) (met .0)),

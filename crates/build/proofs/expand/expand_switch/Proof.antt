@@ -12,7 +12,7 @@ meet-cases-requires c κs = search needs
 
 returns : tie.Need-returns
 returns c =
-    let a = c .before .before .before .before .before .args in
+    let a = c .before .before .before .before .before .before .args in
     let met = c .before .before .meet-cases .ensures in (
       λ rules n switches unknown.
           asked-met rules (keyIn (a .key)) (a .t) (switches .test)
@@ -26,15 +26,15 @@ by-none-requires c κs = search needs
 meet-two-requires : tie.Need-meet-two-requires
 meet-two-requires c κs = search needs
 
-add-t18 : tie.Need-add-t18
-add-t18 c = search needs
+add-t21 : tie.Need-add-t21
+add-t21 c = search needs
 
 returns-2 : tie.Need-returns-2
 returns-2 c =
-    let a = c .before .before .before .before .before .before .before .before .before .before .args in
-    let cases = c .before .before .before .before .before .before .before .meet-cases .ensures in
-    let few = c .before .before .before .before .before .if1 .left in
-    let neither = c .before .before .before .before .by-none .ensures in
+    let a = c .before .before .before .before .before .before .before .before .before .before .before .before .args in
+    let cases = c .before .before .before .before .before .before .before .before .meet-cases .ensures in
+    let few = c .before .before .before .before .before .before .if1 .left in
+    let neither = c .before .before .before .before .before .by-none .ensures in
     let met = c .before .meet-two .ensures in (
       λ rules n switches unknown.
           let first = cases .0 rules n switches in
@@ -47,4 +47,4 @@ returns-2 c =
 pub expand-switch-spec : {M : Type 1} → statement M
 expand-switch-spec =
     tie.close
-    (tie.spec meet-cases-requires returns by-none-requires meet-two-requires add-t18 returns-2)
+    (tie.spec meet-cases-requires returns by-none-requires meet-two-requires add-t21 returns-2)

@@ -16,13 +16,13 @@ use Rattle.build.proofs.grow.grow.Statement.{statement}
 use Rattle.build.proofs.grow.grow.Tie as tie
 
 abbrev Inv-loop : tie.InvT-loop
-Inv-loop lives₀ pendings₀ rows low high place pairs n count₀ bytes₀ k₀ lives pendings count bytes k =
+Inv-loop lives₀ pendings₀ rows low high place pairs n hints₀ count₀ bytes₀ k₀ lives pendings hints count bytes k =
     (k ≤ count) × (count ≤ 1024) × Sized lives pendings × (bytes ≤ 0x2000_0008 * k)
     × ((rules : List Patterns) → Compiled rules rows low high place pairs n
     → keysIn lives₀ pendings₀ 1 ≡ rootName rules ∷ [] → Growing rules (keysIn lives pendings count) k bytes)
 
 abbrev μ-loop : tie.MeasureT-loop
-μ-loop lives₀ pendings₀ rows low high place pairs n count₀ bytes₀ k₀ lives pendings count bytes k =
+μ-loop lives₀ pendings₀ rows low high place pairs n hints₀ count₀ bytes₀ k₀ lives pendings hints count bytes k =
     1024 - k
 
 element-write-lives : tie.Need-element-write-lives Inv-loop μ-loop
@@ -43,28 +43,28 @@ loop-holds c =
 
 expand-requires : tie.Need-expand-requires Inv-loop μ-loop
 expand-requires c κs =
-    let start = c .before .before .before .before in
-    let at = c .before .before .before .loop in
+    let start = c .before .before .before .before .before in
+    let at = c .before .before .before .before .loop in
     let a = start .args in
     let rules = start .pre .1 .0 in
     let tables = start .pre .1 .1 in
     let root =
     root-stored rules (now (a .lives)) (now (a .pendings)) (a .root .live) (a .root .pending) (start .pre .0)
     (start .pre .1 .2) in (
-      (at .inv .1, at .inv .2, c .before .before .loop-test .taken),
+      (at .inv .1, at .inv .2, c .before .before .before .loop-test .taken),
       (
         rules,
         tables,
         next-fits rules (few-rules rules (tables .tests)) (at .lives) (at .pendings) (at .count) (at .inv .4 rules tables root)
-            (c .before .before .loop-test .taken),
+            (c .before .before .before .loop-test .taken),
       ),
     )
 
 returns : tie.Need-returns Inv-loop μ-loop
 returns c =
-    let start = c .before .before .before .before .before .before .before in
-    let at = c .before .before .before .before .before .before .loop in
-    let test = c .before .before .before .before .before .loop-test .taken in
+    let start = c .before .before .before .before .before .before .before .before in
+    let at = c .before .before .before .before .before .before .before .loop in
+    let test = c .before .before .before .before .before .before .loop-test .taken in
     let met = c .before .before .expand .ensures in
     let a = start .args in (
       λ rules tables root.
@@ -80,25 +80,25 @@ returns c =
 
 add-bytes : tie.Need-add-bytes Inv-loop μ-loop
 add-bytes c =
-    let at = c .before .before .before .before .before .before .before .loop in
+    let at = c .before .before .before .before .before .before .before .before .loop in
     omega (arith, at .inv .0, at .inv .1, at .inv .3, c .before .before .before .expand .ensures .1 .1)
 
 add-k : tie.Need-add-k Inv-loop μ-loop
 add-k c =
-    let at = c .before .before .before .before .before .before .before .loop in
+    let at = c .before .before .before .before .before .before .before .before .loop in
     omega (arith, at .inv .0, at .inv .1)
 
 loop-less : tie.Need-loop-less Inv-loop μ-loop
 loop-less c =
-    let at = c .before .before .before .before .before .before .before .loop in
-    let test = c .before .before .before .before .before .before .loop-test .taken in
+    let at = c .before .before .before .before .before .before .before .before .loop in
+    let test = c .before .before .before .before .before .before .before .loop-test .taken in
     omega (arith, at .inv .1, test)
 
 loop-again : tie.Need-loop-again Inv-loop μ-loop
 loop-again c =
-    let start = c .before .before .before .before .before .before .before .before in
-    let at = c .before .before .before .before .before .before .before .loop in
-    let test = c .before .before .before .before .before .before .loop-test .taken in
+    let start = c .before .before .before .before .before .before .before .before .before in
+    let at = c .before .before .before .before .before .before .before .before .loop in
+    let test = c .before .before .before .before .before .before .before .loop-test .taken in
     let met = c .before .before .before .expand .ensures in
     let small = c .before .if1 .left in
     let a = start .args in

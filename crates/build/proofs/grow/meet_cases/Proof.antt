@@ -1,37 +1,48 @@
--- `grow::meet_cases` meets its contract. The loop's invariant: the cases from a code on are still to come. Assumes nothing.
-use Prim.Native.Nat.{ℕ, _-_, _*_, _≤_, _<_}
-use mathlib.Core.Path.{_≡_, sym, _∙_}
+-- `grow::meet_cases` meets its contract. The loop's invariant: the cases from a code on, of which the cut is the first cut, are
+-- still to come. Assumes nothing.
+use Prim.Native.Nat.{ℕ, _+_, _-_, _*_, _≤_, _<_}
+use mathlib.Core.Path.{_≡_, sym, ap, _∙_}
 use mathlib.Core.List.{List}
 use native.Mathlib.Omega.{arith}
 use denote.Ref.{now}
 use Rattle.terms.specs.Pattern.{Patterns}
+use Rattle.decision.specs.Edges.{liveWants}
+use Rattle.edges.specs.Codes.{cutCodes}
 use Rattle.edges.specs.VertexKey.{keyIn}
+use Rattle.edges.specs.Tables.{noCut, firstFrom, those, stays}
+use Rattle.edges.proofs.CasesInOrder.{of-run}
 use Rattle.build.specs.KeysMet.{keysIn, Sized}
 use Rattle.build.specs.Switching.{Switches}
-use Rattle.build.proofs.SwitchMet.{CasesLeft, cases-start, next-small, cases-end, cases-many, cases-next}
+use Rattle.build.proofs.SwitchMet.{CasesLeft, cases-start, cases-end, cases-many, cases-next}
 use borrow.Author.Needs.{needs}
 use Rattle.build.proofs.grow.meet_cases.Statement.{statement}
 use Rattle.build.proofs.grow.meet_cases.Tie as tie
 
 abbrev Inv-loop : tie.InvT-loop
-Inv-loop lives₀ pendings₀ start key t rows low high count₀ bytes₀ from₀ lives pendings count bytes from =
-    (count ≤ 1025) × Sized lives pendings × (from ≤ 0x400_0000) × (bytes ≤ 7 * from)
+Inv-loop lives₀ pendings₀ hints₀ start key t rows low high count₀ bytes₀ cut₀ lives pendings hints count bytes cut =
+    (count ≤ 1025) × Sized lives pendings × (cut ≤ noCut) × (bytes ≤ 7 * cut)
     × ((rules : List Patterns) (n : ℕ) → Switches rows low high (key .live) t rules n
-    → CasesLeft rules (keyIn key) t n (keysIn lives₀ pendings₀ start) lives pendings count bytes from)
+    → (from : ℕ) × (cut ≡ firstFrom from (cutCodes (liveWants rules (key .live) n)))
+    × CasesLeft rules (keyIn key) t n (keysIn lives₀ pendings₀ start) lives pendings count bytes from)
 
 abbrev μ-loop : tie.MeasureT-loop
-μ-loop lives₀ pendings₀ start key t rows low high count₀ bytes₀ from₀ lives pendings count bytes from =
-    0x400_0001 - from
+μ-loop lives₀ pendings₀ hints₀ start key t rows low high count₀ bytes₀ cut₀ lives pendings hints count bytes cut = noCut - cut
+
+next-cut-requires : tie.Need-next-cut-requires Inv-loop μ-loop
+next-cut-requires c κs = search needs
 
 loop-holds : tie.Need-loop-holds Inv-loop μ-loop
 loop-holds c =
-    let a = c .args in (
+    let a = c .before .args in (
       omega arith,
-      c .pre .0 .1,
+      c .before .pre .0 .1,
+      c .next-cut .ensures .0 .0,
       omega arith,
-      omega arith,
-      λ rules n switches. cases-start rules (keyIn (a .key)) (a .t) n (now (a .lives)) (now (a .pendings)) (a .start)
-          (c .pre .0 .0),
+      λ rules n switches. (
+        0,
+        c .next-cut .ensures .1 rules (switches .asked) (switches .codes) n (switches .test),
+        cases-start rules (keyIn (a .key)) (a .t) n (now (a .lives)) (now (a .pendings)) (a .start) (c .before .pre .0 .0),
+      ),
     )
 
 next-case-requires : tie.Need-next-case-requires Inv-loop μ-loop
@@ -46,11 +57,13 @@ enum-told c = search needs
 returns : tie.Need-returns Inv-loop μ-loop
 returns c =
     let at = c .before .before .before .before .loop in
-    let found = c .before .before .next-case .ensures in
-    let a = c .before .before .before .before .before .args in (
+    let found = c .before .before .next-case .ensures .0 in
+    let a = c .before .before .before .before .before .before .args in (
       λ rules n switches.
-          let e = sym (c .enum-told .given .1) ∙ found rules (switches .asked) (switches .codes) n (switches .test) in
-          let r = cases-end rules (keyIn (a .key)) (a .t) n switches (at .inv .4 rules n switches) (c .before .before .before .loop-test .taken) e in
+          let s = at .inv .4 rules n switches in
+          let e = sym (c .enum-told .given .1)
+          ∙ found rules (switches .asked) (switches .codes) n (switches .test) (s .0) (s .1) in
+          let r = cases-end rules (keyIn (a .key)) (a .t) n switches (s .2) (c .before .before .before .loop-test .taken) e in
           (r .0, λ f. r .1),
       (omega arith, omega arith, at .inv .1),
     )
@@ -65,64 +78,68 @@ case-length-requires : tie.Need-case-length-requires Inv-loop μ-loop
 case-length-requires c κs = search needs
 
 add-bytes : tie.Need-add-bytes Inv-loop μ-loop
-add-bytes c = let at = c .before .before .before .before .before .before .before .before .before .before .loop in omega (arith, at .inv .2, at .inv .3, c .case-length .ensures .1)
+add-bytes c =
+    let at = c .before .before .before .before .before .before .before .before .before .before .before .loop in
+    omega (arith, at .inv .2, at .inv .3, c .case-length .ensures .1)
 
-add-from : tie.Need-add-from Inv-loop μ-loop
-add-from c =
-    let start = c .before .before .before .before .before .before .before .before .before .before .before in
-    let found = c .before .before .before .before .before .before .before .before .next-case .ensures in
-    let rules₀ = start .pre .1 .0 in
-    let n₀ = start .pre .1 .1 .0 in
-    let switches₀ = start .pre .1 .1 .1 in
-    let small =
-    next-small rules₀ (keyIn (start .args .key)) (start .args .t) n₀ switches₀
-    (sym (c .before .before .before .before .before .before .next .given .1) ∙ found rules₀ (switches₀ .asked) (switches₀ .codes) n₀ (switches₀ .test)) in
-    let at = c .before .before .before .before .before .before .before .before .before .before .loop in
-    omega (arith, small .1)
+add-cut : tie.Need-add-cut Inv-loop μ-loop
+add-cut c =
+    let a = c .before .before .before .before .before .before .before .before .before .before .before .before .before .args in
+    let at = c .before .before .before .before .before .before .before .before .before .before .before .loop in
+    let step = c .before .before .before .before .before .before .before .before .before .next-case in
+    let run = of-run
+    (λ (x y : ℕ).
+    (at .cut ≤ x) × (x ≤ y) × (y < noCut)
+    × (step .result .kept ≡ those (a .key .live) (stays (now (a .rows)) (now (a .low)) (now (a .high)) (a .t) x)))
+    (c .before .before .before .before .before .before .before .next .given .1) (step .ensures .1 .0) in
+    omega (arith, run .2)
 
 loop-less : tie.Need-loop-less Inv-loop μ-loop
 loop-less c =
-    let start = c .before .before .before .before .before .before .before .before .before .before .before in
-    let found = c .before .before .before .before .before .before .before .before .next-case .ensures in
-    let rules₀ = start .pre .1 .0 in
-    let n₀ = start .pre .1 .1 .0 in
-    let switches₀ = start .pre .1 .1 .1 in
-    let small =
-    next-small rules₀ (keyIn (start .args .key)) (start .args .t) n₀ switches₀
-    (sym (c .before .before .before .before .before .before .next .given .1) ∙ found rules₀ (switches₀ .asked) (switches₀ .codes) n₀ (switches₀ .test)) in
-    let at = c .before .before .before .before .before .before .before .before .before .before .loop in
-    omega (arith, small .0, small .1)
+    let a = c .before .before .before .before .before .before .before .before .before .before .before .before .before .args in
+    let at = c .before .before .before .before .before .before .before .before .before .before .before .loop in
+    let step = c .before .before .before .before .before .before .before .before .before .next-case in
+    let run = of-run
+    (λ (x y : ℕ).
+    (at .cut ≤ x) × (x ≤ y) × (y < noCut)
+    × (step .result .kept ≡ those (a .key .live) (stays (now (a .rows)) (now (a .low)) (now (a .high)) (a .t) x)))
+    (c .before .before .before .before .before .before .before .next .given .1) (step .ensures .1 .0) in
+    omega (arith, run .0, run .1, run .2)
 
 loop-again : tie.Need-loop-again Inv-loop μ-loop
 loop-again c =
-    let start = c .before .before .before .before .before .before .before .before .before .before .before in
-    let found = c .before .before .before .before .before .before .before .before .next-case .ensures in
-    let rules₀ = start .pre .1 .0 in
-    let n₀ = start .pre .1 .1 .0 in
-    let switches₀ = start .pre .1 .1 .1 in
-    let small =
-    next-small rules₀ (keyIn (start .args .key)) (start .args .t) n₀ switches₀
-    (sym (c .before .before .before .before .before .before .next .given .1) ∙ found rules₀ (switches₀ .asked) (switches₀ .codes) n₀ (switches₀ .test)) in
-    let at = c .before .before .before .before .before .before .before .before .before .before .loop in
-    let a = start .args in (
+    let a = c .before .before .before .before .before .before .before .before .before .before .before .before .before .args in
+    let at = c .before .before .before .before .before .before .before .before .before .before .before .loop in
+    let step = c .before .before .before .before .before .before .before .before .before .next-case in
+    let given = c .before .before .before .before .before .before .before .next .given .1 in
+    let kept : ℕ → ℕ = λ x. those (a .key .live) (stays (now (a .rows)) (now (a .low)) (now (a .high)) (a .t) x) in
+    let run = of-run (λ (x y : ℕ). (at .cut ≤ x) × (x ≤ y) × (y < noCut) × (step .result .kept ≡ kept x)) given
+    (step .ensures .1 .0) in (
       c .before .meet .ensures .1 .0,
       c .before .meet .ensures .1 .1,
-      omega (arith, small .1),
-      omega (arith, at .inv .3, small .0, c .case-length .ensures .1),
+      omega (arith, run .2),
+      omega (arith, at .inv .3, run .0, run .1, c .case-length .ensures .1),
       λ rules n switches.
-          cases-next rules (keyIn (a .key)) (a .t) n switches (at .inv .4 rules n switches) (c .before .before .before .before .by-case .result) _ _ _ _ _ _
-          (c .before .before .before .before .before .before .before .before .before .loop-test .taken)
-          (sym (c .before .before .before .before .before .before .next .given .1) ∙ found rules (switches .asked) (switches .codes) n (switches .test))
-          (λ d m e. c .before .before .before .before .by-case .ensures rules (switches .asked) (switches .codes) n d (switches .test) m e)
-          (c .before .meet .ensures .0) (c .case-length .ensures .0),
+          let s = at .inv .4 rules n switches in (
+            _,
+            of-run (λ (x y : ℕ). y + 1 ≡ firstFrom (x + 1) (cutCodes (liveWants rules (a .key .live) n))) given
+                (step .ensures .1 .1 rules (switches .asked) (switches .codes) n (switches .test)),
+            cases-next rules (keyIn (a .key)) (a .t) n switches (s .2) (c .before .before .before .before .before .by-case .result) _ _ _ _ _ _
+                (c .before .before .before .before .before .before .before .before .before .before .loop-test .taken)
+                (sym given ∙ step .ensures .0 rules (switches .asked) (switches .codes) n (switches .test) (s .0) (s .1))
+                (λ d m e.
+                c .before .before .before .before .before .by-case .ensures rules (now (a .low)) (now (a .high)) (switches .asked)
+                (switches .codes) n d (switches .test) m (run .3 ∙ ap kept e))
+                (c .before .meet .ensures .0) (c .case-length .ensures .0),
+          ),
     )
 
 returns-2 : tie.Need-returns-2 Inv-loop μ-loop
 returns-2 c =
     let at = c .before .loop in
-    let a = c .before .before .args in (
+    let a = c .before .before .before .args in (
       λ rules n switches. (
-        cases-many rules (keyIn (a .key)) (a .t) n switches (at .inv .4 rules n switches) (c .loop-test .left),
+        cases-many rules (keyIn (a .key)) (a .t) n switches (at .inv .4 rules n switches .2) (c .loop-test .left),
         λ f. absurd (let z : ⊥ = omega arith in z),
       ),
       (omega arith, omega arith, at .inv .1),
@@ -134,6 +151,7 @@ meet-cases-spec =
     (tie.spec
     Inv-loop
     μ-loop
+    next-cut-requires
     loop-holds
     next-case-requires
     enum-known-next
@@ -143,7 +161,7 @@ meet-cases-spec =
     meet-requires
     case-length-requires
     add-bytes
-    add-from
+    add-cut
     loop-less
     loop-again
     returns-2)

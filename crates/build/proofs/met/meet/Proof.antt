@@ -1,33 +1,76 @@
--- `met::meet` meets its contract. Assumes nothing.
+-- `met::meet` meets its contract: the hint leads to the key, or the search tells. Assumes nothing.
+use mathlib.Core.Path.{sym, _∙_}
 use native.Mathlib.Omega.{arith}
 use borrow.Author.Needs.{needs}
 use denote.Ref.{now}
-use Rattle.build.proofs.Meeting.{meets-old, meets-full, meets-new, sized-set}
+use Rattle.build.specs.KeysMet.{keyWith}
+use Rattle.build.proofs.Searching.{number-few}
+use Rattle.build.proofs.Meeting.{meets-hinted, meets-old, meets-full, meets-new, sized-set}
 use Rattle.build.proofs.met.meet.Statement.{statement}
 use Rattle.build.proofs.met.meet.Tie as tie
+
+hint-place-requires : tie.Need-hint-place-requires
+hint-place-requires c κs = search needs
+
+mul-wide : tie.Need-mul-wide
+mul-wide c = search needs
+
+element-copy-out-wide : tie.Need-element-copy-out-wide
+element-copy-out-wide c = search needs
+
+wide-requires : tie.Need-wide-requires
+wide-requires c κs = search needs
+
+is-at-requires : tie.Need-is-at-requires
+is-at-requires c κs = search needs
+
+returns : tie.Need-returns
+returns c =
+    let start = c .before .before .before .before .before .before .before in
+    let a = start .args in (
+      meets-hinted (now (a .lives)) (now (a .pendings)) (a .count) (a .live) (a .pending) _ (start .pre .0)
+          (sym (c .before .is-at .ensures) ∙ c .if1 .taken),
+      (omega arith, start .pre .1),
+    )
 
 find-requires : tie.Need-find-requires
 find-requires c κs = search needs
 
-returns : tie.Need-returns
-returns c =
-    let start = c .before .before .before .before in
+cast-hints : tie.Need-cast-hints
+cast-hints c =
+    let start = c .before .before .before .before .before .before .before .before .before .before in
+    let a = start .args in
+    omega (
+      arith,
+      c .find .ensures,
+      number-few (now (a .lives)) (now (a .pendings)) (a .count) (keyWith (a .live) (a .pending)) (start .pre .0),
+    )
+
+mul-hints : tie.Need-mul-hints
+mul-hints c = search needs
+
+element-write-hints : tie.Need-element-write-hints
+element-write-hints c = search needs
+
+returns-2 : tie.Need-returns-2
+returns-2 c =
+    let start = c .before .before .before .before .before .before .before .before .before .before .before in
     let a = start .args in
     let found = c .before .find in (
       meets-old
           (now (a .lives)) (now (a .pendings)) (a .count) (a .live) (a .pending) (found .result) (start .pre .1 .0) (start .pre .1 .1)
-          (start .pre .0) (found .ensures) (c .if1 .taken),
+          (start .pre .0) (found .ensures) (c .if2 .taken),
       (omega arith, start .pre .1),
     )
 
-returns-2 : tie.Need-returns-2
-returns-2 c =
-    let start = c .before .before .before .before .before in
+returns-3 : tie.Need-returns-3
+returns-3 c =
+    let start = c .before .before .before .before .before .before .before .before .before .before .before .before in
     let a = start .args in
     let found = c .before .before .find in (
       meets-full
           (now (a .lives)) (now (a .pendings)) (a .count) (a .live) (a .pending) (found .result) (start .pre .1 .0) (start .pre .1 .1)
-          (start .pre .0) (found .ensures) (c .before .if1 .left) (c .if2 .taken),
+          (start .pre .0) (found .ensures) (c .before .if2 .left) (c .if3 .taken),
       (omega arith, start .pre .1),
     )
 
@@ -46,14 +89,14 @@ element-write-pendings c = search needs
 add-result : tie.Need-add-result
 add-result c = search needs
 
-returns-3 : tie.Need-returns-3
-returns-3 c =
-    let start = c .before .before .before .before .before in
+returns-4 : tie.Need-returns-4
+returns-4 c =
+    let start = c .before .before .before .before .before .before .before .before .before .before .before .before in
     let a = start .args in
     let found = c .before .before .find in (
       meets-new
           (now (a .lives)) (now (a .pendings)) (a .count) (a .live) (a .pending) (found .result) (start .pre .1 .0) (start .pre .1 .1)
-          (start .pre .0) (found .ensures) (c .before .if1 .left) (c .if2 .left),
+          (start .pre .0) (found .ensures) (c .before .if2 .left) (c .if3 .left),
       (omega arith, sized-set (now (a .lives)) (now (a .pendings)) (a .count) (a .live) (a .pending) (start .pre .1)),
     )
 
@@ -61,12 +104,21 @@ pub meet-spec : {M : Type 1} → statement M
 meet-spec =
     tie.close
     (tie.spec
-    find-requires
+    hint-place-requires
+    mul-wide
+    element-copy-out-wide
+    wide-requires
+    is-at-requires
     returns
+    find-requires
+    cast-hints
+    mul-hints
+    element-write-hints
     returns-2
+    returns-3
     mul-lives
     element-write-lives
     mul-pendings
     element-write-pendings
     add-result
-    returns-3)
+    returns-4)

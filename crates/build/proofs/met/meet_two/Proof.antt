@@ -13,7 +13,7 @@ meet-requires c κs = search needs
 
 returns : tie.Need-returns
 returns c =
-    let a = c .before .before .before .before .args in
+    let a = c .before .before .before .before .before .args in
     let first = c .before .meet .ensures in (
       met-enough (keysIn (now (a .lives)) (now (a .pendings)) (a .count)) (keyIn (a .first) ∷ []) (keyIn (a .second) ∷ [])
           (first .0) (c .if1 .taken),
@@ -25,11 +25,11 @@ meet-requires-2 c κs = search needs
 
 returns-2 : tie.Need-returns-2
 returns-2 c =
-    let a = c .before .before .before .before .before .before .before .args in
-    let first = c .before .before .before .before .meet .ensures in
+    let a = c .before .before .before .before .before .before .before .before .before .args in
+    let first = c .before .before .before .before .before .meet .ensures in
     let second = c .meet2 .ensures in (
       met-more (keysIn (now (a .lives)) (now (a .pendings)) (a .count)) (keyIn (a .first) ∷ []) (keyIn (a .second) ∷ [])
-          (first .0) (c .before .before .before .if1 .left) (second .0),
+          (first .0) (c .before .before .before .before .if1 .left) (second .0),
       second .1,
     )
 

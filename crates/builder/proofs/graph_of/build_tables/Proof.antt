@@ -2,6 +2,7 @@
 use Prim.Native.Nat.{ℕ, _+_, _≤_}
 use native.Mathlib.Omega.{arith}
 use lib.ListN.{length-replicate}
+use Rattle.build.proofs.GrownGraph.{keys-once}
 use Rattle.lay.proofs.LaidKeys.{grown-laid, grown-room}
 use Rattle.builder.proofs.GrownBytes.{few-rules, built-many, built-short, built-whole, bytes-small}
 use borrow.Author.Needs.{needs}
@@ -52,7 +53,7 @@ put-graph-requires c κs =
     let fits = c .before .before .before .if2 .left in
     let laid = grown-laid (sheet .rules) few (t .compiled) _ _ _ grown small in
     let room = grown-room (sheet .rules) few (t .compiled) _ _ _ grown small (start .args .buf .now) (start .args .arity) (start .args .rules) (within _ _ fits) in
-    ((small, grow .ensures .1 .2), (sheet .rules, laid, room))
+    ((small, grow .ensures .1 .2, keys-once (sheet .rules) few _ _ _ grown small), (sheet .rules, laid, room))
 
 cast-t26 : tie.Need-cast-t26
 cast-t26 c = search needs

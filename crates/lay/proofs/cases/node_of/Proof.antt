@@ -2,19 +2,19 @@
 use native.Mathlib.Omega.{arith}
 use denote.Ref.{now}
 use Rattle.edges.specs.VertexKey.{keyIn}
-use Rattle.lay.proofs.Numbers.{number-few}
+use Rattle.build.proofs.Searching.{number-few}
 use borrow.Author.Needs.{needs}
 use Rattle.lay.proofs.cases.node_of.Statement.{statement}
 use Rattle.lay.proofs.cases.node_of.Tie as tie
 
-find-requires : tie.Need-find-requires
-find-requires c κs = search needs
+number-of-requires : tie.Need-number-of-requires
+number-of-requires c κs = search needs
 
 cast-result : tie.Need-cast-result
 cast-result c =
-    let start = c .before in
+    let start = c .before .before in
     let a = start .args in
-    omega (arith, c .find .ensures, number-few (now (a .lives)) (now (a .pendings)) (a .count) (keyIn (a .key)) (start .pre .0))
+    omega (arith, c .number-of .ensures, number-few (now (a .lives)) (now (a .pendings)) (a .count) (keyIn (a .key)) (start .pre .0))
 
 returns : tie.Need-returns
 returns c = search needs
@@ -23,6 +23,6 @@ pub node-of-spec : {M : Type 1} → statement M
 node-of-spec =
     tie.close
     (tie.spec
-    find-requires
+    number-of-requires
     cast-result
     returns)

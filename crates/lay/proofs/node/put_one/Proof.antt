@@ -37,16 +37,16 @@ enum-known-kind-2 c = search needs
 
 put-asked-requires : tie.Need-put-asked-requires
 put-asked-requires c κs =
-    let start = c .before .before .before .before .before .before in
+    let start = c .before .before .before .before .before .before .before in
     let a = start .args in
     let keys = keysIn (now (a .lives)) (now (a .pendings)) (a .count) in
-    let kind = c .before .before .before .before .kind-of in
-    let ask = c .before .before .kind2 .given in
+    let kind = c .before .before .before .before .before .kind-of in
+    let ask = c .before .before .before .kind2 .given in
     let rules = start .pre .1 .0 in
     let compiled = start .pre .1 .1 in
     let fits = start .pre .1 .2 in
     let same = ask-bytes rules keys (keyIn (a .key)) (kind .result) (kind .ensures .0 rules fits .0) (ask .0 .0) (ask .1) in (
-      (start .pre .0 .0, start .pre .0 .1, asked-below (ask .1) (kind .ensures .1)),
+      (start .pre .0 .0, start .pre .0 .1, asked-below (ask .1) (kind .ensures .1), start .pre .0 .2),
       (
         rules,
         compiled,
@@ -79,11 +79,11 @@ same-length-2 c = c .before .buf2 .given
 
 returns-2 : tie.Need-returns-2
 returns-2 c =
-    let start = c .before .before .before .before .before .before .before .before .before in
+    let start = c .before .before .before .before .before .before .before .before .before .before in
     let a = start .args in
     let keys = keysIn (now (a .lives)) (now (a .pendings)) (a .count) in
-    let kind = c .before .before .before .before .before .before .before .kind-of in
-    let ask = c .before .before .before .before .before .kind2 .given in
+    let kind = c .before .before .before .before .before .before .before .before .kind-of in
+    let ask = c .before .before .before .before .before .before .kind2 .given in
     let put = c .before .before .put-asked .ensures in
     λ rules compiled fits room.
     let same = ask-bytes rules keys (keyIn (a .key)) (kind .result) (kind .ensures .0 rules fits .0) (ask .0 .0) (ask .1) in

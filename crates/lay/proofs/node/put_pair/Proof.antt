@@ -33,12 +33,12 @@ same-length c = c .before .buf .given
 
 returns : tie.Need-returns
 returns c =
-    let start = c .before .before .before .before .before .before .before .before .before in
+    let start = c .before .before .before .before .before .before .before .before .before .before .before in
     let a = start .args in
     let keys = keysIn (now (a .lives)) (now (a .pendings)) (a .count) in
-    let none = c .before .before .before .before .before .before .before .by-none in
-    let differ = c .before .before .before .before .before .before .node-of in
-    let rest = c .before .before .before .before .before .by-other in
+    let none = c .before .before .before .before .before .before .before .before .before .by-none in
+    let differ = c .before .before .before .before .before .before .before .node-of in
+    let rest = c .before .before .before .before .before .before .by-other in
     let other = c .before .before .before .before .node-of2 in
     λ rules p q asked test stored.
     pair-wrote rules keys (keyIn (a .key)) (a .t) p q test (a .code) (differ .result) (other .result) (none .result)

@@ -22,25 +22,25 @@ put-header-requires c κs =
 
 put-nodes-requires : tie.Need-put-nodes-requires
 put-nodes-requires c κs =
-    let start = c .before .before .before .before .before .before in
+    let start = c .before .before .before .before .before .before .before in
     let a = start .args in
     let lives = now (a .lives) in
     let pendings = now (a .pendings) in
     let room =
     nodes-room (now (a .buf)) (a .arity) (a .rules) (keyedNodes (start .pre .1 .0) (keysIn lives pendings (a .count))) (a .count)
-    (nodes-many (start .pre .1 .0) lives pendings (a .count)) (start .pre .1 .2) (c .before .before .before .put-header .ensures) in
+    (nodes-many (start .pre .1 .0) lives pendings (a .count)) (start .pre .1 .2) (c .before .before .before .before .put-header .ensures) in
     (start .pre .0, (start .pre .1 .0, start .pre .1 .1, room))
 
 same-length : tie.Need-same-length
-same-length c = c .before .buf2 .given ∙ c .before .before .before .before .before .buf .given
+same-length c = c .before .buf2 .given ∙ c .before .before .before .before .before .before .buf .given
 
 returns : tie.Need-returns
 returns c =
-    let start = c .before .before .before .before .before .before .before .before .before in
+    let start = c .before .before .before .before .before .before .before .before .before .before in
     let a = start .args in
     let lives = now (a .lives) in
     let pendings = now (a .pendings) in
-    let header = c .before .before .before .before .before .before .put-header .ensures in
+    let header = c .before .before .before .before .before .before .before .put-header .ensures in
     let nodes = c .before .before .put-nodes .ensures in
     λ ps laid room.
     graph-wrote (now (a .buf)) (a .arity) (a .rules) (keyedNodes ps (keysIn lives pendings (a .count))) (a .count)

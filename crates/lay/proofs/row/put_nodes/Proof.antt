@@ -17,14 +17,14 @@ use Rattle.lay.proofs.row.put_nodes.Statement.{statement}
 use Rattle.lay.proofs.row.put_nodes.Tie as tie
 
 abbrev Inv-loop : tie.InvT-loop
-Inv-loop buf₀ start rows low high place pairs places lives pendings count at₀ i₀ buf at i =
+Inv-loop buf₀ start rows low high place pairs places lives pendings hints₀ count at₀ i₀ buf hints at i =
     (length buf ≡ length buf₀)
     × ((rules : List Patterns) → Laid rules rows low high place pairs places (keysIn lives pendings count)
     → Room buf₀ start (keysBytes rules (keysIn lives pendings count))
     → Left buf₀ start (keysBytes rules (keysIn lives pendings count)) buf at (bytesFrom rules lives pendings count i))
 
 abbrev μ-loop : tie.MeasureT-loop
-μ-loop buf₀ start rows low high place pairs places lives pendings count at₀ i₀ buf at i = count - i
+μ-loop buf₀ start rows low high place pairs places lives pendings hints₀ count at₀ i₀ buf hints at i = count - i
 
 loop-holds : tie.Need-loop-holds Inv-loop μ-loop
 loop-holds c =
@@ -43,13 +43,13 @@ key-at-requires c κs = search needs
 
 put-one-requires : tie.Need-put-one-requires Inv-loop μ-loop
 put-one-requires c κs =
-    let start = c .before .before .before .before .before in
+    let start = c .before .before .before .before .before .before in
     let a = start .args in
     let keys = keysIn (now (a .lives)) (now (a .pendings)) (a .count) in
-    let loop = c .before .before .before .loop in
-    let next = c .before .before .loop-test .taken in
-    let key = keyIn (c .before .key-at .result) in
-    let is = c .before .key-at .ensures in
+    let loop = c .before .before .before .before .loop in
+    let next = c .before .before .before .loop-test .taken in
+    let key = keyIn (c .before .before .key-at .result) in
+    let is = c .before .before .key-at .ensures in
     let rules₀ = start .pre .1 .0 in
     let laid₀ = start .pre .1 .1 in
     let room₀ = start .pre .1 .2 in
@@ -74,14 +74,14 @@ loop-less c = search needs
 
 loop-again : tie.Need-loop-again Inv-loop μ-loop
 loop-again c =
-    let start = c .before .before .before .before .before .before .before .before in
+    let start = c .before .before .before .before .before .before .before .before .before in
     let a = start .args in
     let keys = keysIn (now (a .lives)) (now (a .pendings)) (a .count) in
-    let loop = c .before .before .before .before .before .before .loop in
+    let loop = c .before .before .before .before .before .before .before .loop in
     let put = c .before .before .put-one .ensures in
-    let next = c .before .before .before .before .before .loop-test .taken in
-    let key = keyIn (c .before .before .before .before .key-at .result) in
-    let is = c .before .before .before .before .key-at .ensures in
+    let next = c .before .before .before .before .before .before .loop-test .taken in
+    let key = keyIn (c .before .before .before .before .before .key-at .result) in
+    let is = c .before .before .before .before .before .key-at .ensures in
     let lives = now (a .lives) in
     let pendings = now (a .pendings) in (
       c .before .buf .given ∙ loop .inv .0,
