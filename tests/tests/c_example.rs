@@ -17,7 +17,7 @@ fn the_c_example_prints_the_four_answers() {
     run(Command::new("cc")
         .args(["-std=c11", "-Wall", "-Wextra", "-Werror"])
         .arg(package.join("examples/c/plain.c"))
-        .arg(package.join("../target/staticlib/libboard.a"))
+        .arg(package.join("../target/staticlib/libvoltunnis.a"))
         .arg("-o")
         .arg(&program));
     let output = run(&mut Command::new(program));

@@ -15,8 +15,8 @@ use Rattle.sheet.specs.Sheet.{Sheet}
 use Rattle.sheet.specs.ReadSheet.{readSheet}
 use Rattle.sheet.specs.WriteSheet.{sheetBytes}
 use Rattle.accepted.proofs.Spelled.{sheet-spelled}
-use Rattle.tests.specs.SheetTests.{sheetTests}
-use Rattle.tests.specs.CheckSheet.{mostTests, askTests, acceptSheet, AcceptedSheet}
+use Rattle.sheet_tests.specs.SheetTests.{sheetTests}
+use Rattle.sheet_tests.specs.CheckSheet.{mostTests, askTests, acceptSheet, AcceptedSheet}
 
 -- What question 11 lets pass was read, and has at most 64 tests.
 tests-asked

@@ -15,10 +15,10 @@ use Rattle.sheet.specs.Sheet.{Sheet}
 use Rattle.sheet.specs.ReadSheet.{readRule, readRules, readSheet}
 use Rattle.sheet.proofs.SheetReads.{sheet-is}
 use Rattle.sheet.proofs.ReadsSound.{sheet-sound}
-use Rattle.tests.specs.declared.SheetCheck.the-variants.{Accepted, Refused}
-use Rattle.tests.specs.SheetTests.{sheetTests}
-use Rattle.tests.specs.CheckSheet.{SheetValues, mostTests, askTests, acceptSheet, checkValues, sheetValues}
-use Rattle.accepted.specs.AcceptedAs.{AcceptedAs}
+use Rattle.sheet_tests.specs.declared.SheetCheck.the-variants.{Accepted, Refused}
+use Rattle.sheet_tests.specs.SheetTests.{sheetTests}
+use Rattle.sheet_tests.specs.CheckSheet.{SheetValues, mostTests, askTests, acceptSheet, checkValues, sheetValues}
+use Rattle.accepted.specs.views.AcceptedAs.{AcceptedAs}
 use Rattle.accepted.proofs.Named.{Named}
 use Rattle.accepted.proofs.Questions.{SheetQuestion, sheet-named}
 

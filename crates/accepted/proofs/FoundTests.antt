@@ -4,12 +4,12 @@ use mathlib.Core.Path.{_≡_, sym, ap, _∙_}
 use mathlib.Core.List.{List}
 use lib.ListN.{length}
 use Rattle.records.specs.Reading.{refused}
-use Rattle.tests.specs.declared.TestsRead.{TestsRead}
-use Rattle.tests.specs.declared.TestsRead.the-variants.{Accepted, Refused}
-use Rattle.tests.specs.CheckSheet.{acceptSheet}
-use Rattle.tests.specs.TestsRead.{TestsFound, keptTests, testsFound, sheetFound, foundValues}
-use Rattle.tests.proofs.Checking.{values-found}
-use Rattle.accepted.specs.AcceptedAs.{AcceptedTests}
+use Rattle.sheet_tests.specs.declared.TestsRead.{TestsRead}
+use Rattle.sheet_tests.specs.declared.TestsRead.the-variants.{Accepted, Refused}
+use Rattle.sheet_tests.specs.CheckSheet.{acceptSheet}
+use Rattle.sheet_tests.specs.views.TestsRead.{TestsFound, keptTests, testsFound, sheetFound, foundValues}
+use Rattle.sheet_tests.proofs.Checking.{values-found}
+use Rattle.accepted.specs.views.AcceptedAs.{AcceptedTests}
 use Rattle.accepted.proofs.CheckedSheets.{check-accepts, check-refuses}
 
 module _ (s words codes : List ℕ) {r : TestsRead} (found : testsFound words codes r ≡ sheetFound (acceptSheet s)) where

@@ -15,8 +15,8 @@ use Rattle.sheet.specs.declared.PatternHead.the-variants.{Whole, Refused}
 use Rattle.sheet.specs.PatternRecord.{wholeIf, patternHead}
 use Rattle.sheet.specs.Sheet.{SheetHead, mostRules}
 use Rattle.sheet.specs.ReadSheet.{onRecord, onHead, readPattern, readPatterns, rangesMeet, readRule, endSheet, readHeader, readRules, readSheet}
-use Rattle.tests.specs.SheetTests.{sheetTests}
-use Rattle.tests.specs.CheckSheet.{mostTests, acceptSheet}
+use Rattle.sheet_tests.specs.SheetTests.{sheetTests}
+use Rattle.sheet_tests.specs.CheckSheet.{mostTests, acceptSheet}
 use Rattle.accepted.proofs.Named.{Between, Named, ask-named, then-named, after-named, row-named}
 
 -- The questions of a sheet.

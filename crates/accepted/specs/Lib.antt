@@ -1,2 +1,2 @@
 -- What is known of bytes that were accepted.
-pub mod AcceptedAs
+pub mod views

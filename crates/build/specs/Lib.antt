@@ -1,7 +1,3 @@
--- The definitions that the contracts of `build` cite.
-pub mod KeysMet
-pub mod KeyGraph
-pub mod NodeKind
-pub mod Switching
-pub mod Expanding
-pub mod Grown
+-- What building answers, and the buffer that it leaves.
+pub mod BuildOutcome
+pub mod views

@@ -14,7 +14,7 @@ use Rattle.terms.specs.RuleTests.{Want, placeTests}
 use Rattle.terms.specs.Accepted.{AcceptedRule}
 use Rattle.terms.specs.Answer.{ruleAt}
 use Rattle.terms.proofs.ListLaws.{all-at, all-from}
-use Rattle.tests.specs.SheetTests.{Test, place, pair, sheetTests}
+use Rattle.sheet_tests.specs.SheetTests.{Test, place, pair, sheetTests}
 use Rattle.decision.specs.Rules.{wantAt}
 use Rattle.decision.specs.Key.{Key, Vertex}
 use Rattle.decision.specs.Cases.{Case, casesOf}

@@ -16,8 +16,8 @@ use Rattle.terms.proofs.Stays.{rule-stays}
 use Rattle.terms.proofs.Monotone.{right-keeps}
 use Rattle.terms.proofs.Plain.{rules-say, plain-answer-right}
 use Rattle.sheet.specs.Sheet.{Sheet}
-use Rattle.tests.specs.SheetTests.{sheetTests}
-use Rattle.tests.specs.CheckSheet.{AcceptedSheet, mostTests}
+use Rattle.sheet_tests.specs.SheetTests.{sheetTests}
+use Rattle.sheet_tests.specs.CheckSheet.{AcceptedSheet, mostTests}
 use Rattle.decision.specs.Node.{Node}
 use Rattle.decision.specs.Graph.{graphIn, lowestFirst, graphOf}
 use Rattle.decision.specs.AskingOrder.{AskingOrder}

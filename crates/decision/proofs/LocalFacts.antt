@@ -18,7 +18,7 @@ use Rattle.terms.proofs.Unknown.{IsUnknown}
 use Rattle.terms.proofs.Below.{below-unknown}
 use Rattle.terms.proofs.RuleOutcomes.{outcome-contradicted}
 use Rattle.terms.proofs.Tested.{IsFound, FoundOrContradicted, tested-place, tested-pair}
-use Rattle.tests.specs.SheetTests.{Test, place, pair}
+use Rattle.sheet_tests.specs.SheetTests.{Test, place, pair}
 use Rattle.decision.specs.Rules.{wantIn}
 use Rattle.decision.specs.Edges.{settledByUnknown}
 use Rattle.decision.specs.AskingOrder.{MustPrecede}

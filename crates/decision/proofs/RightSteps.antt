@@ -14,7 +14,7 @@ use Rattle.terms.specs.Outcome.{Outcome, holds, notKnown, contradicted, Contrad
 use Rattle.terms.specs.Accepted.{AcceptedRule, AcceptedPiece}
 use Rattle.terms.specs.Answer.{ruleAt}
 use Rattle.terms.proofs.ListLaws.{all-at}
-use Rattle.tests.specs.SheetTests.{Test, place, pair}
+use Rattle.sheet_tests.specs.SheetTests.{Test, place, pair}
 use Rattle.decision.specs.Rules.{testAt, hasTest}
 use Rattle.decision.specs.Key.{Key, Vertex, asking}
 use Rattle.decision.specs.Cases.{Case, casesOf}

@@ -21,7 +21,7 @@ use Rattle.terms.specs.Answer.{ruleAt, isOpen}
 use Rattle.terms.proofs.Unknown.{IsUnknown}
 use Rattle.terms.proofs.Booleans.{true-both}
 use Rattle.terms.proofs.Outcomes.{is-not-open}
-use Rattle.tests.specs.SheetTests.{place}
+use Rattle.sheet_tests.specs.SheetTests.{place}
 use Rattle.decision.specs.Rules.{testAt, hasTest, wantAt, rulesWhere}
 use Rattle.decision.specs.Key.{Key}
 use Rattle.decision.specs.Cases.{casesOf}

@@ -11,7 +11,7 @@ use Rattle.terms.specs.Outcome.{Outcome, holds, notKnown, contradicted, compare
 use Rattle.terms.specs.Filling.{Puts, Putss, putUnknown, putSymbol, putNumber, putCompound}
 use Rattle.terms.proofs.Outcomes.{Stays}
 use Rattle.terms.proofs.Stays.{Becomes, staysLacking, filledIn, wasUnknown, puts-count, finds-becomes, compare-stays, pair-stays}
-use Rattle.tests.specs.SheetTests.{Test, place, pair}
+use Rattle.sheet_tests.specs.SheetTests.{Test, place, pair}
 use Rattle.decision.specs.Cases.{Case, symbolCase, compoundCase, numbersCase, takes}
 use Rattle.decision.specs.Node.{Node, CaseEdge, end, switch, pairNode, follow}
 use Rattle.decision.specs.Path.{goTo, switchStep, byComparison, pairStep, stepAt}

@@ -13,7 +13,7 @@ use Rattle.terms.specs.Pattern.{Patterns}
 use Rattle.terms.specs.Filling.{FilledFurther}
 use Rattle.terms.specs.Answer as answers
 use Rattle.sheet.specs.Sheet.{Sheet}
-use Rattle.tests.specs.CheckSheet.{AcceptedSheet}
+use Rattle.sheet_tests.specs.CheckSheet.{AcceptedSheet}
 use Rattle.decision.specs.Rules.{testAt}
 use Rattle.decision.specs.Key.{suspend}
 use Rattle.decision.specs.Node.{Node}

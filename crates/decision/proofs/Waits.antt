@@ -15,7 +15,7 @@ use Rattle.terms.specs.Outcome.{Outcome, holds, notKnown, contradicted, ruleOut
 use Rattle.terms.specs.Answer.{ruleAt, onlyRule}
 use Rattle.terms.specs.Answer as answers
 use Rattle.terms.proofs.Booleans.{true-both}
-use Rattle.tests.specs.SheetTests.{Test, place, pair, sheetTests}
+use Rattle.sheet_tests.specs.SheetTests.{Test, place, pair, sheetTests}
 use Rattle.decision.specs.Rules.{sameTest, testAt}
 use Rattle.decision.specs.Key.{fail, suspend, execute}
 use Rattle.decision.specs.Node.{Node, end, switch, pairNode}

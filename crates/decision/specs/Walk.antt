@@ -12,7 +12,7 @@ use Rattle.terms.specs.Outcome.{Outcome, holds, notKnown, contradicted, atPlace
 use Rattle.terms.specs.Answer.{Answer, ruleAt, onlyRule}
 use Rattle.terms.specs.Answer as answers
 use Rattle.masks.specs.Mask.{anyBelow}
-use Rattle.tests.specs.SheetTests.{Test, place, pair, sheetTests}
+use Rattle.sheet_tests.specs.SheetTests.{Test, place, pair, sheetTests}
 use Rattle.decision.specs.Rules.{anyOf, sameTest, testAt, hasTest, wantAt, testsWhere}
 use Rattle.decision.specs.Key.{Leaf, fail, suspend, execute}
 use Rattle.decision.specs.Node.{Node, end, switch, pairNode}

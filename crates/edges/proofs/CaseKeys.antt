@@ -15,7 +15,7 @@ use Rattle.terms.specs.Lists.{Mem, All}
 use Rattle.terms.specs.Pattern.{Patterns}
 use Rattle.terms.specs.RuleTests.{Want}
 use Rattle.terms.proofs.ListLaws.{all-at, all-map}
-use Rattle.tests.specs.SheetTests.{place}
+use Rattle.sheet_tests.specs.SheetTests.{place}
 use Rattle.decision.specs.Rules.{testAt, wantAt, rulesWhere}
 use Rattle.decision.specs.Key.{Key}
 use Rattle.decision.specs.Cases.{Case, isWanted, casesOf}
@@ -26,9 +26,9 @@ use Rattle.decision.proofs.Filters.{mem-map}
 use Rattle.decision.proofs.Intervals.{both-le}
 use Rattle.decision.proofs.RangeRuns.{covers, rangeRuns, covers-contains, run-between}
 use Rattle.decision.proofs.CasesAccepted.{cases-fields}
-use Rattle.edges.specs.Codes.{wantLow, wantHigh, caseLow, SoundWant}
-use Rattle.edges.specs.Compiled.{CodeTable, Asked}
-use Rattle.edges.specs.Tables.{those, lacks, stays}
+use Rattle.edges.specs.views.Codes.{wantLow, wantHigh, caseLow, SoundWant}
+use Rattle.edges.specs.views.Compiled.{CodeTable, Asked}
+use Rattle.edges.specs.views.Tables.{those, lacks, stays}
 use Rattle.edges.proofs.Widths.{those-where}
 use Rattle.edges.proofs.Leads.{leads-same, row-has}
 use Rattle.edges.proofs.EdgeKeys.{but-left}

@@ -13,8 +13,8 @@ use Rattle.terms.proofs.Sorted.{AscendingBy}
 use Rattle.decision.specs.Cases.{Case}
 use Rattle.edges.specs.declared.cases.NextCase.{NextCase}
 use Rattle.edges.specs.declared.cases.NextCase.the-variants.{Run, Nothing}
-use Rattle.edges.specs.Codes.{caseLow, caseHigh}
-use Rattle.edges.specs.FirstCase.{firstCase, OfRun}
+use Rattle.edges.specs.views.Codes.{caseLow, caseHigh}
+use Rattle.edges.specs.views.FirstCase.{firstCase, OfRun}
 
 -- The cases that begin at a code or above it, of cases in order.
 abbrev pub casesFrom : ℕ → List Case → List Case

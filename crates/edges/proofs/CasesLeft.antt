@@ -9,16 +9,16 @@ use Rattle.terms.specs.Lists.{All}
 use Rattle.terms.specs.Pattern.{Patterns}
 use Rattle.terms.specs.RuleTests.{Want}
 use Rattle.terms.proofs.Booleans.{choose}
-use Rattle.tests.specs.SheetTests.{place}
+use Rattle.sheet_tests.specs.SheetTests.{place}
 use Rattle.decision.specs.Rules.{testAt}
 use Rattle.decision.specs.Key.{Key}
 use Rattle.decision.specs.Cases.{casesOf}
 use Rattle.decision.specs.Edges.{liveWants}
 use Rattle.edges.specs.declared.cases.NextCase.the-variants.{Run, Nothing}
-use Rattle.edges.specs.Codes.{cutCodes}
-use Rattle.edges.specs.Compiled.{CodeTable, Asked}
-use Rattle.edges.specs.Tables.{noCut, firstFrom, those, lacks, stays}
-use Rattle.edges.specs.FirstCase.{firstCase}
+use Rattle.edges.specs.views.Codes.{cutCodes}
+use Rattle.edges.specs.views.Compiled.{CodeTable, Asked}
+use Rattle.edges.specs.views.Tables.{noCut, firstFrom, those, lacks, stays}
+use Rattle.edges.specs.views.FirstCase.{firstCase}
 use Rattle.edges.proofs.CaseKeys.{live-sound}
 use Rattle.edges.proofs.CutLists.{codes-ascend, cuts-below}
 use Rattle.edges.proofs.CutRuns.{cutsFrom, firstRun, some-cut, no-cut, next-cuts}

@@ -11,14 +11,14 @@ use Rattle.terms.specs.Order.{insertBy}
 use Rattle.terms.specs.RuleTests.{Want, aSymbol, aNumber, aCompound, Range}
 use Rattle.terms.proofs.Booleans.{both-true, true-both}
 use Rattle.terms.proofs.Sorted.{pair-before}
-use Rattle.edges.specs.Codes.{symbolCode, compoundCode, numberCode}
+use Rattle.edges.specs.views.Codes.{symbolCode, compoundCode, numberCode}
 use Rattle.decision.specs.Cases.{Case, symbolCase, compoundCase, numbersCase, isWanted}
 use Rattle.decision.specs.AcceptedGraph.{CaseBefore, CaseFields}
 use Rattle.decision.proofs.Truth.{same-truth}
 use Rattle.decision.proofs.Intervals.{both-le, EndsBefore}
 use Rattle.decision.proofs.RangeRuns.{rangeCuts, covers}
 use Rattle.decision.proofs.Runs as runs
-use Rattle.edges.specs.Codes.{wantLow, wantHigh, caseLow, caseHigh, SoundWant, cutCodes}
+use Rattle.edges.specs.views.Codes.{wantLow, wantHigh, caseLow, caseHigh, SoundWant, cutCodes}
 
 -- The codes of a want, and of a case.
 abbrev pub wantRange : Want → Range

@@ -14,7 +14,7 @@ use Rattle.terms.specs.Term.{number}
 use Rattle.terms.specs.RuleTests.{Want, aSymbol, aNumber, aCompound, Range}
 use Rattle.terms.proofs.ListLaws.{all-at, all-from, all-always, all-map}
 use Rattle.terms.proofs.Sorted.{StrictOrder, AscendingBy, Ascending, same-members, pair-irreflexive, pair-transitive, pair-total, before-pair}
-use Rattle.edges.specs.Codes.{numberCode}
+use Rattle.edges.specs.views.Codes.{numberCode}
 use Rattle.decision.specs.Cases.{Case, symbolCase, compoundCase, numbersCase, takes, isWanted, symbolsOf, Functor, functorsOf, cutsOf, casesOf}
 use Rattle.decision.specs.AcceptedGraph.{CaseBefore, CaseFields}
 use Rattle.decision.proofs.Filters.{mem-map, all-mapped, filter-mem, any-mem}
@@ -27,7 +27,7 @@ use Rattle.decision.proofs.WantedRanges.{numberRuns, wantedRanges, wanted-range
 use Rattle.decision.proofs.Runs.{cut-wanted, run-ends, run-wanted, in-run, accepts-range}
 use Rattle.decision.proofs.CaseList.{compoundOf, cases-all, symbol-listed, compound-listed, run-listed}
 use Rattle.decision.proofs.CasesAccepted.{cases-ascend, cases-fields}
-use Rattle.edges.specs.Codes.{wantLow, wantHigh, caseLow, caseHigh, SoundWant}
+use Rattle.edges.specs.views.Codes.{wantLow, wantHigh, caseLow, caseHigh, SoundWant}
 use Rattle.edges.proofs.CodeRanges.{wantRange, caseRange, sound-want, case-before}
 
 -- A number is at most another, or above it.

@@ -18,16 +18,16 @@ use Rattle.terms.specs.Pattern.{Patterns}
 use Rattle.terms.specs.RuleTests.{Want, aSymbol, aNumber, aCompound, Range}
 use Rattle.terms.proofs.ListLaws.{all-at, all-from, mem-cases, mem-none}
 use Rattle.terms.proofs.Sorted.{AscendingBy}
-use Rattle.tests.specs.SheetTests.{place}
+use Rattle.sheet_tests.specs.SheetTests.{place}
 use Rattle.decision.specs.Rules.{testAt, wantAt}
 use Rattle.decision.specs.Key.{Key}
 use Rattle.decision.specs.Edges.{liveWants}
 use Rattle.decision.proofs.Filters.{mem-map, all-mapped}
 use Rattle.decision.proofs.RangeRuns as ranges
 use Rattle.decision.proofs.RangeRuns.{CutBy, wanted-cut}
-use Rattle.edges.specs.Codes.{SoundWant, cutCodes}
-use Rattle.edges.specs.Compiled.{CodeTable, Asked}
-use Rattle.edges.specs.Tables.{noCut, firstFrom}
+use Rattle.edges.specs.views.Codes.{SoundWant, cutCodes}
+use Rattle.edges.specs.views.Compiled.{CodeTable, Asked}
+use Rattle.edges.specs.views.Tables.{noCut, firstFrom}
 use Rattle.edges.proofs.Leads.{row-has}
 use Rattle.edges.proofs.CodeRanges.{wantRange, cuts-are}
 use Rattle.edges.proofs.LiveWants.{wantsSomething, has-wanted, wants-rule, from-mem}

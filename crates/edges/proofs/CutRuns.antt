@@ -15,9 +15,9 @@ use Rattle.decision.specs.Cases.{Case}
 use Rattle.decision.proofs.Intervals.{between}
 use Rattle.edges.specs.declared.cases.NextCase.{NextCase}
 use Rattle.edges.specs.declared.cases.NextCase.the-variants.{Run, Nothing}
-use Rattle.edges.specs.Codes.{caseLow, caseHigh}
-use Rattle.edges.specs.Tables.{noCut, firstFrom}
-use Rattle.edges.specs.FirstCase.{firstCase}
+use Rattle.edges.specs.views.Codes.{caseLow, caseHigh}
+use Rattle.edges.specs.views.Tables.{noCut, firstFrom}
+use Rattle.edges.specs.views.FirstCase.{firstCase}
 use Rattle.edges.proofs.CodeRanges.{caseRange}
 
 -- The cuts of an ascending list from a code on.

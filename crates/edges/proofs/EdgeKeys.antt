@@ -13,12 +13,12 @@ use Rattle.masks.specs.Mask.{has, maskOf}
 use Rattle.masks.proofs.Extensionality.{maskOf-lt, has-is}
 use Rattle.places.specs.Numbering.{atOrBelow}
 use Rattle.terms.specs.Pattern.{Patterns}
-use Rattle.tests.specs.SheetTests.{Test, place, pair, sheetTests}
+use Rattle.sheet_tests.specs.SheetTests.{Test, place, pair, sheetTests}
 use Rattle.decision.specs.Rules.{testAt, hasTest, rulesWhere}
 use Rattle.decision.specs.Key.{Key}
 use Rattle.decision.specs.Edges.{settledByUnknown, leadsTo, butTest, byNone, byUnknown, byOther}
-use Rattle.edges.specs.Compiled.{PlaceTable, Asked, isPlace}
-use Rattle.edges.specs.Tables.{those, lacks, isBelow}
+use Rattle.edges.specs.views.Compiled.{PlaceTable, Asked, isPlace}
+use Rattle.edges.specs.views.Tables.{those, lacks, isBelow}
 use Rattle.edges.proofs.Widths.{those-where}
 use Rattle.edges.proofs.Leads.{leads-same, row-has}
 use Rattle.edges.proofs.TableReads.{below-place, below-pair}

@@ -21,13 +21,13 @@ use Rattle.masks.proofs.Operations.{and-fits}
 use Rattle.masks.proofs.Members.{members-none, members-one, members-two}
 use Rattle.masks.proofs.Answers.{sole-one, one-only, one-lt}
 use Rattle.terms.specs.Pattern.{Patterns}
-use Rattle.tests.specs.SheetTests.{sheetTests}
+use Rattle.sheet_tests.specs.SheetTests.{sheetTests}
 use Rattle.decision.specs.Rules.{hasTest}
 use Rattle.decision.specs.Key.{Key, Vertex, leaf, asking, suspend, twoOrMore, isHeld, keyOf, settled, vertexWith, vertexOf}
 use Rattle.decision.specs.Edges.{leadsTo}
-use Rattle.edges.specs.VertexKey.{vertexKey}
-use Rattle.edges.specs.Compiled.{RowTable}
-use Rattle.edges.specs.Tables.{isClear, those}
+use Rattle.edges.specs.views.VertexKey.{vertexKey}
+use Rattle.edges.specs.views.Compiled.{RowTable}
+use Rattle.edges.specs.views.Tables.{isClear, those}
 use Rattle.edges.proofs.Widths.{any-within, members-within, those-where}
 
 -- A set with one member, which `trailing_zeros` gives, is that power of 2.

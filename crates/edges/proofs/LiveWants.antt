@@ -12,10 +12,10 @@ use Rattle.terms.specs.Answer.{ruleAt}
 use Rattle.terms.specs.RuleTests.{Want, PlaceTest, PairTest, placeTests, pairTests}
 use Rattle.terms.proofs.Booleans.{choose}
 use Rattle.terms.proofs.ListLaws.{mem-cases, mem-none}
-use Rattle.tests.specs.SheetTests.{Test, place, pair, ruleTests}
+use Rattle.sheet_tests.specs.SheetTests.{Test, place, pair, ruleTests}
 use Rattle.decision.specs.Rules.{anyOf, sameTest, wantIn, testAt, hasTest, wantAt}
 use Rattle.decision.specs.Edges.{gatherWants}
-use Rattle.edges.specs.Codes.{SoundWant}
+use Rattle.edges.specs.views.Codes.{SoundWant}
 use Rattle.edges.proofs.EdgeKeys.{eqb-swap}
 
 -- A test is true somewhere in joined lists where it is so in one of them.

@@ -15,7 +15,7 @@ use Rattle.masks.specs.Mask.{has}
 use Rattle.masks.proofs.Membership.{and-both}
 use Rattle.masks.proofs.LowestMember.{trailing-in, has-rest}
 use Rattle.masks.proofs.Operations.{and-fits}
-use Rattle.edges.specs.Tables.{noCut, nearerOf}
+use Rattle.edges.specs.views.Tables.{noCut, nearerOf}
 
 -- A nearer cut is the best so far or the new one, and at most both where the new one counts.
 pub record Nearer (best from cut r : ℕ) : Type 0 where

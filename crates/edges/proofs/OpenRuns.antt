@@ -18,7 +18,7 @@ use Rattle.terms.specs.Pattern.{Patterns}
 use Rattle.terms.specs.RuleTests.{Want, Range}
 use Rattle.terms.proofs.Booleans.{choose}
 use Rattle.terms.proofs.ListLaws.{all-at, all-from, all-map}
-use Rattle.tests.specs.SheetTests.{place}
+use Rattle.sheet_tests.specs.SheetTests.{place}
 use Rattle.decision.specs.Rules.{testAt, wantAt}
 use Rattle.decision.specs.Key.{Key}
 use Rattle.decision.specs.Cases.{casesOf}
@@ -27,10 +27,10 @@ use Rattle.decision.proofs.Filters.{mem-map, all-mapped, any-mem, mem-any}
 use Rattle.decision.proofs.Intervals.{both-le, Contains, between, Between, between-cuts}
 use Rattle.decision.proofs.RangeRuns as ranges
 use Rattle.decision.proofs.RangeRuns.{rangeCuts, covers, isCovered, covers-contains}
-use Rattle.edges.specs.Codes.{wantLow, wantHigh, cutCodes}
-use Rattle.edges.specs.Compiled.{CodeTable, Asked}
-use Rattle.edges.specs.Tables.{those, lacks, stays}
-use Rattle.edges.specs.FirstCase.{firstCase}
+use Rattle.edges.specs.views.Codes.{wantLow, wantHigh, cutCodes}
+use Rattle.edges.specs.views.Compiled.{CodeTable, Asked}
+use Rattle.edges.specs.views.Tables.{those, lacks, stays}
+use Rattle.edges.specs.views.FirstCase.{firstCase}
 use Rattle.edges.proofs.CodeRanges.{wantRange, caseRange, cuts-are}
 use Rattle.edges.proofs.CodeRuns.{cases-are-runs}
 use Rattle.edges.proofs.LiveWants.{wantsSomething, wants-rule, from-mem}

@@ -13,7 +13,7 @@ use Rattle.masks.proofs.Members.{of-members}
 use Rattle.terms.specs.Pattern.{Patterns}
 use Rattle.decision.specs.Key.{Key, Leaf, Vertex, leaf, asking, fail, suspend, execute, twoOrMore, settled, vertexWith, vertexOf}
 use Rattle.edges.specs.declared.Key as code
-use Rattle.edges.specs.VertexKey.{vertexKey}
+use Rattle.edges.specs.views.VertexKey.{vertexKey}
 
 -- Two different rules are live.
 pub record TwoLive (live : ℕ) : Type 0 where

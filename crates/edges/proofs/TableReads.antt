@@ -8,7 +8,7 @@ use lib.ListN.{getD}
 use borrow.Author.Tests.{le-leb, lt-leb}
 use Rattle.places.specs.Numbering.{atOrBelow}
 use Rattle.masks.specs.Mask.{has}
-use Rattle.edges.specs.Tables.{lacks, stays, isBelow}
+use Rattle.edges.specs.views.Tables.{lacks, stays, isBelow}
 
 module _ (rows low high : List ℕ) (t code i : ℕ) where
   -- A rule that lacks the test stays.

@@ -11,7 +11,7 @@ use Rattle.masks.specs.Mask.{has, maskOf, consIf, listFrom, members, anyBelow}
 use Rattle.masks.proofs.Membership.{by-test, has-above}
 use Rattle.masks.proofs.Extensionality.{ext, maskOf-lt, has-maskOf}
 use Rattle.masks.proofs.AnyBelow.{any-none, any-some, any-found, any-nowhere}
-use Rattle.edges.specs.Tables.{those}
+use Rattle.edges.specs.views.Tables.{those}
 
 -- What holds nowhere from n on holds somewhere below w where it does below n.
 pub any-within

@@ -7,15 +7,15 @@ ghost use mathlib.Core.List.{List};
 ghost use Prim.Native.Nat.{ℕ, _+_, _≤_, _<_};
 ghost use Rattle.terms.specs.Lists.{Mem};
 ghost use Rattle.terms.specs.Pattern.{Patterns};
-ghost use Rattle.tests.specs.SheetTests.{place};
+ghost use Rattle.sheet_tests.specs.SheetTests.{place};
 ghost use Rattle.decision.specs.Rules.{testAt};
 ghost use Rattle.decision.specs.Cases.{Case, casesOf};
 ghost use Rattle.decision.specs.Edges.{liveWants, byCase};
-ghost use Rattle.edges.specs.VertexKey.{vertexKey, keyIn};
-ghost use Rattle.edges.specs.Codes.{caseLow, cutCodes};
-ghost use Rattle.edges.specs.Compiled.{CodeTable, Asked};
-ghost use Rattle.edges.specs.FirstCase.{firstCase, OfRun};
-ghost use Rattle.edges.specs.Tables.{those, lacks, stays, noCut, firstFrom, nearerOf};
+ghost use Rattle.edges.specs.views.VertexKey.{vertexKey, keyIn};
+ghost use Rattle.edges.specs.views.Codes.{caseLow, cutCodes};
+ghost use Rattle.edges.specs.views.Compiled.{CodeTable, Asked};
+ghost use Rattle.edges.specs.views.FirstCase.{firstCase, OfRun};
+ghost use Rattle.edges.specs.views.Tables.{those, lacks, stays, noCut, firstFrom, nearerOf};
 
 // A case as the codes from its lowest to its highest, or that there is none.
 pub enum NextCase {

@@ -8,9 +8,9 @@ ghost use lib.ListN.{length};
 ghost use Rattle.masks.specs.Mask.{has};
 ghost use Rattle.terms.specs.Pattern.{Patterns};
 ghost use Rattle.decision.specs.Edges.{leadsTo, byNone, byUnknown, byOther};
-ghost use Rattle.edges.specs.VertexKey.{vertexKey, keyIn};
-ghost use Rattle.edges.specs.Compiled.{RowTable, PlaceTable, Asked};
-ghost use Rattle.edges.specs.Tables.{those, isClear, lacks, isBelow};
+ghost use Rattle.edges.specs.views.VertexKey.{vertexKey, keyIn};
+ghost use Rattle.edges.specs.views.Compiled.{RowTable, PlaceTable, Asked};
+ghost use Rattle.edges.specs.views.Tables.{those, isClear, lacks, isBelow};
 
 // The live rules whose row has no pending test.
 fn settled(live: u64, pending: u64, rows: &[u64; 64]) -> u64

@@ -10,14 +10,14 @@ use Rattle.records.specs.Reading.{Reading, took, refused, ask, andThen}
 use Rattle.terms.specs.Lists.{All, Mem}
 use Rattle.terms.specs.Pattern.{Patterns}
 use Rattle.terms.proofs.Booleans.{both-true, true-both}
-use Rattle.tests.specs.SheetTests.{Test, place, pair, sheetTests}
+use Rattle.sheet_tests.specs.SheetTests.{Test, place, pair, sheetTests}
 use Rattle.decision.specs.Key.{fail, suspend, execute}
 use Rattle.decision.specs.Node.{Node, CaseEdge, end, switch, pairNode}
 use Rattle.decision.specs.Graph.{mostNodes}
 use Rattle.decision.specs.GraphBytes.{nodeBytes}
 use Rattle.decision.specs.AcceptedGraph.{CaseFields, AcceptedNode}
 use Rattle.graph.specs.ReadGraph.{isTest, allInside, inRange, inOrder, readNode}
-use Rattle.graph.specs.Rewriting.{readRecord}
+use Rattle.graph.specs.views.Rewriting.{readRecord}
 use Rattle.graph.proofs.Spelling.{Begins, Reads, Spelled}
 use Rattle.graph.proofs.SpelledCases.{EdgeFields}
 use Rattle.graph.proofs.SpelledNodes.{NodeFields, node-spelled}

@@ -7,8 +7,8 @@ use lib.Dec.{T, ltb→lt, lt→ltb, leb→le, le→leb}
 use Rattle.terms.specs.Lists.{All}
 use Rattle.terms.proofs.Booleans.{both-true, true-both}
 use Rattle.terms.proofs.ListLaws.{all-map}
-use Rattle.tests.specs.SheetTests.{pair}
-use Rattle.tests.proofs.TestOrder.{before-order}
+use Rattle.sheet_tests.specs.SheetTests.{pair}
+use Rattle.sheet_tests.proofs.TestOrder.{before-order}
 use Rattle.decision.specs.Cases.{Case, symbolCase, compoundCase, numbersCase}
 use Rattle.decision.specs.Node.{CaseEdge}
 use Rattle.decision.specs.AcceptedGraph.{CaseBefore, LowAtMostHigh, Ascend}

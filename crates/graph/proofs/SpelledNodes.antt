@@ -23,7 +23,7 @@ use Rattle.graph.specs.declared.NodeHead.{NodeHead}
 use Rattle.graph.specs.declared.NodeHead.the-variants.{Whole}
 use Rattle.graph.specs.NodeRecord.{wholeNode, nodeHead}
 use Rattle.graph.specs.ReadGraph.{onNode, readCases}
-use Rattle.graph.specs.Rewriting.{readRecord}
+use Rattle.graph.specs.views.Rewriting.{readRecord}
 use Rattle.graph.proofs.Spelling.{Reads, Spelled, GoodRow, begins-read}
 use Rattle.graph.proofs.FieldBytes.{bytes-drop, byte-at, wide-at, byte-then, kind-then, wide-then}
 use Rattle.graph.proofs.SpelledCases.{kind-holds, EdgeFields, cases-spelled}

@@ -13,8 +13,8 @@ use Rattle.terms.proofs.TermPlaces.{extent, extent-le}
 use Rattle.terms.proofs.Ascending.{ascends-below}
 use Rattle.terms.proofs.PreorderTests.{testPlace, all-tests-ascend}
 use Rattle.terms.proofs.PairTests.{variablePlace, all-variables-ascend, pairs-each}
-use Rattle.tests.specs.SheetTests.{Test, place, pair, ruleTests, allTests, sheetTests}
-use Rattle.tests.proofs.TestOrder.{ascending-mem}
+use Rattle.sheet_tests.specs.SheetTests.{Test, place, pair, ruleTests, allTests, sheetTests}
+use Rattle.sheet_tests.proofs.TestOrder.{ascending-mem}
 use Rattle.sheet.specs.Sheet.{Sheet, SoundSheet}
 use Rattle.decision.specs.Rules.{sameTest}
 use Rattle.decision.proofs.Filters.{any-mem, mem-any}

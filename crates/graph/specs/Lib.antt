@@ -1,5 +1,4 @@
 -- How the records of nodes are read and written.
 pub mod NodeRecord
 pub mod ReadGraph
-pub mod WriteNode
-pub mod Rewriting
+pub mod views

@@ -8,7 +8,7 @@ use lib.ListN.{length, getD, drop}
 use Rattle.records.specs.Fields.{wideAt}
 use Rattle.records.specs.Reading.{Reading, took, refused, ask, after, andThen, readRow}
 use Rattle.terms.specs.Pattern.{Patterns}
-use Rattle.tests.specs.SheetTests.{Test, place, pair, sheetTests}
+use Rattle.sheet_tests.specs.SheetTests.{Test, place, pair, sheetTests}
 use Rattle.sheet.specs.Sheet.{Sheet}
 use Rattle.decision.specs.Rules.{anyOf, sameTest}
 use Rattle.decision.specs.Key as key

@@ -10,7 +10,7 @@ ghost use Rattle.decision.specs.GraphBytes.{leafBytes};
 ghost use Rattle.graph.specs.declared.NodeRecord.the-variants.{Switch, Pair};
 ghost use Rattle.graph.specs.declared.CaseRecord.the-variants.{Symbol, Compound, Numbers};
 ghost use Rattle.graph.specs.ReadGraph.{leafOf};
-ghost use Rattle.graph.specs.WriteNode.{nodeRecordBytes, caseRecordBytes};
+ghost use Rattle.graph.specs.views.WriteNode.{nodeRecordBytes, caseRecordBytes};
 
 // A leaf's record, and the position behind it.
 fn put_leaf(buf: &mut [u8], at: usize, leaf: Leaf) -> usize

@@ -8,8 +8,8 @@ use lib.Dec.{leb}
 use lib.ListN.{length, take, drop}
 use Rattle.records.specs.Reading.{Reading, took, refused}
 use Rattle.sheet.specs.Sheet.{Sheet}
-use Rattle.tests.specs.SheetTests.{sheetTests}
-use Rattle.tests.specs.CheckSheet.{acceptSheet}
+use Rattle.sheet_tests.specs.SheetTests.{sheetTests}
+use Rattle.sheet_tests.specs.CheckSheet.{acceptSheet}
 use Rattle.piece.specs.Piece.{Piece}
 use Rattle.piece.specs.ReadPiece.{readPrefix}
 use Rattle.decision.specs.Node.{Node}

@@ -1,11 +1,11 @@
 // The lines of the listing, each written into the part of a lent buffer that begins at a position.
-use answer::Answer;
+use plain::Answer;
 ghost use Prim.Native.Nat.{_+_, _≤_, _<_};
 ghost use mathlib.Core.Path.{_≡_};
 ghost use mathlib.Core.List.{[], _∷_, _++_};
 ghost use lib.ListN.{length};
 ghost use Rattle.records.specs.Writing.{splice};
-ghost use Rattle.answer.specs.Plain.{answerOf};
+ghost use Rattle.plain.specs.Plain.{answerOf};
 ghost use Rattle.terms.specs.Answer.{ruleOf};
 ghost use Rattle.lines.specs.Lines.{digit as digitOf, hexDigits, hex16, decimal, answerWord, sheetLine, pieceLine, refusedLine};
 

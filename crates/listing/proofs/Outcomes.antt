@@ -13,8 +13,8 @@ use Rattle.records.specs.Fields.{IsByte}
 use Rattle.records.specs.Reading.{Reading, took, refused}
 use Rattle.terms.specs.Lists.{All}
 use Rattle.sheet.specs.Sheet.{Sheet}
-use Rattle.tests.specs.CheckSheet.{acceptSheet, SheetValues, checkValues, sheetValues}
-use Rattle.tests.specs.declared.SheetCheck.the-variants as check
+use Rattle.sheet_tests.specs.CheckSheet.{acceptSheet, SheetValues, checkValues, sheetValues}
+use Rattle.sheet_tests.specs.declared.SheetCheck.the-variants as check
 use Rattle.accepted.proofs.Acceptance.{sheet-accepted}
 use Rattle.accepted.proofs.CheckedSheets.{check-accepts, check-refuses}
 use Rattle.decision.specs.Node.{Node}
@@ -22,16 +22,16 @@ use Rattle.decision.specs.Graph.{lowestFirst, graphOf}
 use Rattle.decision.specs.GraphBytes.{graphBytes}
 use Rattle.decision.specs.Walk.{Walk}
 use Rattle.decision.proofs.BuiltGraph.{built-graph-accepted}
-use Rattle.counter.specs.CheckGraph.{graphReading}
-use Rattle.counter.proofs.GraphBytes.{written-brought}
+use Rattle.graph_check.specs.CheckGraph.{graphReading}
+use Rattle.graph_check.proofs.GraphBytes.{written-brought}
 use Rattle.lines.specs.Lines.{sheetLine, refusedLine}
 use Rattle.lines.specs.Listing.{pieceLines, mostBytes, fittedLines, graphLines, sheetLines, listed, listingBytes}
-use Rattle.builder.specs.declared.Built.{Built}
-use Rattle.builder.specs.declared.Built.the-variants.{Written, Refused}
-use Rattle.builder.specs.BuildOutcome.{BuildOutcome, builtValues, writtenIf, graphWritten, sheetBuilt, buildOutcome}
-use Rattle.builder.proofs.BuiltBytes.{Building, bytesOf, built-outcome, outcome-built}
-use Rattle.listing.specs.Known.{GraphFor}
-use Rattle.listing.specs.Turned.{linesAfter}
+use Rattle.build.specs.declared.Built.{Built}
+use Rattle.build.specs.declared.Built.the-variants.{Written, Refused}
+use Rattle.build.specs.BuildOutcome.{BuildOutcome, builtValues, writtenIf, graphWritten, sheetBuilt, buildOutcome}
+use Rattle.build.proofs.BuiltBytes.{Building, bytesOf, built-outcome, outcome-built}
+use Rattle.listing.specs.views.Known.{GraphFor}
+use Rattle.listing.specs.views.Turned.{linesAfter}
 use Rattle.listing.proofs.Turns.{cut-take}
 
 module _ (reply : List ℕ → Reading Walk) (nodes : ℕ) (input s : List ℕ) where

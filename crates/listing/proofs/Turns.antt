@@ -21,7 +21,7 @@ use Rattle.lines.specs.Listing as listing
 use Rattle.lines.proofs.Wrote.{Wrote}
 use Rattle.listing.specs.declared.Turn.{Turn}
 use Rattle.listing.specs.declared.Turn.the-variants.{More, Last}
-use Rattle.listing.specs.Turned.{Turned, turned}
+use Rattle.listing.specs.views.Turned.{Turned, turned}
 
 module _ (reply : List ℕ → Reading Walk) (number : ℕ) (s : List ℕ) where
   -- The turn where no piece is read, where its walk is refused, and where it is answered.

@@ -14,21 +14,21 @@ use Rattle.piece.specs.declared.Prefix.{Prefix}
 use Rattle.piece.specs.declared.Prefix.the-variants as prefix
 use Rattle.piece.specs.ReadPiece.{readPrefix, readPiece}
 use Rattle.piece.specs.WritePiece.{pieceBytes}
-use Rattle.piece.specs.LaidOut.{LaidOut, layOut, prefixRead}
+use Rattle.piece.specs.views.LaidOut.{LaidOut, layOut, prefixRead}
 use Rattle.piece.proofs.Spelled.{prefix-spelled, written-piece}
-use Rattle.accepted.specs.AcceptedAs.{AcceptedTests}
-use Rattle.answer.specs.AcceptedBytes.{ReadAs}
+use Rattle.accepted.specs.views.AcceptedAs.{AcceptedTests}
+use Rattle.plain.specs.AcceptedBytes.{ReadAs}
 use Rattle.graph.specs.ReadGraph.{readBy, readGraph}
-use Rattle.nodes.specs.CheckNode.{keptTest}
-use Rattle.counter.specs.declared.GraphCheck.{GraphCheck}
-use Rattle.counter.specs.declared.GraphCheck.the-variants.{Accepted, Refused}
-use Rattle.counter.specs.CheckGraph.{graphReading}
-use Rattle.counter.specs.GraphIndex.{graphIndex, indexed}
-use Rattle.counter.proofs.FoundGraph.{index-accepts, index-refuses}
-use Rattle.walk.specs.Ready.{Checked}
+use Rattle.node_check.specs.views.CheckNode.{keptTest}
+use Rattle.graph_check.specs.declared.GraphCheck.{GraphCheck}
+use Rattle.graph_check.specs.declared.GraphCheck.the-variants.{Accepted, Refused}
+use Rattle.graph_check.specs.CheckGraph.{graphReading}
+use Rattle.graph_check.specs.views.GraphIndex.{graphIndex, indexed}
+use Rattle.graph_check.proofs.FoundGraph.{index-accepts, index-refuses}
+use Rattle.walk.specs.views.Ready.{Checked}
 use Rattle.walk.specs.Walking.{graphReply, walkReply}
 use Rattle.walk.proofs.Replies.{sheet-accepts, arities-differ, piece-accepts}
-use Rattle.listing.specs.Known.{GraphFor}
+use Rattle.listing.specs.views.Known.{GraphFor}
 
 -- What the reader of the piece that the bytes begin with tells of how it is read.
 module _ (s cells : List ℕ) (r : Prefix) (told : prefixRead cells r ≡ mapReading layOut (readPrefix s)) where

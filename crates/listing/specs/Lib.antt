@@ -1,3 +1,2 @@
 -- What the program writes, and what it knows of a sheet and a graph.
-pub mod Turned
-pub mod Known
+pub mod views

@@ -1,11 +1,11 @@
 // The whole output for given bytes of sheet and input: the sheet and its graph are read and checked once, then each piece is.
 use crate::Sizes;
 use crate::Turn;
-use builder::Built;
-use counter::GraphCheck;
-use counter::index_graph;
+use build::Built;
+use graph_check::GraphCheck;
+use graph_check::index_graph;
 use piece::Prefix;
-use tests::TestsRead;
+use sheet_tests::TestsRead;
 use walk::Walked;
 use walk::call::walk_checked;
 ghost use Prim.Native.Nat.{ℕ, _+_, _≤_, min};
@@ -14,12 +14,12 @@ ghost use mathlib.Core.List.{List};
 ghost use lib.ListN.{length};
 ghost use Rattle.io.specs.Counts.{Counts};
 ghost use Rattle.records.specs.Writing.{splice};
-ghost use Rattle.cells.specs.CompareCells.{Narrow};
-ghost use Rattle.answer.specs.AcceptedBytes.{ReadAs};
+ghost use Rattle.outcomes.specs.views.CompareCells.{Narrow};
+ghost use Rattle.plain.specs.AcceptedBytes.{ReadAs};
 ghost use Rattle.lines.specs.Listing.{turnOf, listingBytes, mostBytes};
 ghost use Rattle.walk.specs.Walking.{walkReply, walkedReading};
-ghost use Rattle.listing.specs.Known.{Known, GraphFor};
-ghost use Rattle.listing.specs.Turned.{turned, Within, pieceOutput, builtOutput};
+ghost use Rattle.listing.specs.views.Known.{Known, GraphFor};
+ghost use Rattle.listing.specs.views.Turned.{turned, Within, pieceOutput, builtOutput};
 
 // The walk of a piece of so many arguments that was read into the cells: question 20, then over the graph. Not 20 for a piece of
 // the sheet's arity, nor a walk of a piece of another.
@@ -135,7 +135,7 @@ fn put_built(sheet: &[u8], graph: &[u8], nodes: u16, input: &[u8], out: &mut [u8
 {
     let mut words = [0u64; 11];
     let mut codes = [0u32; 65];
-    let read = tests::read_tests(sheet, &mut words, &mut codes);
+    let read = sheet_tests::read_tests(sheet, &mut words, &mut codes);
     match read {
         TestsRead::Refused(q) => lines::put_refused(out, 0, q),
         TestsRead::Accepted(arity, rules, places, pairs) => {
@@ -182,7 +182,7 @@ pub fn listing(sheet: &[u8], input: &[u8], out: &mut [u8]) -> usize
     let sheet_end = cut(sheet.len());
     let input_end = cut(input.len());
     let mut graph = [0u8; 65536];
-    let built = builder::build(&sheet[..sheet_end], &mut graph);
+    let built = build::build(&sheet[..sheet_end], &mut graph);
     match built {
         Built::Refused(q) => lines::put_refused(out, 0, q),
         Built::Written(nodes, bytes) => {

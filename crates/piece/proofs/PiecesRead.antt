@@ -15,8 +15,8 @@ use Rattle.piece.specs.declared.PieceCheck.{PieceCheck}
 use Rattle.piece.specs.declared.PieceCheck.the-variants as check
 use Rattle.piece.specs.Piece.{Piece}
 use Rattle.piece.specs.ReadPiece.{readTerms, readArity, readPrefix, readPiece}
-use Rattle.piece.specs.Cells.{storeTerms}
-use Rattle.piece.specs.LaidOut.{LaidOut, PieceResult, termsCells, emptyCells, layOut, arityRead, prefixRead, pieceRead, pieceResult, checkedPiece}
+use Rattle.piece.specs.views.Cells.{storeTerms}
+use Rattle.piece.specs.views.LaidOut.{LaidOut, PieceResult, termsCells, emptyCells, layOut, arityRead, prefixRead, pieceRead, pieceResult, checkedPiece}
 use Rattle.piece.proofs.Readings.{asked, inside, outside}
 
 -- What is known of the bytes where the record that a piece begins with is read.

@@ -3,5 +3,4 @@ pub mod Piece
 pub mod TermRecord
 pub mod ReadPiece
 pub mod WritePiece
-pub mod Cells
-pub mod LaidOut
+pub mod views

@@ -6,8 +6,8 @@ ghost use Rattle.places.specs.Numbering.{stride};
 ghost use Rattle.records.specs.Reading.{mapReading};
 ghost use Rattle.piece.specs.TermRecord.{termHead, headRefusal};
 ghost use Rattle.piece.specs.ReadPiece.{readArity, readPrefix, readPiece};
-ghost use Rattle.piece.specs.Cells.{symbolCode, compoundCode, numberCode};
-ghost use Rattle.piece.specs.LaidOut.{tookCells, termCells, termsCells, layOut, arityRead, prefixRead, prefixBytes, pieceRead, pieceResult, checkedPiece};
+ghost use Rattle.piece.specs.views.Cells.{symbolCode, compoundCode, numberCode};
+ghost use Rattle.piece.specs.views.LaidOut.{tookCells, termCells, termsCells, layOut, arityRead, prefixRead, prefixBytes, pieceRead, pieceResult, checkedPiece};
 
 // A whole record of a term.
 pub enum TermRecord {

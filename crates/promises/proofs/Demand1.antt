@@ -10,17 +10,17 @@ use Rattle.records.specs.Reading.{Reading, took, refused, ask}
 use Rattle.terms.specs.Term.{Terms}
 use Rattle.terms.specs.Answer.{Answer, plainAnswer}
 use Rattle.sheet.specs.Sheet.{Sheet}
-use Rattle.tests.specs.CheckSheet.{acceptSheet, sheetValues}
+use Rattle.sheet_tests.specs.CheckSheet.{acceptSheet, sheetValues}
 use Rattle.piece.specs.Piece.{Piece}
 use Rattle.piece.specs.ReadPiece.{readPiece}
-use Rattle.piece.specs.LaidOut.{checkedPiece}
-use Rattle.answer.specs.Plain.{pieceReading, plainReading, readingValues}
+use Rattle.piece.specs.views.LaidOut.{checkedPiece}
+use Rattle.plain.specs.Plain.{pieceReading, plainReading, readingValues}
 use Rattle.decision.specs.Node.{Node}
 use Rattle.decision.specs.Path.{ends}
 use Rattle.decision.specs.Walk.{Walk, Reply, answered, walk}
 use Rattle.decision.specs.Walk as reply
 use Rattle.graph.specs.ReadGraph.{readGraph}
-use Rattle.counter.specs.CheckGraph.{graphReading, graphValues}
+use Rattle.graph_check.specs.CheckGraph.{graphReading, graphValues}
 use Rattle.walk.specs.Walking.{readingOf, graphReply, pieceReply, walkReply, replyValues}
 use Rattle.accepted.proofs.Named.{Between, Named, ask-named, then-named, named-wider}
 use Rattle.accepted.proofs.Questions.{SheetQuestion, sheet-named}

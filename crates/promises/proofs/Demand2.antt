@@ -13,7 +13,7 @@ use Rattle.records.specs.Reading.{Reading, took, refused, ask, andThen, mapRead
 use Rattle.records.specs.Writing.{splice}
 use Rattle.terms.specs.Lists.{All}
 use Rattle.sheet.specs.Sheet.{Sheet}
-use Rattle.tests.specs.CheckSheet.{acceptSheet, AcceptedSheet}
+use Rattle.sheet_tests.specs.CheckSheet.{acceptSheet, AcceptedSheet}
 use Rattle.accepted.proofs.Acceptance.{sheet-accepted}
 use Rattle.decision.specs.Node.{Node}
 use Rattle.decision.specs.Graph.{lowestFirst}
@@ -22,10 +22,10 @@ use Rattle.decision.specs.AcceptedGraph.{AcceptedGraph}
 use Rattle.decision.proofs.BuiltGraph.{built-graph-accepted}
 use Rattle.graph.specs.ReadGraph.{readGraph}
 use Rattle.graph.proofs.Spelled.{graph-brought, graph-read}
-use Rattle.counter.specs.CheckGraph.{graphReading}
-use Rattle.counter.specs.Rewritten.{resultOf, askFits, rewritten}
-use Rattle.builder.specs.BuildOutcome.{BuildOutcome, buildOutcome}
-use Rattle.builder.proofs.BuiltBytes.{Building, bytesOf, built-outcome, outcome-built}
+use Rattle.graph_check.specs.CheckGraph.{graphReading}
+use Rattle.graph_check.specs.Rewritten.{resultOf, askFits, rewritten}
+use Rattle.build.specs.BuildOutcome.{BuildOutcome, buildOutcome}
+use Rattle.build.proofs.BuiltBytes.{Building, bytesOf, built-outcome, outcome-built}
 use Rattle.promises.specs.BuiltGraph.{BuiltGraph}
 
 -- A built graph is that of an accepted sheet.

@@ -15,11 +15,11 @@ use Rattle.terms.specs.Pattern.{Patterns}
 use Rattle.terms.specs.Filling.{FilledFurther}
 use Rattle.terms.specs.Right.{Right, Keeps}
 use Rattle.sheet.specs.Sheet.{Sheet}
-use Rattle.tests.specs.CheckSheet.{AcceptedSheet}
+use Rattle.sheet_tests.specs.CheckSheet.{AcceptedSheet}
 use Rattle.piece.specs.Piece.{Piece}
-use Rattle.answer.specs.AcceptedBytes.{AcceptedBytes}
-use Rattle.answer.specs.Plain.{plainReading, answerValues, readingValues}
-use Rattle.answer.proofs.PlainBytes.{plain-bytes, terms-accepted}
+use Rattle.plain.specs.AcceptedBytes.{AcceptedBytes}
+use Rattle.plain.specs.Plain.{plainReading, answerValues, readingValues}
+use Rattle.plain.proofs.PlainBytes.{plain-bytes, terms-accepted}
 use Rattle.decision.specs.Node.{Node}
 use Rattle.decision.specs.Key.{Leaf, fail, suspend, execute}
 use Rattle.decision.specs.Path.{Path, path, ends, refusedAt}

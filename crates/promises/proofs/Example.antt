@@ -10,13 +10,13 @@ use Rattle.records.specs.Reading.{took, readRow}
 use Rattle.terms.specs.Marked.{exampleRules}
 use Rattle.sheet.specs.Sheet.{Sheet}
 use Rattle.sheet.specs.ReadSheet.{readPattern, allBelow, readHeader, readSheet}
-use Rattle.tests.specs.CheckSheet.{acceptSheet}
+use Rattle.sheet_tests.specs.CheckSheet.{acceptSheet}
 use Rattle.decision.specs.Key.{suspend, execute}
 use Rattle.decision.specs.Cases.{symbolCase}
 use Rattle.decision.specs.Node.{Node, CaseEdge, end, switch, pairNode}
 use Rattle.decision.specs.Graph.{graphOf}
-use Rattle.builder.specs.BuildOutcome.{buildOutcome}
-use Rattle.builder.proofs.BuiltBytes.{Building, built-outcome}
+use Rattle.build.specs.BuildOutcome.{buildOutcome}
+use Rattle.build.proofs.BuiltBytes.{Building, built-outcome}
 
 -- "Sheet f(X, X), f(1, 2) in symbols: 10 02 02 24 00 24 00 21 00 01 21 00 02. Graph, 58 bytes:"
 abbrev pub exampleSheet : List ℕ

@@ -11,15 +11,15 @@ use Rattle.terms.specs.Answer.{wordOf, execute}
 use Rattle.terms.specs.Marked.{Walked}
 use Rattle.sheet.specs.Sheet.{Sheet}
 use Rattle.sheet.specs.ReadSheet.{readPattern, allBelow, readHeader, readSheet}
-use Rattle.tests.specs.CheckSheet.{acceptSheet}
+use Rattle.sheet_tests.specs.CheckSheet.{acceptSheet}
 use Rattle.decision.specs.Key.{fail}
 use Rattle.decision.specs.Node.{end}
 use Rattle.decision.specs.Graph.{graphOf}
 use Rattle.decision.specs.Walk.{Walk}
 use Rattle.decision.proofs.MarkedWalks.{walkedIf}
 use Rattle.walk.specs.Walking.{WalkValues, walkReply, replyValues}
-use Rattle.builder.specs.BuildOutcome.{BuildOutcome, buildOutcome}
-use Rattle.builder.proofs.BuiltBytes.{Building, built-outcome}
+use Rattle.build.specs.BuildOutcome.{BuildOutcome, buildOutcome}
+use Rattle.build.proofs.BuiltBytes.{Building, built-outcome}
 use Rattle.promises.specs.BuiltGraph.{BuiltGraph}
 use Rattle.promises.proofs.MarkedBytes.{marked-bytes}
 use Rattle.promises.proofs.Example.{exampleSheet, example-built}

@@ -9,7 +9,7 @@ use Rattle.records.specs.Fields.{wideAt}
 use Rattle.records.specs.Reading.{Reading, took, refused, ask, after}
 use Rattle.terms.specs.Term.{Terms}
 use Rattle.terms.specs.Pattern.{Patterns}
-use Rattle.tests.specs.SheetTests.{Test}
+use Rattle.sheet_tests.specs.SheetTests.{Test}
 use Rattle.sheet.specs.Sheet.{Sheet}
 use Rattle.decision.specs.Node.{Node, CaseEdge, switch}
 use Rattle.decision.specs.Path.{Path, ends, refusedAt, Step, stop, goTo, noWay, through, nodeAt, stepAt, lastStep, nextStep, pathFrom, mostEdges, path}

@@ -11,13 +11,13 @@ use lib.Dec.{leb}
 use lib.ListN.{length}
 use Rattle.records.specs.Reading.{Reading, took, refused, andThen, mapReading}
 use Rattle.sheet.specs.Sheet.{Sheet}
-use Rattle.tests.specs.CheckSheet.{acceptSheet}
+use Rattle.sheet_tests.specs.CheckSheet.{acceptSheet}
 use Rattle.decision.specs.Node.{Node}
 use Rattle.decision.specs.Graph.{graphOf}
 use Rattle.decision.specs.GraphBytes.{graphBytes}
 use Rattle.graph.specs.ReadGraph.{readGraph}
-use Rattle.counter.specs.Rewritten.{Result, bytesReading, askFits, resultOf, rewritten}
-use Rattle.builder.specs.BuildOutcome.{BuildOutcome, writtenIf, graphWritten, sheetBuilt, buildOutcome}
+use Rattle.graph_check.specs.Rewritten.{Result, bytesReading, askFits, resultOf, rewritten}
+use Rattle.build.specs.BuildOutcome.{BuildOutcome, writtenIf, graphWritten, sheetBuilt, buildOutcome}
 use Rattle.accepted.proofs.Named.{Named, ask-named, then-named, named-wider}
 use Rattle.accepted.proofs.Questions.{SheetQuestion, sheet-named}
 use Rattle.promises.proofs.GraphQuestions.{GraphQuestion, graph-named}

@@ -13,11 +13,11 @@ use Rattle.terms.specs.Marked.{MarkedCase, markedCases}
 use Rattle.sheet.specs.Sheet.{Sheet}
 use Rattle.sheet.specs.WriteSheet.{sheetBytes}
 use Rattle.sheet.specs.ReadSheet.{readPattern, allBelow, readHeader, readSheet}
-use Rattle.tests.specs.CheckSheet.{acceptSheet}
+use Rattle.sheet_tests.specs.CheckSheet.{acceptSheet}
 use Rattle.piece.specs.Piece.{Piece}
 use Rattle.piece.specs.WritePiece.{pieceBytes}
 use Rattle.piece.specs.ReadPiece.{readTerm, readPrefix, readPiece}
-use Rattle.answer.specs.AcceptedBytes.{AcceptedBytes}
+use Rattle.plain.specs.AcceptedBytes.{AcceptedBytes}
 use Rattle.decision.specs.Graph.{graphOf}
 use Rattle.decision.specs.Walk.{Walk, walk}
 use Rattle.decision.proofs.MarkedWalks.{Told, walkedIf, toldBy, walkIn, AsMarked, marked-walks}

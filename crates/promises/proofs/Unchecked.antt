@@ -7,10 +7,10 @@ use Rattle.records.specs.Fields.{IsByte}
 use Rattle.records.specs.Reading.{took}
 use Rattle.terms.specs.Lists.{All}
 use Rattle.sheet.specs.Sheet.{Sheet}
-use Rattle.accepted.specs.AcceptedAs.{AcceptedTests}
+use Rattle.accepted.specs.views.AcceptedAs.{AcceptedTests}
 use Rattle.graph.specs.ReadGraph.{readGraph}
-use Rattle.nodes.specs.CheckNode.{startsFrom}
-use Rattle.walk.specs.Ready.{Checked}
+use Rattle.node_check.specs.views.CheckNode.{startsFrom}
+use Rattle.walk.specs.views.Ready.{Checked}
 use Rattle.promises.specs.BuiltGraph.{BuiltGraph}
 use Rattle.promises.proofs.Demand2.{building, graph-read-back}
 

@@ -9,7 +9,7 @@ use Rattle.terms.specs.Answer.{suspend}
 use Rattle.sheet.specs.Sheet.{Sheet}
 use Rattle.piece.specs.Piece.{Piece}
 use Rattle.accepted.proofs.Acceptance.{sheet-accepted}
-use Rattle.answer.specs.AcceptedBytes.{AcceptedBytes}
+use Rattle.plain.specs.AcceptedBytes.{AcceptedBytes}
 use Rattle.decision.specs.Node.{Node}
 use Rattle.decision.specs.Walk.{Walk, walk}
 use Rattle.decision.proofs.WaitSentence.{ListedNotKnown, wait-sentence-accepted, wait-sentence-built}

@@ -3,7 +3,7 @@ use Prim.Native.Nat.{ℕ}
 use mathlib.Core.Path.{_≡_}
 use mathlib.Core.List.{List}
 use lib.ListN.{take}
-use Rattle.builder.specs.BuildOutcome.{buildOutcome}
+use Rattle.build.specs.BuildOutcome.{buildOutcome}
 
 -- "A built graph is the bytes that building wrote for an accepted sheet, none changed or added": building bytes s into a buffer was
 -- not refused, and g is what was written to the front of the buffer.

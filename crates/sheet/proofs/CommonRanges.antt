@@ -7,8 +7,8 @@ use native.Mathlib.Omega.{arith}
 use Rattle.places.specs.Numbering.{stride}
 use Rattle.terms.specs.Pattern.{Pattern, Patterns, anything, theSymbol, theRange, theCompound, variable, rangedVariable, pnil, pcons}
 use Rattle.terms.specs.RuleTests.{Range, commonPart, patternRange, patternsRange}
-use Rattle.sheet.specs.Noted.{Note, patternNotes, patternsNotes, ruleNotes}
-use Rattle.sheet.specs.NoteRanges.{recordRange, rangeIn}
+use Rattle.sheet.specs.views.Noted.{Note, patternNotes, patternsNotes, ruleNotes}
+use Rattle.sheet.specs.views.NoteRanges.{recordRange, rangeIn}
 
 -- The common part with no range.
 pub common-none : (x : Option Range) → commonPart x none ≡ x

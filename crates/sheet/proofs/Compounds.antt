@@ -18,8 +18,8 @@ use Rattle.sheet.specs.declared.PatternRecord.the-variants.{Anything, Sy
 use Rattle.sheet.specs.declared.PatternHead.the-variants.{Whole, Refused}
 use Rattle.sheet.specs.PatternRecord.{patternHead}
 use Rattle.sheet.specs.ReadSheet.{onRecord, onHead, readPattern, readPatterns}
-use Rattle.sheet.specs.Noted.{Note, note, patternNotes, patternsNotes}
-use Rattle.sheet.specs.NotesBehind.{leafBehind, patternBehind, rowBehind}
+use Rattle.sheet.specs.views.Noted.{Note, note, patternNotes, patternsNotes}
+use Rattle.sheet.specs.views.NotesBehind.{leafBehind, patternBehind, rowBehind}
 use Rattle.sheet.proofs.PatternRecord.{the-type}
 use Rattle.sheet.proofs.Heads.{head-refused}
 

@@ -5,8 +5,8 @@ use mathlib.Core.List.{List, [], _∷_, _++_, append-nil}
 use borrow.Author.Tests.{le-leb, lt-leb}
 use Rattle.records.specs.Reading.{took, refused}
 use Rattle.sheet.specs.declared.PatternRecord.the-variants.{Anything, Range, Variable, Ranged}
-use Rattle.sheet.specs.Noted.{Note, note}
-use Rattle.sheet.specs.NotesBehind.{leafBehind}
+use Rattle.sheet.specs.views.Noted.{Note, note}
+use Rattle.sheet.specs.views.NotesBehind.{leafBehind}
 
 module _ (place : ℕ) (before : List Note) where
   -- Anything makes no note.

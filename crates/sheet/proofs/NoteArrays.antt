@@ -10,9 +10,9 @@ use Rattle.records.specs.Reading.{Reading, took, refused}
 use Rattle.sheet.specs.declared.Took.{Took}
 use Rattle.sheet.specs.declared.Took.the-variants.{Used, Refused}
 use Rattle.sheet.specs.declared.PatternRecord.{PatternRecord}
-use Rattle.sheet.specs.Noted.{Note, note}
-use Rattle.sheet.specs.NoteCode.{noteCode, noteOf, Fitting}
-use Rattle.sheet.specs.NoteArray.{notesIn, tookNotes, usedAfter, bytesUsed, notesMade}
+use Rattle.sheet.specs.views.Noted.{Note, note}
+use Rattle.sheet.specs.views.NoteCode.{noteCode, noteOf, Fitting}
+use Rattle.sheet.specs.views.NoteArray.{notesIn, tookNotes, usedAfter, bytesUsed, notesMade}
 use Rattle.sheet.proofs.NoteCodes.{note-kept}
 
 -- A note put behind the first n notes comes after them.

@@ -8,8 +8,8 @@ use Rattle.records.specs.Reading.{isKind}
 use Rattle.terms.specs.Term.{Wide}
 use Rattle.sheet.specs.declared.PatternRecord.{PatternRecord}
 use Rattle.sheet.specs.declared.PatternRecord.the-variants.{Anything, Symbol, Range, Compound, Variable, Ranged}
-use Rattle.sheet.specs.Noted.{note}
-use Rattle.sheet.specs.NoteCode.{packed, noteCode, noteOf, codePlace, codeKind, codeVariable, codeFirst, codeSecond, codeRecord, Fitting}
+use Rattle.sheet.specs.views.Noted.{note}
+use Rattle.sheet.specs.views.NoteCode.{packed, noteCode, noteOf, codePlace, codeKind, codeVariable, codeFirst, codeSecond, codeRecord, Fitting}
 
 -- The record of kind k with these fields.
 abbrev recordWith : ℕ → ℕ → ℕ → ℕ → ℕ → PatternRecord

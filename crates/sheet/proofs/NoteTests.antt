@@ -10,8 +10,8 @@ use Rattle.terms.specs.RuleTests.{Range, aSymbol, aNumber, aCompound, PlaceTest
 use Rattle.terms.specs.Accepted.{Sound, Sounds, AcceptedRule}
 use Rattle.sheet.specs.declared.PatternRecord.{PatternRecord}
 use Rattle.sheet.specs.declared.PatternRecord.the-variants.{Anything, Symbol, Range as RangeOf, Compound, Variable, Ranged}
-use Rattle.sheet.specs.Noted.{Note, patternNotes, patternsNotes, ruleNotes}
-use Rattle.sheet.specs.NoteRanges.{rangeIn}
+use Rattle.sheet.specs.views.Noted.{Note, patternNotes, patternsNotes, ruleNotes}
+use Rattle.sheet.specs.views.NoteRanges.{rangeIn}
 use Rattle.sheet.proofs.CommonRanges.{rule-range}
 use Rattle.sheet.proofs.SpelledReads.{sounds-level}
 

@@ -16,10 +16,10 @@ use Rattle.terms.specs.Term.{Wide}
 use Rattle.terms.specs.RuleTests.{Range, commonPart}
 use Rattle.sheet.specs.declared.PatternRecord.{PatternRecord}
 use Rattle.sheet.specs.declared.PatternRecord.the-variants.{Anything, Symbol, Range as RangeOf, Compound, Variable, Ranged}
-use Rattle.sheet.specs.Noted.{Note}
-use Rattle.sheet.specs.NoteCode.{noteOf, codeRecord, Fitting}
-use Rattle.sheet.specs.NoteArray.{notesIn}
-use Rattle.sheet.specs.NoteRanges.{recordRange, rangeIn, lowEnd, highEnd, forVariables, lowsOf, highsOf}
+use Rattle.sheet.specs.views.Noted.{Note}
+use Rattle.sheet.specs.views.NoteCode.{noteOf, codeRecord, Fitting}
+use Rattle.sheet.specs.views.NoteArray.{notesIn}
+use Rattle.sheet.specs.views.NoteRanges.{recordRange, rangeIn, lowEnd, highEnd, forVariables, lowsOf, highsOf}
 use Rattle.sheet.proofs.PatternRecord.{the-type}
 use Rattle.sheet.proofs.NoteCodes.{code-fits}
 use Rattle.sheet.proofs.NoteArrays.{notes-next}

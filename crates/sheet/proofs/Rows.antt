@@ -11,8 +11,8 @@ use Rattle.records.proofs.Parts.{rest}
 use Rattle.records.proofs.Rows.{took-view, refused-view, row-none, row-refused, row-next}
 use Rattle.terms.specs.Pattern.{Patterns, pnil, pcons}
 use Rattle.sheet.specs.ReadSheet.{readPattern, readPatterns}
-use Rattle.sheet.specs.Noted.{Note, patternNotes, patternsNotes}
-use Rattle.sheet.specs.NotesBehind.{patternBehind, rowBehind}
+use Rattle.sheet.specs.views.Noted.{Note, patternNotes, patternsNotes}
+use Rattle.sheet.specs.views.NotesBehind.{patternBehind, rowBehind}
 
 -- A row takes the places of its first and those of the others.
 pub row-room : (count places : ℕ) → (count ≡ 0 → ⊥) → count * places ≡ places + (count - 1) * places

@@ -10,10 +10,10 @@ use Rattle.records.proofs.Rows.{took-view, refused-view}
 use Rattle.terms.specs.Pattern.{Patterns}
 use Rattle.terms.specs.RuleTests.{Range}
 use Rattle.sheet.specs.ReadSheet.{readPatterns, readRule, inCommon, rangesMeet}
-use Rattle.sheet.specs.Noted.{Note, ruleNotes}
-use Rattle.sheet.specs.NoteArray.{notesIn}
-use Rattle.sheet.specs.NotesBehind.{rowBehind}
-use Rattle.sheet.specs.NoteRanges.{rangeIn, lowEnd, highEnd, endsMeet, notesMeet}
+use Rattle.sheet.specs.views.Noted.{Note, ruleNotes}
+use Rattle.sheet.specs.views.NoteArray.{notesIn}
+use Rattle.sheet.specs.views.NotesBehind.{rowBehind}
+use Rattle.sheet.specs.views.NoteRanges.{rangeIn, lowEnd, highEnd, endsMeet, notesMeet}
 use Rattle.sheet.proofs.NoteArrays.{notes-none}
 use Rattle.sheet.proofs.AllBelow.{all-same}
 use Rattle.sheet.proofs.CommonRanges.{rule-range}

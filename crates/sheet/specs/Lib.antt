@@ -3,9 +3,4 @@ pub mod Sheet
 pub mod PatternRecord
 pub mod ReadSheet
 pub mod WriteSheet
-pub mod HeaderRead
-pub mod Noted
-pub mod NoteCode
-pub mod NoteArray
-pub mod NotesBehind
-pub mod NoteRanges
+pub mod views

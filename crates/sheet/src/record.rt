@@ -4,7 +4,7 @@ use crate::PatternHead;
 use crate::PatternRecord;
 ghost use mathlib.Core.Path.{_≡_};
 ghost use Rattle.sheet.specs.ReadSheet.{readHeader};
-ghost use Rattle.sheet.specs.HeaderRead.{headerRead};
+ghost use Rattle.sheet.specs.views.HeaderRead.{headerRead};
 ghost use Rattle.sheet.specs.PatternRecord.{patternHead, rangeHead, rangedHead};
 
 // "At most 32 rules".

@@ -13,10 +13,10 @@ ghost use Rattle.places.specs.Numbering.{stride};
 ghost use Rattle.records.specs.Reading.{took, mapReading};
 ghost use Rattle.sheet.specs.PatternRecord.{recordBytes};
 ghost use Rattle.sheet.specs.ReadSheet.{readRule};
-ghost use Rattle.sheet.specs.Noted.{note, ruleNotes};
-ghost use Rattle.sheet.specs.NoteCode.{Fitting};
-ghost use Rattle.sheet.specs.NoteArray.{notesIn, tookNotes, usedAfter, bytesUsed, Within};
-ghost use Rattle.sheet.specs.NotesBehind.{leafBehind, patternBehind, rowBehind};
+ghost use Rattle.sheet.specs.views.Noted.{note, ruleNotes};
+ghost use Rattle.sheet.specs.views.NoteCode.{Fitting};
+ghost use Rattle.sheet.specs.views.NoteArray.{notesIn, tookNotes, usedAfter, bytesUsed, Within};
+ghost use Rattle.sheet.specs.views.NotesBehind.{leafBehind, patternBehind, rowBehind};
 
 // Notes a record at its place as note n.
 fn put(place: usize, what: PatternRecord, n: usize, notes: &mut [u64; 680])

@@ -5,8 +5,8 @@ use crate::note::note_record;
 ghost use mathlib.Core.Path.{_≡_};
 ghost use Prim.Native.Nat.{_≤_, min, max};
 ghost use lib.ListN.{length};
-ghost use Rattle.sheet.specs.NoteArray.{notesIn};
-ghost use Rattle.sheet.specs.NoteRanges.{rangesOf, endsMeet, notesMeet};
+ghost use Rattle.sheet.specs.views.NoteArray.{notesIn};
+ghost use Rattle.sheet.specs.views.NoteRanges.{rangesOf, endsMeet, notesMeet};
 
 // The larger of two numbers.
 fn larger(x: u16, y: u16) -> u16

@@ -15,13 +15,13 @@ use Rattle.graph.specs.declared.CaseRecord.the-variants.{Symbol, Compound, Numb
 use Rattle.graph.specs.declared.CaseHead.the-variants.{Whole, Refused}
 use Rattle.graph.specs.NodeRecord.{caseHead}
 use Rattle.graph.specs.ReadGraph.{readCases}
-use Rattle.graph.specs.Rewriting.{IsTook, readOr}
+use Rattle.graph.specs.views.Rewriting.{IsTook, readOr}
 use Rattle.graph.proofs.SpelledCases.{readCase}
-use Rattle.nodes.specs.CaseCodes.{rangeOf}
-use Rattle.nodes.proofs.CasesPass.{case-fits, case-refused}
-use Rattle.nodes.proofs.CopiedRecords.{edgeOf, edge-read}
+use Rattle.node_check.specs.views.CaseCodes.{rangeOf}
+use Rattle.node_check.proofs.CasesPass.{case-fits, case-refused}
+use Rattle.node_check.proofs.CopiedRecords.{edgeOf, edge-read}
 use Rattle.walk.proofs.RowsLeft.{first-there, others-left, first-others}
-use Rattle.walk.specs.CodeSteps.{takesCode, followCode}
+use Rattle.walk.specs.views.CodeSteps.{takesCode, followCode}
 
 module _ (s : List ℕ) (neither code : ℕ) where
   -- Where the cases, so many, that are read from a position lead.

@@ -10,12 +10,12 @@ use Rattle.terms.specs.Choice.{choose}
 use Rattle.terms.specs.Lists.{All}
 use Rattle.terms.specs.Term.{Term, count, unknown, symbol, number, compound}
 use Rattle.terms.specs.Filling.{WellFormed}
-use Rattle.piece.specs.Cells.{symbolCode, compoundCode, numberCode, unknownCode, termCode}
-use Rattle.cells.proofs.Codes.{in-order, under, over, only}
+use Rattle.piece.specs.views.Cells.{symbolCode, compoundCode, numberCode, unknownCode, termCode}
+use Rattle.outcomes.proofs.Codes.{in-order, under, over, only}
 use Rattle.decision.specs.Cases.{Case, symbolCase, compoundCase, numbersCase, takes}
 use Rattle.decision.specs.Node.{CaseEdge, follow}
 use Rattle.decision.specs.AcceptedGraph.{CaseFields}
-use Rattle.walk.specs.CodeSteps.{takesCode, followCode}
+use Rattle.walk.specs.views.CodeSteps.{takesCode, followCode}
 
 -- A case takes a term exactly where its range holds the term's code.
 pub takes-code : (c : Case) (t : Term) → CaseFields c → WellFormed t → takesCode c (termCode t) ≡ takes c t

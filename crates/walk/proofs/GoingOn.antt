@@ -5,13 +5,13 @@ use mathlib.Core.List.{List, [], _∷_, _++_}
 use mathlib.Core.Option.{none}
 use native.Mathlib.Omega.{arith}
 use lib.ListN.{length, length-append}
-use Rattle.tests.specs.SheetTests.{Test}
+use Rattle.sheet_tests.specs.SheetTests.{Test}
 use Rattle.decision.specs.Key.{Leaf}
 use Rattle.decision.specs.Node.{Node}
 use Rattle.decision.specs.Path.{Step, stop, goTo, noWay, Path, ends, refusedAt, through}
-use Rattle.walk.specs.CodeSteps.{stepCells, openAt}
-use Rattle.walk.specs.TestNumbers.{Once, withTest}
-use Rattle.walk.specs.Following.{lastOf, nextOf, pathBy, reached, stopped, node, metOpen, endOf, cellsPath, cellsEnd}
+use Rattle.walk.specs.views.CodeSteps.{stepCells, openAt}
+use Rattle.walk.specs.views.TestNumbers.{Once, withTest}
+use Rattle.walk.specs.views.Following.{lastOf, nextOf, pathBy, reached, stopped, node, metOpen, endOf, cellsPath, cellsEnd}
 use Rattle.walk.proofs.MetTests.{AskedIn, met-none, met-more}
 
 -- The path through nodes.

@@ -10,18 +10,18 @@ use Rattle.terms.specs.Lists.{All, countFrom}
 use Rattle.terms.specs.Outcome.{Outcome, holds, notKnown, contradicted}
 use Rattle.terms.proofs.Booleans.{choose-holds}
 use Rattle.terms.proofs.ListLaws.{all-split}
-use Rattle.tests.specs.SheetTests.{place, pair}
-use Rattle.cells.specs.Look.{look}
-use Rattle.cells.specs.CellOutcome.{pairCells}
+use Rattle.sheet_tests.specs.SheetTests.{place, pair}
+use Rattle.outcomes.specs.views.Look.{look}
+use Rattle.outcomes.specs.views.CellOutcome.{pairCells}
 use Rattle.decision.specs.Key.{fail}
 use Rattle.decision.specs.Node.{Node, CaseEdge, end, switch, pairNode, edges}
 use Rattle.decision.specs.Path.{Step, stop, goTo, noWay, byComparison}
-use Rattle.nodes.specs.CheckNode.{keptTest}
-use Rattle.piece.specs.Cells.{unknownCode}
-use Rattle.walk.specs.CodeSteps.{takesCode, followCode, stepCells, openCells, openIf, openAt, NearNode}
-use Rattle.tests.specs.TestsRead.{keptTests}
-use Rattle.walk.specs.TestNumbers.{KeptOpen}
-use Rattle.walk.specs.Following.{nodeFrom, nodesAt, KeptNode}
+use Rattle.node_check.specs.views.CheckNode.{keptTest}
+use Rattle.piece.specs.views.Cells.{unknownCode}
+use Rattle.walk.specs.views.CodeSteps.{takesCode, followCode, stepCells, openCells, openIf, openAt, NearNode}
+use Rattle.sheet_tests.specs.views.TestsRead.{keptTests}
+use Rattle.walk.specs.views.TestNumbers.{KeptOpen}
+use Rattle.walk.specs.views.Following.{nodeFrom, nodesAt, KeptNode}
 use Rattle.walk.proofs.KeptNumbers.{kept-mem}
 use Rattle.walk.proofs.MetTests.{AskedIn}
 

@@ -13,10 +13,10 @@ use Rattle.records.specs.Reading.{took}
 use Rattle.terms.specs.Lists.{All, Mem, countFrom}
 use Rattle.terms.proofs.Booleans.{true-both}
 use Rattle.terms.proofs.ListLaws.{all-map, all-at, all-join}
-use Rattle.tests.specs.SheetTests.{Test, place, pair, sheetTests}
-use Rattle.tests.specs.TestedPlaces.{hasPlace, placesIn}
-use Rattle.tests.specs.KeptPairs.{codePair}
-use Rattle.tests.proofs.NumberLists.{filter-mem}
+use Rattle.sheet_tests.specs.SheetTests.{Test, place, pair, sheetTests}
+use Rattle.sheet_tests.specs.views.TestedPlaces.{hasPlace, placesIn}
+use Rattle.sheet_tests.specs.views.KeptPairs.{codePair}
+use Rattle.sheet_tests.proofs.NumberLists.{filter-mem}
 use Rattle.sheet.specs.Sheet.{Sheet, SoundSheet}
 use Rattle.decision.specs.Key.{fail, suspend, execute}
 use Rattle.decision.specs.Node.{Node, CaseEdge, end, switch, pairNode}
@@ -27,18 +27,18 @@ use Rattle.decision.proofs.Filters.{map-mem, mem-any, all-mapped}
 use Rattle.decision.proofs.Sets.{is-true}
 use Rattle.decision.proofs.TestNumbers.{mem-at}
 use Rattle.graph.specs.ReadGraph.{readGraph}
-use Rattle.graph.specs.Rewriting.{IsTook, readOr, readRecord}
+use Rattle.graph.specs.views.Rewriting.{IsTook, readOr, readRecord}
 use Rattle.graph.proofs.TestedPlaces.{Near, tests-near}
 use Rattle.graph.proofs.SpelledNodes.{NodeFields}
 use Rattle.graph.proofs.AcceptedNodes.{accepted-asked}
 use Rattle.graph.proofs.Spelled.{graph-read}
-use Rattle.nodes.specs.CheckNode.{isPair, keptTest, startsFrom}
-use Rattle.nodes.proofs.Starts.{start-reads}
-use Rattle.walk.specs.CodeSteps.{NearNode}
-use Rattle.tests.specs.TestsRead.{keptTests}
-use Rattle.walk.specs.TestNumbers.{NearTest}
-use Rattle.walk.specs.Following.{nodeFrom, nodesAt, GoodNode, Index}
-use Rattle.walk.specs.Ready.{LeafNode}
+use Rattle.node_check.specs.views.CheckNode.{isPair, keptTest, startsFrom}
+use Rattle.node_check.proofs.Starts.{start-reads}
+use Rattle.walk.specs.views.CodeSteps.{NearNode}
+use Rattle.sheet_tests.specs.views.TestsRead.{keptTests}
+use Rattle.walk.specs.views.TestNumbers.{NearTest}
+use Rattle.walk.specs.views.Following.{nodeFrom, nodesAt, GoodNode, Index}
+use Rattle.walk.specs.views.Ready.{LeafNode}
 use Rattle.walk.proofs.StepsAgree.{FieldsFit}
 
 -- A test that stands among the kept tests is kept.

@@ -18,17 +18,17 @@ use Rattle.terms.specs.Choice.{choose}
 use Rattle.terms.specs.Lists.{Mem, filter, countFrom}
 use Rattle.terms.proofs.Booleans.{both-true}
 use Rattle.terms.proofs.ListLaws.{all-from}
-use Rattle.tests.specs.SheetTests.{Test, place, pair}
-use Rattle.tests.specs.TestedPlaces.{hasPlace, placesIn}
-use Rattle.tests.specs.KeptPairs.{codePair}
-use Rattle.tests.proofs.NumberLists.{count-mem, mem-count, count-append, filter-mem, mem-filter, filter-append, filter-count, filter-listed}
-use Rattle.tests.proofs.PlaceSets.{placesBelow}
+use Rattle.sheet_tests.specs.SheetTests.{Test, place, pair}
+use Rattle.sheet_tests.specs.views.TestedPlaces.{hasPlace, placesIn}
+use Rattle.sheet_tests.specs.views.KeptPairs.{codePair}
+use Rattle.sheet_tests.proofs.NumberLists.{count-mem, mem-count, count-append, filter-mem, mem-filter, filter-append, filter-count, filter-listed}
+use Rattle.sheet_tests.proofs.PlaceSets.{placesBelow}
 use Rattle.decision.specs.Rules.{sameTest}
 use Rattle.decision.proofs.Filters.{mem-left, mem-right, mem-map, any-mem, all-mapped, mapped-always}
 use Rattle.decision.proofs.Sets.{true-is}
-use Rattle.nodes.specs.CheckNode.{isPair, keptTest}
-use Rattle.tests.specs.TestsRead.{keptTests}
-use Rattle.walk.specs.TestNumbers.{numberIn, placesUnder, NearTest}
+use Rattle.node_check.specs.views.CheckNode.{isPair, keptTest}
+use Rattle.sheet_tests.specs.views.TestsRead.{keptTests}
+use Rattle.walk.specs.views.TestNumbers.{numberIn, placesUnder, NearTest}
 use Rattle.walk.proofs.Numbers.{number-behind, number-first}
 
 -- None of a row of numbers passes a test that is passed nowhere there,

@@ -8,16 +8,16 @@ use lib.ListN.{getD}
 use Rattle.terms.specs.Choice.{choose}
 use Rattle.terms.specs.Lists.{All}
 use Rattle.terms.specs.Outcome.{Outcome, holds, notKnown, contradicted}
-use Rattle.tests.specs.SheetTests.{Test}
-use Rattle.cells.specs.Look.{look}
-use Rattle.cells.specs.CellOutcome.{pairCells}
+use Rattle.sheet_tests.specs.SheetTests.{Test}
+use Rattle.outcomes.specs.views.Look.{look}
+use Rattle.outcomes.specs.views.CellOutcome.{pairCells}
 use Rattle.decision.specs.Key.{Leaf, fail}
 use Rattle.decision.specs.Node.{Node, end, switch, pairNode}
 use Rattle.decision.specs.Path.{Step, stop, goTo, noWay, Path, ends, refusedAt, through, byComparison}
-use Rattle.walk.specs.CodeSteps.{stepCells}
-use Rattle.walk.specs.Following.{lastOf, nextOf, pathBy, Ended, reached, stopped, endOf, cellsPath, cellsEnd}
-use Rattle.walk.specs.LeafAnswers.{LeafIn}
-use Rattle.walk.specs.Ready.{LeafNode}
+use Rattle.walk.specs.views.CodeSteps.{stepCells}
+use Rattle.walk.specs.views.Following.{lastOf, nextOf, pathBy, Ended, reached, stopped, endOf, cellsPath, cellsEnd}
+use Rattle.walk.specs.views.LeafAnswers.{LeafIn}
+use Rattle.walk.specs.views.Ready.{LeafNode}
 use Rattle.walk.proofs.PathsAgree.{nodes-each}
 
 module _ (count : ℕ) where

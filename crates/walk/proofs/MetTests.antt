@@ -15,14 +15,14 @@ use Rattle.masks.specs.Mask.{has, maskOf}
 use Rattle.masks.proofs.Membership.{has-empty, has-above}
 use Rattle.masks.proofs.Extensionality.{ext, maskOf-lt, has-maskOf, maskOf-same, maskOf-unique}
 use Rattle.terms.specs.Lists.{Mem}
-use Rattle.tests.specs.SheetTests.{Test, place, pair}
+use Rattle.sheet_tests.specs.SheetTests.{Test, place, pair}
 use Rattle.decision.specs.Rules.{anyOf, sameTest}
 use Rattle.decision.specs.Node.{Node, end, switch, pairNode}
 use Rattle.decision.specs.Walk.{asksTest}
 use Rattle.decision.proofs.TestsOfRules.{same-test}
-use Rattle.walk.specs.CodeSteps.{openCells, openIf, openAt}
-use Rattle.walk.specs.TestNumbers.{numberIn, Once, withTest}
-use Rattle.walk.specs.Following.{node, test, isMet, metOpen}
+use Rattle.walk.specs.views.CodeSteps.{openCells, openIf, openAt}
+use Rattle.walk.specs.views.TestNumbers.{numberIn, Once, withTest}
+use Rattle.walk.specs.views.Following.{node, test, isMet, metOpen}
 use Rattle.walk.proofs.Numbers.{number-there, number-at}
 
 -- A test is true somewhere in two joined lists where it is in one of them.

@@ -12,11 +12,11 @@ use lib.Seq.{drop-drop}
 use Rattle.records.specs.Reading.{Reading, took, refused, ask, after}
 use Rattle.terms.specs.Choice.{choose}
 use Rattle.terms.specs.Outcome.{Outcome}
-use Rattle.tests.specs.SheetTests.{Test}
-use Rattle.piece.specs.Cells.{unknownCode}
-use Rattle.cells.specs.CellOutcome.{codesOutcome}
-use Rattle.cells.proofs.TwoTests.{one-is, none-is}
-use Rattle.cells.proofs.PairCells.{one-lacking}
+use Rattle.sheet_tests.specs.SheetTests.{Test}
+use Rattle.piece.specs.views.Cells.{unknownCode}
+use Rattle.outcomes.specs.views.CellOutcome.{codesOutcome}
+use Rattle.outcomes.proofs.TwoTests.{one-is, none-is}
+use Rattle.outcomes.proofs.PairCells.{one-lacking}
 use Rattle.decision.specs.Key.{fail}
 use Rattle.decision.specs.Node.{Node, CaseEdge, end, switch, pairNode}
 use Rattle.decision.specs.Path.{noWay, goTo, byComparison}
@@ -27,10 +27,10 @@ use Rattle.graph.specs.declared.NodeRecord.the-variants.{End, Switch, Pair}
 use Rattle.graph.specs.declared.NodeHead.the-variants.{Whole}
 use Rattle.graph.specs.NodeRecord.{nodeHead}
 use Rattle.graph.specs.ReadGraph.{onNode, leafOf, readCases}
-use Rattle.graph.specs.Rewriting.{IsTook, readOr, readRecord}
-use Rattle.nodes.proofs.NodeHeads.{node-fits}
-use Rattle.nodes.proofs.CopiedNodes.{cases-there}
-use Rattle.walk.specs.CodeSteps.{followCode, codeStep, codesStep, openIf}
+use Rattle.graph.specs.views.Rewriting.{IsTook, readOr, readRecord}
+use Rattle.node_check.proofs.NodeHeads.{node-fits}
+use Rattle.node_check.proofs.CopiedNodes.{cases-there}
+use Rattle.walk.specs.views.CodeSteps.{followCode, codeStep, codesStep, openIf}
 
 -- A switch whose place is lacking, unknown or known.
 module _ (cs : List (CaseEdge ℕ)) (neither unknownEdge : ℕ) (t : Test) (code : ℕ) where

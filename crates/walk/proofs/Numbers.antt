@@ -12,13 +12,13 @@ use Rattle.terms.specs.Choice.{choose}
 use Rattle.terms.specs.Lists.{Mem, All}
 use Rattle.terms.proofs.ListLaws.{mem-cases, mem-none, all-at, all-map}
 use Rattle.terms.proofs.Sorted.{Ascending}
-use Rattle.tests.specs.SheetTests.{Test, before, sheetTests, allTests}
-use Rattle.tests.proofs.TestOrder.{before-order, ascending-ascends}
+use Rattle.sheet_tests.specs.SheetTests.{Test, before, sheetTests, allTests}
+use Rattle.sheet_tests.proofs.TestOrder.{before-order, ascending-ascends}
 use Rattle.terms.specs.Pattern.{Patterns}
 use Rattle.decision.specs.Rules.{sameTest}
 use Rattle.decision.proofs.TestsOfRules.{same-test, test-same}
 use Rattle.decision.proofs.TestNumbers.{mem-at}
-use Rattle.walk.specs.TestNumbers.{numberIn, Once}
+use Rattle.walk.specs.views.TestNumbers.{numberIn, Once}
 
 -- A choice by cases, with what the test said.
 by-choice : {A : Type 0} (Q : A → Type 0) (b : Bool) {x y : A} → (b ≡ true → Q x) → (b ≡ false → Q y) → Q (choose b x y)

@@ -13,9 +13,9 @@ use Rattle.masks.proofs.Extensionality.{maskOf-lt}
 use Rattle.masks.proofs.Loops.{turn-yes, turn-no}
 use Rattle.masks.proofs.Operations.{insert-is}
 use Rattle.terms.specs.Choice.{choose}
-use Rattle.tests.specs.SheetTests.{place}
-use Rattle.tests.specs.KeptPairs.{codePair}
-use Rattle.walk.specs.LeafAnswers.{listedTest, withIf}
+use Rattle.sheet_tests.specs.SheetTests.{place}
+use Rattle.sheet_tests.specs.views.KeptPairs.{codePair}
+use Rattle.walk.specs.views.LeafAnswers.{listedTest, withIf}
 
 -- One test more.
 pub set-turn : (t : ℕ) (p : ℕ → Bool) {m : ℕ} (b : Bool) → m ≡ maskOf t p → t < 64 → p t ≡ b → withIf b m t ≡ maskOf (t + 1) p

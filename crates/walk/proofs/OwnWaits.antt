@@ -19,19 +19,19 @@ use Rattle.terms.specs.Pattern.{Patterns}
 use Rattle.terms.specs.Accepted.{AcceptedRule, AcceptedPiece}
 use Rattle.terms.specs.Answer.{ruleAt}
 use Rattle.terms.proofs.ListLaws.{all-at}
-use Rattle.sheet.specs.Noted.{ruleNotes}
-use Rattle.tests.specs.SheetTests.{Test, place, sheetTests}
-use Rattle.tests.specs.TestedPlaces.{placesIn}
-use Rattle.tests.specs.KeptPairs.{codePair}
-use Rattle.tests.specs.TestsRead.{keptTests}
-use Rattle.tables.proofs.CompiledRight.{rule-row}
-use Rattle.piece.specs.LaidOut.{pieceCells}
+use Rattle.sheet.specs.views.Noted.{ruleNotes}
+use Rattle.sheet_tests.specs.SheetTests.{Test, place, sheetTests}
+use Rattle.sheet_tests.specs.views.TestedPlaces.{placesIn}
+use Rattle.sheet_tests.specs.views.KeptPairs.{codePair}
+use Rattle.sheet_tests.specs.views.TestsRead.{keptTests}
+use Rattle.compiled.proofs.CompiledRight.{rule-row}
+use Rattle.piece.specs.views.LaidOut.{pieceCells}
 use Rattle.decision.specs.Rules.{testAt, hasTest, testsWhere}
 use Rattle.decision.specs.Walk.{testNotKnown}
 use Rattle.decision.proofs.TestNumbers.{mem-at}
-use Rattle.walk.specs.CodeSteps.{openCells}
-use Rattle.walk.specs.TestNumbers.{NearTest}
-use Rattle.walk.specs.LeafAnswers.{listedTest, openSet, ownTests, ownWaits}
+use Rattle.walk.specs.views.CodeSteps.{openCells}
+use Rattle.walk.specs.views.TestNumbers.{NearTest}
+use Rattle.walk.specs.views.LeafAnswers.{listedTest, openSet, ownTests, ownWaits}
 use Rattle.walk.proofs.StepsAgree.{open-agrees}
 use Rattle.walk.proofs.OpenSets.{listed-place, listed-pair}
 

@@ -9,17 +9,17 @@ use Rattle.terms.specs.Lists.{All, Mem}
 use Rattle.terms.specs.Term.{Terms}
 use Rattle.terms.specs.Pattern.{Patterns}
 use Rattle.terms.specs.Accepted.{AcceptedPiece}
-use Rattle.tests.specs.SheetTests.{Test, place, sheetTests}
-use Rattle.piece.specs.LaidOut.{pieceCells}
+use Rattle.sheet_tests.specs.SheetTests.{Test, place, sheetTests}
+use Rattle.piece.specs.views.LaidOut.{pieceCells}
 use Rattle.decision.specs.Key.{fail}
 use Rattle.decision.specs.Node.{Node, end}
 use Rattle.decision.specs.Path.{Step, stop, goTo, noWay, Path, ends, refusedAt, through, stepAt, lastStep, nextStep, pathFrom, path}
 use Rattle.decision.specs.Walk.{suspendWaits}
 use Rattle.decision.specs.Walk as walk
 use Rattle.decision.proofs.TestNumbers.{mem-at}
-use Rattle.walk.specs.CodeSteps.{stepCells, NearNode}
-use Rattle.walk.specs.TestNumbers.{NearTest}
-use Rattle.walk.specs.Following.{lastOf, nextOf, pathBy, Ended, reached, stopped, isMet, metOpen, endOf, cellsEnd}
+use Rattle.walk.specs.views.CodeSteps.{stepCells, NearNode}
+use Rattle.walk.specs.views.TestNumbers.{NearTest}
+use Rattle.walk.specs.views.Following.{lastOf, nextOf, pathBy, Ended, reached, stopped, isMet, metOpen, endOf, cellsEnd}
 use Rattle.walk.proofs.StepsAgree.{FieldsFit, step-agrees, open-agrees}
 
 -- What is said of each node of a list is said of each number's, where it is said of the node that stands for no number.

@@ -13,25 +13,25 @@ use Rattle.terms.specs.Accepted.{AcceptedPiece}
 use Rattle.sheet.specs.Sheet.{Sheet, SoundSheet}
 use Rattle.sheet.specs.ReadSheet.{readRules}
 use Rattle.sheet.proofs.ReadsSound.{sheet-sound}
-use Rattle.tests.specs.TestedPlaces.{placesIn}
-use Rattle.tests.specs.TestsRead.{keptTests}
-use Rattle.tests.specs.CheckSheet.{acceptSheet}
+use Rattle.sheet_tests.specs.views.TestedPlaces.{placesIn}
+use Rattle.sheet_tests.specs.views.TestsRead.{keptTests}
+use Rattle.sheet_tests.specs.CheckSheet.{acceptSheet}
 use Rattle.accepted.proofs.CheckedSheets.{accepted-read}
-use Rattle.accepted.specs.AcceptedAs.{AcceptedTests}
+use Rattle.accepted.specs.views.AcceptedAs.{AcceptedTests}
 use Rattle.piece.specs.Piece.{Piece}
 use Rattle.piece.specs.ReadPiece.{readPiece}
-use Rattle.answer.specs.AcceptedBytes.{ReadAs}
+use Rattle.plain.specs.AcceptedBytes.{ReadAs}
 use Rattle.decision.specs.Walk.{Walk, walk}
 use Rattle.graph.specs.ReadGraph.{readGraph}
-use Rattle.graph.specs.Rewriting.{IsTook, readOr}
-use Rattle.nodes.specs.CheckNode.{keptTest, startsFrom}
-use Rattle.counter.specs.GraphIndex.{AcceptedGraphAs}
+use Rattle.graph.specs.views.Rewriting.{IsTook, readOr}
+use Rattle.node_check.specs.views.CheckNode.{keptTest, startsFrom}
+use Rattle.graph_check.specs.views.GraphIndex.{AcceptedGraphAs}
 use Rattle.walk.specs.declared.Walked.{Walked}
 use Rattle.walk.specs.declared.Walked.the-variants.{Answered, Refused}
-use Rattle.walk.specs.TestNumbers.{Once}
-use Rattle.walk.specs.Following.{Index, cellsEnd, nodesAt}
-use Rattle.walk.specs.LeafAnswers.{endWalk}
-use Rattle.walk.specs.Ready.{LeafNode, Ready, Checked}
+use Rattle.walk.specs.views.TestNumbers.{Once}
+use Rattle.walk.specs.views.Following.{Index, cellsEnd, nodesAt}
+use Rattle.walk.specs.views.LeafAnswers.{endWalk}
+use Rattle.walk.specs.views.Ready.{LeafNode, Ready, Checked}
 use Rattle.walk.specs.Walking.{readingOf, graphReply, pieceReply, walkReply, replyValues, walkedValues, walkedReading}
 use Rattle.walk.proofs.Numbers.{sheet-once}
 use Rattle.walk.proofs.Indexing.{nodes-are, nodes-leaves, index-made}

@@ -7,8 +7,8 @@ use lib.ListN.{drop}
 use lib.Seq.{drop-drop}
 use Rattle.records.specs.Reading.{Reading, took, refused, after, readRow}
 use Rattle.records.proofs.Rows.{row-next, row-refused}
-use Rattle.graph.specs.Rewriting.{IsTook, readOr}
-use Rattle.nodes.proofs.Copying.{after-took, after-or}
+use Rattle.graph.specs.views.Rewriting.{IsTook, readOr}
+use Rattle.node_check.proofs.Copying.{after-took, after-or}
 
 -- n things, one more than m, are read from a position.
 module _ {A : Type 0} (one : List ℕ → Reading A) (s : List ℕ) (n m at : ℕ) (more : n ≡ suc m)

@@ -5,7 +5,7 @@ use mathlib.Core.List.{List, [], _∷_}
 use native.Mathlib.Omega.{arith}
 use lib.ListN.{length, getD, drop}
 use Rattle.records.specs.Reading.{Reading, took, refused, readRow}
-use Rattle.graph.specs.Rewriting.{IsTook, readOr}
+use Rattle.graph.specs.views.Rewriting.{IsTook, readOr}
 use Rattle.walk.proofs.RowsLeft.{first-there, others-left, first-others}
 
 module _ {A : Type 0} (one : List ℕ → Reading A) (other : A) (s : List ℕ) where

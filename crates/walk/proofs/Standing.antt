@@ -5,17 +5,17 @@ use mathlib.Core.List.{List}
 use mathlib.Core.Option.{Option, none}
 use native.Mathlib.Omega.{arith}
 use lib.ListN.{length, getD, drop}
-use Rattle.tests.specs.SheetTests.{Test}
-use Rattle.tests.specs.TestsRead.{keptTests}
+use Rattle.sheet_tests.specs.SheetTests.{Test}
+use Rattle.sheet_tests.specs.views.TestsRead.{keptTests}
 use Rattle.decision.specs.Key.{Leaf}
 use Rattle.decision.specs.Node.{Node}
 use Rattle.decision.specs.Path.{Step, stop, goTo, noWay, refusedAt}
-use Rattle.graph.specs.Rewriting.{IsTook, readRecord}
-use Rattle.nodes.specs.CheckNode.{keptTest}
-use Rattle.walk.specs.CodeSteps.{NearNode, stepCells, openAt}
-use Rattle.walk.specs.TestNumbers.{KeptOpen, withTest}
-use Rattle.walk.specs.Following.{GoodNode, nodeFrom, nodesAt, node, lastOf, reached, stopped, cellsEnd}
-use Rattle.walk.specs.Course.{Course}
+use Rattle.graph.specs.views.Rewriting.{IsTook, readRecord}
+use Rattle.node_check.specs.views.CheckNode.{keptTest}
+use Rattle.walk.specs.views.CodeSteps.{NearNode, stepCells, openAt}
+use Rattle.walk.specs.views.TestNumbers.{KeptOpen, withTest}
+use Rattle.walk.specs.views.Following.{GoodNode, nodeFrom, nodesAt, node, lastOf, reached, stopped, cellsEnd}
+use Rattle.walk.specs.views.Course.{Course}
 use Rattle.walk.proofs.GoingOn.{Going, going-starts, going-on, going-ends, going-stuck, going-out}
 use Rattle.walk.proofs.Indexed.{step-inside, good-asked, good-open, nodes-number, node-at}
 use Rattle.walk.proofs.MetTests.{AskedIn}

@@ -14,19 +14,19 @@ use Rattle.terms.specs.Filling.{WellFormed}
 use Rattle.terms.specs.Accepted.{AcceptedPiece}
 use Rattle.terms.proofs.TermPlaces.{IfFound}
 use Rattle.terms.proofs.WellFormed.{finds-well-formed}
-use Rattle.tests.specs.SheetTests.{Test, place, pair}
-use Rattle.piece.specs.Cells.{unknownCode, termCode, foundCode}
-use Rattle.piece.specs.LaidOut.{pieceCells}
-use Rattle.cells.proofs.Hidden as hidden
-use Rattle.cells.proofs.Codes.{code-some, code-unknown}
-use Rattle.cells.proofs.LookFinds.{look-finds}
-use Rattle.cells.proofs.PairTestsAgree.{pair-test-agrees}
+use Rattle.sheet_tests.specs.SheetTests.{Test, place, pair}
+use Rattle.piece.specs.views.Cells.{unknownCode, termCode, foundCode}
+use Rattle.piece.specs.views.LaidOut.{pieceCells}
+use Rattle.outcomes.proofs.Hidden as hidden
+use Rattle.outcomes.proofs.Codes.{code-some, code-unknown}
+use Rattle.outcomes.proofs.LookFinds.{look-finds}
+use Rattle.outcomes.proofs.PairTestsAgree.{pair-test-agrees}
 use Rattle.decision.specs.Node.{Node, CaseEdge, end, switch, pairNode}
 use Rattle.decision.specs.AcceptedGraph.{CaseFields}
 use Rattle.decision.specs.Path.{goTo, noWay, switchStep, byComparison, pairStep, stepAt}
 use Rattle.decision.specs.Walk.{isUnknown, isNotKnown, testNotKnown}
-use Rattle.walk.specs.CodeSteps.{followCode, codeStep, stepCells, openCells, NearNode}
-use Rattle.walk.specs.TestNumbers.{NearTest}
+use Rattle.walk.specs.views.CodeSteps.{followCode, codeStep, stepCells, openCells, NearNode}
+use Rattle.walk.specs.views.TestNumbers.{NearTest}
 use Rattle.walk.proofs.CodeCases.{follow-code}
 
 -- The fields of a switch's cases are those of records.

@@ -15,12 +15,12 @@ use Rattle.terms.specs.Accepted.{AcceptedRule, AcceptedPiece}
 use Rattle.terms.specs.Answer.{ruleAt, onlyRule}
 use Rattle.terms.proofs.ListLaws.{all-at, all-from}
 use Rattle.sheet.specs.Sheet.{Sheet, SoundSheet}
-use Rattle.sheet.specs.Noted.{ruleNotes}
-use Rattle.tests.specs.SheetTests.{Test, sheetTests}
-use Rattle.tests.specs.TestedPlaces.{placesIn}
-use Rattle.tests.specs.TestsRead.{keptTests}
-use Rattle.piece.specs.LaidOut.{pieceCells}
-use Rattle.answer.proofs.NotesRight.{rule-right}
+use Rattle.sheet.specs.views.Noted.{ruleNotes}
+use Rattle.sheet_tests.specs.SheetTests.{Test, sheetTests}
+use Rattle.sheet_tests.specs.views.TestedPlaces.{placesIn}
+use Rattle.sheet_tests.specs.views.TestsRead.{keptTests}
+use Rattle.piece.specs.views.LaidOut.{pieceCells}
+use Rattle.plain.proofs.NotesRight.{rule-right}
 use Rattle.decision.specs.Key.{fail, suspend, execute}
 use Rattle.decision.specs.Node.{Node}
 use Rattle.decision.specs.Rules.{testAt, hasTest, testsWhere}
@@ -29,10 +29,10 @@ use Rattle.decision.specs.Walk.{testNotKnown, executeWaits, atEnd, walk}
 use Rattle.decision.proofs.TestNumbers.{mem-at}
 use Rattle.graph.specs.ReadGraph.{readGraph}
 use Rattle.graph.proofs.TestedPlaces.{tests-near}
-use Rattle.nodes.specs.CheckNode.{startsFrom}
-use Rattle.walk.specs.TestNumbers.{NearTest}
-use Rattle.walk.specs.Following.{cellsEnd, nodesAt}
-use Rattle.walk.specs.LeafAnswers.{ownWaits, waitsOf, executed, endWalk}
+use Rattle.node_check.specs.views.CheckNode.{startsFrom}
+use Rattle.walk.specs.views.TestNumbers.{NearTest}
+use Rattle.walk.specs.views.Following.{cellsEnd, nodesAt}
+use Rattle.walk.specs.views.LeafAnswers.{ownWaits, waitsOf, executed, endWalk}
 use Rattle.walk.specs.Walking.{readingOf, graphReply}
 use Rattle.walk.proofs.OwnWaits.{own-right}
 use Rattle.walk.proofs.PathsAgree.{pieceEnd, paths-same, path-agrees}

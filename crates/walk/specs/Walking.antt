@@ -6,9 +6,9 @@ use Rattle.records.specs.Reading.{Reading, took, refused, ask, andThen}
 use Rattle.terms.specs.Term.{Terms}
 use Rattle.terms.specs.Answer.{wordOf, ruleOf}
 use Rattle.sheet.specs.Sheet.{Sheet}
-use Rattle.tests.specs.CheckSheet.{acceptSheet}
+use Rattle.sheet_tests.specs.CheckSheet.{acceptSheet}
 use Rattle.piece.specs.ReadPiece.{readPiece}
-use Rattle.answer.specs.Plain.{answerOf}
+use Rattle.plain.specs.Plain.{answerOf}
 use Rattle.decision.specs.Walk.{Walk, Reply, walk}
 use Rattle.decision.specs.Walk as reply
 use Rattle.graph.specs.ReadGraph.{readGraph}

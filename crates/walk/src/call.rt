@@ -3,24 +3,24 @@ use crate::Followed;
 use crate::Walked;
 use crate::leaf::at_leaf;
 use crate::path::follow_path;
-use counter::GraphCheck;
-use counter::index_graph;
+use graph_check::GraphCheck;
+use graph_check::index_graph;
 use piece::PieceCheck;
-use tests::TestsRead;
+use sheet_tests::TestsRead;
 ghost use Prim.Native.Nat.{ℕ, _+_, _≤_};
 ghost use mathlib.Core.Path.{_≡_};
 ghost use mathlib.Core.List.{List, []};
 ghost use lib.ListN.{length};
 ghost use Rattle.sheet.specs.ReadSheet.{readRules};
-ghost use Rattle.tests.specs.TestedPlaces.{placesIn};
-ghost use Rattle.tests.specs.TestsRead.{keptTests};
-ghost use Rattle.accepted.specs.AcceptedAs.{AcceptedTests};
-ghost use Rattle.cells.specs.CompareCells.{Narrow};
-ghost use Rattle.answer.specs.AcceptedBytes.{ReadAs};
-ghost use Rattle.graph.specs.Rewriting.{readOr};
-ghost use Rattle.walk.specs.Following.{cellsEnd, nodesAt};
-ghost use Rattle.walk.specs.LeafAnswers.{endWalk};
-ghost use Rattle.walk.specs.Ready.{Ready, Checked};
+ghost use Rattle.sheet_tests.specs.views.TestedPlaces.{placesIn};
+ghost use Rattle.sheet_tests.specs.views.TestsRead.{keptTests};
+ghost use Rattle.accepted.specs.views.AcceptedAs.{AcceptedTests};
+ghost use Rattle.outcomes.specs.views.CompareCells.{Narrow};
+ghost use Rattle.plain.specs.AcceptedBytes.{ReadAs};
+ghost use Rattle.graph.specs.views.Rewriting.{readOr};
+ghost use Rattle.walk.specs.views.Following.{cellsEnd, nodesAt};
+ghost use Rattle.walk.specs.views.LeafAnswers.{endWalk};
+ghost use Rattle.walk.specs.views.Ready.{Ready, Checked};
 ghost use Rattle.walk.specs.Walking.{graphReply, pieceReply, walkReply, replyValues, walkedValues, walkedReading};
 
 // Follows the edges of an accepted graph, and answers at the leaf.
@@ -163,7 +163,7 @@ pub fn walk(sheet: &[u8], graph: &[u8], piece: &[u8]) -> Walked
 {
     let mut words = [0u64; 11];
     let mut codes = [0u32; 65];
-    let read = tests::read_tests(sheet, &mut words, &mut codes);
+    let read = sheet_tests::read_tests(sheet, &mut words, &mut codes);
     match read {
         TestsRead::Refused(q) => Walked::Refused(q),
         TestsRead::Accepted(arity, count, _, pairs) => {

@@ -1,15 +1,15 @@
 // Where the cases of a switch lead.
 use graph::CaseHead;
 use graph::case_head;
-use nodes::cases::both;
-use nodes::cases::case_range;
+use node_check::cases::both;
+use node_check::cases::case_range;
 ghost use Prim.Native.Nat.{_≤_};
 ghost use mathlib.Core.Path.{_≡_};
 ghost use mathlib.Core.List.{[]};
 ghost use lib.ListN.{length, drop};
 ghost use Rattle.graph.specs.ReadGraph.{readCases};
-ghost use Rattle.graph.specs.Rewriting.{IsTook, readOr};
-ghost use Rattle.walk.specs.CodeSteps.{followCode};
+ghost use Rattle.graph.specs.views.Rewriting.{IsTook, readOr};
+ghost use Rattle.walk.specs.views.CodeSteps.{followCode};
 
 // Where the cases, so many from a position of the graph on, lead for a code; they are whole, so none is refused here. Not by the
 // case behind the one that takes it, nor by neither where a case takes it.

@@ -1,10 +1,10 @@
 // What is answered at a leaf.
 use crate::Walk;
 use crate::waits::own_waits;
-use answer::Answer;
-use answer::rule::rule_outcome;
-use cells::TestOutcome;
 use graph::Leaf;
+use outcomes::TestOutcome;
+use plain::Answer;
+use plain::rule::rule_outcome;
 use sheet::Took;
 ghost use Prim.Native.Nat.{_+_, _≤_};
 ghost use mathlib.Core.Path.{_≡_};
@@ -12,19 +12,19 @@ ghost use mathlib.Core.List.{[]};
 ghost use lib.ListN.{length};
 ghost use Rattle.terms.specs.Lists.{All};
 ghost use Rattle.terms.specs.Answer.{ruleAt};
-ghost use Rattle.sheet.specs.Noted.{ruleNotes};
-ghost use Rattle.sheet.specs.NoteArray.{notesIn};
+ghost use Rattle.sheet.specs.views.Noted.{ruleNotes};
+ghost use Rattle.sheet.specs.views.NoteArray.{notesIn};
 ghost use Rattle.sheet.specs.ReadSheet.{readRules};
-ghost use Rattle.tests.specs.NoteTests.{Placed};
-ghost use Rattle.tests.specs.TestedPlaces.{placesIn};
-ghost use Rattle.tests.specs.TestsRead.{keptTests};
-ghost use Rattle.cells.specs.CompareCells.{Narrow};
+ghost use Rattle.sheet_tests.specs.views.NoteTests.{Placed};
+ghost use Rattle.sheet_tests.specs.views.TestedPlaces.{placesIn};
+ghost use Rattle.sheet_tests.specs.views.TestsRead.{keptTests};
+ghost use Rattle.outcomes.specs.views.CompareCells.{Narrow};
 ghost use Rattle.decision.specs.Key.{execute};
 ghost use Rattle.graph.specs.ReadGraph.{leafOf};
-ghost use Rattle.graph.specs.Rewriting.{IsTook, readOr};
+ghost use Rattle.graph.specs.views.Rewriting.{IsTook, readOr};
 ghost use Rattle.walk.specs.Walking.{walkOf};
-ghost use Rattle.walk.specs.TestNumbers.{NearTest};
-ghost use Rattle.walk.specs.LeafAnswers.{leafWalk, LeafIn};
+ghost use Rattle.walk.specs.views.TestNumbers.{NearTest};
+ghost use Rattle.walk.specs.views.LeafAnswers.{leafWalk, LeafIn};
 
 // The notes of a rule, from 1, of the rules, so many, that the input begins with: how many there are. The rules were read before,
 // so none is refused here. Not the notes of the rule after it, nor those of the first.

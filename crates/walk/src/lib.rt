@@ -7,8 +7,8 @@ pub mod number; // the numbers of tests
 pub mod path; // the walk from node to node
 pub mod waits; // the set of tests that are not known
 
-use answer::Answer;
 use graph::Leaf;
+use plain::Answer;
 
 // What a walk answers, with the edges walked and the set of tests that it waits for.
 pub struct Walk {

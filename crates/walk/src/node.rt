@@ -2,27 +2,27 @@
 use crate::Open;
 use crate::Step;
 use crate::cases::find_case;
-use cells::TestOutcome;
-use cells::look;
-use cells::pair_outcome;
 use graph::NodeHead;
 use graph::NodeRecord;
 use graph::node_head;
+use outcomes::TestOutcome;
+use outcomes::look;
+use outcomes::pair_outcome;
 use piece::UNKNOWN;
 ghost use Prim.Native.Nat.{_≤_, _<_};
 ghost use mathlib.Core.Path.{_≡_};
 ghost use mathlib.Core.List.{[]};
 ghost use lib.ListN.{length, drop};
-ghost use Rattle.tests.specs.SheetTests.{place, pair};
-ghost use Rattle.cells.specs.Look.{look};
-ghost use Rattle.cells.specs.CompareCells.{Narrow};
-ghost use Rattle.cells.specs.CellOutcome.{pairCells};
+ghost use Rattle.sheet_tests.specs.SheetTests.{place, pair};
+ghost use Rattle.outcomes.specs.views.Look.{look};
+ghost use Rattle.outcomes.specs.views.CompareCells.{Narrow};
+ghost use Rattle.outcomes.specs.views.CellOutcome.{pairCells};
 ghost use Rattle.decision.specs.Key.{fail};
 ghost use Rattle.decision.specs.Node.{end};
 ghost use Rattle.graph.specs.ReadGraph.{readCases};
-ghost use Rattle.graph.specs.Rewriting.{IsTook, readOr, readRecord};
-ghost use Rattle.walk.specs.CodeSteps.{codeStep, codesStep, stepCells, NearNode, stepOf};
-ghost use Rattle.walk.specs.CodeSteps.{openCells, openIf, openAt, openIn};
+ghost use Rattle.graph.specs.views.Rewriting.{IsTook, readOr, readRecord};
+ghost use Rattle.walk.specs.views.CodeSteps.{codeStep, codesStep, stepCells, NearNode, stepOf};
+ghost use Rattle.walk.specs.views.CodeSteps.{openCells, openIf, openAt, openIn};
 
 // The step at a switch, whose cases, so many, begin at a position of the graph: code 0 says that the piece lacks the place.
 fn switch_step(

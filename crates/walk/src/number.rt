@@ -4,11 +4,11 @@ ghost use Prim.Native.Nat.{_≤_, _<_};
 ghost use mathlib.Core.Path.{_≡_};
 ghost use mathlib.Core.List.{map};
 ghost use lib.ListN.{length, take};
-ghost use Rattle.tests.specs.SheetTests.{pair};
-ghost use Rattle.tests.specs.KeptPairs.{codePair};
-ghost use Rattle.walk.specs.CodeSteps.{openOf};
-ghost use Rattle.tests.specs.TestsRead.{keptTests};
-ghost use Rattle.walk.specs.TestNumbers.{numberIn, placesUnder, KeptOpen, withTest};
+ghost use Rattle.sheet_tests.specs.SheetTests.{pair};
+ghost use Rattle.sheet_tests.specs.views.KeptPairs.{codePair};
+ghost use Rattle.walk.specs.views.CodeSteps.{openOf};
+ghost use Rattle.sheet_tests.specs.views.TestsRead.{keptTests};
+ghost use Rattle.walk.specs.views.TestNumbers.{numberIn, placesUnder, KeptOpen, withTest};
 
 // How many places of the set are below a place. Not the place itself too, nor those of its own word alone.
 pub fn places_under(words: &[u64; 11], place: usize) -> usize
@@ -51,7 +51,7 @@ pub fn with_open(words: &[u64; 11], codes: &[u32; 65], count: usize, waits: u64,
         Open::Nothing => waits,
         Open::Place(p) => masks::insert(waits, places_under(words, p as usize)),
         Open::Pair(p, q) => {
-            let places = tests::tested::count_places(words);
+            let places = sheet_tests::tested::count_places(words);
             masks::insert(waits, places + pair_number(codes, count, p, q))
         }
     }

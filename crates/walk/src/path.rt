@@ -6,10 +6,10 @@ use crate::number::with_open;
 ghost use Prim.Native.Nat.{_≤_};
 ghost use mathlib.Core.Path.{_≡_};
 ghost use lib.ListN.{length};
-ghost use Rattle.cells.specs.CompareCells.{Narrow};
-ghost use Rattle.tests.specs.TestsRead.{keptTests};
-ghost use Rattle.walk.specs.Following.{cellsEnd, nodesAt, endedOf};
-ghost use Rattle.walk.specs.Course.{Course};
+ghost use Rattle.outcomes.specs.views.CompareCells.{Narrow};
+ghost use Rattle.sheet_tests.specs.views.TestsRead.{keptTests};
+ghost use Rattle.walk.specs.views.Following.{cellsEnd, nodesAt, endedOf};
+ghost use Rattle.walk.specs.views.Course.{Course};
 
 // Follows edges from node 0 to a leaf. After 64 edges only a leaf is handed back: 26 is asked before 27. How many nodes there are
 // only the contract asks. Not the suspend leaf at the first unknown, nor a known test among those met.

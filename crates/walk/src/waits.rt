@@ -1,21 +1,21 @@
 // The set of the tests that are not known in a piece.
-use cells::TestOutcome;
-use cells::look;
-use cells::pair_outcome;
+use outcomes::TestOutcome;
+use outcomes::look;
+use outcomes::pair_outcome;
 use piece::UNKNOWN;
 ghost use Prim.Native.Nat.{ℕ, _+_, _≤_, _<_};
 ghost use mathlib.Core.Path.{_≡_};
 ghost use lib.ListN.{length};
 ghost use Rattle.masks.specs.Mask.{maskOf};
 ghost use Rattle.terms.specs.Lists.{All};
-ghost use Rattle.sheet.specs.NoteArray.{notesIn};
-ghost use Rattle.tests.specs.NoteTests.{Placed};
-ghost use Rattle.tests.specs.TestedPlaces.{placesIn};
-ghost use Rattle.tests.specs.TestsRead.{keptTests};
-ghost use Rattle.cells.specs.CompareCells.{Narrow};
-ghost use Rattle.walk.specs.CodeSteps.{openCells};
-ghost use Rattle.walk.specs.TestNumbers.{NearTest};
-ghost use Rattle.walk.specs.LeafAnswers.{listedTest, withIf, ownWaits};
+ghost use Rattle.sheet.specs.views.NoteArray.{notesIn};
+ghost use Rattle.sheet_tests.specs.views.NoteTests.{Placed};
+ghost use Rattle.sheet_tests.specs.views.TestedPlaces.{placesIn};
+ghost use Rattle.sheet_tests.specs.views.TestsRead.{keptTests};
+ghost use Rattle.outcomes.specs.views.CompareCells.{Narrow};
+ghost use Rattle.walk.specs.views.CodeSteps.{openCells};
+ghost use Rattle.walk.specs.views.TestNumbers.{NearTest};
+ghost use Rattle.walk.specs.views.LeafAnswers.{listedTest, withIf, ownWaits};
 
 // A set with a number where it is wanted, else as it is.
 fn with_if(wanted: bool, set: u64, number: usize) -> u64
@@ -89,10 +89,10 @@ pub fn own_waits(
     ensures { λ r. ⌜ r ≡ ownWaits (now (words .entry)) (now (codes .entry)) pairs (now (cells .entry)) (notesIn (now (notes .entry)) n) ⌝ }
 {
     let mut places = [0u16; 64];
-    let count = tables::list_places(words, &mut places);
+    let count = compiled::list_places(words, &mut places);
     let mut numbers = [0u8; 680];
-    tables::numbers::number_places(&places, count, &mut numbers);
+    compiled::numbers::number_places(&places, count, &mut numbers);
     let ranges = sheet::variable_ranges(notes, n);
-    let own = tables::rule_row(notes, n, ranges, &numbers, codes, pairs, count);
+    let own = compiled::rule_row(notes, n, ranges, &numbers, codes, pairs, count);
     masks::intersect(own, open_tests(&places, count, codes, pairs, cells))
 }

@@ -1,6 +1,6 @@
 /*
  * Asks for the plain answers of document 01's example.
- * From the repository's root: cc tests/examples/c/plain.c target/staticlib/libboard.a -o plain
+ * From the repository's root: cc tests/examples/c/plain.c target/staticlib/libvoltunnis.a -o plain
  */
 #include <stdio.h>
 

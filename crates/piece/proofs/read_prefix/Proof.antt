@@ -11,7 +11,7 @@ use Rattle.records.proofs.Parts.{rest, rest-length}
 use Rattle.piece.specs.declared.Taken.{Taken}
 use Rattle.piece.specs.declared.Taken.the-variants.{Bytes}
 use Rattle.piece.specs.ReadPiece.{readPrefix}
-use Rattle.piece.specs.LaidOut.{LaidOut, tookCells, termsCells, emptyCells, layOut, prefixBytes}
+use Rattle.piece.specs.views.LaidOut.{LaidOut, tookCells, termsCells, emptyCells, layOut, prefixBytes}
 use Rattle.piece.proofs.TermCells.{terms-fit}
 use Rattle.piece.proofs.PiecesRead.{ArityRead, arity-known, arity-refused, terms-laid}
 use Rattle.piece.proofs.read_prefix.Statement.{statement}

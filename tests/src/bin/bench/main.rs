@@ -1,6 +1,6 @@
 //! Times the library against the reference, call by call in the same run, and prints a table.
 //!
-//! `cargo run --release --bin bench`, after `rt staticlib board` and `rt check listing`. A ratio above 1 says that the library
+//! `cargo run --release --bin bench`, after `rt staticlib voltunnis` and `rt check listing`. A ratio above 1 says that the library
 //! is slower.
 
 mod cases;

@@ -3,7 +3,7 @@ use Prim.Native.Nat.{ℕ, _+_}
 use mathlib.Core.Path.{ap, _∙_}
 use native.Mathlib.Omega.{arith}
 use borrow.Author.Needs.{needs}
-use Rattle.edges.specs.Tables.{nearerOf}
+use Rattle.edges.specs.views.Tables.{nearerOf}
 use Rattle.edges.proofs.NearestCut.{nearer-far}
 use Rattle.edges.proofs.cases.nearest.Statement.{statement}
 use Rattle.edges.proofs.cases.nearest.Tie as tie

@@ -6,12 +6,12 @@ use mathlib.Core.List.{List}
 use native.Mathlib.Omega.{arith}
 use borrow.Author.Needs.{needs}
 use Rattle.terms.specs.Pattern.{Patterns}
-use Rattle.tests.specs.SheetTests.{place}
+use Rattle.sheet_tests.specs.SheetTests.{place}
 use Rattle.decision.specs.Rules.{testAt}
 use Rattle.decision.specs.Edges.{liveWants}
-use Rattle.edges.specs.Codes.{cutCodes}
-use Rattle.edges.specs.Compiled.{CodeTable, Asked}
-use Rattle.edges.specs.Tables.{noCut, firstFrom}
+use Rattle.edges.specs.views.Codes.{cutCodes}
+use Rattle.edges.specs.views.Compiled.{CodeTable, Asked}
+use Rattle.edges.specs.views.Tables.{noCut, firstFrom}
 use Rattle.edges.proofs.OpenRuns.{isOpen}
 use Rattle.edges.proofs.CasesLeft.{CasesLeft, left-start, left-none, left-last, left-here, left-next}
 use Rattle.edges.proofs.cases.next_case.Statement.{statement}

@@ -9,7 +9,7 @@ use lib.Count.{trailing-le}
 use borrow.Author.Needs.{needs}
 use Rattle.masks.proofs.LowestMember.{rest-lt, trailing-lt}
 use Rattle.masks.proofs.Loops.{Joining, onlyIf, joining-start, keeping-yes, keeping-no, keeping-done}
-use Rattle.edges.specs.Tables.{lacks, stays, those}
+use Rattle.edges.specs.views.Tables.{lacks, stays, those}
 use Rattle.edges.proofs.NearestCut.{Nearest, nearest-start, nearest-from, nearest-skip, nearest-turn}
 use Rattle.edges.proofs.CutLists.{next-is}
 use Rattle.edges.proofs.cases.read_cut.Statement.{statement}

@@ -5,7 +5,7 @@ use lib.ListN.{length}
 use borrow.Author.Needs.{needs}
 use Rattle.masks.specs.Mask.{has}
 use Rattle.decision.specs.Edges.{leadsTo}
-use Rattle.edges.specs.VertexKey.{vertexKey, keyIn}
+use Rattle.edges.specs.views.VertexKey.{vertexKey, keyIn}
 use Rattle.edges.proofs.EdgeKeys.{without-fits, none-is}
 use Rattle.edges.proofs.keys.by_none.Statement.{statement}
 use Rattle.edges.proofs.keys.by_none.Tie as tie

@@ -1,7 +1,7 @@
 -- `edges::keys::by_other` meets its contract: all rules stay live.
 use mathlib.Core.Path.{ap, _∙_}
 use borrow.Author.Needs.{needs}
-use Rattle.edges.specs.VertexKey.{vertexKey, keyIn}
+use Rattle.edges.specs.views.VertexKey.{vertexKey, keyIn}
 use Rattle.edges.proofs.EdgeKeys.{other-is}
 use Rattle.edges.proofs.keys.by_other.Statement.{statement}
 use Rattle.edges.proofs.keys.by_other.Tie as tie

@@ -4,7 +4,7 @@ use mathlib.Core.Path.{ap, _∙_}
 use mathlib.Core.Bool.{_&&_, not}
 use borrow.Author.Needs.{needs}
 use Rattle.masks.specs.Mask.{has, maskOf}
-use Rattle.edges.specs.VertexKey.{vertexKey, keyIn}
+use Rattle.edges.specs.views.VertexKey.{vertexKey, keyIn}
 use Rattle.edges.proofs.EdgeKeys.{unknown-is}
 use Rattle.edges.proofs.keys.by_unknown.Statement.{statement}
 use Rattle.edges.proofs.keys.by_unknown.Tie as tie

@@ -14,10 +14,10 @@ use Rattle.lines.specs.Listing.{mostBytes, listed, listingBytes}
 use Rattle.lines.proofs.Wrote.{wrote-as}
 use Rattle.walk.specs.Walking.{walkReply}
 use Rattle.graph.proofs.FieldBytes.{bytes-all}
-use Rattle.builder.specs.declared.Built.the-variants.{Written}
-use Rattle.builder.specs.BuildOutcome.{buildOutcome}
-use Rattle.listing.specs.Turned.{builtOutput}
-use Rattle.listing.specs.Known.{GraphFor}
+use Rattle.build.specs.declared.Built.the-variants.{Written}
+use Rattle.build.specs.BuildOutcome.{buildOutcome}
+use Rattle.listing.specs.views.Turned.{builtOutput}
+use Rattle.listing.specs.views.Known.{GraphFor}
 use Rattle.listing.proofs.Turns.{from-start, counted, cut-length, cut-most}
 use Rattle.listing.proofs.Outcomes.{outcome, built-refused, built-written, built-accepted, bytes-take, cut-both}
 use Rattle.listing.proofs.whole.listing.Statement.{statement}

@@ -6,17 +6,17 @@ use native.Mathlib.Omega.{arith}
 use lib.ListN.{length, length-replicate}
 use denote.Ref.{now}
 use borrow.Author.Needs.{needs}
-use Rattle.tests.specs.TestedPlaces.{placesIn}
-use Rattle.tests.specs.CheckSheet.{acceptSheet, mostTests}
-use Rattle.tests.specs.TestsRead.{Held}
-use Rattle.tests.proofs.Checking.{read-counted, check-no, check-yes}
-use Rattle.accepted.specs.AcceptedAs.{AcceptedTests}
+use Rattle.sheet_tests.specs.views.TestedPlaces.{placesIn}
+use Rattle.sheet_tests.specs.CheckSheet.{acceptSheet, mostTests}
+use Rattle.sheet_tests.specs.views.TestsRead.{Held}
+use Rattle.sheet_tests.proofs.Checking.{read-counted, check-no, check-yes}
+use Rattle.accepted.specs.views.AcceptedAs.{AcceptedTests}
 use Rattle.accepted.proofs.FoundTests.{found-accepts}
 use Rattle.lines.specs.Lines.{sheetLine}
 use Rattle.lines.specs.Listing.{pieceLines}
 use Rattle.lines.proofs.Wrote.{wrote-as, wrote-behind}
 use Rattle.walk.specs.Walking.{walkReply}
-use Rattle.listing.specs.Turned.{linesAfter}
+use Rattle.listing.specs.views.Turned.{linesAfter}
 use Rattle.listing.proofs.Turns.{from-start}
 use Rattle.listing.proofs.Walks.{index-made, index-checked}
 use Rattle.listing.proofs.Outcomes.{lines-refused, lines-accepted}

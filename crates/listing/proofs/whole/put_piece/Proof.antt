@@ -8,10 +8,10 @@ use denote.Ref.{now}
 use borrow.Author.Needs.{needs}
 use Rattle.records.specs.Reading.{took}
 use Rattle.piece.specs.ReadPiece.{readPrefix}
-use Rattle.piece.specs.LaidOut.{prefixBytes}
-use Rattle.answer.specs.AcceptedBytes.{ReadAs}
-use Rattle.answer.specs.Plain.{answerOf}
-use Rattle.answer.proofs.PiecesRead.{read-narrow}
+use Rattle.piece.specs.views.LaidOut.{prefixBytes}
+use Rattle.plain.specs.AcceptedBytes.{ReadAs}
+use Rattle.plain.specs.Plain.{answerOf}
+use Rattle.plain.proofs.PiecesRead.{read-narrow}
 use Rattle.lines.specs.Lines.{pieceLine, refusedLine}
 use Rattle.lines.proofs.LeastPiece.{least-piece}
 use Rattle.walk.specs.Walking.{walkReply, walkedReading}

@@ -9,7 +9,7 @@ use Rattle.records.proofs.Parts.{rest, rest-length}
 use Rattle.lines.specs.Listing.{turnOf}
 use Rattle.lines.proofs.Progress.{Progress, at-start, at-end, at-refusal, at-piece}
 use Rattle.walk.specs.Walking.{walkReply}
-use Rattle.listing.specs.Turned.{Within}
+use Rattle.listing.specs.views.Turned.{Within}
 use Rattle.listing.proofs.Turns.{told-as, told-last, told-more}
 use Rattle.listing.proofs.whole.put_pieces.Statement.{statement}
 use Rattle.listing.proofs.whole.put_pieces.Tie as tie

@@ -1,7 +1,7 @@
 -- `whole::walk_read` meets its contract: question 20, then the walk over the graph.
 use mathlib.Core.Path.{subst, _∙_}
 use denote.Ref.{now}
-use Rattle.answer.specs.AcceptedBytes.{ReadAs}
+use Rattle.plain.specs.AcceptedBytes.{ReadAs}
 use Rattle.listing.proofs.Walks.{other-arity, same-arity}
 use Rattle.listing.proofs.whole.walk_read.Statement.{statement}
 use Rattle.listing.proofs.whole.walk_read.Tie as tie

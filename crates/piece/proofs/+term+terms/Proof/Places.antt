@@ -20,7 +20,7 @@ use Rattle.piece.specs.declared.TermRecord.{TermRecord}
 use Rattle.piece.specs.declared.TermRecord.the-variants.{Compound}
 use Rattle.piece.specs.declared.TermHead.the-variants.{Whole}
 use Rattle.piece.specs.TermRecord.{termHead}
-use Rattle.piece.specs.LaidOut.{tookCells, termCells, termsCells}
+use Rattle.piece.specs.views.LaidOut.{tookCells, termCells, termsCells}
 use Rattle.piece.proofs.Rooms.{row-room, step-of}
 use Rattle.piece.proofs.Heads.{record-within}
 use Rattle.piece.proofs.TermCells.{begins, later, arguments-read, others-read, term-fits, terms-fit}

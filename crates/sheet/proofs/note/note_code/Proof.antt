@@ -1,6 +1,6 @@
 -- The number of a note, by its record.
 use mathlib.Core.Path.{sym, ap, _∙_}
-use Rattle.sheet.specs.NoteCode.{recordCode}
+use Rattle.sheet.specs.views.NoteCode.{recordCode}
 use borrow.Author.Needs.{needs}
 use Rattle.sheet.proofs.note.note_code.Statement.{statement}
 use Rattle.sheet.proofs.note.note_code.Tie as tie

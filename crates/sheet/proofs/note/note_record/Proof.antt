@@ -1,6 +1,6 @@
 -- The record of a note, by the kind that its number holds.
 use borrow.Author.Tests.{ne-eqb}
-use Rattle.sheet.specs.NoteCode.{codeRecord}
+use Rattle.sheet.specs.views.NoteCode.{codeRecord}
 use borrow.Author.Needs.{needs}
 use Rattle.sheet.proofs.note.note_record.Statement.{statement}
 use Rattle.sheet.proofs.note.note_record.Tie as tie

@@ -1,7 +1,7 @@
 -- The bytes used before are added.
 use mathlib.Core.Path.{sym, ap, _∙_}
 use native.Mathlib.Omega.{arith}
-use Rattle.sheet.specs.NoteArray.{usedAfter, bytesUsed}
+use Rattle.sheet.specs.views.NoteArray.{usedAfter, bytesUsed}
 use borrow.Author.Needs.{needs}
 use Rattle.sheet.proofs.rule.after.Statement.{statement}
 use Rattle.sheet.proofs.rule.after.Tie as tie

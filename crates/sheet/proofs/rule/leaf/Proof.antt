@@ -3,8 +3,8 @@ use mathlib.Core.Path.{sym, ap, _∙_}
 use native.Mathlib.Omega.{arith}
 use denote.Ref.{now}
 use Rattle.sheet.specs.PatternRecord.{recordBytes}
-use Rattle.sheet.specs.NoteArray.{notesIn}
-use Rattle.sheet.specs.NotesBehind.{leafBehind}
+use Rattle.sheet.specs.views.NoteArray.{notesIn}
+use Rattle.sheet.specs.views.NotesBehind.{leafBehind}
 use Rattle.sheet.proofs.Leaves.{anything-yes, range-yes, range-no, variable-yes, variable-no, ranged-yes, ranged-no-range, ranged-no-variable}
 use borrow.Author.Needs.{needs}
 use Rattle.sheet.proofs.rule.leaf.Statement.{statement}

@@ -4,7 +4,7 @@ use Prim.Native.Nat.{ℕ, _+_}
 use native.Mathlib.Omega.{arith}
 use denote.Ref.{now}
 use lib.ListN.{set, length-set}
-use Rattle.sheet.specs.NoteArray.{notesIn}
+use Rattle.sheet.specs.views.NoteArray.{notesIn}
 use Rattle.sheet.proofs.NoteArrays.{notes-put}
 use borrow.Author.Needs.{needs}
 use Rattle.sheet.proofs.rule.put.Statement.{statement}

@@ -3,7 +3,7 @@ use mathlib.Core.Path.{sym, ap, _∙_}
 use native.Mathlib.Omega.{arith}
 use denote.Ref.{now}
 use borrow.Author.Tests.{not-true, not-false}
-use Rattle.sheet.specs.NoteArray.{bytesUsed, notesMade}
+use Rattle.sheet.specs.views.NoteArray.{bytesUsed, notesMade}
 use Rattle.sheet.proofs.NoteArrays.{was-used, was-refused}
 use Rattle.sheet.proofs.RuleReads.{from-none, patterns-no, ranges-yes, ranges-no}
 use borrow.Author.Needs.{needs}

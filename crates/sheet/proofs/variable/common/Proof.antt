@@ -1,7 +1,7 @@
 -- Question 9, by the ends of the common ranges.
 use mathlib.Core.Path.{ap, _∙_}
 use Rattle.sheet.specs.declared.Ranges.{Ranges}
-use Rattle.sheet.specs.NoteRanges.{endsMeet}
+use Rattle.sheet.specs.views.NoteRanges.{endsMeet}
 use borrow.Author.Needs.{needs}
 use Rattle.sheet.proofs.variable.common.Statement.{statement}
 use Rattle.sheet.proofs.variable.common.Tie as tie

@@ -7,7 +7,7 @@ use lib.Dec.{leb}
 use lib.ListN.{getD}
 use borrow.Author.Tests.{le-leb, lt-leb}
 use Rattle.sheet.specs.ReadSheet.{allBelow}
-use Rattle.sheet.specs.NoteRanges.{endsMeet}
+use Rattle.sheet.specs.views.NoteRanges.{endsMeet}
 use Rattle.sheet.proofs.AllBelow.{all-none, all-more, all-fails}
 use borrow.Author.Needs.{needs}
 use Rattle.sheet.proofs.variable.meet.Statement.{statement}

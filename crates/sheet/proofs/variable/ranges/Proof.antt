@@ -5,8 +5,8 @@ use mathlib.Core.Logic.{⊎-elim}
 use native.Mathlib.Omega.{arith}
 use denote.Ref.{now}
 use lib.ListN.{length, set}
-use Rattle.sheet.specs.NoteArray.{notesIn}
-use Rattle.sheet.specs.NoteRanges.{lowsOf, highsOf, lowEnd, highEnd}
+use Rattle.sheet.specs.views.NoteArray.{notesIn}
+use Rattle.sheet.specs.views.NoteRanges.{lowsOf, highsOf, lowEnd, highEnd}
 use Rattle.sheet.proofs.NoteArrays.{notes-none}
 use Rattle.sheet.proofs.RangeArrays.{lows-none, highs-none, no-range, ranges-kept, low-narrowed, high-narrowed, ranged-fits}
 use borrow.Author.Needs.{needs}

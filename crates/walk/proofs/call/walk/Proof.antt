@@ -2,7 +2,7 @@
 use Rattle.walk.proofs.Replies.{values-read, sheet-refuses, sheet-accepts}
 use Rattle.walk.specs.Walking.{replyValues}
 use Rattle.accepted.proofs.FoundTests.{found-accepts, found-refuses}
-use Rattle.tests.specs.TestsRead.{Counted}
+use Rattle.sheet_tests.specs.views.TestsRead.{Counted}
 use denote.Ref.{now}
 use native.Mathlib.Omega.{arith}
 use mathlib.Core.Path.{ap, subst, _∙_}

@@ -7,12 +7,12 @@ use lib.ListN.{length}
 use denote.Ref.{now}
 use Rattle.records.proofs.Parts.{rest}
 use Rattle.sheet.specs.ReadSheet.{readRules}
-use Rattle.tests.specs.TestsRead.{keptTests}
-use Rattle.graph.specs.Rewriting.{readOr}
+use Rattle.sheet_tests.specs.views.TestsRead.{keptTests}
+use Rattle.graph.specs.views.Rewriting.{readOr}
 use Rattle.graph.proofs.FieldBytes.{bytes-all}
-use Rattle.walk.specs.Following.{cellsEnd, nodesAt}
-use Rattle.walk.specs.LeafAnswers.{endWalk}
-use Rattle.walk.specs.Ready.{Ready}
+use Rattle.walk.specs.views.Following.{cellsEnd, nodesAt}
+use Rattle.walk.specs.views.LeafAnswers.{endWalk}
+use Rattle.walk.specs.views.Ready.{Ready}
 use Rattle.walk.proofs.Replies.{checked-graph, ready-made, graph-walked}
 use borrow.Author.Needs.{needs}
 use Rattle.walk.proofs.call.walk_checked.Statement.{statement}

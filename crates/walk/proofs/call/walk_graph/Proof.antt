@@ -3,7 +3,7 @@ use Prim.Native.Nat.{ℕ}
 use native.Mathlib.Omega.{arith}
 use lib.ListN.{length-replicate}
 use denote.Ref.{now}
-use Rattle.counter.proofs.FoundGraph.{index-accepts, index-refuses}
+use Rattle.graph_check.proofs.FoundGraph.{index-accepts, index-refuses}
 use Rattle.walk.proofs.Replies.{graph-refuses}
 use borrow.Author.Needs.{needs}
 use Rattle.walk.proofs.call.walk_graph.Statement.{statement}

@@ -1,10 +1,10 @@
 -- `walk::call::walk_nodes` meets its contract: the walk is refused on the way, or answered at its leaf.
 use Rattle.walk.proofs.LeafRules.{reached-leaf}
 use Rattle.walk.proofs.OwnWaits.{kept-length}
-use Rattle.walk.specs.LeafAnswers.{endWalk}
-use Rattle.walk.specs.Following.{endedOf, nodesAt}
-use Rattle.graph.specs.Rewriting.{readOr}
-use Rattle.tests.specs.TestsRead.{keptTests}
+use Rattle.walk.specs.views.LeafAnswers.{endWalk}
+use Rattle.walk.specs.views.Following.{endedOf, nodesAt}
+use Rattle.graph.specs.views.Rewriting.{readOr}
+use Rattle.sheet_tests.specs.views.TestsRead.{keptTests}
 use Rattle.sheet.specs.ReadSheet.{readRules}
 use Rattle.records.specs.Reading.{took}
 use denote.Ref.{now}

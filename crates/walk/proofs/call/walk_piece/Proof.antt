@@ -1,7 +1,7 @@
 -- `walk::call::walk_piece` meets its contract: the piece is refused, or the graph is asked about.
 use Rattle.walk.proofs.Replies.{piece-refuses, arities-differ, piece-accepts}
-use Rattle.answer.specs.AcceptedBytes.{ReadAs}
-use Rattle.answer.proofs.PiecesRead.{reader-refused, reader-accepted, read-narrow}
+use Rattle.plain.specs.AcceptedBytes.{ReadAs}
+use Rattle.plain.proofs.PiecesRead.{reader-refused, reader-accepted, read-narrow}
 use Rattle.records.specs.Fields.{IsByte}
 use lib.ListN.{getD}
 use denote.Ref.{now}

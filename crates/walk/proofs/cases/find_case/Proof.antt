@@ -7,7 +7,7 @@ use denote.Ref.{now}
 use lib.ListN.{drop}
 use lib.Dec.{leb}
 use Rattle.records.proofs.Parts.{rest}
-use Rattle.nodes.specs.declared.CaseRange.{CaseRange}
+use Rattle.node_check.specs.declared.CaseRange.{CaseRange}
 use Rattle.graph.specs.declared.CaseHead.the-variants.{Whole}
 use Rattle.graph.specs.NodeRecord.{caseHead}
 use Rattle.walk.proofs.CasesLeft.{Passed, passed-starts, passed-ends, passed-whole, passed-inside, passed-takes, passed-next, range-takes, range-leads}

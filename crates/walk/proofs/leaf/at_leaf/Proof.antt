@@ -1,6 +1,6 @@
 -- `walk::leaf::at_leaf` meets its contract, for each leaf.
-use Rattle.walk.specs.LeafAnswers.{leafWalk, LeafIn}
-use Rattle.graph.specs.Rewriting.{readOr}
+use Rattle.walk.specs.views.LeafAnswers.{leafWalk, LeafIn}
+use Rattle.graph.specs.views.Rewriting.{readOr}
 use Rattle.graph.specs.declared.Leaf.{Leaf}
 use Rattle.graph.specs.ReadGraph.{leafOf}
 use Rattle.sheet.specs.ReadSheet.{readRules}

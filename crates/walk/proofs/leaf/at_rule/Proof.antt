@@ -1,10 +1,10 @@
 -- `walk::leaf::at_rule` meets its contract, for each outcome.
-use Rattle.walk.specs.LeafAnswers.{ownWaits, executed}
-use Rattle.graph.specs.Rewriting.{readOr}
-use Rattle.answer.specs.NotesOutcome.{notesOutcome}
-use Rattle.cells.specs.CellOutcome.{outcomeOf}
+use Rattle.walk.specs.views.LeafAnswers.{ownWaits, executed}
+use Rattle.graph.specs.views.Rewriting.{readOr}
+use Rattle.plain.specs.views.NotesOutcome.{notesOutcome}
+use Rattle.outcomes.specs.views.CellOutcome.{outcomeOf}
 use Rattle.sheet.specs.ReadSheet.{readRules}
-use Rattle.sheet.specs.Noted.{ruleNotes}
+use Rattle.sheet.specs.views.Noted.{ruleNotes}
 use Rattle.terms.specs.Answer.{ruleAt}
 use Rattle.terms.specs.Outcome.{Outcome}
 use denote.Ref.{now}

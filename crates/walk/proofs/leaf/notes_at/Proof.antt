@@ -1,8 +1,8 @@
 -- `walk::leaf::notes_at` meets its contract: the rule that is sought stands among those that are left.
 use Rattle.walk.proofs.RulesLeft.{Seeking, seeking-starts, seeking-there, seeking-found, seeking-next}
-use Rattle.tests.proofs.Scanning.{bytes-known, rule-read, rule-refused}
+use Rattle.sheet_tests.proofs.Scanning.{bytes-known, rule-read, rule-refused}
 use Rattle.sheet.specs.ReadSheet.{readRule}
-use Rattle.sheet.specs.Noted.{ruleNotes}
+use Rattle.sheet.specs.views.Noted.{ruleNotes}
 use Rattle.terms.specs.Pattern.{pnil}
 use lib.ListN.{length}
 use denote.Ref.{now}

@@ -4,11 +4,11 @@ use mathlib.Core.Path.{sym, ap, _∙_}
 use mathlib.Core.Logic.{inl, inr}
 use denote.Ref.{now}
 use borrow.Author.Tests.{eq-eqb, ne-eqb}
-use Rattle.tests.specs.SheetTests.{pair}
+use Rattle.sheet_tests.specs.SheetTests.{pair}
 use Rattle.places.specs.Numbering.{levelsAt}
-use Rattle.cells.specs.Look.{look}
-use Rattle.cells.specs.CompareCells.{compareAt}
-use Rattle.cells.specs.CellOutcome.{outcomeOf}
+use Rattle.outcomes.specs.views.Look.{look}
+use Rattle.outcomes.specs.views.CompareCells.{compareAt}
+use Rattle.outcomes.specs.views.CellOutcome.{outcomeOf}
 use Rattle.walk.proofs.NodeSteps.{pair-lacking, pair-there}
 use borrow.Author.Needs.{needs}
 use Rattle.walk.proofs.node.pair_step.Statement.{statement}

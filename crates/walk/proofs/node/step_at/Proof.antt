@@ -4,15 +4,15 @@ use mathlib.Core.Path.{_≡_, sym, ap, subst, _∙_}
 use mathlib.Core.List.{List, []}
 use denote.Ref.{now}
 use lib.ListN.{drop}
-use Rattle.cells.specs.Look.{look}
+use Rattle.outcomes.specs.views.Look.{look}
 use Rattle.records.proofs.Parts.{rest}
 use Rattle.graph.specs.declared.NodeRecord.the-variants.{Switch, Pair}
 use Rattle.graph.specs.declared.NodeHead.the-variants.{Whole}
-use Rattle.graph.specs.Rewriting.{readOr}
+use Rattle.graph.specs.views.Rewriting.{readOr}
 use Rattle.graph.specs.ReadGraph.{readCases}
 use Rattle.graph.specs.NodeRecord.{nodeHead}
-use Rattle.nodes.proofs.CopiedNodes.{node-there}
-use Rattle.walk.specs.CodeSteps.{stepCells, openAt, NearNode, codeStep}
+use Rattle.node_check.proofs.CopiedNodes.{node-there}
+use Rattle.walk.specs.views.CodeSteps.{stepCells, openAt, NearNode, codeStep}
 use Rattle.walk.proofs.NodeSteps.{leaf-node, pair-node, switch-node, cases-inside, cases-begin, cases-read}
 use borrow.Author.Needs.{needs}
 use Rattle.walk.proofs.node.step_at.Statement.{statement}

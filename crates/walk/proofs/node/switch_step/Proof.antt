@@ -7,9 +7,9 @@ use denote.Ref.{now}
 use lib.ListN.{drop}
 use borrow.Author.Tests.{eq-eqb, ne-eqb}
 use Rattle.decision.specs.Path.{goTo}
-use Rattle.piece.specs.Cells.{unknownCode}
-use Rattle.tests.specs.SheetTests.{place}
-use Rattle.graph.specs.Rewriting.{readOr}
+use Rattle.piece.specs.views.Cells.{unknownCode}
+use Rattle.sheet_tests.specs.SheetTests.{place}
+use Rattle.graph.specs.views.Rewriting.{readOr}
 use Rattle.graph.specs.ReadGraph.{readCases}
 use Rattle.walk.proofs.NodeSteps.{switch-lacking, switch-on}
 use borrow.Author.Needs.{needs}

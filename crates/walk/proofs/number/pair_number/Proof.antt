@@ -5,9 +5,9 @@ use mathlib.Core.List.{map}
 use native.Mathlib.Omega.{arith}
 use denote.Ref.{now}
 use lib.ListN.{take, drop}
-use Rattle.tests.specs.KeptPairs.{codePair}
-use Rattle.tests.specs.SheetTests.{pair}
-use Rattle.walk.specs.TestNumbers.{numberIn}
+use Rattle.sheet_tests.specs.views.KeptPairs.{codePair}
+use Rattle.sheet_tests.specs.SheetTests.{pair}
+use Rattle.walk.specs.views.TestNumbers.{numberIn}
 use Rattle.walk.proofs.KeptNumbers.{search-starts, search-here, search-next, search-ends}
 use borrow.Author.Needs.{needs}
 use Rattle.walk.proofs.number.pair_number.Statement.{statement}

@@ -3,7 +3,7 @@ use Prim.Native.Nat.{_+_, _-_, _/_, _≤_}
 use mathlib.Core.Path.{_≡_}
 use native.Mathlib.Omega.{arith}
 use denote.Ref.{now}
-use Rattle.tests.proofs.PlaceSets.{placesBelow, places-below-few, places-next}
+use Rattle.sheet_tests.proofs.PlaceSets.{placesBelow, places-below-few, places-next}
 use Rattle.walk.proofs.KeptNumbers.{places-under, places-under-few}
 use borrow.Author.Needs.{needs}
 use Rattle.walk.proofs.number.places_under.Statement.{statement}

@@ -5,14 +5,14 @@ use mathlib.Core.Bool.{_||_}
 use native.Mathlib.Omega.{arith}
 use denote.Ref.{now}
 use lib.Dec.{eqb}
-use Rattle.tests.specs.TestedPlaces.{hasPlace}
-use Rattle.tests.specs.SheetTests.{place, pair}
+use Rattle.sheet_tests.specs.views.TestedPlaces.{hasPlace}
+use Rattle.sheet_tests.specs.SheetTests.{place, pair}
 use Rattle.masks.specs.Mask.{has, maskOf}
 use Rattle.decision.proofs.Sets.{true-is}
 use Rattle.walk.specs.declared.Open.{Open}
-use Rattle.tests.specs.TestsRead.{keptTests}
-use Rattle.walk.specs.TestNumbers.{KeptOpen, withTest}
-use Rattle.walk.specs.CodeSteps.{openOf}
+use Rattle.sheet_tests.specs.views.TestsRead.{keptTests}
+use Rattle.walk.specs.views.TestNumbers.{KeptOpen, withTest}
+use Rattle.walk.specs.views.CodeSteps.{openOf}
 use Rattle.walk.proofs.KeptNumbers.{place-number, pair-number, kept-mem}
 use Rattle.walk.proofs.Numbers.{number-there}
 use borrow.Author.Needs.{needs}

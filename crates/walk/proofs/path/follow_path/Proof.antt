@@ -4,9 +4,9 @@ use Prim.Native.Nat.{_-_}
 use mathlib.Core.Path.{refl, sym, ap, _∙_}
 use native.Mathlib.Omega.{arith}
 use denote.Ref.{now}
-use Rattle.tests.specs.TestsRead.{keptTests}
-use Rattle.walk.specs.Following.{nodesAt}
-use Rattle.walk.specs.CodeSteps.{stepOf, openIn}
+use Rattle.sheet_tests.specs.views.TestsRead.{keptTests}
+use Rattle.walk.specs.views.Following.{nodesAt}
+use Rattle.walk.specs.views.CodeSteps.{stepOf, openIn}
 use Rattle.walk.proofs.GoingOn.{Going}
 use borrow.Author.Needs.{needs}
 use Rattle.walk.proofs.path.follow_path.Statement.{statement}

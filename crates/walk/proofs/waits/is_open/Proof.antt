@@ -1,10 +1,10 @@
 -- `walk::waits::is_open` meets its contract: a place, or a pair with each outcome.
 use Rattle.walk.proofs.OpenSets.{listed-place, listed-pair}
-use Rattle.walk.specs.TestNumbers.{NearTest}
-use Rattle.walk.specs.CodeSteps.{openCells}
+use Rattle.walk.specs.views.TestNumbers.{NearTest}
+use Rattle.walk.specs.views.CodeSteps.{openCells}
 use Rattle.decision.specs.Walk.{isNotKnown}
-use Rattle.cells.specs.CellOutcome.{outcomeOf}
-use Rattle.piece.specs.Cells.{unknownCode}
+use Rattle.outcomes.specs.views.CellOutcome.{outcomeOf}
+use Rattle.piece.specs.views.Cells.{unknownCode}
 use lib.Dec.{eqb}
 use denote.Ref.{now}
 use native.Mathlib.Omega.{arith}

@@ -1,7 +1,7 @@
 -- `walk::waits::open_tests` meets its contract: a loop over the tests that builds the set.
 use Rattle.walk.proofs.OpenSets.{set-turn}
-use Rattle.walk.specs.LeafAnswers.{listedTest}
-use Rattle.walk.specs.CodeSteps.{openCells}
+use Rattle.walk.specs.views.LeafAnswers.{listedTest}
+use Rattle.walk.specs.views.CodeSteps.{openCells}
 use Rattle.masks.proofs.Loops.{maskOf-none, turns-done}
 use Rattle.masks.specs.Mask.{maskOf}
 use denote.Ref.{now}

@@ -1,12 +1,12 @@
 -- `walk::waits::own_waits` meets its contract: the tests of the rule, and those that are not known.
 use Rattle.walk.proofs.OwnWaits.{open-listed, near-listed}
-use Rattle.walk.specs.LeafAnswers.{openSet, ownTests, ownWaits}
-use Rattle.tables.proofs.CompiledRight.{new-small}
-use Rattle.tables.specs.Row.{rowOf}
-use Rattle.tables.specs.Numbers.{numberAll, Small}
-use Rattle.tests.specs.TestsRead.{keptTests}
-use Rattle.tests.specs.TestedPlaces.{placesIn}
-use Rattle.sheet.specs.NoteArray.{notesIn}
+use Rattle.walk.specs.views.LeafAnswers.{openSet, ownTests, ownWaits}
+use Rattle.compiled.proofs.CompiledRight.{new-small}
+use Rattle.compiled.specs.views.Row.{rowOf}
+use Rattle.compiled.specs.views.Numbers.{numberAll, Small}
+use Rattle.sheet_tests.specs.views.TestsRead.{keptTests}
+use Rattle.sheet_tests.specs.views.TestedPlaces.{placesIn}
+use Rattle.sheet.specs.views.NoteArray.{notesIn}
 use Rattle.masks.specs.Mask.{has, maskOf}
 use lib.ListN.{take, replicate, length-replicate}
 use denote.Ref.{now}

@@ -1,5 +1,5 @@
 -- `walk::waits::with_if` meets its contract.
-use Rattle.walk.specs.LeafAnswers.{withIf}
+use Rattle.walk.specs.views.LeafAnswers.{withIf}
 use mathlib.Core.Bool.{Bool}
 use mathlib.Core.Path.{sym, ap, _∙_}
 use borrow.Author.Needs.{needs}

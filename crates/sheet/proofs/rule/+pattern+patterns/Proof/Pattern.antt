@@ -9,7 +9,7 @@ use Rattle.records.proofs.Parts.{rest-length}
 use Rattle.sheet.specs.declared.PatternRecord.the-variants.{Compound}
 use Rattle.sheet.specs.declared.PatternHead.the-variants.{Whole}
 use Rattle.sheet.specs.PatternRecord.{patternHead}
-use Rattle.sheet.specs.NoteArray.{notesIn, tookNotes, bytesUsed, notesMade}
+use Rattle.sheet.specs.views.NoteArray.{notesIn, tookNotes, bytesUsed, notesMade}
 use Rattle.sheet.proofs.Heads.{head-whole}
 use Rattle.sheet.proofs.NoteArrays.{was-after, after-used, after-made}
 use Rattle.sheet.proofs.Compounds.{flat-tag, head-no, lowest-read, flat-read, arity-no, arguments-yes, arguments-no}

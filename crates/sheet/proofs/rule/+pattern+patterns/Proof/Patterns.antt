@@ -5,7 +5,7 @@ use native.Mathlib.Omega.{arith}
 use denote.Ref.{now}
 use Rattle.places.specs.Numbering.{stride}
 use Rattle.records.proofs.Parts.{rest-length}
-use Rattle.sheet.specs.NoteArray.{notesIn, tookNotes, bytesUsed, notesMade}
+use Rattle.sheet.specs.views.NoteArray.{notesIn, tookNotes, bytesUsed, notesMade}
 use Rattle.sheet.proofs.NoteArrays.{was-used, was-refused, was-after, after-used, after-made}
 use Rattle.sheet.proofs.Rows.{row-room, row-step, part-read, none-read, first-no, others-yes, others-no}
 use Rattle.sheet.proofs.rule.patterns.Reads as patterns

@@ -1,5 +1,0 @@
--- From keys to the graph's bytes:
-pub mod SheetTables
-pub mod GrownBytes
--- What a build that is not refused wrote:
-pub mod BuiltBytes

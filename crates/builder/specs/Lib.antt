@@ -1,3 +1,0 @@
--- What building answers, and the buffer that it leaves.
-pub mod BuildOutcome
-pub mod Tabled

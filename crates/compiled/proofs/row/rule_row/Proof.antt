@@ -1,0 +1,25 @@
+-- The place tests, then the pairs.
+use mathlib.Core.Path.{ap, _∙_}
+use lib.ListN.{take}
+use Rattle.sheet.specs.views.NoteArray.{notesIn}
+use Rattle.sheet_tests.specs.views.NoteTests.{notesCodes}
+use Rattle.compiled.specs.views.Row.{withTests, pairNumbers, rowOf}
+use Rattle.compiled.proofs.row.rule_row.Statement.{statement}
+use Rattle.compiled.proofs.row.rule_row.Tie as tie
+
+places-row-requires : tie.Need-places-row-requires
+places-row-requires c κs = let pre = c .pre in (pre .0, pre .1, pre .2, pre .3)
+
+pairs-row-requires : tie.Need-pairs-row-requires
+pairs-row-requires c κs = let pre = c .before .pre in (pre .0, pre .1, pre .2, pre .4, pre .5, pre .6)
+
+returns : tie.Need-returns
+unfolding rowOf
+returns c =
+    let a = c .before .before .args in
+    let notes = notesIn (a .notes .now) (a .n) in
+    let kept = take (a .pairs) (a .codes .now) in
+    c .pairs-row .ensures ∙ ap (withTests (pairNumbers (a .count) kept (notesCodes notes))) (c .before .places-row .ensures)
+
+pub rule-row-spec : {M : Type 1} → statement M
+rule-row-spec = tie.close (tie.spec places-row-requires pairs-row-requires returns)

@@ -1,0 +1,5 @@
+-- How the code keeps things.
+pub mod Numbers
+pub mod Wants
+pub mod Row
+pub mod RuleTables

@@ -1,4 +1,0 @@
--- What the calls over a sheet and a graph say.
-pub mod CheckGraph
-pub mod GraphIndex
-pub mod Rewritten

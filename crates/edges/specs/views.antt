@@ -1,0 +1,6 @@
+-- How the code keeps things.
+pub mod VertexKey
+pub mod Codes
+pub mod Compiled
+pub mod Tables
+pub mod FirstCase

@@ -1,0 +1,2 @@
+-- The definitions that the contracts of `lay` cite.
+pub mod views

@@ -1,0 +1,107 @@
+-- The vertices of a sheet's graph: each is that of a key whose live rules are rules of the sheet.
+use Prim.Native.Nat.{ℕ, _^_, _≤_, _<_}
+use mathlib.Core.Path.{_≡_, refl, sym, ap, _∙_}
+use mathlib.Core.Bool.{Bool, true, false, _&&_, not}
+use mathlib.Core.List.{List, [], _∷_, map}
+use mathlib.Core.Option.{Option, some, none}
+use lib.ListN.{length}
+use Rattle.masks.specs.Mask.{has}
+use Rattle.masks.proofs.Extensionality.{maskOf-lt}
+use Rattle.terms.specs.Lists.{All}
+use Rattle.terms.specs.Pattern.{Patterns}
+use Rattle.terms.proofs.ListLaws.{all-join}
+use Rattle.sheet_tests.specs.SheetTests.{Test, place, pair}
+use Rattle.decision.specs.Rules.{testAt, hasTest, wantAt, rulesWhere}
+use Rattle.decision.specs.Key.{Key, Vertex, leaf, asking, rootKey, vertexOf, sameKey, sameVertex}
+use Rattle.decision.specs.Cases.{Case, casesOf}
+use Rattle.decision.specs.Node.{CaseEdge, edges}
+use Rattle.decision.specs.Edges.{firstIn, settledByUnknown, keeps, liveWants, butTest}
+use Rattle.decision.specs.Edges.{byCase, byNone, byUnknown, byOther, askNode, askFirst}
+use Rattle.decision.specs.Graph.{nextVertices, lowestFirst, explore, vertices, mostNodes}
+use Rattle.decision.proofs.EdgeKeys.{LedTo, ledKey, led-means}
+use Rattle.decision.proofs.ExploreMap.{named, explore-named}
+use Rattle.keys.specs.views.KeyGraph.{nameOf, vertexIn, nextKeys}
+use Rattle.keys.proofs.Names.{named-vertex, told-apart}
+
+module _ (rules : List Patterns) where
+  -- An edge leads to the vertex with rules of the sheet live.
+  abbrev pub Occurs : Vertex → Type 0
+  Occurs v = (led : LedTo rules v) × (led .live < 2 ^ length rules)
+
+  -- The live rules of a vertex that asks are rules of the sheet.
+  pub asking-fits : (key : Key) → Occurs (asking key) → key .live < 2 ^ length rules
+  asking-fits key o = rw (ap (λ (k : Key). k .live) (led-means rules (o .0) .0)) (o .1)
+
+  abbrev order : List ℕ
+  order = lowestFirst rules
+
+  -- So it is by a case,
+  case-occurs : (key : Key) (t n : ℕ) (c : Case) → Occurs (byCase rules key t n c)
+  case-occurs key t n c =
+      let live : ℕ = rulesWhere rules (λ i. has (key .live) i && keeps c (wantAt rules i n)) in
+      (record { live = live; isLeft = butTest rules key t; is = refl }, maskOf-lt (length rules) (λ i. has (key .live) i && keeps c (wantAt rules i n)))
+
+  -- by neither, or a pair's no,
+  none-occurs : (key : Key) (t : ℕ) → Occurs (byNone rules key t)
+  none-occurs key t =
+      let live : ℕ = rulesWhere rules (λ i. has (key .live) i && not (hasTest rules i t)) in
+      (record { live = live; isLeft = butTest rules key t; is = refl }, maskOf-lt (length rules) (λ i. has (key .live) i && not (hasTest rules i t)))
+
+  -- by unknown,
+  unknown-occurs : (key : Key) → key .live < 2 ^ length rules → (n : ℕ) → Occurs (byUnknown rules key n)
+  unknown-occurs key fits n = (
+    record {
+      live = key .live;
+      isLeft = λ u. has (key .pending) u && not (settledByUnknown n (testAt rules u));
+      is = refl;
+    },
+    fits,
+  )
+
+  -- and by a pair's other.
+  other-occurs : (key : Key) → key .live < 2 ^ length rules → (t : ℕ) → Occurs (byOther rules key t)
+  other-occurs key fits t = (record { live = key .live; isLeft = butTest rules key t; is = refl }, fits)
+
+  abbrev edgesTo : Key → ℕ → ℕ → List Case → List (CaseEdge Vertex)
+  edgesTo key t n cs = map (λ (c : Case). record { case = c; target = byCase rules key t n c }) cs
+
+  cases-occur
+      : (key : Key) (t n : ℕ) (cs : List Case)
+      → All Occurs (map (λ (e : CaseEdge Vertex). e .target) (edgesTo key t n cs))
+  cases-occur key t n [] = tt
+  cases-occur key t n (c ∷ cs) = (case-occurs key t n c, cases-occur key t n cs)
+
+  asked-occur
+      : (key : Key) → key .live < 2 ^ length rules → (t : ℕ) (test : Test) → All Occurs (edges (askNode rules key t test))
+  asked-occur key fits t (place n) =
+      let cs = casesOf (liveWants rules (key .live) n) in
+      all-join Occurs (map (λ (e : CaseEdge Vertex). e .target) (edgesTo key t n cs))
+      (byNone rules key t ∷ byUnknown rules key n ∷ []) (cases-occur key t n cs)
+      (none-occurs key t, (unknown-occurs key fits n, tt))
+  asked-occur key fits t (pair p q) = (none-occurs key t, (other-occurs key fits t, tt))
+
+  -- So all edges lead to vertices that occur where they start at one,
+  pub edges-occur : (v : Vertex) → Occurs v → All Occurs (nextVertices rules order v)
+  edges-occur (leaf l) o = tt
+  edges-occur (asking key) o = go (firstIn (key .pending) order)
+    where
+      go : (x : Option ℕ) → All Occurs (edges (askFirst rules key x))
+      go none = tt
+      go (some t) = asked-occur key (asking-fits key o) t (testAt rules t)
+
+  -- and the root occurs.
+  pub root-occurs : Occurs (vertexOf rules (rootKey rules))
+  root-occurs = (record { live = rulesWhere rules (λ i. true); isLeft = λ t. true; is = refl }, maskOf-lt (length rules) (λ i. true))
+
+  abbrev root : Vertex
+  root = vertexOf rules (rootKey rules)
+
+  -- Breadth first over keys finds the keys of the vertices.
+  pub keys-explored
+      : length rules ≤ 64
+      → explore sameKey (nextKeys rules) mostNodes (nameOf root ∷ []) (nameOf root ∷ []) ≡ named nameOf (vertices rules order)
+  keys-explored few =
+      explore-named sameVertex (nextVertices rules order) sameKey (nextKeys rules) nameOf Occurs
+      (λ v w p q. told-apart rules few v w (p .0) (q .0))
+      (λ v p. ap (λ (u : Vertex). map nameOf (nextVertices rules order u)) (named-vertex rules few v (p .0)))
+      edges-occur mostNodes (root ∷ []) (root ∷ []) (root-occurs, tt) (root-occurs, tt)

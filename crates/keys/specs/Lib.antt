@@ -1,0 +1,2 @@
+-- The definitions that the contracts of `build` cite.
+pub mod views

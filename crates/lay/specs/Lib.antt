@@ -1,3 +1,0 @@
--- The definitions that the contracts of `lay` cite.
-pub mod Laid
-pub mod Written

@@ -1,0 +1,89 @@
+-- A node that is read and written again: its record, and behind it a switch's cases.
+use Prim.Native.Nat.{ℕ, _+_, _≤_}
+use mathlib.Core.Path.{_≡_, refl, sym, ap, subst, _∙_}
+use mathlib.Core.Bool.{Bool, true, false}
+use mathlib.Core.List.{List, [], _∷_, _++_}
+use native.Mathlib.Omega.{arith}
+use lib.Dec.{leb}
+use lib.ListN.{length, drop, length-append}
+use Rattle.records.specs.Fields.{IsByte, wideThen}
+use Rattle.records.specs.Reading.{Reading, took, refused, ask, after}
+use Rattle.records.specs.Writing.{splice}
+use Rattle.records.proofs.Writing.{splice-more}
+use Rattle.terms.specs.Lists.{All}
+use Rattle.decision.specs.Key.{fail}
+use Rattle.decision.specs.Node.{Node, CaseEdge, end, switch}
+use Rattle.decision.specs.GraphBytes.{casesBytes, nodeBytes}
+use Rattle.graph.specs.declared.Leaf.{Leaf}
+use Rattle.graph.specs.declared.Leaf.the-variants.{Fail, Suspend, Execute}
+use Rattle.graph.specs.declared.NodeRecord.the-variants.{End, Switch, Pair}
+use Rattle.graph.specs.declared.NodeHead.the-variants.{Whole, Refused}
+use Rattle.graph.specs.NodeRecord.{nodeHead}
+use Rattle.graph.specs.ReadGraph.{onNode, readCases}
+use Rattle.graph.specs.views.WriteNode.{nodeRecordBytes}
+use Rattle.graph.specs.views.Rewriting.{IsTook, readOr, readRecord}
+use Rattle.graph.proofs.FieldBytes.{bytes-drop}
+use Rattle.graph.proofs.Spelling.{GoodRow, begins-read}
+use Rattle.graph.proofs.SpelledCases.{EdgeFields, cases-spelled}
+use Rattle.node_check.proofs.NodeHeads.{node-refused}
+
+-- Two records one behind the other are one record of the bytes of both.
+pub both-written
+    : (before : List ℕ) (start : ℕ) (first second : List ℕ) {buf buf′ whole : List ℕ} {at at′ : ℕ}
+    → start + length first ≤ length before
+    → at ≡ start + length first → buf ≡ splice before start first → at′ ≡ at + length second → buf′ ≡ splice buf at second
+    → first ++ second ≡ whole → (at′ ≡ start + length whole) × (buf′ ≡ splice before start whole)
+both-written before start first second fits e f g k joined = (
+  omega (arith, length-append first second, ap length joined),
+  k
+      ∙ (λ i. splice (f i) (e i) second)
+      ∙ splice-more before start first second fits
+      ∙ ap (splice before start) joined,
+)
+
+-- The bytes of the node that s begins with.
+abbrev pub nodeAt : List ℕ → List ℕ
+nodeAt s = nodeBytes (readOr (end fail) (readRecord s))
+
+module _ (s : List ℕ) where
+  -- A node that is there to be read is not refused.
+  pub node-there : IsTook (readRecord s) → {q : ℕ} → nodeHead s ≡ Refused q → ⊥
+  node-there there e = subst IsTook (node-refused s e) there
+
+  -- A leaf and a pair are their records.
+  pub leaf-bytes : (l : Leaf) → nodeHead s ≡ Whole (End l) → nodeRecordBytes (End l) ≡ nodeAt s
+  leaf-bytes Fail e = sym (ap (λ h. nodeBytes (readOr (end fail) (onNode s h))) e)
+  leaf-bytes Suspend e = sym (ap (λ h. nodeBytes (readOr (end fail) (onNode s h))) e)
+  leaf-bytes (Execute i) e = sym (ap (λ h. nodeBytes (readOr (end fail) (onNode s h))) e)
+
+  pub pair-bytes : {p q x y : ℕ} → nodeHead s ≡ Whole (Pair p q x y) → nodeRecordBytes (Pair p q x y) ≡ nodeAt s
+  pair-bytes e = sym (ap (λ h. nodeBytes (readOr (end fail) (onNode s h))) e)
+
+  -- A switch is its record and its cases, which are there to be read.
+  module _ {n count x y : ℕ} (e : nodeHead s ≡ Whole (Switch n count x y)) (there : IsTook (readRecord s)) where
+    abbrev Cases : Reading (List (CaseEdge ℕ)) → Reading (Node ℕ)
+    Cases r = after 8 (λ cs. switch n cs x y) r
+
+    asked : (b : Bool) (r : Reading (List (CaseEdge ℕ))) → IsTook (ask 22 b (Cases r)) → IsTook r
+    asked true (took a cs) h = tt
+    asked true (refused q) h = h
+    asked false r h = absurd h
+
+    pub cases-there : IsTook (readCases count (drop 8 s))
+    cases-there = asked (leb 1 count) (readCases count (drop 8 s)) (subst (λ h. IsTook (onNode s h)) e there)
+
+    pub switch-bytes
+        : All IsByte s → nodeRecordBytes (Switch n count x y) ++ casesBytes (readOr [] (readCases count (drop 8 s))) ≡ nodeAt s
+    switch-bytes h =
+        sym
+        (ap (λ k. nodeBytes (readOr (end fail) (onNode s k))) e
+        ∙ go (leb 1 count) (readCases count (drop 8 s)) refl (subst (λ k. IsTook (onNode s k)) e there))
+      where
+        go
+            : (b : Bool) (r : Reading (List (CaseEdge ℕ))) → readCases count (drop 8 s) ≡ r → IsTook (ask 22 b (Cases r))
+            → nodeBytes (readOr (end fail) (ask 22 b (Cases r))) ≡ nodeRecordBytes (Switch n count x y) ++ casesBytes (readOr [] r)
+        go true (took a cs) f t =
+            let row = begins-read casesBytes (GoodRow EdgeFields count) (cases-spelled count) (drop 8 s) (bytes-drop 8 s h) f in
+            ap (λ (k : ℕ). 0x43 ∷ wideThen n (k ∷ wideThen x (wideThen y (casesBytes cs)))) (row .good .0)
+        go true (refused q) f t = absurd t
+        go false r f t = absurd t

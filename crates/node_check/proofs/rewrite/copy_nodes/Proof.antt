@@ -1,0 +1,77 @@
+-- `graph::rewrite::copy_nodes` meets its contract: the nodes that are left, written behind those that were, complete them.
+use Rattle.node_check.proofs.Copying.{Copied, copied-starts, first-there, read-there, copied-next, copied-ends}
+use Rattle.graph.proofs.SpelledNodes.{NodeFields, node-spelled}
+use Rattle.graph.proofs.FieldBytes.{bytes-all}
+use Rattle.graph.specs.views.Rewriting.{readRecord}
+use Rattle.decision.specs.GraphBytes.{nodeBytes, nodesBytes}
+use Rattle.decision.specs.Node.{end}
+use Rattle.decision.specs.Key.{fail}
+use lib.ListN.{length, drop}
+use Prim.Native.Nat.{_-_}
+use denote.Ref.{now}
+use native.Mathlib.Omega.{arith}
+use mathlib.Core.Path.{_≡_, refl, _∙_}
+use borrow.Author.Needs.{needs}
+use Rattle.node_check.proofs.rewrite.copy_nodes.Statement.{statement}
+use Rattle.node_check.proofs.rewrite.copy_nodes.Tie as tie
+
+abbrev Inv-loop : tie.InvT-loop
+Inv-loop s buf₀ start count at₀ i₀ buf at i =
+    (length buf ≡ length buf₀) × Copied readRecord nodesBytes s start count buf₀ buf at i
+
+abbrev μ-loop : tie.MeasureT-loop
+μ-loop s buf₀ start count at₀ i₀ buf at i = count - i
+
+loop-holds : tie.Need-loop-holds Inv-loop μ-loop
+loop-holds c = let a = c .before .before .args in (refl, copied-starts readRecord nodesBytes (now (a .s)) (a .start) (a .count) (now (a .buf)) (c .before .before .pre .0) (c .before .before .pre .1) (c .before .before .pre .2))
+
+copy-node-requires : tie.Need-copy-node-requires Inv-loop μ-loop
+copy-node-requires c κs =
+    let a = c .before .before .before .before .before .args in
+    let s = now (a .s) in
+    let loop = c .before .before .loop in
+    let h = bytes-all s (λ i. omega (arith, c .before .before .before .before .shared-slice-known .given i)) in
+    let copied = loop .inv .1 in
+    (copied .there, copied .fits, first-there nodeBytes NodeFields readRecord node-spelled nodesBytes refl (λ n ns. refl) h copied (c .before .loop-test .taken))
+
+add-i : tie.Need-add-i Inv-loop μ-loop
+add-i c = search needs
+
+loop-less : tie.Need-loop-less Inv-loop μ-loop
+loop-less c = search needs
+
+loop-again : tie.Need-loop-again Inv-loop μ-loop
+loop-again c =
+    let a = c .before .before .before .before .before .before .before .before .args in
+    let s = now (a .s) in
+    let loop = c .before .before .before .before .before .loop in
+    let h = bytes-all s (λ i. omega (arith, c .before .before .before .before .before .before .before .shared-slice-known .given i)) in
+    let copied = loop .inv .1 in
+    let read = read-there (readRecord (drop (loop .at) s)) (end fail) (first-there nodeBytes NodeFields readRecord node-spelled nodesBytes refl (λ n ns. refl) h copied (c .before .before .before .before .loop-test .taken)) in
+    (c .before .buf .given ∙ loop .inv .0, copied-next nodeBytes NodeFields readRecord node-spelled nodesBytes refl (λ n ns. refl) h copied (c .before .before .before .before .loop-test .taken) read (c .before .before .copy-node .ensures .0) (c .before .before .copy-node .ensures .1))
+
+same-length : tie.Need-same-length Inv-loop μ-loop
+same-length c = c .before .loop .inv .0
+
+returns : tie.Need-returns Inv-loop μ-loop
+returns c =
+    let a = c .before .before .before .before .args in
+    let s = now (a .s) in
+    let loop = c .before .loop in
+    let h = bytes-all s (λ i. omega (arith, c .before .before .before .shared-slice-known .given i)) in
+    let copied = loop .inv .1 in
+    copied-ends nodeBytes NodeFields readRecord node-spelled nodesBytes refl (λ n ns. refl) h copied (c .loop-test .left)
+
+pub copy-nodes-spec : {M : Type 1} → statement M
+copy-nodes-spec =
+    tie.close
+    (tie.spec
+    Inv-loop
+    μ-loop
+    loop-holds
+    copy-node-requires
+    add-i
+    loop-less
+    loop-again
+    same-length
+    returns)

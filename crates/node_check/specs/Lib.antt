@@ -1,0 +1,2 @@
+-- What the checks of cases and nodes say.
+pub mod views

@@ -1,0 +1,47 @@
+-- The cases of a switch as ranges of numbers: a case takes the terms whose codes lie from its first to its last, and cases that
+-- ascend are ranges that ascend, one after another.
+use Prim.Native.Nat.{ℕ}
+use mathlib.Core.Bool.{Bool}
+use mathlib.Core.List.{List}
+use Rattle.records.specs.Reading.{Reading, took, refused}
+use Rattle.decision.specs.Cases.{Case, symbolCase, compoundCase, numbersCase}
+use Rattle.decision.specs.Node.{CaseEdge}
+use Rattle.piece.specs.views.Cells.{symbolCode, compoundCode, numberCode}
+use Rattle.graph.specs.declared.CaseRecord.{CaseRecord}
+use Rattle.graph.specs.declared.CaseRecord.the-variants.{Symbol, Compound, Numbers}
+use Rattle.node_check.specs.declared.CaseRange.{CaseRange}
+use Rattle.node_check.specs.declared.CasesCheck.{CasesCheck}
+use Rattle.node_check.specs.declared.CasesCheck.the-variants.{Used, Refused}
+use Rattle.graph.specs.ReadGraph.{allInside, casesAscend}
+
+-- The first and the last code that a case takes.
+abbrev pub firstCode : Case → ℕ
+firstCode (symbolCase a) = symbolCode a
+firstCode (compoundCase a n) = compoundCode a n
+firstCode (numbersCase l h) = numberCode l
+
+abbrev pub lastCode : Case → ℕ
+lastCode (symbolCase a) = symbolCode a
+lastCode (compoundCase a n) = compoundCode a n
+lastCode (numbersCase l h) = numberCode h
+
+-- The range of a case's record, with the node that it leads to and its bytes.
+abbrev pub rangeTo : Case → ℕ → ℕ → CaseRange
+rangeTo c n bytes = record { first = firstCode c; last = lastCode c; node = n; bytes = bytes }
+
+abbrev pub rangeOf : CaseRecord → CaseRange
+rangeOf (Symbol a n) = rangeTo (symbolCase a) n 5
+rangeOf (Compound a k n) = rangeTo (compoundCase a k) n 6
+rangeOf (Numbers l h n) = rangeTo (numbersCase l h) n 7
+
+-- What one pass over the cases of a switch finds: are their nodes inside, do they ascend?
+pub record CasesFound : Type 0 where
+  pub inside : Bool
+  pub ascend : Bool
+
+abbrev pub casesFound : ℕ → List (CaseEdge ℕ) → CasesFound
+casesFound nodes cs = record { inside = allInside nodes cs; ascend = casesAscend cs }
+
+abbrev pub checkedCases : CasesCheck → Reading CasesFound
+checkedCases (Used a i b) = took a (record { inside = i; ascend = b })
+checkedCases (Refused q) = refused q

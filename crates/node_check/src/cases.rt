@@ -1,0 +1,74 @@
+// The cases of a switch, read in one pass: are all whole, their nodes in range, and do they ascend?
+use crate::CaseRange;
+use crate::CasesCheck;
+use graph::CaseHead;
+use graph::CaseRecord;
+use graph::case_head;
+ghost use mathlib.Core.Path.{_≡_};
+ghost use mathlib.Core.Bool.{_&&_};
+ghost use Rattle.records.specs.Reading.{mapReading};
+ghost use Rattle.graph.specs.ReadGraph.{readCases};
+ghost use Rattle.node_check.specs.views.CaseCodes.{rangeOf, casesFound, checkedCases};
+
+// The range of a case.
+pub fn case_range(c: CaseRecord) -> CaseRange
+    ensures { λ r. ⌜ r ≡ rangeOf c ⌝ }
+{
+    match c {
+        CaseRecord::Symbol(a, node) => {
+            let code = 0x1000000 + (a as u32) * 256;
+            CaseRange {
+                first: code,
+                last: code,
+                node: node,
+                bytes: 5,
+            }
+        }
+        CaseRecord::Compound(a, n, node) => {
+            let code = 0x2000000 + (a as u32) * 256 + (n as u32);
+            CaseRange {
+                first: code,
+                last: code,
+                node: node,
+                bytes: 6,
+            }
+        }
+        CaseRecord::Numbers(low, high, node) => CaseRange {
+            first: 0x3000000 + (low as u32) * 256,
+            last: 0x3000000 + (high as u32) * 256,
+            node: node,
+            bytes: 7,
+        },
+    }
+}
+
+// Both are true.
+pub fn both(a: bool, b: bool) -> bool
+    ensures { λ r. ⌜ r ≡ (a && b) ⌝ }
+{
+    a && b
+}
+
+// The cases that the input begins with, so many, in a graph of so many nodes.
+pub fn check_cases(s: &[u8], count: u8, nodes: u16) -> CasesCheck
+    ensures { λ r. ⌜ checkedCases r ≡ mapReading (casesFound nodes) (readCases count (now (s .entry))) ⌝ }
+{
+    let mut at: usize = 0;
+    let mut last: u32 = 0;
+    let mut inside = true;
+    let mut ascend = true;
+    let mut i: u8 = 0;
+    while i < count {
+        let head = case_head(&s[at..]);
+        let CaseHead::Whole(c) = head else {
+            return CasesCheck::Refused(22);
+        };
+        let range = case_range(c);
+        inside = both(inside, range.node < nodes);
+        ascend = both(ascend, both(last < range.first, range.first <= range.last));
+        last = range.last;
+        at += range.bytes;
+        i += 1;
+    }
+    CasesCheck::Used(at, inside, ascend)
+}

@@ -1,0 +1,69 @@
+// Read records written again: every node goes through the reader and the writer.
+use graph::CaseHead;
+use graph::NodeHead;
+use graph::NodeRecord;
+use graph::case_head;
+use graph::node_head;
+use graph::put_case;
+use graph::put_node;
+ghost use Prim.Native.Nat.{_+_, _≤_};
+ghost use mathlib.Core.Path.{_≡_};
+ghost use mathlib.Core.List.{[], _∷_};
+ghost use lib.ListN.{length, drop};
+ghost use Rattle.records.specs.Reading.{readRow};
+ghost use Rattle.records.specs.Writing.{splice};
+ghost use Rattle.decision.specs.Key.{fail};
+ghost use Rattle.decision.specs.Node.{end};
+ghost use Rattle.decision.specs.GraphBytes.{casesBytes, nodeBytes, nodesBytes};
+ghost use Rattle.graph.specs.NodeRecord.{nodeHead};
+ghost use Rattle.graph.specs.ReadGraph.{readCases, onNode};
+ghost use Rattle.graph.specs.views.Rewriting.{IsTook, readOr, readRecord, readRecords};
+
+// So many cases from a position of the graph to the same of the buffer, and the position behind them.
+fn copy_cases(s: &[u8], buf: &mut [u8], start: usize, count: u8) -> usize
+    requires { ⌜ (start ≤ length (now s)) × (length (now s) ≤ length (now buf)) × IsTook (readCases count (drop start (now s))) ⌝ }
+    ensures { λ r. ⌜ (r ≡ start + length (casesBytes (readOr [] (readCases count (drop start (now (s .entry))))))) × (now (buf .exit) ≡ splice (now (buf .entry)) start (casesBytes (readOr [] (readCases count (drop start (now (s .entry))))))) ⌝ }
+{
+    let mut at = start;
+    let mut i: u8 = 0;
+    while i < count {
+        let head = case_head(&s[at..]);
+        let CaseHead::Whole(c) = head else {
+            return at;
+        };
+        at = put_case(buf, at, c);
+        i += 1;
+    }
+    at
+}
+
+// A node from a position of the graph to the same of the buffer, and the position behind it.
+fn copy_node(s: &[u8], buf: &mut [u8], start: usize) -> usize
+    requires { ⌜ (start ≤ length (now s)) × (length (now s) ≤ length (now buf)) × IsTook (readRecord (drop start (now s))) ⌝ }
+    ensures { λ r. ⌜ (r ≡ start + length (nodeBytes (readOr (end fail) (readRecord (drop start (now (s .entry))))))) × (now (buf .exit) ≡ splice (now (buf .entry)) start (nodeBytes (readOr (end fail) (readRecord (drop start (now (s .entry))))))) ⌝ }
+{
+    let head = node_head(&s[start..]);
+    let NodeHead::Whole(node) = head else {
+        return start;
+    };
+    let at = put_node(buf, start, node);
+    match node {
+        NodeRecord::End(_) => at,
+        NodeRecord::Switch(_, count, _, _) => copy_cases(s, buf, at, count),
+        NodeRecord::Pair(_, _, _, _) => at,
+    }
+}
+
+// So many nodes from a position of the graph to the same of the buffer, and the position behind them.
+pub fn copy_nodes(s: &[u8], buf: &mut [u8], start: usize, count: u16) -> usize
+    requires { ⌜ (start ≤ length (now s)) × (length (now s) ≤ length (now buf)) × IsTook (readRecords count (drop start (now s))) ⌝ }
+    ensures { λ r. ⌜ (r ≡ start + length (nodesBytes (readOr [] (readRecords count (drop start (now (s .entry))))))) × (now (buf .exit) ≡ splice (now (buf .entry)) start (nodesBytes (readOr [] (readRecords count (drop start (now (s .entry))))))) ⌝ }
+{
+    let mut at = start;
+    let mut i: u16 = 0;
+    while i < count {
+        at = copy_node(s, buf, at);
+        i += 1;
+    }
+    at
+}

@@ -1,0 +1,218 @@
+-- `compare` and `compare_args` meet their contracts. The levels below fall from a term to its arguments, and the number
+-- of pairs along a row: a compound has at most 4 arguments, so 6 for each level and 1 for each pair still to come are
+-- enough.
+use Prim.Native.Nat.{ℕ, suc, _+_, _-_, _*_, _≤_, _<_}
+use mathlib.Core.Path.{_≡_, sym, _∙_}
+use mathlib.Core.List.{List}
+use mathlib.Core.Logic.{inl, inr, ⊎-elim}
+use native.Mathlib.Omega.{arith}
+use lib.ListN.{getD}
+use denote.Ref.{now}
+use borrow.Author.Needs.{needs}
+use borrow.Author.Tests.{eqb-false}
+use borrow.Fn.Kinds.{In}
+use borrow.Fn.PlainCycle.{Measures, is, falls, and}
+use Rattle.places.specs.Numbering.{stride}
+use Rattle.places.proofs.step.Reads as step-reads
+use Rattle.terms.specs.Outcome.{Outcome}
+use Rattle.piece.proofs.Rooms.{row-room, arguments-room, step-of}
+use Rattle.outcomes.specs.views.CompareCells.{arityOf, compareCodes, compareAt}
+use Rattle.outcomes.proofs.Comparing.{one-unknown, other-codes, same-leaf, same-compound, compareBelow, by-codes, no-level, some-level, no-pairs, first-pair}
+use Rattle.outcomes.proofs.both.Reads as both-reads
+use Rattle.outcomes.proofs.compare.Reads as compare
+use Rattle.outcomes.proofs.compare.Kinds as compare-kinds
+use Rattle.outcomes.proofs.compare_args.Reads as compare-args
+use Rattle.outcomes.proofs.compare_args.Kinds as compare-args-kinds
+use Rattle.outcomes.proofs.+compare+compare_args.Lts-compare as compare-lts
+use Rattle.outcomes.proofs.+compare+compare_args.Lts-compare_args as compare-args-lts
+use Rattle.outcomes.proofs.+compare+compare_args.Tie.{close}
+use Rattle.outcomes.proofs.+compare+compare_args.{statement}
+
+abbrev μ-compare : Measures 1 compare-kinds.ps ℕ
+μ-compare κs a = 6 * a .1 .0
+
+abbrev μ-compare-args : Measures 1 compare-args-kinds.ps ℕ
+μ-compare-args κs a = 6 * a .1 .0 + a .1 .1 .1 .0 + 1
+
+abbrev compare-at : ℕ → In 1 compare-kinds.ps
+compare-at t = and 1 compare-kinds.ps (is 1 compare-kinds.ps μ-compare t) compare.Pre
+
+abbrev compare-below : ℕ → In 1 compare-kinds.ps
+compare-below t = and 1 compare-kinds.ps (falls 1 compare-kinds.ps _<_ μ-compare t) compare.Pre
+
+abbrev compare-args-at : ℕ → In 1 compare-args-kinds.ps
+compare-args-at t = and 1 compare-args-kinds.ps (is 1 compare-args-kinds.ps μ-compare-args t) compare-args.Pre
+
+abbrev compare-args-below : ℕ → In 1 compare-args-kinds.ps
+compare-args-below t = and 1 compare-args-kinds.ps (falls 1 compare-args-kinds.ps _<_ μ-compare-args t) compare-args.Pre
+
+abbrev compare-calls : ℕ → compare-lts.Claims
+compare-calls t = (compare-args-below t, compare-args.Post)
+
+abbrev compare-args-calls : ℕ → compare-args-lts.Claims
+compare-args-calls t = (
+  compare-below t,
+  compare.Post,
+  step-reads.Asked,
+  step-reads.Learnt,
+  compare-args-below t,
+  compare-args.Post,
+  both-reads.Asked,
+  both-reads.Learnt,
+)
+
+module _ {t : ℕ} where
+  -- Where `compare` begins: what the arguments say, and that the codes decide else.
+  module _ (c : compare-lts.Start (compare-calls t) (compare-at t) compare.Post) where
+    abbrev cells : List ℕ
+    cells = now (c .args .cells)
+
+    abbrev code : ℕ
+    code = getD cells (c .args .p) 0
+
+    abbrev code-other : ℕ
+    code-other = getD cells (c .args .q) 0
+
+    abbrev arguments : Outcome
+    arguments = compareBelow cells (c .args .below) (c .args .other) (c .args .p) (c .args .q)
+
+    codes-decide
+        : compareAt cells (c .args .below) (c .args .other) (c .args .p) (c .args .q) ≡ compareCodes code code-other arguments
+    codes-decide = by-codes cells (c .args .below) (c .args .other) (c .args .p) (c .args .q)
+
+  -- Where both codes are the same compound's, the arguments decide.
+  module _ (c : compare-lts.Else5 (compare-calls t) (compare-at t) compare.Post) where
+    abbrev compound-start : compare-lts.Start (compare-calls t) (compare-at t) compare.Post
+    compound-start = c .before .before .before .before .before .before .before
+
+    arguments-decide : compareAt (cells compound-start) (compound-start .args .below) (compound-start .args .other) (compound-start .args .p) (compound-start .args .q) ≡ arguments compound-start
+    arguments-decide =
+        let m = compound-start in
+        codes-decide m
+        ∙ same-compound (code m) (code-other m) (arguments m) (c .before .before .before .before .if1 .left) (c .before .before .before .if2 .left) (c .before .before .if3 .left)
+        (c .before .if4 .left) (c .if5 .left)
+
+compare-returns : (t : ℕ) → compare-lts.Need-returns (compare-calls t) (compare-at t) compare.Post
+compare-returns t c =
+    let m = c .before .before .before in
+    one-unknown (code m) (code-other m) (arguments m) (⊎-elim (λ w. inl (w .taken)) (λ w. inr (w .1 .taken)) (c .if1 .came)) ∙ sym (codes-decide m)
+
+compare-returns-2 : (t : ℕ) → compare-lts.Need-returns-2 (compare-calls t) (compare-at t) compare.Post
+compare-returns-2 t c =
+    let m = c .before .before .before .before .before in
+    other-codes (code m) (code-other m) (arguments m) (c .before .before .if1 .left) (c .before .if2 .left) (c .if3 .taken)
+    ∙ sym (codes-decide m)
+
+compare-returns-3 : (t : ℕ) → compare-lts.Need-returns-3 (compare-calls t) (compare-at t) compare.Post
+compare-returns-3 t c =
+    let m = c .before .before .before .before .before .before in
+    same-leaf (code m) (code-other m) (arguments m) (c .before .before .before .if1 .left) (c .before .before .if2 .left) (c .before .if3 .left)
+    (⊎-elim (λ w. inl (w .taken)) (λ w. inr (w .1 .taken)) (c .if4 .came))
+    ∙ sym (codes-decide m)
+
+compare-returns-4 : (t : ℕ) → compare-lts.Need-returns-4 (compare-calls t) (compare-at t) compare.Post
+compare-returns-4 t c =
+    let a = compound-start (c .before) .args in
+    sym
+    (arguments-decide (c .before)
+    ∙ no-level (now (a .cells)) (a .below) (a .other) (a .p) (a .q)
+    (⊎-elim (λ w. inl (w .taken)) (λ w. inr (w .1 .taken)) (c .if6 .came)))
+
+compare-sub-compare-args-2 : (t : ℕ) → compare-lts.Need-sub-compare-args-2 (compare-calls t) (compare-at t) compare.Post
+compare-sub-compare-args-2 t c =
+    omega (arith, eqb-false (compound-start (c .before .before) .args .other) 0 (c .if7 .left))
+
+compare-compare-args-requires : (t : ℕ) → compare-lts.Need-compare-args-requires (compare-calls t) (compare-at t) compare.Post
+compare-compare-args-requires t c κs =
+    let m = compound-start (c .before .before) in
+    let narrow = m .pre .1 .4 in
+    let most : arityOf (code m) ≤ 4 = narrow (m .args .p) in
+    let room = arguments-room (m .args .below) _ (c .before .if6 .left) most in
+    let room-other = arguments-room (m .args .other) _ (eqb-false _ _ (c .if7 .left)) most in
+    (omega arith, (omega arith, omega arith, omega arith, omega arith, narrow))
+
+compare-returns-5 : (t : ℕ) → compare-lts.Need-returns-5 (compare-calls t) (compare-at t) compare.Post
+compare-returns-5 t c =
+    let a = compound-start (c .before .before .before) .args in
+    c .compare-args .ensures
+    ∙ sym
+    (arguments-decide (c .before .before .before)
+    ∙ some-level (now (a .cells)) (a .below) (a .other) (a .p) (a .q) (c .before .before .if6 .left) (c .before .if7 .left))
+
+compare-args-returns : (t : ℕ) → compare-args-lts.Need-returns (compare-args-calls t) (compare-args-at t) compare-args.Post
+compare-args-returns t c =
+    let a = c .before .args in
+    no-pairs (compareAt (now (a .cells)) (a .below) (a .other)) (stride (suc (a .below))) (stride (suc (a .other))) (a .n)
+    (a .p) (a .q) (c .if1 .taken)
+
+compare-args-compare-requires : (t : ℕ) → compare-args-lts.Need-compare-requires (compare-args-calls t) (compare-args-at t) compare-args.Post
+compare-args-compare-requires t c κs =
+    let a = c .before .args in
+    let room = row-room (a .n) (stride (suc (a .below))) (c .if1 .left) in
+    let room-other = row-room (a .n) (stride (suc (a .other))) (c .if1 .left) in
+    (omega arith, (omega arith, omega arith, omega arith, omega arith, c .before .pre .1 .4))
+
+compare-args-add-next-p : (t : ℕ) → compare-args-lts.Need-add-next-p (compare-args-calls t) (compare-args-at t) compare-args.Post
+compare-args-add-next-p t c =
+    let a = c .before .before .before .args in
+    let room = row-room (a .n) (stride (suc (a .below))) (c .before .before .if1 .left) in
+    let step = step-of (a .below) (search needs) (c .step .ensures) in omega arith
+
+compare-args-add-next-q : (t : ℕ) → compare-args-lts.Need-add-next-q (compare-args-calls t) (compare-args-at t) compare-args.Post
+compare-args-add-next-q t c =
+    let a = c .before .before .before .before .args in
+    let room = row-room (a .n) (stride (suc (a .other))) (c .before .before .before .if1 .left) in
+    let step = step-of (a .other) (search needs) (c .step2 .ensures) in omega arith
+
+compare-args-compare-args-requires : (t : ℕ) → compare-args-lts.Need-compare-args-requires (compare-args-calls t) (compare-args-at t) compare-args.Post
+compare-args-compare-args-requires t c κs =
+    let a = c .before .before .before .before .args in
+    let some = c .before .before .before .if1 .left in
+    let room = row-room (a .n) (stride (suc (a .below))) some in
+    let room-other = row-room (a .n) (stride (suc (a .other))) some in
+    let step = step-of (a .below) (search needs) (c .before .step .ensures) in
+    let step-other = step-of (a .other) (search needs) (c .step2 .ensures) in
+    (omega arith, (omega arith, omega arith, omega arith, omega arith, c .before .before .before .before .pre .1 .4))
+
+compare-args-returns-2 : (t : ℕ) → compare-args-lts.Need-returns-2 (compare-args-calls t) (compare-args-at t) compare-args.Post
+compare-args-returns-2 t c =
+    let a = c .before .before .before .before .before .before .args in
+    first-pair (compareAt (now (a .cells)) (a .below) (a .other)) (stride (suc (a .below))) (stride (suc (a .other))) (a .n)
+    (a .p) (a .q) (c .before .before .before .before .before .if1 .left) (c .both .ensures) (c .before .before .before .before .compare .ensures)
+    (step-of (a .below) (search needs) (c .before .before .before .step .ensures))
+    (step-of (a .other) (search needs) (c .before .before .step2 .ensures)) (c .before .compare-args .ensures)
+
+pub +compare+compare-args-spec : {M : Type 1} → statement M
++compare+compare-args-spec = close μ-compare μ-compare-args (λ t. compare-lts.spec (compare-calls t)
+    (compare-at t)
+    compare.Post
+    (λ c. search needs)
+    (λ c. search needs)
+    (λ c. search needs)
+    (λ c. search needs)
+    (compare-returns t)
+    (compare-returns-2 t)
+    (compare-returns-3 t)
+    (compare-returns-4 t)
+    (λ c. search needs)
+    (compare-sub-compare-args-2 t)
+    (λ c. search needs)
+    (λ c. search needs)
+    (λ c. search needs)
+    (compare-compare-args-requires t)
+    (compare-returns-5 t))
+    λ t. compare-args-lts.spec (compare-args-calls t)
+    (compare-args-at t)
+    compare-args.Post
+    (compare-args-returns t)
+    (compare-args-compare-requires t)
+    (λ c. search needs)
+    (λ c κs. search needs)
+    (compare-args-add-next-p t)
+    (λ c. search needs)
+    (λ c κs. search needs)
+    (compare-args-add-next-q t)
+    (λ c. search needs)
+    (compare-args-compare-args-requires t)
+    (λ c κs. search needs)
+    (compare-args-returns-2 t)

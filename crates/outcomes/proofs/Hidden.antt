@@ -1,0 +1,86 @@
+-- What is found at a place and what the cells have there: the same, but that the cells have nothing below an unknown.
+-- So where the cells have nothing, an unknown is found exactly where one is found above. For any number of levels.
+use Prim.Native.Nat.{ℕ, zero, suc, pred, _-_, _*_, _≤_, _<_}
+use mathlib.Core.Path.{_≡_, refl, ap, sym, _∙_}
+use mathlib.Core.Bool.{Bool, true, false}
+use native.Mathlib.Nat.{suc-mul, add-comm}
+use native.Mathlib.Omega.{arith}
+use lib.Dec.{ltb}
+use Rattle.places.specs.Numbering.{stride}
+use Rattle.places.proofs.Rows.{stride-grows}
+use Rattle.terms.specs.Term.{Term, Terms, unknown, symbol, number, compound, nil, cons}
+use Rattle.terms.specs.Lookup.{Found, lacking, found}
+use Rattle.terms.proofs.Booleans.{choose-related}
+use Rattle.outcomes.proofs.FindWith.{findWith, findsWith, with-zero, with-here, with-there, goOn}
+
+-- What is found, and what is stored.
+pub data Stores : Found → Found → Type 0 where
+  shown : (f : Found) → Stores f f
+  hidden : Stores (found unknown) lacking
+
+mutual
+  -- Each place of a term is stored as it is found, or hidden below an unknown,
+  pub stores : (t : Term) (r n : ℕ) → Stores (findWith (found unknown) t r n) (findWith lacking t r n)
+  stores unknown r zero = shown (found unknown)
+  stores unknown r (suc n) = hidden
+  stores (symbol a) r zero = shown (found (symbol a))
+  stores (symbol a) r (suc n) = shown lacking
+  stores (number a) r zero = shown (found (number a))
+  stores (number a) r (suc n) = shown lacking
+  stores (compound a ts) r zero = shown (found (compound a ts))
+  stores (compound a ts) r (suc n) = stores-row ts (pred r) n
+
+  -- and so is each place of a row of terms.
+  pub stores-row : (ts : Terms) (r n : ℕ) → Stores (findsWith (found unknown) ts r n) (findsWith lacking ts r n)
+  stores-row nil r n = shown lacking
+  stores-row (cons t ts) r n = choose-related Stores (ltb n (stride r)) (stores t r n) (stores-row ts r (n - stride r))
+
+-- The first place of each term in a row is no place below an unknown.
+pub first-same
+    : (x y : Found) (ts : Terms) (r k : ℕ) → 1 ≤ r → findsWith x ts r (k * stride r) ≡ findsWith y ts r (k * stride r)
+first-same x y nil r k some = refl
+first-same x y (cons t ts) r zero some =
+    let none : 0 * stride r ≡ 0 = omega arith in
+    let inside : 0 * stride r < stride r = omega (arith, stride-grows 1 r some) in
+    with-here x t ts r (0 * stride r) inside ∙ ap (findWith x t r) none ∙ with-zero x t r
+    ∙ sym (with-here y t ts r (0 * stride r) inside ∙ ap (findWith y t r) none ∙ with-zero y t r)
+first-same x y (cons t ts) r (suc k) some =
+    let place = suc-mul k (stride r) ∙ add-comm (k * stride r) (stride r) in
+    ap (findsWith x (cons t ts) r) place ∙ with-there x t ts r (k * stride r) ∙ first-same x y ts r k some
+    ∙ sym (ap (findsWith y (cons t ts) r) place ∙ with-there y t ts r (k * stride r))
+
+-- Whether an unknown is found.
+abbrev pub isUnknown : Found → Bool
+isUnknown lacking = false
+isUnknown (found unknown) = true
+isUnknown (found (symbol a)) = false
+isUnknown (found (number a)) = false
+isUnknown (found (compound a ts)) = false
+
+-- An unknown, or nothing.
+abbrev pub unknownIf : Bool → Found
+unknownIf true = found unknown
+unknownIf false = lacking
+
+-- What is stored, or something else where nothing is.
+abbrev pub orElse : Found → Found → Found
+orElse lacking y = y
+orElse (found t) y = found t
+
+-- Nothing else makes no difference.
+pub or-nothing : (f : Found) → orElse f lacking ≡ f
+or-nothing lacking = refl
+or-nothing (found t) = refl
+
+-- At child k + 1 of a place is found what is stored there, or else an unknown where one is found at the place.
+pub child-found
+    : {f s : Found} → Stores f s → (l k : ℕ) → 1 ≤ l
+    → goOn (λ u. findWith (found unknown) u (suc l) (suc (k * stride l))) f
+    ≡ orElse (goOn (λ u. findWith lacking u (suc l) (suc (k * stride l))) s) (unknownIf (isUnknown f))
+child-found (shown lacking) l k some = refl
+child-found (shown (found unknown)) l k some = refl
+child-found (shown (found (symbol a))) l k some = refl
+child-found (shown (found (number a))) l k some = refl
+child-found (shown (found (compound a ts))) l k some =
+    first-same (found unknown) lacking ts l k some ∙ sym (or-nothing (findsWith lacking ts l (k * stride l)))
+child-found hidden l k some = refl

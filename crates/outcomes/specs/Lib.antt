@@ -1,0 +1,2 @@
+-- What the numbers of a piece's places say.
+pub mod views

@@ -1,0 +1,4 @@
+-- How the code keeps things.
+pub mod Look
+pub mod CompareCells
+pub mod CellOutcome

@@ -1,0 +1,151 @@
+// What stands at the places of a piece that is laid out by place, and the outcomes of tests there.
+use piece::COMPOUNDS;
+use piece::NUMBERS;
+use piece::UNKNOWN;
+ghost use mathlib.Core.Path.{_≡_};
+ghost use Prim.Native.Nat.{suc, _+_, _*_, _≤_, _<_};
+ghost use Rattle.places.specs.Numbering.{stride};
+ghost use Rattle.terms.specs.Outcome.{_and_};
+ghost use Rattle.outcomes.specs.views.Look.{nearest, look};
+ghost use Rattle.outcomes.specs.views.CompareCells.{Narrow, compareAt, compareRow};
+ghost use Rattle.outcomes.specs.views.CellOutcome.{outcomeOf, placeCells, pairCells};
+
+// The value of a test.
+pub enum TestOutcome {
+    Holds,
+    NotKnown,
+    Contradicted,
+}
+
+// The cell of the nearest place that has one, of p and the places above it, 3 in all; 0 where none has.
+fn nearest(cells: &[u32; 680], p: usize) -> u32
+    requires { ⌜ p ≤ 680 ⌝ }
+    ensures { λ r. ⌜ r ≡ nearest 3 (now (cells .entry)) p ⌝ }
+{
+    let mut place = p;
+    let mut left: usize = 3;
+    while 0 < left {
+        if place == 680 {
+            return 0;
+        }
+        let cell = cells[place];
+        if cell != 0 {
+            return cell;
+        }
+        place = places::parent(place);
+        left -= 1;
+    }
+    0
+}
+
+// The code of what stands at place p, 0 where the piece lacks it.
+pub fn look(cells: &[u32; 680], p: usize) -> u32
+    requires { ⌜ p < 680 ⌝ }
+    ensures { λ r. ⌜ r ≡ look (now (cells .entry)) p ⌝ }
+{
+    let own = cells[p];
+    if own != 0 {
+        return own;
+    }
+    if nearest(cells, places::parent(p)) == UNKNOWN {
+        return UNKNOWN;
+    }
+    0
+}
+
+// Two outcomes together.
+pub fn both(a: TestOutcome, b: TestOutcome) -> TestOutcome
+    ensures { λ r. ⌜ outcomeOf r ≡ _and_ (outcomeOf a) (outcomeOf b) ⌝ }
+{
+    match a {
+        TestOutcome::Holds => b,
+        TestOutcome::NotKnown => match b {
+            TestOutcome::Holds => TestOutcome::NotKnown,
+            TestOutcome::NotKnown => TestOutcome::NotKnown,
+            TestOutcome::Contradicted => TestOutcome::Contradicted,
+        },
+        TestOutcome::Contradicted => TestOutcome::Contradicted,
+    }
+}
+
+// Compares the terms at places p and q, with so many levels below the one and the other.
+fn compare(cells: &[u32; 680], below: usize, other: usize, p: usize, q: usize) -> TestOutcome
+    requires { ⌜ (below < 4) × (other < 4) × (p + stride (suc below) ≤ 680) × (q + stride (suc other) ≤ 680) × Narrow (now cells) ⌝ }
+    ensures { λ r. ⌜ outcomeOf r ≡ compareAt (now (cells .entry)) below other p q ⌝ }
+{
+    let code = cells[p];
+    let code_other = cells[q];
+    if code == UNKNOWN || code_other == UNKNOWN {
+        return TestOutcome::NotKnown;
+    }
+    if code != code_other {
+        return TestOutcome::Contradicted;
+    }
+    if code < COMPOUNDS || NUMBERS <= code {
+        return TestOutcome::Holds;
+    }
+    if below == 0 || other == 0 {
+        return TestOutcome::NotKnown;
+    }
+    compare_args(
+        cells,
+        below - 1,
+        other - 1,
+        (code % 256) as usize,
+        p + 1,
+        q + 1,
+    )
+}
+
+// Compares n pairs of terms in turn, the first at places p and q.
+fn compare_args(
+    cells: &[u32; 680],
+    below: usize,
+    other: usize,
+    n: usize,
+    p: usize,
+    q: usize,
+) -> TestOutcome
+    requires { ⌜ (below < 4) × (other < 4) × (p + n * stride (suc below) ≤ 680) × (q + n * stride (suc other) ≤ 680) × Narrow (now cells) ⌝ }
+    ensures { λ r. ⌜ outcomeOf r ≡ compareRow (compareAt (now (cells .entry)) below other) (stride (suc below)) (stride (suc other)) n p q ⌝ }
+{
+    if n == 0 {
+        return TestOutcome::Holds;
+    }
+    let first = compare(cells, below, other, p, q);
+    let next_p = p + places::step(3 - below);
+    let next_q = q + places::step(3 - other);
+    let others = compare_args(cells, below, other, n - 1, next_p, next_q);
+    both(first, others)
+}
+
+// The outcome of the place test at place p that holds at the codes from low to high.
+pub fn place_outcome(cells: &[u32; 680], p: usize, low: u32, high: u32) -> TestOutcome
+    requires { ⌜ p < 680 ⌝ }
+    ensures { λ r. ⌜ outcomeOf r ≡ placeCells (now (cells .entry)) p low high ⌝ }
+{
+    let code = look(cells, p);
+    if code == UNKNOWN {
+        return TestOutcome::NotKnown;
+    }
+    if low <= code && code <= high {
+        return TestOutcome::Holds;
+    }
+    TestOutcome::Contradicted
+}
+
+// The outcome of the equality test at places p and q.
+pub fn pair_outcome(cells: &[u32; 680], p: usize, q: usize) -> TestOutcome
+    requires { ⌜ (p < 680) × (q < 680) × Narrow (now cells) ⌝ }
+    ensures { λ r. ⌜ outcomeOf r ≡ pairCells (now (cells .entry)) p q ⌝ }
+{
+    let a = look(cells, p);
+    let b = look(cells, q);
+    if a == 0 || b == 0 {
+        return TestOutcome::Contradicted;
+    }
+    if a == UNKNOWN || b == UNKNOWN {
+        return TestOutcome::NotKnown;
+    }
+    compare(cells, 4 - places::depth(p), 4 - places::depth(q), p, q)
+}

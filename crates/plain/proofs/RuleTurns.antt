@@ -1,0 +1,67 @@
+-- The answer over the rules of a sheet that are read one after another.
+use Prim.Native.Nat.{ℕ, suc, _+_, _-_, _≤_, _<_}
+use mathlib.Core.Path.{_≡_, refl, sym, ap, _∙_}
+use mathlib.Core.List.{List, [], _∷_}
+use native.Mathlib.Numerals.{add-one}
+use native.Mathlib.Omega.{arith}
+use lib.ListN.{drop}
+use lib.Seq.{drop-drop}
+use Rattle.records.specs.Reading.{Reading, took, refused, mapReading, after}
+use Rattle.records.proofs.Rows.{row-none, row-refused, row-next}
+use Rattle.terms.specs.Pattern.{Patterns}
+use Rattle.terms.specs.Outcome.{Outcome}
+use Rattle.terms.specs.Answer.{Answer}
+use Rattle.sheet.specs.ReadSheet.{readRule, readRules}
+use Rattle.plain.specs.Plain.{PlainValues, answerValues, refusalValues, readingValues}
+use Rattle.plain.specs.views.RuleByRule.{moved, movedBy}
+
+-- The values do not say how many bytes were read.
+values-after
+    : {A : Type 0} (a : ℕ) (f : List Patterns → Answer) (g : A → List Patterns) (x : Reading A)
+    → readingValues (mapReading f (after a g x)) ≡ readingValues (mapReading (λ (y : A). f (g y)) x)
+values-after a f g (took b y) = refl
+values-after a f g (refused q) = refl
+
+module _ (outcome : Patterns → Outcome) (arity count : ℕ) (s : List ℕ) where
+  -- What comes of the rules behind the first i, which take so many bytes, where this is answered by those.
+  abbrev pub answerFrom : ℕ → ℕ → Answer → PlainValues
+  answerFrom i at a = readingValues (mapReading (movedBy outcome (suc i) a) (readRules arity (count - i) (drop at s)))
+
+  -- Before the first rule all are to come.
+  pub turns-start : (a : Answer) → answerFrom 0 0 a ≡ readingValues (mapReading (movedBy outcome 1 a) (readRules arity count s))
+  turns-start a =
+      let all : count - 0 ≡ count = omega arith in
+      ap (λ (k : ℕ). readingValues (mapReading (movedBy outcome 1 a) (readRules arity k s))) all
+
+  module _ (i at : ℕ) (a : Answer) where
+    -- After the last rule none is to come.
+    pub turns-end : count ≤ i → answerValues a ≡ answerFrom i at a
+    turns-end h =
+        sym
+        (ap (λ x. readingValues (mapReading (movedBy outcome (suc i) a) x))
+        (row-none [] _∷_ (readRule arity) (count - i) (drop at s) (omega arith)))
+
+    module _ (h : i < count) where
+      -- A rule that is refused ends the reading.
+      pub turn-refused : {q : ℕ} → readRule arity (drop at s) ≡ refused q → refusalValues q ≡ answerFrom i at a
+      turn-refused e =
+          sym
+          (ap (λ x. readingValues (mapReading (movedBy outcome (suc i) a) x))
+          (row-refused [] _∷_ (readRule arity) (count - i) (drop at s) (omega arith) e))
+
+      -- A rule that is read moves the answer, and the others follow it.
+      pub turn-next
+          : {b : ℕ} (rule : Patterns) → readRule arity (drop at s) ≡ took b rule
+          → answerFrom (i + 1) (at + b) (moved a (i + 1) (outcome rule)) ≡ answerFrom i at a
+      turn-next {b} rule e =
+          let less : count - (i + 1) ≡ count - i - 1 = omega arith in
+          let next : ℕ → Answer = λ k. moved a k (outcome rule) in
+          (λ j.
+          readingValues
+          (mapReading (movedBy outcome (suc (add-one i j)) (next (add-one i j)))
+          (readRules arity (less j) (sym (drop-drop b at s) j))))
+          ∙ sym
+          (ap (λ x. readingValues (mapReading (movedBy outcome (suc i) a) x))
+          (row-next [] _∷_ (readRule arity) (count - i) (drop at s) (omega arith) e)
+          ∙ values-after b (movedBy outcome (suc i) a) (λ rules. rule ∷ rules)
+          (readRules arity (count - i - 1) (drop b (drop at s))))

@@ -1,0 +1,54 @@
+-- The outcome of a rule's tests in a piece that is laid out by place, off the rule's notes.
+use Prim.Native.Nat.{ℕ, _<_}
+use mathlib.Core.Bool.{Bool, true, false}
+use mathlib.Core.List.{List}
+use lib.Dec.{leb}
+use lib.ListN.{getD}
+use Rattle.terms.specs.Pattern.{Patterns}
+use Rattle.terms.specs.RuleTests.{PairTest, pairsOf}
+use Rattle.terms.specs.Outcome.{Outcome, holds, _and_, together}
+use Rattle.sheet.specs.declared.PatternRecord.{PatternRecord}
+use Rattle.sheet.specs.declared.PatternRecord.the-variants.{Anything, Symbol, Range, Compound, Variable, Ranged}
+use Rattle.sheet.specs.views.Noted.{Note, ruleNotes}
+use Rattle.sheet.specs.views.NoteRanges.{lowsOf, highsOf}
+use Rattle.sheet_tests.specs.views.NoteTests.{notesVariables}
+use Rattle.piece.specs.views.Cells.{symbolCode, compoundCode, numberCode}
+use Rattle.outcomes.specs.views.CellOutcome.{placeCells, pairCells}
+
+-- A test where there is one, else nothing to contradict.
+abbrev pub testedIf : Bool → Outcome → Outcome
+testedIf true o = o
+testedIf false o = holds
+
+module _ (cells : List ℕ) where
+  -- The test of a variable's common range at place p. A high end over 65,535 says that it has none.
+  abbrev pub rangeOutcome : ℕ → ℕ → ℕ → Outcome
+  rangeOutcome p low high = testedIf (leb high 65535) (placeCells cells p (numberCode low) (numberCode high))
+
+  -- The place test of a record at place p, where these are the ends of the variables' ranges.
+  abbrev pub recordOutcome : List ℕ → List ℕ → ℕ → PatternRecord → Outcome
+  recordOutcome low high p Anything = holds
+  recordOutcome low high p (Symbol a) = placeCells cells p (symbolCode a) (symbolCode a)
+  recordOutcome low high p (Range l h) = placeCells cells p (numberCode l) (numberCode h)
+  recordOutcome low high p (Compound a n) = placeCells cells p (compoundCode a n) (compoundCode a n)
+  recordOutcome low high p (Variable v) = rangeOutcome p (getD low v 0) (getD high v 0)
+  recordOutcome low high p (Ranged v l h) = rangeOutcome p (getD low v 0) (getD high v 0)
+
+  abbrev pub noteOutcome : List ℕ → List ℕ → Note → Outcome
+  noteOutcome low high n = recordOutcome low high (n .place) (n .what)
+
+  abbrev pub pairOutcome : PairTest → Outcome
+  pairOutcome x = pairCells cells (x .first) (x .second)
+
+  -- All place tests, all equality tests, and all tests of a rule.
+  abbrev pub placesOutcome : List ℕ → List ℕ → List Note → Outcome
+  placesOutcome low high notes = together (noteOutcome low high) notes
+
+  abbrev pub pairsOutcome : List Note → Outcome
+  pairsOutcome notes = together pairOutcome (pairsOf (notesVariables notes))
+
+  unfoldable pub notesOutcome : List Note → Outcome
+  notesOutcome notes = _and_ (placesOutcome (lowsOf notes) (highsOf notes) notes) (pairsOutcome notes)
+
+  abbrev pub cellsOutcome : Patterns → Outcome
+  cellsOutcome rule = notesOutcome (ruleNotes rule)

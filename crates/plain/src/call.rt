@@ -1,0 +1,45 @@
+// The plain answer of a sheet and a piece.
+use crate::Plain;
+use crate::rules::answer_rules;
+use piece::PieceCheck;
+use sheet_tests::SheetCheck;
+ghost use mathlib.Core.Path.{_≡_};
+ghost use mathlib.Core.List.{List};
+ghost use Prim.Native.Nat.{ℕ, _≤_};
+ghost use Rattle.records.specs.Reading.{took};
+ghost use Rattle.terms.specs.Lists.{All};
+ghost use Rattle.terms.specs.Pattern.{Patterns};
+ghost use Rattle.terms.specs.Accepted.{AcceptedRule};
+ghost use Rattle.sheet.specs.ReadSheet.{readRules};
+ghost use Rattle.plain.specs.Plain.{pieceReading, plainReading, plainValues, readingValues};
+
+// The answer for a piece by an accepted sheet's rules, which s begins with: the piece's questions, then 20.
+fn answer_piece(s: &[u8], arity: u8, count: u8, p: &[u8]) -> Plain
+    requires { ⌜ arity ≤ 8 ⌝ }
+    ensures { λ r. ⌜ ((bytes : ℕ) (rules : List Patterns) → readRules arity count (now (s .entry)) ≡ took bytes rules → All (AcceptedRule arity) rules → plainValues r ≡ readingValues (pieceReading arity rules (now (p .entry)))) ⌝ }
+{
+    let mut cells = [0u32; 680];
+    let read = piece::read_piece(p, &mut cells);
+    match read {
+        PieceCheck::Refused(q) => Plain::Refused(q),
+        PieceCheck::Accepted(n) => {
+            if n != arity {
+                return Plain::Refused(20);
+            }
+            let mut notes = [0u64; 680];
+            answer_rules(s, arity as usize, count, &cells, &mut notes)
+        }
+    }
+}
+
+// The plain answer: the sheet's questions, the piece's, then 20. Not 20 where the piece itself is refused, nor suspend where one
+// rule is left that is not known.
+pub fn plain(sheet: &[u8], piece: &[u8]) -> Plain
+    ensures { λ r. ⌜ plainValues r ≡ readingValues (plainReading (now (sheet .entry)) (now (piece .entry))) ⌝ }
+{
+    let checked = sheet_tests::check_sheet(sheet);
+    match checked {
+        SheetCheck::Refused(q) => Plain::Refused(q),
+        SheetCheck::Accepted(arity, count, _) => answer_piece(&sheet[3..], arity, count, piece),
+    }
+}

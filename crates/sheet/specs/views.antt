@@ -1,0 +1,7 @@
+-- How the code keeps things.
+pub mod HeaderRead
+pub mod Noted
+pub mod NoteCode
+pub mod NoteArray
+pub mod NotesBehind
+pub mod NoteRanges

@@ -1,0 +1,63 @@
+-- A note as one number of 64 bits, so that the notes of a rule are one array. From the highest bits down: the place,
+-- the kind of the record (its kind byte less 0x20), the variable (4 bits) and two fields of 16 bits.
+use Prim.Native.Nat.{ℕ, _+_, _*_, _/_, _%_, _<_}
+use lib.Dec.{eqb}
+use Rattle.records.specs.Reading.{isKind}
+use Rattle.terms.specs.Term.{Wide}
+use Rattle.sheet.specs.declared.PatternRecord.{PatternRecord}
+use Rattle.sheet.specs.declared.PatternRecord.the-variants.{Anything, Symbol, Range, Compound, Variable, Ranged}
+use Rattle.sheet.specs.views.Noted.{Note, note}
+
+abbrev pub packed : ℕ → ℕ → ℕ → ℕ → ℕ → ℕ
+packed place kind variable first second =
+    (((place * 8 + kind) * 16 + variable) * 0x1_0000 + first) * 0x1_0000 + second
+
+-- The number of a note: of a record at place n.
+abbrev pub recordCode : ℕ → PatternRecord → ℕ
+recordCode n Anything = packed n 0 0 0 0
+recordCode n (Symbol a) = packed n 1 0 a 0
+recordCode n (Range l h) = packed n 2 0 l h
+recordCode n (Compound a k) = packed n 3 0 a k
+recordCode n (Variable v) = packed n 4 v 0 0
+recordCode n (Ranged v l h) = packed n 5 v l h
+
+abbrev pub noteCode : Note → ℕ
+noteCode n = recordCode (n .place) (n .what)
+
+-- The fields of a record fit the bits that are there for them.
+abbrev pub Fitting : PatternRecord → Type 0
+Fitting Anything = Unit
+Fitting (Symbol a) = Wide a
+Fitting (Range l h) = Wide l × Wide h
+Fitting (Compound a k) = Wide a × (k < 256)
+Fitting (Variable v) = v < 16
+Fitting (Ranged v l h) = (v < 16) × Wide l × Wide h
+
+-- The parts of a number so made.
+abbrev pub codePlace : ℕ → ℕ
+codePlace c = c / 0x80_0000_0000
+
+abbrev pub codeKind : ℕ → ℕ
+codeKind c = c / 0x10_0000_0000 % 8
+
+abbrev pub codeVariable : ℕ → ℕ
+codeVariable c = c / 0x1_0000_0000 % 16
+
+abbrev pub codeFirst : ℕ → ℕ
+codeFirst c = c / 0x1_0000 % 0x1_0000
+
+abbrev pub codeSecond : ℕ → ℕ
+codeSecond c = c % 0x1_0000
+
+-- The record and the note that a number stands for. An arity is one byte.
+unfoldable pub codeRecord : ℕ → PatternRecord
+codeRecord c =
+    isKind (eqb (codeKind c) 1) (Symbol (codeFirst c))
+    (isKind (eqb (codeKind c) 2) (Range (codeFirst c) (codeSecond c))
+    (isKind (eqb (codeKind c) 3) (Compound (codeFirst c) (c % 256))
+    (isKind (eqb (codeKind c) 4) (Variable (codeVariable c))
+    (isKind (eqb (codeKind c) 5) (Ranged (codeVariable c) (codeFirst c) (codeSecond c))
+    Anything))))
+
+abbrev pub noteOf : ℕ → Note
+noteOf c = note (codePlace c) (codeRecord c)

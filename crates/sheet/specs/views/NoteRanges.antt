@@ -1,0 +1,57 @@
+-- The common range of each variable of a rule, off its notes (document 01, "Places and tests"; question 9).
+use Prim.Native.Nat.{ℕ}
+use mathlib.Core.Bool.{Bool, true, false}
+use mathlib.Core.List.{List, [], _∷_, map}
+use mathlib.Core.Option.{Option, some, none}
+use lib.Dec.{eqb, leb}
+use lib.ListN.{getD}
+use Rattle.terms.specs.Lists.{countFrom}
+use Rattle.terms.specs.RuleTests.{Range, commonPart}
+use Rattle.sheet.specs.declared.PatternRecord.{PatternRecord}
+use Rattle.sheet.specs.declared.PatternRecord.the-variants.{Anything, Symbol, Range as RangeOf, Compound, Variable, Ranged}
+use Rattle.sheet.specs.declared.Ranges.{Ranges}
+use Rattle.sheet.specs.views.Noted.{Note}
+use Rattle.sheet.specs.ReadSheet.{allBelow}
+
+-- The range that a record gives to variable v.
+abbrev pub recordRange : PatternRecord → ℕ → Option Range
+recordRange Anything v = none
+recordRange (Symbol a) v = none
+recordRange (RangeOf l h) v = none
+recordRange (Compound a n) v = none
+recordRange (Variable u) v = none
+recordRange (Ranged u l h) v = elim (eqb u v) [ true ↦ some (record { low = l; high = h }) | false ↦ none ]
+
+-- "The common part of those ranges", of variable v.
+abbrev pub rangeIn : List Note → ℕ → Option Range
+rangeIn [] v = none
+rangeIn (n ∷ notes) v = commonPart (recordRange (n .what) v) (rangeIn notes v)
+
+-- As two numbers: where there is no range, 0 and a number that no wide field holds.
+abbrev pub lowEnd : Option Range → ℕ
+lowEnd none = 0
+lowEnd (some x) = x .low
+
+abbrev pub highEnd : Option Range → ℕ
+highEnd none = 65536
+highEnd (some x) = x .high
+
+-- For each of the 16 variables.
+unfoldable pub forVariables : (ℕ → ℕ) → List ℕ
+forVariables f = map f (countFrom 0 16)
+
+abbrev pub lowsOf : List Note → List ℕ
+lowsOf notes = forVariables (λ (v : ℕ). lowEnd (rangeIn notes v))
+
+abbrev pub highsOf : List Note → List ℕ
+highsOf notes = forVariables (λ (v : ℕ). highEnd (rangeIn notes v))
+
+abbrev pub rangesOf : List Note → Ranges
+rangesOf notes = record { low = lowsOf notes; high = highsOf notes }
+
+-- "9 Has each variable's set of ranges a number in common?"
+unfoldable pub endsMeet : List ℕ → List ℕ → Bool
+endsMeet low high = allBelow 16 (λ (v : ℕ). leb (getD low v 0) (getD high v 0))
+
+abbrev pub notesMeet : List Note → Bool
+notesMeet notes = endsMeet (lowsOf notes) (highsOf notes)

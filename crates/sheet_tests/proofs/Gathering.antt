@@ -1,0 +1,120 @@
+-- What a rule's notes gather is what the rule tests.
+use Prim.Native.Nat.{ℕ, _<_}
+use mathlib.Core.Path.{_≡_, refl, sym, ap, _∙_}
+use mathlib.Core.Bool.{Bool, true, false, _&&_}
+use mathlib.Core.List.{List, [], _∷_, map}
+use mathlib.Core.Option.{Option, some, none}
+use native.Mathlib.Omega.{arith}
+use lib.Dec.{ltb, eqb}
+use lib.ListN.{getD, take}
+use borrow.Author.Tests.{lt-ltb}
+use Rattle.masks.specs.Mask.{consIf}
+use Rattle.terms.specs.Lists.{All}
+use Rattle.terms.specs.Pattern.{Patterns}
+use Rattle.terms.specs.RuleTests.{Range, commonPart, pairsOf}
+use Rattle.terms.specs.Accepted.{AcceptedRule}
+use Rattle.sheet.specs.views.Noted.{Note, ruleNotes}
+use Rattle.sheet.specs.views.NoteCode.{Fitting, noteOf}
+use Rattle.sheet.specs.views.NoteArray.{notesIn}
+use Rattle.sheet.specs.views.NoteRanges.{recordRange, rangeIn, highEnd, highsOf}
+use Rattle.sheet.specs.declared.PatternRecord.{PatternRecord}
+use Rattle.sheet.specs.declared.PatternRecord.the-variants.{Anything, Symbol, Range as RangeOf, Compound, Variable, Ranged}
+use Rattle.sheet.proofs.NoteCodes.{code-fits}
+use Rattle.sheet.proofs.RangeArrays.{variable-at}
+use Rattle.sheet_tests.specs.views.NoteTests.{isTested, testedPlaces, hasRange, notesCodes, pairCodes}
+use Rattle.sheet_tests.specs.views.Gathered.{Gathered, gathered, gather, gatherNotes, rulePlaces, ruleCodes, sheetPlaces, sheetCodes}
+use Rattle.sheet_tests.proofs.NotedTests.{isSome, rule-tested, rule-varied}
+use Rattle.sheet_tests.proofs.NumberLists.{all-insert-append}
+use Rattle.sheet_tests.proofs.KeptLists.{keep-append}
+
+-- The fields of a note fit.
+abbrev pub Fits : Note → Type 0
+Fits n = Fitting (n .what)
+
+-- The notes in an array have fields that fit.
+pub notes-fit : (codes : List ℕ) (n : ℕ) → All Fits (notesIn codes n)
+unfolding notesIn
+notes-fit codes n = go (take n codes)
+  where
+    go : (cs : List ℕ) → All Fits (map noteOf cs)
+    go [] = tt
+    go (c ∷ cs) = (code-fits c, go cs)
+
+-- A common range ends below 65,536.
+abbrev Ends : Option Range → Type 0
+Ends none = Unit
+Ends (some x) = x .high < 0x1_0000
+
+common-ends : (x y : Option Range) → Ends x → Ends y → Ends (commonPart x y)
+common-ends none y h k = k
+common-ends (some x) none h k = h
+common-ends (some x) (some y) h k = omega arith
+
+record-ends : (r : PatternRecord) (v : ℕ) → Fitting r → Ends (recordRange r v)
+record-ends Anything v h = tt
+record-ends (Symbol a) v h = tt
+record-ends (RangeOf l u) v h = tt
+record-ends (Compound a n) v h = tt
+record-ends (Variable u) v h = tt
+record-ends (Ranged u l t) v h = go (eqb u v)
+  where
+    go : (b : Bool) → Ends (elim b as (λ _. Option Range) [ true ↦ some (record { low = l; high = t }) | false ↦ none ])
+    go true = h .2
+    go false = tt
+
+range-ends : (notes : List Note) (v : ℕ) → All Fits notes → Ends (rangeIn notes v)
+range-ends [] v h = tt
+range-ends (n ∷ notes) v h =
+    common-ends (recordRange (n .what) v) (rangeIn notes v) (record-ends (n .what) v (h .0)) (range-ends notes v (h .1))
+
+-- A high end below 65,536 is that of a range.
+end-some : (x : Option Range) → Ends x → ltb (highEnd x) 0x1_0000 ≡ isSome x
+end-some none h = refl
+end-some (some x) h = lt-ltb (x .high) 0x1_0000 h
+
+range-known : (notes : List Note) → All Fits notes → (v : ℕ) → v < 16 → hasRange (highsOf notes) v ≡ isSome (rangeIn notes v)
+range-known notes h v l =
+    ap (λ (b : Bool). b && ltb (getD (highsOf notes) v 0) 0x1_0000) (lt-ltb v 16 l)
+    ∙ ap (λ (x : ℕ). ltb x 0x1_0000) (variable-at (λ (u : ℕ). highEnd (rangeIn notes u)) v l)
+    ∙ end-some (rangeIn notes v) (range-ends notes v h)
+
+record-known
+    : (f g : ℕ → Bool) → ((v : ℕ) → v < 16 → f v ≡ g v) → (r : PatternRecord) → Fitting r → isTested f r ≡ isTested g r
+record-known f g e Anything h = refl
+record-known f g e (Symbol a) h = refl
+record-known f g e (RangeOf l u) h = refl
+record-known f g e (Compound a n) h = refl
+record-known f g e (Variable v) h = e v h
+record-known f g e (Ranged v l u) h = e v (h .0)
+
+places-known
+    : (f g : ℕ → Bool) → ((v : ℕ) → v < 16 → f v ≡ g v) → (notes : List Note) → All Fits notes
+    → testedPlaces f notes ≡ testedPlaces g notes
+places-known f g e [] h = refl
+places-known f g e (n ∷ notes) h =
+    λ i. consIf (record-known f g e (n .what) (h .0) i) (n .place) (places-known f g e notes (h .1) i)
+
+-- The notes of a rule gather what the rule tests.
+pub gather-rule
+    : {arity : ℕ} (rule : Patterns) (notes : List Note) (g : Gathered) → notes ≡ ruleNotes rule → AcceptedRule arity rule
+    → All Fits notes → gatherNotes notes g ≡ gathered (rulePlaces rule) (ruleCodes rule) g
+gather-rule rule notes g e accepted fits = λ i. gathered (places i) (codes i) g
+  where
+    places : testedPlaces (hasRange (highsOf notes)) notes ≡ rulePlaces rule
+    places =
+        places-known (hasRange (highsOf notes)) (λ v. isSome (rangeIn notes v)) (range-known notes fits) notes fits
+        ∙ (λ i. testedPlaces (λ v. isSome (rangeIn (e i) v)) (e i))
+        ∙ sym (rule-tested accepted)
+
+    codes : notesCodes notes ≡ ruleCodes rule
+    codes = ap notesCodes e ∙ ap (λ os. pairCodes (pairsOf os)) (sym (rule-varied accepted))
+
+-- A rule gathered before others is gathered with them.
+pub gather-more
+    : (rule : Patterns) (rules : List Patterns) (g : Gathered)
+    → gather (rule ∷ rules) g ≡ gather rules (gathered (rulePlaces rule) (ruleCodes rule) g)
+gather-more rule rules g =
+    λ i. record {
+      places = all-insert-append (rulePlaces rule) (sheetPlaces rules) (g .places) i;
+      pairs = keep-append (ruleCodes rule) (sheetCodes rules) (g .pairs) i;
+    }

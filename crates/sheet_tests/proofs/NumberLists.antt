@@ -1,0 +1,204 @@
+-- Ascending lists of numbers: those that pass a test, out of a row of numbers one after another.
+use Prim.Native.Nat.{ℕ, zero, suc, _+_, _≤_, _<_}
+use mathlib.Core.Path.{_≡_, refl, sym, ap, _∙_, subst}
+use mathlib.Core.Bool.{Bool, true, false}
+use mathlib.Core.Logic.{_⊎_, inl, inr, by-cases}
+use mathlib.Core.List.{List, [], _∷_, _++_}
+use native.Mathlib.Decide.{ℕ-discrete}
+use native.Mathlib.Omega.{arith}
+use lib.Dec.{T, ltb, lt→ltb, ltb→lt}
+use lib.ListN.{length}
+use Rattle.masks.specs.Mask.{consIf, listFrom}
+use Rattle.terms.specs.Lists.{Mem, here, there, All, filter, countFrom}
+use Rattle.terms.specs.Order.{insertBy}
+use Rattle.terms.proofs.ListLaws.{mem-cases, mem-none}
+use Rattle.terms.proofs.Sorted.{StrictOrder, Ascending, insert-has, insert-keeps, insert-mem, insert-ascends}
+use Rattle.sheet_tests.specs.views.TestedPlaces.{insertAll}
+
+-- The order of numbers is strict and total.
+pub number-order : StrictOrder ltb
+number-order = record { irreflexive = irreflexive; transitive = transitive; total = total }
+  where
+    irreflexive : (x : ℕ) → T (ltb x x) → ⊥
+    irreflexive x h = omega (arith, ltb→lt x x h)
+
+    transitive : (x y z : ℕ) → T (ltb x y) → T (ltb y z) → T (ltb x z)
+    transitive x y z h k = lt→ltb x z (omega (arith, ltb→lt x y h, ltb→lt y z k))
+
+    total : (x y : ℕ) → (T (ltb x y) → ⊥) → (T (ltb y x) → ⊥) → x ≡ y
+    total x y h k =
+        let f : x < y → ⊥ = λ l. h (lt→ltb x y l) in
+        let g : y < x → ⊥ = λ l. k (lt→ltb y x l) in
+        omega arith
+
+-- What is in a row of numbers lies between its ends.
+pub count-mem : (a k x : ℕ) → Mem x (countFrom a k) → (a ≤ x) × (x < a + k)
+count-mem a zero x m = absurd (mem-none m)
+count-mem a (suc k) x m =
+    elim (mem-cases m) [
+      | inl e ↦ (omega arith, omega arith)
+      | inr l ↦ let h = count-mem (suc a) k x l in (omega arith, omega arith)
+    ]
+
+-- What lies between the ends is in the row.
+pub mem-count : (a k x : ℕ) → a ≤ x → x < a + k → Mem x (countFrom a k)
+mem-count a zero x h l = absurd (omega arith)
+mem-count a (suc k) x h l =
+    by-cases (ℕ-discrete a x)
+    (λ (e : a ≡ x). subst (λ (y : ℕ). Mem x (y ∷ countFrom (suc a) k)) (sym e) here)
+    (λ (n : a ≡ x → ⊥). there (mem-count (suc a) k x (omega arith) (omega arith)))
+
+module _ {A : Type 0} (f : A → Bool) where
+  abbrev consWhere : Bool → A → List A → List A
+  consWhere b x l = elim b as (λ _. List A) [ true ↦ x ∷ l | false ↦ l ]
+
+  -- What passed the test is in the list and passes.
+  pub filter-mem : (xs : List A) {x : A} → Mem x (filter f xs) → Mem x xs × (f x ≡ true)
+  filter-mem [] m = absurd (mem-none m)
+  filter-mem (y ∷ xs) {x} m = go (f y) refl (λ k. filter-mem xs k) m
+    where
+      go : (b : Bool) → f y ≡ b → (Mem x (filter f xs) → Mem x xs × (f x ≡ true)) → Mem x (consWhere b y (filter f xs))
+          → Mem x (y ∷ xs) × (f x ≡ true)
+      go true e h k =
+          elim (mem-cases k) [
+            | inl d ↦ (subst (λ (z : A). Mem z (y ∷ xs)) (sym d) here, ap f d ∙ e)
+            | inr l ↦ (there (h l .0), h l .1)
+          ]
+      go false e h k = (there (h k .0), h k .1)
+
+  -- What is in the list and passes is among those that passed.
+  pub mem-filter : (xs : List A) {x : A} → Mem x xs → f x ≡ true → Mem x (filter f xs)
+  mem-filter [] m e = absurd (mem-none m)
+  mem-filter (y ∷ xs) {x} m e = go (f y) refl (mem-cases m) (λ k. mem-filter xs k e)
+    where
+      go : (b : Bool) → f y ≡ b → (x ≡ y) ⊎ Mem x xs → (Mem x xs → Mem x (filter f xs)) → Mem x (consWhere b y (filter f xs))
+      go true d (inl p) h = subst (λ (z : A). Mem z (y ∷ filter f xs)) (sym p) here
+      go true d (inr k) h = there (h k)
+      go false d (inl p) h = absurd (subst T (sym e ∙ ap f p ∙ d) tt)
+      go false d (inr k) h = h k
+
+  -- What holds of each thing of the list holds of each that passed.
+  filter-all : (Q : A → Type 0) (xs : List A) → All Q xs → All Q (filter f xs)
+  filter-all Q [] h = tt
+  filter-all Q (y ∷ xs) h = go (f y) (filter-all Q xs (h .1))
+    where
+      go : (b : Bool) → All Q (filter f xs) → All Q (consWhere b y (filter f xs))
+      go true k = (h .0, k)
+      go false k = k
+
+  -- Of a list that ascends, those that passed ascend.
+  pub filter-ascends : (before : A → A → Bool) (xs : List A) → Ascending before xs → Ascending before (filter f xs)
+  filter-ascends before [] a = tt
+  filter-ascends before (y ∷ xs) a = go (f y) (filter-ascends before xs (a .1))
+    where
+      go : (b : Bool) → Ascending before (filter f xs) → Ascending before (consWhere b y (filter f xs))
+      go true k = (filter-all (λ (z : A). T (before y z)) xs (a .0), k)
+      go false k = k
+
+  -- Those of two lists joined.
+  pub filter-append : (xs ys : List A) → filter f (xs ++ ys) ≡ filter f xs ++ filter f ys
+  filter-append [] ys = refl
+  filter-append (x ∷ xs) ys = go (f x) (filter-append xs ys)
+    where
+      go : (b : Bool) → filter f (xs ++ ys) ≡ filter f xs ++ filter f ys
+          → consWhere b x (filter f (xs ++ ys)) ≡ consWhere b x (filter f xs) ++ filter f ys
+      go true e = ap (λ (l : List A). x ∷ l) e
+      go false e = e
+
+-- A row of numbers ascends.
+count-above : (a b k : ℕ) → a < b → All (λ (y : ℕ). T (ltb a y)) (countFrom b k)
+count-above a b zero h = tt
+count-above a b (suc k) h = (lt→ltb a b h, count-above a (suc b) k (omega arith))
+
+pub count-ascends : (a k : ℕ) → Ascending ltb (countFrom a k)
+count-ascends a zero = tt
+count-ascends a (suc k) = (count-above a (suc a) k (omega arith), count-ascends (suc a) k)
+
+-- A row of numbers is two rows, one after the other.
+pub count-append : (a k m : ℕ) → countFrom a (k + m) ≡ countFrom a k ++ countFrom (a + k) m
+count-append a zero m =
+    let e : 0 + m ≡ m = omega arith in
+    let d : a ≡ a + 0 = omega arith in
+    ap (countFrom a) e ∙ ap (λ (b : ℕ). countFrom b m) d
+count-append a (suc k) m =
+    let d : suc k + m ≡ suc (k + m) = omega arith in
+    let e : suc a + k ≡ a + suc k = omega arith in
+    ap (countFrom a) d
+    ∙ ap (λ (l : List ℕ). a ∷ l) (count-append (suc a) k m ∙ ap (λ (b : ℕ). countFrom (suc a) k ++ countFrom b m) e)
+
+-- Those of a row that pass a test are no more than the row has.
+pub filter-count : (f : ℕ → Bool) (a k : ℕ) → length (filter f (countFrom a k)) ≤ k
+filter-count f a zero = omega arith
+filter-count f a (suc k) = go (f a) (filter-count f (suc a) k)
+  where
+    go : (b : Bool) → length (filter f (countFrom (suc a) k)) ≤ k
+        → length {A = ℕ} (elim b as (λ _. List ℕ) [ true ↦ a ∷ filter f (countFrom (suc a) k) | false ↦ filter f (countFrom (suc a) k) ]) ≤ suc k
+    go true h = omega arith
+    go false h = omega arith
+
+-- As many of one row pass a test as of another where the tests agree.
+pub filter-listed
+    : (f g : ℕ → Bool) (a b k : ℕ) → ((j : ℕ) → j < k → f (a + j) ≡ g (b + j))
+    → length (filter f (countFrom a k)) ≡ length (listFrom k b g)
+unfolding listFrom
+filter-listed f g a b zero h = refl
+filter-listed f g a b (suc k) h =
+    go (f a) (g b) first (filter-listed f g (suc a) (suc b) k (λ j l. later j l))
+  where
+    first : f a ≡ g b
+    first =
+        let p : a ≡ a + 0 = omega arith in
+        let q : b + 0 ≡ b = omega arith in
+        ap f p ∙ h 0 (omega arith) ∙ ap g q
+
+    later : (j : ℕ) → j < k → f (suc a + j) ≡ g (suc b + j)
+    later j l =
+        let p : suc a + j ≡ a + suc j = omega arith in
+        let q : b + suc j ≡ suc b + j = omega arith in
+        ap f p ∙ h (suc j) (omega arith) ∙ ap g q
+
+    go : (x y : Bool) → x ≡ y → length (filter f (countFrom (suc a) k)) ≡ length (listFrom k (suc b) g)
+        → length {A = ℕ} (elim x as (λ _. List ℕ) [ true ↦ a ∷ filter f (countFrom (suc a) k) | false ↦ filter f (countFrom (suc a) k) ])
+        ≡ length (consIf y b (listFrom k (suc b) g))
+    go true true e i = ap suc i
+    go true false e i = absurd (subst T e tt)
+    go false true e i = absurd (subst T (sym e) tt)
+    go false false e i = i
+
+-- What stands in a list stands there after numbers were put in.
+pub all-insert-keeps : (xs l : List ℕ) {z : ℕ} → Mem z l → Mem z (insertAll xs l)
+all-insert-keeps [] l m = m
+all-insert-keeps (x ∷ xs) l m = all-insert-keeps xs (insertBy ltb x l) (insert-keeps number-order x l m)
+
+-- Numbers put one after another into a list stand in it.
+pub all-insert-has : (xs l : List ℕ) {x : ℕ} → Mem x xs → Mem x (insertAll xs l)
+all-insert-has [] l m = absurd (mem-none m)
+all-insert-has (y ∷ xs) l {x} m =
+    let first : Mem y (insertAll xs (insertBy ltb y l)) =
+    all-insert-keeps xs (insertBy ltb y l) (insert-has number-order y l) in
+    elim (mem-cases m) [
+      | inl e ↦ subst (λ (z : ℕ). Mem z (insertAll xs (insertBy ltb y l))) (sym e) first
+      | inr k ↦ all-insert-has xs (insertBy ltb y l) k
+    ]
+
+-- What stands in the new list was put in or stood there before.
+pub all-insert-mem : (xs l : List ℕ) {x : ℕ} → Mem x (insertAll xs l) → Mem x xs ⊎ Mem x l
+all-insert-mem [] l m = inr m
+all-insert-mem (y ∷ xs) l {x} m =
+    elim (all-insert-mem xs (insertBy ltb y l) m) [
+      | inl k ↦ inl (there k)
+      | inr k ↦ elim (insert-mem number-order y l k) [
+        | inl e ↦ inl (subst (λ (z : ℕ). Mem z (y ∷ xs)) (sym e) here)
+        | inr n ↦ inr n
+      ]
+    ]
+
+-- The list ascends as before.
+pub all-insert-ascends : (xs l : List ℕ) → Ascending ltb l → Ascending ltb (insertAll xs l)
+all-insert-ascends [] l a = a
+all-insert-ascends (y ∷ xs) l a = all-insert-ascends xs (insertBy ltb y l) (insert-ascends number-order y l a)
+
+-- Two lists put in one after the other are the joined list put in.
+pub all-insert-append : (xs ys l : List ℕ) → insertAll (xs ++ ys) l ≡ insertAll ys (insertAll xs l)
+all-insert-append [] ys l = refl
+all-insert-append (x ∷ xs) ys l = all-insert-append xs ys (insertBy ltb x l)

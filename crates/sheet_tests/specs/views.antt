@@ -1,0 +1,7 @@
+-- How the code keeps things.
+pub mod TestedPlaces
+pub mod KeptPairs
+pub mod Slot
+pub mod NoteTests
+pub mod Gathered
+pub mod TestsRead

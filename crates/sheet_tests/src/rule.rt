@@ -1,0 +1,144 @@
+// The tests of a rule, from its notes.
+use crate::Name;
+use crate::pairs::put_pair;
+use crate::tested::mark;
+use sheet::PatternRecord;
+ghost use mathlib.Core.Path.{_≡_};
+ghost use Prim.Native.Nat.{_≤_, _<_};
+ghost use lib.ListN.{length, drop};
+ghost use Rattle.terms.specs.Lists.{All};
+ghost use Rattle.sheet.specs.views.NoteArray.{notesIn};
+ghost use Rattle.sheet_tests.specs.views.TestedPlaces.{placesIn, insertAll};
+ghost use Rattle.sheet_tests.specs.views.KeptPairs.{pairCode, pairsIn, keepAll};
+ghost use Rattle.sheet_tests.specs.views.NoteTests.{isTested, testedPlaces, hasRange, nameOf, isNamed, codesWith, notesCodes, Placed};
+
+// Has variable v a range?
+fn has_range(high: &[u32; 16], v: u8) -> bool
+    requires { ⌜ length (now high) ≡ 16 ⌝ }
+    ensures { λ r. ⌜ r ≡ hasRange (now (high .entry)) v ⌝ }
+{
+    let i = v as usize;
+    if i < 16 {
+        return high[i] < 0x1_0000;
+    }
+    false
+}
+
+// Is the record a place test?
+fn is_tested(what: PatternRecord, high: &[u32; 16]) -> bool
+    requires { ⌜ length (now high) ≡ 16 ⌝ }
+    ensures { λ r. ⌜ r ≡ isTested (hasRange (now (high .entry))) what ⌝ }
+{
+    match what {
+        PatternRecord::Anything => false,
+        PatternRecord::Symbol(_) => true,
+        PatternRecord::Range(_, _) => true,
+        PatternRecord::Compound(_, _) => true,
+        PatternRecord::Variable(v) => has_range(high, v),
+        PatternRecord::Ranged(v, _, _) => has_range(high, v),
+    }
+}
+
+// Marks the places of a rule's place tests. Not those of variables that have no range, nor a range's place alone where its
+// variable stands at others too.
+pub fn mark_rule(notes: &[u64; 680], n: usize, high: &[u32; 16], words: &mut [u64; 11])
+    requires { ⌜ (n ≤ 680) × (length (now notes) ≡ 680) × (length (now high) ≡ 16) × (length (now words) ≡ 11) × All Placed (notesIn (now notes) n) ⌝ }
+    ensures { λ _. ⌜ placesIn (now (words .exit)) ≡ insertAll (testedPlaces (hasRange (now (high .entry))) (notesIn (now (notes .entry)) n)) (placesIn (now (words .entry))) ⌝ }
+    ensures { λ _. ⌜ length (now (words .exit)) ≡ 11 ⌝ }
+{
+    let mut i: usize = 0;
+    while i < n {
+        let code = notes[i];
+        if is_tested(sheet::note_record(code), high) {
+            mark(words, sheet::note_place(code));
+        }
+        i += 1;
+    }
+}
+
+// The variable of a record.
+pub fn name_of(what: PatternRecord) -> Name
+    ensures { λ r. ⌜ r ≡ nameOf what ⌝ }
+{
+    match what {
+        PatternRecord::Anything => Name::Nameless,
+        PatternRecord::Symbol(_) => Name::Nameless,
+        PatternRecord::Range(_, _) => Name::Nameless,
+        PatternRecord::Compound(_, _) => Name::Nameless,
+        PatternRecord::Variable(v) => Name::Of(v),
+        PatternRecord::Ranged(v, _, _) => Name::Of(v),
+    }
+}
+
+// Is the record variable v?
+pub fn is_named(v: u8, what: PatternRecord) -> bool
+    ensures { λ r. ⌜ r ≡ isNamed v what ⌝ }
+{
+    match what {
+        PatternRecord::Anything => false,
+        PatternRecord::Symbol(_) => false,
+        PatternRecord::Range(_, _) => false,
+        PatternRecord::Compound(_, _) => false,
+        PatternRecord::Variable(u) => v == u,
+        PatternRecord::Ranged(u, _, _) => v == u,
+    }
+}
+
+// The number of a pair of places.
+fn pair_code(p: usize, q: usize) -> u32
+    requires { ⌜ (p < 680) × (q < 680) ⌝ }
+    ensures { λ r. ⌜ r ≡ pairCode p q ⌝ }
+{
+    (p as u32) * 0x1_0000 + q as u32
+}
+
+// Keeps the pairs of a place of variable v with the places of v among the notes from one on.
+fn pairs_with(
+    notes: &[u64; 680],
+    n: usize,
+    from: usize,
+    place: usize,
+    v: u8,
+    codes: &mut [u32; 65],
+    count: usize,
+) -> usize
+    requires { ⌜ (from ≤ n) × (n ≤ 680) × (place < 680) × (length (now notes) ≡ 680) × All Placed (notesIn (now notes) n) × (count ≤ 65) × (length (now codes) ≡ 65) ⌝ }
+    ensures { λ r. ⌜ pairsIn (now (codes .exit)) r ≡ keepAll (codesWith place v (drop from (notesIn (now (notes .entry)) n))) (pairsIn (now (codes .entry)) count) ⌝ }
+    ensures { λ r. ⌜ (r ≤ 65) × (length (now (codes .exit)) ≡ 65) ⌝ }
+{
+    let mut kept = count;
+    let mut i = from;
+    while i < n {
+        if 64 < kept {
+            return kept;
+        }
+        let code = notes[i];
+        if is_named(v, sheet::note_record(code)) {
+            kept = put_pair(codes, kept, pair_code(place, sheet::note_place(code)));
+        }
+        i += 1;
+    }
+    kept
+}
+
+// Keeps all pairs of a rule. Not neighbours alone where a variable stands at three places, nor pairs of two variables.
+pub fn pair_rule(notes: &[u64; 680], n: usize, codes: &mut [u32; 65], count: usize) -> usize
+    requires { ⌜ (n ≤ 680) × (length (now notes) ≡ 680) × All Placed (notesIn (now notes) n) × (count ≤ 65) × (length (now codes) ≡ 65) ⌝ }
+    ensures { λ r. ⌜ pairsIn (now (codes .exit)) r ≡ keepAll (notesCodes (notesIn (now (notes .entry)) n)) (pairsIn (now (codes .entry)) count) ⌝ }
+    ensures { λ r. ⌜ (r ≤ 65) × (length (now (codes .exit)) ≡ 65) ⌝ }
+{
+    let mut kept = count;
+    let mut i: usize = 0;
+    while i < n {
+        if 64 < kept {
+            return kept;
+        }
+        let code = notes[i];
+        let name = name_of(sheet::note_record(code));
+        if let Name::Of(v) = name {
+            kept = pairs_with(notes, n, i + 1, sheet::note_place(code), v, codes, kept);
+        }
+        i += 1;
+    }
+    kept
+}

@@ -1,0 +1,52 @@
+-- The values of the call, packed, and the buffer that it leaves.
+use mathlib.Core.Path.{sym, ap, _∙_}
+use Rattle.build.specs.BuildOutcome.{BuildOutcome, leftBy}
+use Rattle.voltunnis.specs.Packed.{packedBuilt}
+use borrow.Author.Needs.{needs}
+use Rattle.voltunnis.proofs.vt_build.Statement.{statement}
+use Rattle.voltunnis.proofs.vt_build.Tie as tie
+
+build-requires : tie.Need-build-requires
+build-requires c κs = search needs
+
+enum-known-built : tie.Need-enum-known-built
+enum-known-built c = search needs
+
+pack-two-requires : tie.Need-pack-two-requires
+pack-two-requires c κs = search needs
+
+enum-known-built-2 : tie.Need-enum-known-built-2
+enum-known-built-2 c = search needs
+
+pack-two-requires-2 : tie.Need-pack-two-requires-2
+pack-two-requires-2 c κs = search needs
+
+same-length : tie.Need-same-length
+same-length c = search needs
+
+returns : tie.Need-returns
+returns c =
+    let told = sym (ap (λ w. leftBy w (c .before .before .before .before .before .before .build .last .1 .0)) (c .before .before .built .given .1)) ∙ c .before .before .before .before .before .before .build .ensures in
+    (c .pack-two .ensures ∙ ap (λ (x : BuildOutcome). packedBuilt (x .values)) told, ap (λ (x : BuildOutcome). x .buffer) told)
+
+same-length-2 : tie.Need-same-length-2
+same-length-2 c = search needs
+
+returns-2 : tie.Need-returns-2
+returns-2 c =
+    let told = sym (ap (λ w. leftBy w (c .before .before .before .before .before .before .build .last .1 .0)) (c .before .before .built2 .given .1)) ∙ c .before .before .before .before .before .before .build .ensures in
+    (c .pack-two2 .ensures ∙ ap (λ (x : BuildOutcome). packedBuilt (x .values)) told, ap (λ (x : BuildOutcome). x .buffer) told)
+
+pub vt-build-spec : {M : Type 1} → statement M
+vt-build-spec =
+    tie.close
+    (tie.spec
+    build-requires
+    enum-known-built
+    pack-two-requires
+    enum-known-built-2
+    pack-two-requires-2
+    same-length
+    returns
+    same-length-2
+    returns-2)

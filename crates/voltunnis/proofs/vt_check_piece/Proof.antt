@@ -1,0 +1,40 @@
+-- The values of the check, packed.
+use mathlib.Core.Path.{sym, ap, _∙_}
+use Rattle.piece.specs.views.LaidOut.{pieceResult}
+use Rattle.voltunnis.specs.Packed.{packedPiece}
+use borrow.Author.Needs.{needs}
+use Rattle.voltunnis.proofs.vt_check_piece.Statement.{statement}
+use Rattle.voltunnis.proofs.vt_check_piece.Tie as tie
+
+check-piece-requires : tie.Need-check-piece-requires
+check-piece-requires c κs = search needs
+
+enum-known-checked : tie.Need-enum-known-checked
+enum-known-checked c = search needs
+
+pack-requires : tie.Need-pack-requires
+pack-requires c κs = search needs
+
+enum-known-checked-2 : tie.Need-enum-known-checked-2
+enum-known-checked-2 c = search needs
+
+pack-requires-2 : tie.Need-pack-requires-2
+pack-requires-2 c κs = search needs
+
+returns : tie.Need-returns
+returns c = c .pack .ensures ∙ ap packedPiece (sym (ap pieceResult (c .before .before .checked .given .1)) ∙ c .before .before .before .before .check-piece .ensures)
+
+returns-2 : tie.Need-returns-2
+returns-2 c = c .pack2 .ensures ∙ ap packedPiece (sym (ap pieceResult (c .before .before .checked2 .given .1)) ∙ c .before .before .before .before .check-piece .ensures)
+
+pub vt-check-piece-spec : {M : Type 1} → statement M
+vt-check-piece-spec =
+    tie.close
+    (tie.spec
+    check-piece-requires
+    enum-known-checked
+    pack-requires
+    enum-known-checked-2
+    pack-requires-2
+    returns
+    returns-2)

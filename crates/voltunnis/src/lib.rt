@@ -1,0 +1,173 @@
+// The static library. Every call takes byte slices and hands back one number, the refusal's number in its lowest byte.
+use build::Built;
+use graph_check::GraphCheck;
+use graph_check::Rewrote;
+use piece::PieceCheck;
+use plain::Answer;
+use plain::Plain;
+use sheet_tests::SheetCheck;
+use walk::Walked;
+ghost use mathlib.Core.Path.{_≡_};
+ghost use Rattle.terms.specs.Answer.{wordOf, ruleOf};
+ghost use Rattle.sheet_tests.specs.CheckSheet.{acceptSheet, sheetValues};
+ghost use Rattle.piece.specs.ReadPiece.{readPiece};
+ghost use Rattle.piece.specs.views.LaidOut.{checkedPiece};
+ghost use Rattle.plain.specs.Plain.{answerOf, plainReading, readingValues};
+ghost use Rattle.graph_check.specs.CheckGraph.{graphReading, graphValues};
+ghost use Rattle.graph_check.specs.Rewritten.{rewritten};
+ghost use Rattle.build.specs.BuildOutcome.{buildOutcome};
+ghost use Rattle.walk.specs.Walking.{walkReply, replyValues};
+ghost use Rattle.voltunnis.specs.Packed.{packed, packedWide, packedSheet, packedPiece, packedPlain, packedGraph, packedWritten, packedBuilt, packedTwo, packedWalk};
+
+// A refusal's number and three values as one number.
+fn pack(refusal: u8, first: u8, second: u8, third: u8) -> u64
+    ensures { λ r. ⌜ r ≡ packed refusal first second third ⌝ }
+{
+    refusal as u64
+        + 0x100 * (first as u64)
+        + 0x1_0000 * (second as u64)
+        + 0x100_0000 * (third as u64)
+}
+
+// A refusal's number and one value of more bits as one number.
+fn pack_wide(refusal: u8, value: u32) -> u64
+    ensures { λ r. ⌜ r ≡ packedWide refusal value ⌝ }
+{
+    refusal as u64 + 0x100 * (value as u64)
+}
+
+// A refusal's number, a value of 16 bits and one of 32 as one number.
+fn pack_two(refusal: u8, first: u16, second: u32) -> u64
+    ensures { λ r. ⌜ r ≡ packedTwo refusal first second ⌝ }
+{
+    refusal as u64 + 0x100 * (first as u64) + 0x100_0000 * (second as u64)
+}
+
+// The answer word's number.
+fn word(answer: Answer) -> u8
+    ensures { λ r. ⌜ r ≡ wordOf (answerOf answer) ⌝ }
+{
+    match answer {
+        Answer::Commit(_) => 1,
+        Answer::Execute(_) => 2,
+        Answer::Suspend => 3,
+        Answer::Fail => 4,
+    }
+}
+
+// The answer's rule, 0 where it has none.
+fn rule(answer: Answer) -> u8
+    ensures { λ r. ⌜ r ≡ ruleOf (answerOf answer) ⌝ }
+{
+    match answer {
+        Answer::Commit(i) => i,
+        Answer::Execute(i) => i,
+        Answer::Suspend => 0,
+        Answer::Fail => 0,
+    }
+}
+
+// Checks a sheet: arity, rules and tests. Not the arity of a sheet that is refused, nor the rules in the place of the tests.
+#[no_mangle]
+pub extern "C" fn vt_check_sheet(sheet: &[u8]) -> u64
+    ensures { λ r. ⌜ r ≡ packedSheet (sheetValues (acceptSheet (now (sheet .entry)))) ⌝ }
+{
+    let checked = sheet_tests::check_sheet(sheet);
+    match checked {
+        SheetCheck::Accepted(arity, rules, count) => pack(0, arity, rules, count),
+        SheetCheck::Refused(q) => pack(q, 0, 0, 0),
+    }
+}
+
+// Checks a piece: its arity. Not an arity beside a refusal's number, nor 0 for a piece that is accepted.
+#[no_mangle]
+pub extern "C" fn vt_check_piece(piece: &[u8]) -> u64
+    ensures { λ r. ⌜ r ≡ packedPiece (checkedPiece (readPiece (now (piece .entry)))) ⌝ }
+{
+    let checked = piece::check_piece(piece);
+    match checked {
+        PieceCheck::Accepted(arity) => pack(0, arity, 0, 0),
+        PieceCheck::Refused(q) => pack(q, 0, 0, 0),
+    }
+}
+
+// The plain answer: its word and rule. Not the rule before the word, nor suspend for every piece with an unknown.
+#[no_mangle]
+pub extern "C" fn vt_plain(sheet: &[u8], piece: &[u8]) -> u64
+    ensures { λ r. ⌜ r ≡ packedPlain (readingValues (plainReading (now (sheet .entry)) (now (piece .entry)))) ⌝ }
+{
+    let answered = plain::call::plain(sheet, piece);
+    match answered {
+        Plain::Answered(a) => pack(0, word(a), rule(a), 0),
+        Plain::Refused(q) => pack(q, 0, 0, 0),
+    }
+}
+
+// Checks a graph for a sheet: its nodes. Not the nodes of a graph that is refused, nor a graph accepted by itself where the sheet
+// is refused.
+#[no_mangle]
+pub extern "C" fn vt_check_graph(sheet: &[u8], graph: &[u8]) -> u64
+    ensures { λ r. ⌜ r ≡ packedGraph (graphValues (graphReading (now (sheet .entry)) (now (graph .entry)))) ⌝ }
+{
+    let checked = graph_check::check_graph(sheet, graph);
+    match checked {
+        GraphCheck::Accepted(nodes) => pack_wide(0, nodes as u32),
+        GraphCheck::Refused(q) => pack_wide(q, 0),
+    }
+}
+
+// Writes the nodes of a graph again, at the front of a buffer: the bytes written. Not the buffer's length for them, nor a byte
+// changed beside a refusal's number.
+#[no_mangle]
+pub extern "C" fn vt_rewrite(sheet: &[u8], graph: &[u8], buffer: &mut [u8]) -> u64
+    ensures { λ r. ⌜ r ≡ packedWritten (rewritten (now (sheet .entry)) (now (graph .entry)) (now (buffer .entry))) ⌝ }
+    ensures { λ _. ⌜ now (buffer .exit) ≡ rewritten (now (sheet .entry)) (now (graph .entry)) (now (buffer .entry)) .buffer ⌝ }
+{
+    let written = graph_check::rewrite(sheet, graph, buffer);
+    match written {
+        Rewrote::Written(bytes) => pack_wide(0, bytes),
+        Rewrote::Refused(q) => pack_wide(q, 0),
+    }
+}
+
+// Builds a sheet's graph: its nodes and the bytes written. Not a byte changed behind the graph or on a refusal, nor the bytes in the
+// place of the nodes.
+#[no_mangle]
+pub extern "C" fn vt_build(sheet: &[u8], buffer: &mut [u8]) -> u64
+    ensures { λ r. ⌜ r ≡ packedBuilt (buildOutcome (now (sheet .entry)) (now (buffer .entry)) .values) ⌝ }
+    ensures { λ _. ⌜ now (buffer .exit) ≡ buildOutcome (now (sheet .entry)) (now (buffer .entry)) .buffer ⌝ }
+{
+    let built = build::build(sheet, buffer);
+    match built {
+        Built::Written(nodes, bytes) => pack_two(0, nodes, bytes),
+        Built::Refused(q) => pack_two(q, 0, 0),
+    }
+}
+
+// Walks a piece over a graph: the answer's word, its rule and the edges walked. Not suspend for every piece with an unknown, nor an
+// edge count of its own.
+#[no_mangle]
+pub extern "C" fn vt_walk(sheet: &[u8], graph: &[u8], piece: &[u8]) -> u64
+    ensures { λ r. ⌜ r ≡ packedWalk (replyValues (walkReply (now (sheet .entry)) (now (graph .entry)) (now (piece .entry)))) ⌝ }
+{
+    let walked = walk::call::walk(sheet, graph, piece);
+    match walked {
+        Walked::Answered(w) => {
+            let answer = w.answer;
+            pack(0, word(answer), rule(answer), w.edges)
+        }
+        Walked::Refused(q) => pack(q, 0, 0, 0),
+    }
+}
+
+// The wait list of a walk, test t being bit t; 0 on a refusal. Not the tests of every rule, nor the list of another answer.
+#[no_mangle]
+pub extern "C" fn vt_wait(sheet: &[u8], graph: &[u8], piece: &[u8]) -> u64
+    ensures { λ r. ⌜ r ≡ replyValues (walkReply (now (sheet .entry)) (now (graph .entry)) (now (piece .entry))) .waits ⌝ }
+{
+    let walked = walk::call::walk(sheet, graph, piece);
+    match walked {
+        Walked::Answered(w) => w.waits,
+        Walked::Refused(_) => 0,
+    }
+}

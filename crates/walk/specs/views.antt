@@ -1,0 +1,7 @@
+-- How the code keeps things.
+pub mod CodeSteps
+pub mod TestNumbers
+pub mod Following
+pub mod Course
+pub mod LeafAnswers
+pub mod Ready
