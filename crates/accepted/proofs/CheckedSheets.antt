@@ -9,7 +9,7 @@ use Rattle.records.specs.Fields.{IsByte}
 use Rattle.records.specs.Reading.{Reading, took, refused}
 use Rattle.records.proofs.Questions.{ask-took}
 use Rattle.records.proofs.Rows.{row-size}
-use Rattle.terms.specs.Lists.{All}
+use Rattle.basics.specs.Lists.{All}
 use Rattle.terms.specs.Accepted.{AcceptedRule}
 use Rattle.sheet.specs.Sheet.{Sheet}
 use Rattle.sheet.specs.ReadSheet.{readRule, readRules, readSheet}

@@ -1,12 +1,12 @@
 -- A sheet is refused by one of its own questions, 1 to 11; no refusal has the number 0, which says that a sheet is accepted.
 use Prim.Native.Nat.{ℕ, zero, suc, _+_, _-_}
-use mathlib.Core.Bool.{Bool, true, false, _&&_}
+use mathlib.Core.Bool.{Bool, true, false, _&&_, cond}
 use mathlib.Core.List.{List, [], _∷_}
 use native.Mathlib.Omega.{arith}
 use lib.Dec.{leb, eqb}
 use lib.ListN.{length, getD, drop}
 use Rattle.records.specs.Fields.{wideAt}
-use Rattle.records.specs.Reading.{Reading, took, refused, ask, isKind, after}
+use Rattle.records.specs.Reading.{Reading, took, refused, ask, after}
 use Rattle.terms.specs.Pattern.{Pattern, Patterns, theRange, theCompound, variable, rangedVariable, pnil, pcons}
 use Rattle.sheet.specs.declared.PatternRecord.{PatternRecord}
 use Rattle.sheet.specs.declared.PatternRecord.the-variants.{Anything, Symbol, Range, Compound, Variable, Ranged}
@@ -32,7 +32,7 @@ whole-named : (b : Bool) (r : PatternRecord) → HeadNamed (wholeIf b r)
 whole-named true r = tt
 whole-named false r = (omega arith, omega arith)
 
-kind-named : (b : Bool) (x y : PatternHead) → HeadNamed x → HeadNamed y → HeadNamed (isKind b x y)
+kind-named : (b : Bool) (x y : PatternHead) → HeadNamed x → HeadNamed y → HeadNamed (cond b x y)
 kind-named true x y h k = h
 kind-named false x y h k = k
 

@@ -7,7 +7,7 @@ use lib.ListN.{drop}
 use Rattle.records.specs.Fields.{IsByte}
 use Rattle.records.specs.Reading.{took}
 use Rattle.records.proofs.Spelling.{Spelled, spelled-join, row-spelled}
-use Rattle.terms.specs.Lists.{All}
+use Rattle.basics.specs.Lists.{All}
 use Rattle.terms.specs.Pattern.{Pattern, Patterns, pnil, pcons}
 use Rattle.sheet.specs.declared.PatternRecord.the-variants.{Compound}
 use Rattle.sheet.specs.ReadSheet.{readPattern, readPatterns, readRule, readRules}

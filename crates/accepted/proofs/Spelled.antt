@@ -10,7 +10,7 @@ use borrow.Author.Tests.{le-leb, eq-eqb}
 use Rattle.records.specs.Fields.{IsByte}
 use Rattle.records.specs.Reading.{took, andThen}
 use Rattle.records.proofs.Rows.{row-size}
-use Rattle.terms.specs.Lists.{All}
+use Rattle.basics.specs.Lists.{All}
 use Rattle.sheet.specs.Sheet.{Sheet, SoundSheet, mostRules}
 use Rattle.sheet.specs.ReadSheet.{readRule, readRules, readHeader, endSheet, readSheet}
 use Rattle.sheet.specs.WriteSheet.{rulesBytes, sheetBytes}

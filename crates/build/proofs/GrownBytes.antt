@@ -9,7 +9,7 @@ use lib.Dec.{leb}
 use lib.ListN.{length}
 use borrow.Author.Tests.{le-leb, lt-leb}
 use Rattle.terms.specs.Pattern.{Patterns}
-use Rattle.terms.proofs.ListLaws.{all-map}
+use Rattle.basics.proofs.ListLaws.{all-map}
 use Rattle.sheet.specs.Sheet.{Sheet}
 use Rattle.sheet_tests.specs.CheckSheet.{AcceptedSheet}
 use Rattle.decision.specs.Node.{Node}

@@ -6,7 +6,7 @@ use native.Mathlib.Omega.{arith}
 use lib.ListN.{length, drop}
 use Rattle.records.specs.Fields.{IsByte}
 use Rattle.records.specs.Reading.{Reading, took, refused}
-use Rattle.terms.specs.Lists.{All}
+use Rattle.basics.specs.Lists.{All}
 use Rattle.terms.specs.Pattern.{Patterns}
 use Rattle.terms.specs.Accepted.{AcceptedRule}
 use Rattle.sheet.specs.Sheet.{Sheet}

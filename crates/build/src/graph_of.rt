@@ -6,7 +6,7 @@ use keys::grow::grow;
 use keys::grow::root_key;
 use sheet_tests::TestsRead;
 ghost use mathlib.Core.Path.{_≡_};
-ghost use Prim.Native.Nat.{ℕ, _+_, _≤_};
+ghost use Prim.Native.Nat.{_+_, _≤_};
 ghost use lib.ListN.{length};
 ghost use Rattle.sheet.specs.Sheet.{Sheet};
 ghost use Rattle.sheet_tests.specs.views.TestedPlaces.{placesIn};

@@ -1,7 +1,7 @@
 -- Ascending lists: what stands at which number.
 use Prim.Native.Nat.{ℕ, zero, suc, _<_}
 use mathlib.Core.Path.{_≡_, sym, ap, _∙_, subst}
-use mathlib.Core.Bool.{Bool, true, false}
+use mathlib.Core.Bool.{Bool, cond}
 use mathlib.Core.List.{List, [], _∷_, _++_, map}
 use mathlib.Core.Logic.{by-cases}
 use native.Mathlib.Decide.{decLt}
@@ -9,11 +9,11 @@ use native.Mathlib.Omega.{arith}
 use lib.Dec.{T, ltb, ltb→lt}
 use lib.ListN.{length, getD}
 use borrow.Author.Tests.{lt-ltb, le-ltb}
-use Rattle.terms.specs.Lists.{All}
-use Rattle.terms.proofs.ListLaws.{all-split, all-at}
-use Rattle.terms.proofs.Sorted.{StrictOrder, AscendingBy, Ascending}
+use Rattle.basics.specs.Lists.{All}
+use Rattle.basics.proofs.ListLaws.{all-split, all-at}
+use Rattle.basics.proofs.Sorted.{StrictOrder, AscendingBy, Ascending}
 use Rattle.sheet_tests.specs.views.Slot.{slot}
-use Rattle.decision.proofs.TestNumbers.{mem-at}
+use Rattle.basics.proofs.Positions.{mem-at}
 
 -- Both parts of an ascending list ascend.
 pub ascends-first
@@ -67,9 +67,9 @@ module _ {A : Type 0} {before : A → A → Bool} (order : StrictOrder before) (
 pub slot-at : (xs : List ℕ) → Ascending ltb xs → (k : ℕ) → k < length xs → slot (getD xs k 0) xs ≡ k
 slot-at [] up k h = absurd (let z : ⊥ = omega arith in z)
 slot-at (x ∷ xs) up zero h =
-    ap (λ (b : Bool). elim b as (λ _. ℕ) [ true ↦ suc (slot x xs) | false ↦ 0 ]) (le-ltb x x (omega arith))
+    ap (λ (b : Bool). cond b (suc (slot x xs)) 0) (le-ltb x x (omega arith))
 slot-at (x ∷ xs) up (suc k) h =
     let c = getD xs k 0 in
     let l = ltb→lt x c (all-at (λ (y : ℕ). T (ltb x y)) (mem-at 0 xs k (omega arith)) (up .0)) in
-    ap (λ (b : Bool). elim b as (λ _. ℕ) [ true ↦ suc (slot c xs) | false ↦ 0 ]) (lt-ltb x c l)
+    ap (λ (b : Bool). cond b (suc (slot c xs)) 0) (lt-ltb x c l)
     ∙ ap suc (slot-at xs (up .1) k (omega arith))

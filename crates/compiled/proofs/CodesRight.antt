@@ -7,12 +7,12 @@ use mathlib.Core.Option.{some}
 use native.Mathlib.Omega.{arith}
 use lib.ListN.{length, getD, set, length-set}
 use lib.Seq.{getD-set-same}
-use Rattle.terms.specs.Lists.{All, Mem}
+use Rattle.basics.specs.Lists.{All, Mem}
 use Rattle.terms.specs.Pattern.{Patterns}
 use Rattle.terms.specs.RuleTests.{Want, PlaceTest, at, placeTests, patternsRange}
 use Rattle.terms.specs.Answer.{ruleAt}
 use Rattle.terms.specs.Accepted.{AcceptedRule}
-use Rattle.terms.proofs.ListLaws.{mem-cases, mem-none, all-at, all-from}
+use Rattle.basics.proofs.ListLaws.{mem-cases, mem-none, all-at, all-from}
 use Rattle.terms.proofs.Ascending.{Ascends, ascends-from}
 use Rattle.terms.proofs.PreorderTests.{testPlace, all-tests-ascend}
 use Rattle.sheet_tests.specs.SheetTests.{place, sheetTests}

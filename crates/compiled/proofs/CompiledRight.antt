@@ -9,12 +9,12 @@ use native.Mathlib.Omega.{arith}
 use lib.ListN.{length, getD, take, replicate, length-replicate, getD-replicate, List·getD-eq-default}
 use lib.Seq.{getD-take}
 use borrow.Author.Tests.{lt-ltb, le-ltb}
-use Rattle.terms.specs.Lists.{All, Mem}
+use Rattle.basics.specs.Lists.{All, Mem}
 use Rattle.terms.specs.Pattern.{Patterns, pnil, countPatterns}
 use Rattle.terms.specs.RuleTests.{Want, aSymbol, aNumber, aCompound, PlaceTest, PairTest, placeTests, pairTests, patternsRange}
 use Rattle.terms.specs.Answer.{ruleAt}
 use Rattle.terms.specs.Accepted.{AcceptedRule}
-use Rattle.terms.proofs.ListLaws.{all-join, all-at, all-map, all-from}
+use Rattle.basics.proofs.ListLaws.{all-join, all-at, all-map, all-from}
 use Rattle.terms.proofs.TermPlaces.{extent, extent-le}
 use Rattle.terms.proofs.Ascending.{ascends-below}
 use Rattle.terms.proofs.PreorderTests.{testPlace, all-tests-ascend}
@@ -24,10 +24,9 @@ use Rattle.sheet_tests.specs.views.KeptPairs.{codePair}
 use Rattle.sheet_tests.proofs.TestOrder.{ascending-mem}
 use Rattle.decision.specs.Rules.{testAt, hasTest, wantAt, testsWhere}
 use Rattle.decision.proofs.Runs as runs
-use Rattle.decision.proofs.Clash.{clash}
-use Rattle.decision.proofs.Filters.{mem-left, mem-map, all-mapped, mapped-always}
+use Rattle.basics.proofs.Clash.{clash}
+use Rattle.basics.proofs.Filters.{mem-left, mem-map, all-mapped, mapped-always}
 use Rattle.decision.proofs.TestsOfRules.{want-test}
-use Rattle.decision.proofs.TestNumbers.{mem-at}
 use Rattle.decision.proofs.SoundWants.{SoundTest, rule-tests-sound}
 use Rattle.edges.specs.views.Codes.{SoundWant, wantLow, wantHigh}
 use Rattle.edges.specs.views.Compiled.{isPlace, RowTable, CodeTable, PlaceTable, Compiled}
@@ -39,6 +38,7 @@ use Rattle.compiled.proofs.RulesTabled.{Sized}
 use Rattle.compiled.proofs.RowRight.{row-right}
 use Rattle.compiled.proofs.TablesRight.{row-at, row-beyond, low-stored, high-stored}
 use Rattle.compiled.proofs.CodesRight.{code-right}
+use Rattle.basics.proofs.Positions.{mem-at}
 
 -- A tested place is one of the 680.
 abbrev Near : Test → Type 0

@@ -7,11 +7,11 @@ use mathlib.Core.Option.{Option, some, none}
 use lib.ListN.{getD}
 use borrow.Author.Tests.{lt-ltb}
 use Rattle.places.specs.Numbering.{stride}
-use Rattle.terms.specs.Lists.{All}
+use Rattle.basics.specs.Lists.{All}
 use Rattle.terms.specs.Pattern.{Pattern, Patterns, anything, theSymbol, theRange, theCompound, variable, rangedVariable, pnil, pcons}
 use Rattle.terms.specs.RuleTests.{Range, PlaceTest, Occurrence, rangeTest, pairsOf, placeTests}
 use Rattle.terms.specs.Accepted.{Sound, Sounds, AcceptedRule}
-use Rattle.terms.proofs.ListLaws.{all-join}
+use Rattle.basics.proofs.ListLaws.{all-join}
 use Rattle.terms.proofs.Ranges.{WideRange, ranges-wide}
 use Rattle.sheet.specs.declared.PatternRecord.{PatternRecord}
 use Rattle.sheet.specs.declared.PatternRecord.the-variants.{Anything, Symbol, Range as RangeOf, Compound, Variable, Ranged}

@@ -10,7 +10,7 @@ use Rattle.terms.specs.RuleTests.{Want, PlaceTest}
 use Rattle.sheet.specs.views.NoteCode.{codePlace, codeRecord}
 use Rattle.sheet.specs.views.NoteArray.{notesIn}
 use Rattle.sheet_tests.proofs.NoteRows.{notes-next, notes-end}
-use Rattle.decision.proofs.Clash.{clash}
+use Rattle.basics.proofs.Clash.{clash}
 use Rattle.edges.specs.views.Codes.{wantLow, wantHigh}
 use Rattle.compiled.specs.declared.Wanted.the-variants.{Nothing, Codes}
 use Rattle.compiled.specs.views.Wants.{numberIf, rangeWant, recordWant, testIf, notesTests, wantedCodes}

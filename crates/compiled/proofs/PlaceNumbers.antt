@@ -8,8 +8,8 @@ use native.Mathlib.Omega.{arith}
 use lib.Dec.{T, ltb, ltb→lt}
 use lib.ListN.{length, getD, take, drop, set, length-set, drop-of-length-le}
 use lib.Seq.{length-take-le, drop-cons, getD-take, getD-set-same, getD-set-other, set-out}
-use Rattle.terms.specs.Lists.{All}
-use Rattle.terms.proofs.Sorted.{Ascending}
+use Rattle.basics.specs.Lists.{All}
+use Rattle.basics.proofs.Sorted.{Ascending}
 use Rattle.compiled.specs.views.Numbers.{numberAll, Small}
 
 module _ (l : List ℕ) (n i : ℕ) (within : n ≤ length l) where

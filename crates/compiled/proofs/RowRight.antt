@@ -14,20 +14,19 @@ use borrow.Author.Tests.{ne-eqb}
 use Rattle.masks.specs.Mask.{has, maskOf}
 use Rattle.masks.proofs.Membership.{has-above, has-empty}
 use Rattle.masks.proofs.Extensionality.{ext, maskOf-lt, has-maskOf}
-use Rattle.terms.specs.Lists.{All, Mem}
+use Rattle.basics.specs.Lists.{All, Mem, anyOf}
 use Rattle.terms.specs.Pattern.{Patterns}
 use Rattle.terms.specs.RuleTests.{PlaceTest, PairTest, placeTests, pairTests}
 use Rattle.terms.specs.Answer.{ruleAt}
 use Rattle.terms.specs.Accepted.{AcceptedRule}
-use Rattle.terms.proofs.ListLaws.{all-from}
+use Rattle.basics.proofs.ListLaws.{all-from}
 use Rattle.sheet.specs.views.Noted.{ruleNotes}
 use Rattle.sheet_tests.specs.SheetTests.{Test, place, pair, ruleTests, sheetTests}
 use Rattle.sheet_tests.specs.views.Slot.{slot}
 use Rattle.sheet_tests.specs.views.KeptPairs.{codePair, pairCode}
 use Rattle.sheet_tests.specs.views.NoteTests.{pairCodes}
-use Rattle.decision.specs.Rules.{anyOf, sameTest, testAt, hasTest, testsWhere}
-use Rattle.decision.proofs.Truth.{same-truth}
-use Rattle.decision.proofs.Filters.{mem-left, mem-right, mem-map}
+use Rattle.decision.specs.Rules.{sameTest, testAt, hasTest, testsWhere}
+use Rattle.basics.proofs.Filters.{mem-left, mem-right, mem-map}
 use Rattle.decision.proofs.TestsOfRules.{same-test, test-same, mem-has}
 use Rattle.decision.proofs.TestNumbers.{test-number}
 use Rattle.compiled.specs.views.Numbers.{pairNumber}
@@ -37,6 +36,7 @@ use Rattle.compiled.proofs.AscendingLists.{slot-at}
 use Rattle.compiled.proofs.TestNumbers.{number-place, number-pair, codes-up, one-test}
 use Rattle.compiled.proofs.RowTurns.{with-append}
 use Rattle.compiled.proofs.NotesRight.{rule-wants, rule-pairs}
+use Rattle.basics.proofs.Booleans.{same-truth}
 
 -- t stands in a list of numbers.
 abbrev among : List ℕ → ℕ → Bool

@@ -1,14 +1,14 @@
 -- The set of a rule's tests, note by note.
 use Prim.Native.Nat.{ℕ, _+_, _^_, _≤_, _<_}
 use mathlib.Core.Path.{_≡_, refl, sym, ap, _∙_}
-use mathlib.Core.Bool.{Bool, true, false, _||_, or-false}
+use mathlib.Core.Bool.{Bool, true, false, _||_, or-false, cond}
 use mathlib.Core.List.{List, [], _∷_, _++_, map-append}
 use mathlib.Core.Option.{some, none}
 use native.Mathlib.Omega.{arith}
 use lib.Dec.{eqb}
 use lib.ListN.{length, getD, drop}
 use borrow.Author.Tests.{ne-eqb}
-use Rattle.masks.specs.Mask.{has, consIf}
+use Rattle.masks.specs.Mask.{has}
 use Rattle.masks.proofs.Extensionality.{maskOf-unique}
 use Rattle.terms.specs.RuleTests.{Want, PlaceTest, PairTest, Occurrence, both, pairsWith, pairsOf}
 use Rattle.sheet.specs.declared.PatternRecord.{PatternRecord}
@@ -24,6 +24,7 @@ use Rattle.sheet_tests.proofs.NoteRows.{notes-next, notes-end}
 use Rattle.compiled.specs.views.Numbers.{pairNumber}
 use Rattle.compiled.specs.views.Row.{withTest, withTests, placeNumbers, pairNumbers}
 use Rattle.compiled.proofs.NotesWanted.{wantHere, testsFrom, tests-turn, tests-end}
+use Rattle.masks.proofs.Listed.{consIf}
 
 -- A number from 64 on changes no set.
 pub with-none : (row t : ℕ) → row < 2 ^ 64 → 64 ≤ t → row ≡ withTest row t
@@ -83,7 +84,7 @@ codes-more p v q (Of u) os = go (eqb v u)
   where
     go
         : (b : Bool)
-        → pairCodes (elim b as (λ _. List PairTest) [ true ↦ both p q ∷ pairsWith p v os | false ↦ pairsWith p v os ])
+        → pairCodes (cond b (both p q ∷ pairsWith p v os) (pairsWith p v os))
         ≡ consIf b (pairCode p q) (pairCodes (pairsWith p v os))
     go true = refl
     go false = refl

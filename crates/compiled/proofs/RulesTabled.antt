@@ -12,7 +12,7 @@ use Rattle.terms.specs.Pattern.{Patterns}
 use Rattle.sheet.specs.views.Noted.{Note, ruleNotes}
 use Rattle.sheet.specs.views.NoteRanges.{lowsOf, highsOf}
 use Rattle.sheet.specs.ReadSheet.{readRule, readRules}
-use Rattle.decision.proofs.Clash.{clash}
+use Rattle.basics.proofs.Clash.{clash}
 use Rattle.edges.specs.views.Codes.{wantLow, wantHigh}
 use Rattle.compiled.specs.views.Wants.{notesTests}
 use Rattle.compiled.specs.views.RuleTables.{Tables, notesRow, ruleTables, allTables}

@@ -5,10 +5,10 @@ use mathlib.Core.List.{List, [], _∷_}
 use native.Mathlib.Omega.{arith}
 use lib.ListN.{length, getD, set, length-set}
 use lib.Seq.{getD-set-same, getD-set-other}
-use Rattle.terms.specs.Lists.{All}
+use Rattle.basics.specs.Lists.{All}
 use Rattle.terms.specs.Pattern.{Patterns, pnil}
 use Rattle.terms.specs.RuleTests.{Want, PlaceTest}
-use Rattle.terms.proofs.ListLaws.{all-always}
+use Rattle.basics.proofs.ListLaws.{all-always}
 use Rattle.sheet.specs.views.Noted.{ruleNotes}
 use Rattle.sheet.specs.views.NoteRanges.{lowsOf, highsOf}
 use Rattle.edges.specs.views.Codes.{wantLow, wantHigh}

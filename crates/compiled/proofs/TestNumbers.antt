@@ -1,7 +1,7 @@
 -- The numbers of a sheet's tests: test t is the place listed at t; behind the places, test m + k is the pair kept at k.
-use Prim.Native.Nat.{ℕ, zero, suc, _+_, _-_, _*_, _/_, _%_, _≤_, _<_}
-use mathlib.Core.Path.{_≡_, refl, sym, ap, _∙_, subst}
-use mathlib.Core.List.{List, [], _∷_, _++_, map}
+use Prim.Native.Nat.{ℕ, _+_, _-_, _*_, _/_, _%_, _≤_, _<_}
+use mathlib.Core.Path.{_≡_, sym, ap, _∙_, subst}
+use mathlib.Core.List.{List, _++_, map}
 use mathlib.Core.Logic.{inl, inr, by-cases}
 use native.Mathlib.Decide.{decLt}
 use native.Mathlib.Omega.{arith}
@@ -9,19 +9,14 @@ use lib.Dec.{T, ltb, lt→ltb}
 use lib.ListN.{length, getD, length-map, length-append, List·getD-append, List·getD-map}
 use lib.Seq.{getD-append-add}
 use Rattle.terms.specs.Pattern.{Patterns}
-use Rattle.terms.proofs.Sorted.{Ascending, pair-before}
+use Rattle.basics.proofs.Sorted.{Ascending, pair-before}
 use Rattle.sheet_tests.specs.SheetTests.{Test, place, pair, before, allTests, sheetTests}
 use Rattle.sheet_tests.specs.views.KeptPairs.{codePair}
 use Rattle.sheet_tests.proofs.TestOrder.{before-order, ascending-ascends}
 use Rattle.decision.specs.Rules.{testAt}
-use Rattle.decision.proofs.Clash.{clash}
+use Rattle.basics.proofs.Clash.{clash}
 use Rattle.compiled.proofs.AscendingLists.{ascends-first, ascends-second, ascends-back, one-number}
-
--- Within a list it does not matter what would stand past its end.
-getD-any : (l : List Test) (n : ℕ) (d e : Test) → n < length l → getD l n d ≡ getD l n e
-getD-any [] n d e h = absurd (omega arith)
-getD-any (x ∷ l) zero d e h = refl
-getD-any (x ∷ l) (suc n) d e h = getD-any l n d e (omega arith)
+use Rattle.basics.proofs.Positions.{getD-any}
 
 -- The numbers of pairs ascend where the pairs do.
 code-after : (c d : ℕ) → T (before (codePair c) (codePair d)) → T (ltb c d)

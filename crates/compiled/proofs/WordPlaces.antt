@@ -1,7 +1,7 @@
 -- The places of a set, word by word.
 use Prim.Native.Nat.{ℕ, zero, suc, _+_, _*_, _/_, _%_, _-_, _^_, _≤_, _<_}
 use mathlib.Core.Path.{_≡_, refl, sym, ap, _∙_, subst}
-use mathlib.Core.Bool.{Bool, true, false}
+use mathlib.Core.Bool.{Bool, true, false, cond}
 use mathlib.Core.List.{List, [], _∷_, _++_, map, append-nil}
 use native.Mathlib.Numerals.{add-one}
 use native.Mathlib.Omega.{arith}
@@ -10,13 +10,15 @@ use lib.Bits.{bitAnd}
 use lib.Count.{trailingZeros}
 use lib.ListN.{length, getD, take, set, length-set, length-append}
 use lib.Seq.{take-suc-set, append-snoc}
-use Rattle.masks.specs.Mask.{has, consIf, listFrom, members}
+use Rattle.masks.specs.Mask.{has, members}
 use Rattle.masks.proofs.Members.{members-next, members-none}
 use Rattle.masks.proofs.Operations.{and-fits}
-use Rattle.terms.specs.Lists.{filter, countFrom}
+use Rattle.basics.specs.Lists.{filter, countFrom}
 use Rattle.sheet_tests.specs.views.TestedPlaces.{hasPlace, placesIn}
-use Rattle.sheet_tests.proofs.NumberLists.{count-append, filter-append}
+use Rattle.sheet_tests.proofs.NumberLists.{filter-append}
 use Rattle.sheet_tests.proofs.PlaceSets.{placesBelow}
+use Rattle.basics.proofs.Counting.{count-append}
+use Rattle.masks.proofs.Listed.{consIf, listFrom}
 
 -- Where a loop over the members of a word stands: k is the list as it was with count numbers, l as it is with n.
 pub record Listing (word base : ℕ) (k : List ℕ) (count : ℕ) (l : List ℕ) (left n : ℕ) : Type 0 where
@@ -78,7 +80,6 @@ module _ {word base : ℕ} {k : List ℕ} {count : ℕ} {l : List ℕ} {left n :
 filter-shifted
     : (f g : ℕ → Bool) (c b k : ℕ) → ((j : ℕ) → b ≤ j → j < b + k → f (c + j) ≡ g j)
     → filter f (countFrom (c + b) k) ≡ map (λ (j : ℕ). c + j) (listFrom k b g)
-unfolding listFrom
 filter-shifted f g c b zero h = refl
 filter-shifted f g c b (suc k) h =
     go (f (c + b)) (g b) (h b (omega arith) (omega arith))
@@ -89,7 +90,7 @@ filter-shifted f g c b (suc k) h =
 
     go : (x y : Bool) → x ≡ y
         → filter f (countFrom (suc (c + b)) k) ≡ map (λ (j : ℕ). c + j) (listFrom k (suc b) g)
-        → elim x as (λ _. List ℕ) [ true ↦ (c + b) ∷ filter f (countFrom (suc (c + b)) k) | false ↦ filter f (countFrom (suc (c + b)) k) ]
+        → cond x ((c + b) ∷ filter f (countFrom (suc (c + b)) k)) (filter f (countFrom (suc (c + b)) k))
         ≡ map (λ (j : ℕ). c + j) (consIf y b (listFrom k (suc b) g))
     go true true e i = ap (λ (t : List ℕ). (c + b) ∷ t) i
     go true false e i = absurd (subst T e tt)

@@ -9,7 +9,7 @@ ghost use mathlib.Core.List.{List, _++_, map};
 ghost use Prim.Native.Nat.{ℕ, _+_, _≤_, _<_};
 ghost use lib.ListN.{length, take, replicate};
 ghost use Rattle.records.specs.Reading.{took};
-ghost use Rattle.terms.specs.Lists.{All};
+ghost use Rattle.basics.specs.Lists.{All};
 ghost use Rattle.terms.specs.Pattern.{Patterns};
 ghost use Rattle.terms.specs.Accepted.{AcceptedRule};
 ghost use Rattle.sheet.specs.views.NoteArray.{notesIn};

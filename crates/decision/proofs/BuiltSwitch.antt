@@ -8,12 +8,12 @@ use native.Mathlib.Omega.{arith}
 use lib.Dec.{T}
 use lib.ListN.{length}
 use Rattle.masks.specs.Mask.{has}
-use Rattle.terms.specs.Lists.{All, Mem, here, there}
+use Rattle.basics.specs.Lists.{All, Mem, here, there}
 use Rattle.terms.specs.Pattern.{Patterns, pnil}
 use Rattle.terms.specs.RuleTests.{Want, placeTests}
 use Rattle.terms.specs.Accepted.{AcceptedRule}
 use Rattle.terms.specs.Answer.{ruleAt}
-use Rattle.terms.proofs.ListLaws.{all-at, all-from}
+use Rattle.basics.proofs.ListLaws.{all-at, all-from}
 use Rattle.sheet_tests.specs.SheetTests.{Test, place, pair, sheetTests}
 use Rattle.decision.specs.Rules.{wantAt}
 use Rattle.decision.specs.Key.{Key, Vertex}
@@ -21,14 +21,14 @@ use Rattle.decision.specs.Cases.{Case, casesOf}
 use Rattle.decision.specs.Node.{CaseEdge, edges, mapCase, mapNode}
 use Rattle.decision.specs.Edges.{liveWants, byCase, byNone, byUnknown, askNode}
 use Rattle.decision.specs.AcceptedGraph.{AcceptedSwitch, AcceptedNode}
-use Rattle.decision.proofs.TestNumbers.{mem-at}
 use Rattle.decision.proofs.TestsOfRules.{HasTest, want-test, has-want}
-use Rattle.decision.proofs.Filters.{mem-length, mem-map, all-mapped, mem-left, mem-right}
+use Rattle.basics.proofs.Filters.{mem-length, mem-map, all-mapped, mem-left, mem-right}
 use Rattle.decision.proofs.Runs.{SoundWant}
 use Rattle.decision.proofs.CasesLaws.{edgesTo}
 use Rattle.decision.proofs.CasesAccepted.{AcceptedCases, cases-accepted}
 use Rattle.decision.proofs.LiveWants.{IfWanted, wants-all, want-listed, wants-few}
 use Rattle.decision.proofs.SoundWants.{SoundTest, rule-tests-sound}
+use Rattle.basics.proofs.Positions.{mem-at}
 
 -- The edges of cases to vertices, each vertex numbered, are the edges to the numbers.
 edges-numbered

@@ -1,11 +1,11 @@
 -- The cases of a switch are three lists joined: symbols, compounds, runs of numbers.
 use Prim.Native.Nat.{ℕ}
 use mathlib.Core.List.{List, _++_, map}
-use Rattle.terms.specs.Lists.{Mem, All}
+use Rattle.basics.specs.Lists.{Mem, All}
 use Rattle.terms.specs.RuleTests.{Want, aSymbol, aCompound}
-use Rattle.terms.proofs.ListLaws.{all-join}
+use Rattle.basics.proofs.ListLaws.{all-join}
 use Rattle.decision.specs.Cases.{Case, symbolCase, compoundCase, symbolsOf, Functor, functorsOf, casesOf}
-use Rattle.decision.proofs.Filters.{mem-left, mem-right, mem-map, all-mapped}
+use Rattle.basics.proofs.Filters.{mem-left, mem-right, mem-map, all-mapped}
 use Rattle.decision.proofs.Insertion.{wanted-symbol, wanted-functor}
 use Rattle.decision.proofs.WantedRanges.{numberRuns}
 

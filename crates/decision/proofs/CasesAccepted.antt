@@ -6,19 +6,17 @@ use mathlib.Core.List.{List, [], _∷_, _++_}
 use native.Mathlib.Omega.{arith}
 use lib.ListN.{length, length-append, length-map}
 use lib.Dec.{ltb}
-use Rattle.terms.specs.Lists.{Mem, here, All}
-use Rattle.terms.specs.Order.{insertBy}
+use Rattle.basics.specs.Lists.{Mem, here, All, anyOf}
+use Rattle.basics.specs.Order.{insertBy}
 use Rattle.terms.specs.Term.{Wide}
 use Rattle.terms.specs.RuleTests.{Want, aSymbol, aNumber, aCompound}
-use Rattle.terms.proofs.ListLaws.{all-join, all-always, all-at, all-from}
-use Rattle.decision.specs.Rules.{anyOf}
+use Rattle.basics.proofs.ListLaws.{all-join, all-always, all-at, all-from}
 use Rattle.decision.specs.Cases.{Case, symbolCase, compoundCase, numbersCase, isWanted}
 use Rattle.decision.specs.Cases.{symbolsOf, Functor, functorsOf, cutsOf, runsOf, casesOf}
 use Rattle.decision.specs.Node.{CaseEdge}
 use Rattle.decision.specs.AcceptedGraph.{CaseBefore, LowAtMostHigh, Ascend, CaseFields}
-use Rattle.decision.proofs.Filters.{mem-length, all-mapped, mapped-always, filter-length}
-use Rattle.terms.proofs.Sorted.{AscendingBy as Ascending}
-use Rattle.decision.proofs.Ascent.{ascending-map, ascending-join}
+use Rattle.basics.proofs.Filters.{mem-length, all-mapped, mapped-always, filter-length}
+use Rattle.basics.proofs.Ascent.{ascending-map, ascending-join}
 use Rattle.decision.proofs.Insertion.{number-inserted, functor-inserted}
 use Rattle.decision.proofs.Insertion.{symbol-wanted, symbols-ascend, functor-wanted, functors-ascend}
 use Rattle.decision.proofs.WantedRanges.{numberRuns, runs-all}
@@ -27,6 +25,7 @@ use Rattle.decision.proofs.Runs.{runs-ordered, runs-ascend, in-run}
 use Rattle.decision.proofs.CaseList.{compoundOf, symbolCases, compoundCases, cases-all}
 use Rattle.decision.proofs.CaseList.{symbol-listed, compound-listed, run-listed}
 use Rattle.decision.proofs.CasesLaws.{edgesTo}
+use Rattle.basics.proofs.Sorted.{AscendingBy as Ascending}
 
 module _ (ws : List Want) where
   -- What comes before every run of numbers comes before these.

@@ -6,30 +6,26 @@ use mathlib.Core.Bool.{Bool, true, false, _&&_}
 use mathlib.Core.Logic.{_⊎_, inl, inr}
 use mathlib.Core.List.{List, [], _∷_, map}
 use mathlib.Core.Option.{Option, some, none}
-use lib.Dec.{T, eqb, eqb→eq, eqb-refl}
-use Rattle.terms.specs.Lists.{Mem, here, there, All}
+use lib.Dec.{T, eqb, eqb→eq}
+use Rattle.basics.specs.Lists.{Mem, here, there, All}
 use Rattle.terms.specs.Term.{Term, Terms, count, unknown, symbol, number, compound}
 use Rattle.terms.specs.RuleTests.{Want, aSymbol, aNumber, aCompound}
 use Rattle.terms.specs.Lookup.{found}
 use Rattle.terms.specs.Outcome.{contradicted, Holds, known, fits}
 use Rattle.terms.specs.Answer.{isOpen}
 use Rattle.terms.proofs.Unknown.{IsUnknown}
-use Rattle.terms.proofs.ListLaws.{all-always, all-at}
-use Rattle.terms.proofs.Booleans.{both-true}
+use Rattle.basics.proofs.ListLaws.{all-always, all-at}
+use Rattle.basics.proofs.Booleans.{both-true, cond-by}
 use Rattle.decision.specs.Cases.{Case, symbolCase, compoundCase, numbersCase, takes, isWanted}
 use Rattle.decision.specs.Cases.{symbolsOf, Functor, functorsOf, casesOf}
 use Rattle.decision.specs.Node.{CaseEdge, follow}
 use Rattle.decision.specs.Edges.{keeps, gatherWants}
-use Rattle.decision.proofs.Truth.{same-truth, choose-by, holds-true, known-contradicted, open-known}
+use Rattle.decision.proofs.Truth.{holds-true, known-contradicted, open-known}
 use Rattle.decision.proofs.WantedRanges.{numberRuns, runs-all}
 use Rattle.decision.proofs.Runs.{run-uncut, in-run}
 use Rattle.decision.proofs.LiveWants.{mem-gather}
 use Rattle.decision.proofs.CaseList.{compoundOf, cases-all, symbol-listed, compound-listed, run-listed}
-
--- Two numbers are equal either way round.
-eqb-swap : (a b : ℕ) → eqb a b ≡ eqb b a
-eqb-swap a b =
-    same-truth (eqb a b) (eqb b a) (λ h. rw (eqb→eq a b h) (eqb-refl b)) (λ h. rw (eqb→eq b a h) (eqb-refl a))
+use Rattle.basics.proofs.Numbers.{eqb-swap}
 
 -- At a symbol a want holds if the symbol's case is wanted, and is contradicted if not;
 symbol-fits : (a : ℕ) (w : Want) → fits w (symbol a) ≡ known (isWanted (symbolCase a) w)
@@ -119,7 +115,7 @@ follow-case {A} (c ∷ cs) f neither t =
     let Untaken : Case → Type 0 = λ d. T (takes d t) → ⊥ in
     let Follows : A → Type 0 =
     λ x. ((d : Case) × Mem d (c ∷ cs) × T (takes d t) × (x ≡ f d)) ⊎ (All Untaken (c ∷ cs) × (x ≡ neither)) in
-    choose-by Follows (takes c t) (λ h. inl (c, here, h, refl))
+    cond-by Follows (takes c t) (λ h. inl (c, here, h, refl))
     (λ h. elim (follow-case cs f neither t)
     [ inl r ↦ inl (r .0, there (r .1), r .2, r .3) | inr r ↦ inr ((h, r .0), r .1) ])
 

@@ -3,11 +3,12 @@ use Prim.Native.Nat.{ℕ}
 use mathlib.Core.Path.{_≡_, refl}
 use mathlib.Core.List.{List, [], _∷_}
 use mathlib.Core.Option.{Option, some, none}
-use Rattle.masks.specs.Mask.{has, maskOf, members, listFrom, anyBelow}
+use Rattle.masks.specs.Mask.{has, maskOf, members}
 use Rattle.terms.specs.Pattern.{Patterns, pnil, pcons, variable, theSymbol}
 use Rattle.decision.specs.Node.{Node}
 use Rattle.decision.specs.Graph.{graphOf}
 use Rattle.decision.specs.GraphBytes.{graphBytes}
+use Rattle.basics.specs.Lists.{anyBelow}
 
 abbrev twoRules : List Patterns
 twoRules = pcons (variable 0) (pcons (variable 0) pnil) ∷ pcons (theSymbol 1) (pcons (theSymbol 2) pnil) ∷ []
@@ -25,5 +26,5 @@ example-graph : bytesOf (graphOf twoRules) ≡
     ∷ 0x47 ∷ 0x00 ∷ 0x00 ∷ 0x00 ∷ 0x55 ∷ 0x00 ∷ 0x06 ∷ 0x00 ∷ 0x05
     ∷ 0x41
     ∷ 0x42 ∷ 0x02 ∷ []
-unfolding has maskOf members listFrom anyBelow
+unfolding has maskOf members anyBelow
 example-graph = refl

@@ -1,17 +1,18 @@
 -- Ranges of numbers between ascending cuts: from each cut to the number before the next.
 use Prim.Native.Nat.{ℕ, suc, pred, _≤_, _<_}
 use mathlib.Core.Path.{_≡_}
-use mathlib.Core.Bool.{Bool, true, false, _&&_, not}
+use mathlib.Core.Bool.{_&&_}
 use mathlib.Core.Logic.{_↔_, _⊎_, inl, inr}
 use mathlib.Core.List.{List, [], _∷_}
 use native.Mathlib.Omega.{arith}
-use lib.Dec.{T, leb, leb→le, le→leb, nleb→lt}
-use Rattle.terms.specs.Lists.{Mem, here, there, All}
+use lib.Dec.{T, leb, leb→le, le→leb}
+use Rattle.basics.specs.Lists.{Mem, here, there, All}
 use Rattle.terms.specs.RuleTests.{Range}
-use Rattle.terms.proofs.ListLaws.{all-at, all-map, mem-cases, mem-none}
-use Rattle.terms.proofs.Booleans.{both-true, true-both}
-use Rattle.terms.proofs.Sorted.{AscendingBy as Ascending}
-use Rattle.decision.proofs.Ascent.{ascending-two}
+use Rattle.basics.proofs.ListLaws.{all-at, all-map, mem-cases, mem-none}
+use Rattle.basics.proofs.Booleans.{both-true, true-both}
+use Rattle.basics.proofs.Ascent.{ascending-two}
+use Rattle.basics.proofs.Numbers.{le-or-lt}
+use Rattle.basics.proofs.Sorted.{AscendingBy as Ascending}
 
 -- Two comparisons are true together exactly when both hold.
 pub both-le : (a b c d : ℕ) → T (leb a b && leb c d) ↔ ((a ≤ b) × (c ≤ d))
@@ -19,14 +20,6 @@ both-le a b c d = (
   λ h. let s = both-true (leb a b) (leb c d) h in (leb→le a b (s .0), leb→le c d (s .1)),
   λ h. true-both (leb a b) (leb c d) (le→leb a b (h .0)) (le→leb c d (h .1)),
 )
-
--- One of two numbers is at most the other, or above it.
-le-or-lt : (m n : ℕ) → (m ≤ n) ⊎ (n < m)
-le-or-lt m n = go (leb m n) (leb→le m n) (nleb→lt m n)
-  where
-    go : (b : Bool) → (T b → m ≤ n) → (T (not b) → n < m) → (m ≤ n) ⊎ (n < m)
-    go true f g = inl (f tt)
-    go false f g = inr (g tt)
 
 -- The number lies in the range.
 abbrev pub Contains : Range → ℕ → Type 0

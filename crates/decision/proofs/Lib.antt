@@ -1,9 +1,6 @@
 -- The laws of decision graphs: of lists and numbering, of a switch's cases, of keys and their edges, of the elimination up to
 -- demand 3, of built graphs, and the wait sentence.
 pub mod Truth
-pub mod Clash
-pub mod Filters
-pub mod Ascent
 pub mod BreadthFirst
 pub mod MetOnce
 pub mod ExploreSteps

@@ -7,7 +7,7 @@ use mathlib.Core.Logic.{_⊎_, inl, inr}
 use mathlib.Core.Option.{some}
 use lib.Dec.{T}
 use Rattle.places.specs.Numbering.{atOrBelow}
-use Rattle.terms.specs.Lists.{Mem}
+use Rattle.basics.specs.Lists.{Mem}
 use Rattle.terms.specs.Term.{Term, Terms, unknown, symbol, number, compound}
 use Rattle.terms.specs.Pattern.{Patterns}
 use Rattle.terms.specs.RuleTests.{Want, PlaceTest, at, both, placeTests}
@@ -22,9 +22,9 @@ use Rattle.sheet_tests.specs.SheetTests.{Test, place, pair}
 use Rattle.decision.specs.Rules.{wantIn}
 use Rattle.decision.specs.Edges.{settledByUnknown}
 use Rattle.decision.specs.AskingOrder.{MustPrecede}
-use Rattle.decision.proofs.Truth.{either-true}
 use Rattle.decision.proofs.TestsOfRules.{HasTest, want-test, want-has, has-want}
 use Rattle.decision.proofs.TestsOfRules.{place-wanted, pair-has, has-pair}
+use Rattle.basics.proofs.Booleans.{either-true}
 
 -- The piece lacks the place.
 abbrev pub Lacks : Found → Type 0

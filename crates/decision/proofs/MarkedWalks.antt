@@ -4,8 +4,8 @@ use Prim.Native.Nat.{ℕ}
 use mathlib.Core.Path.{_≡_, refl}
 use mathlib.Core.List.{List}
 use mathlib.Core.Option.{Option, some, none}
-use Rattle.masks.specs.Mask.{has, maskOf, members, listFrom, anyBelow}
-use Rattle.terms.specs.Lists.{All}
+use Rattle.masks.specs.Mask.{has, maskOf, members}
+use Rattle.basics.specs.Lists.{All, anyBelow}
 use Rattle.terms.specs.Answer.{Answer}
 use Rattle.terms.specs.Marked.{Walked, MarkedCase, markedCases}
 use Rattle.decision.specs.Node.{Node}
@@ -34,5 +34,5 @@ abbrev pub AsMarked : MarkedCase → Type 0
 AsMarked x = walkIn x (graphOf (x .rules)) ≡ record { answer = some (x .answer); walked = x .walked }
 
 pub marked-walks : All AsMarked markedCases
-unfolding has maskOf members listFrom anyBelow
+unfolding has maskOf members anyBelow
 marked-walks = (refl, (refl, (refl, (refl, (refl, (refl, (refl, (refl, (refl, tt)))))))))

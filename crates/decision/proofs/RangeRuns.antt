@@ -7,18 +7,17 @@ use mathlib.Core.Logic.{_↔_, _⊎_, inl, inr}
 use mathlib.Core.List.{List, [], _∷_}
 use native.Mathlib.Omega.{arith}
 use lib.Dec.{T, leb, ltb}
-use Rattle.terms.specs.Lists.{Mem, here, there, All, filter}
-use Rattle.terms.specs.Order.{insertBy}
+use Rattle.basics.specs.Lists.{Mem, here, there, All, filter, anyOf}
+use Rattle.basics.specs.Order.{insertBy}
 use Rattle.terms.specs.RuleTests.{Range}
-use Rattle.terms.proofs.ListLaws.{all-at, mem-none}
-use Rattle.decision.specs.Rules.{anyOf}
+use Rattle.basics.proofs.ListLaws.{all-at, mem-none}
 use Rattle.decision.specs.Cases.{}
-use Rattle.decision.proofs.Filters.{mem-filter, filter-mem, mem-any}
-use Rattle.terms.proofs.Sorted.{AscendingBy as Ascending}
-use Rattle.decision.proofs.Ascent.{ascending-filter}
+use Rattle.basics.proofs.Filters.{mem-filter, filter-mem, mem-any}
+use Rattle.basics.proofs.Ascent.{ascending-filter}
 use Rattle.decision.proofs.Insertion.{number-inserted}
 use Rattle.decision.proofs.Intervals.{both-le, Contains, EndsBefore, Uncut, between, Between}
 use Rattle.decision.proofs.Intervals.{between-cuts, between-ascends, between-covers}
+use Rattle.basics.proofs.Sorted.{AscendingBy as Ascending}
 
 abbrev pub rangeCuts : List Range → List ℕ
 rangeCuts [] = []

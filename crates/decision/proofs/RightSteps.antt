@@ -6,14 +6,14 @@ use mathlib.Core.Logic.{inl, inr}
 use mathlib.Core.List.{List}
 use mathlib.Core.Option.{Option}
 use lib.Dec.{T}
-use Rattle.terms.specs.Lists.{All}
+use Rattle.basics.specs.Lists.{All}
 use Rattle.terms.specs.Term.{Term, Terms, unknown, symbol, number, compound}
 use Rattle.terms.specs.Pattern.{Patterns}
 use Rattle.terms.specs.Lookup.{Found, lacking, found, termAt}
 use Rattle.terms.specs.Outcome.{Outcome, holds, notKnown, contradicted, Contradicted, compare}
 use Rattle.terms.specs.Accepted.{AcceptedRule, AcceptedPiece}
 use Rattle.terms.specs.Answer.{ruleAt}
-use Rattle.terms.proofs.ListLaws.{all-at}
+use Rattle.basics.proofs.ListLaws.{all-at}
 use Rattle.sheet_tests.specs.SheetTests.{Test, place, pair}
 use Rattle.decision.specs.Rules.{testAt, hasTest}
 use Rattle.decision.specs.Key.{Key, Vertex, asking}

@@ -10,7 +10,7 @@ use native.Mathlib.Omega.{arith}
 use lib.Dec.{T, not-T}
 use lib.ListN.{length}
 use Rattle.masks.specs.Mask.{has, members}
-use Rattle.terms.specs.Lists.{Mem, All}
+use Rattle.basics.specs.Lists.{Mem, All}
 use Rattle.terms.specs.Term.{Term, Terms}
 use Rattle.terms.specs.Pattern.{Patterns}
 use Rattle.terms.specs.RuleTests.{Want}
@@ -19,7 +19,7 @@ use Rattle.terms.specs.Outcome.{Outcome, holds, notKnown, contradicted, Contrad
 use Rattle.terms.specs.Accepted.{AcceptedRule, AcceptedPiece}
 use Rattle.terms.specs.Answer.{ruleAt, isOpen}
 use Rattle.terms.proofs.Unknown.{IsUnknown}
-use Rattle.terms.proofs.Booleans.{true-both}
+use Rattle.basics.proofs.Booleans.{true-both}
 use Rattle.terms.proofs.Outcomes.{is-not-open}
 use Rattle.sheet_tests.specs.SheetTests.{place}
 use Rattle.decision.specs.Rules.{testAt, hasTest, wantAt, rulesWhere}
@@ -27,7 +27,7 @@ use Rattle.decision.specs.Key.{Key}
 use Rattle.decision.specs.Cases.{casesOf}
 use Rattle.decision.specs.Node.{follow}
 use Rattle.decision.specs.Edges.{settledByUnknown, keeps, liveWants, leadsTo, butTest, byCase, byNone, byUnknown}
-use Rattle.decision.proofs.Filters.{mem-map}
+use Rattle.basics.proofs.Filters.{mem-map}
 use Rattle.decision.proofs.CasesLaws.{openAt, wantsNothing, edgesTo, edge-keeps}
 use Rattle.decision.proofs.TestsOfRules.{HasTest, want-has, has-want}
 use Rattle.decision.proofs.LocalFacts.{Firm, firm-dead, settled-not-firm}

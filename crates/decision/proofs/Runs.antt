@@ -7,24 +7,24 @@ use mathlib.Core.Bool.{_&&_}
 use mathlib.Core.Logic.{_↔_, Iff·trans, Iff·symm, _⊎_, inl, inr}
 use mathlib.Core.List.{List}
 use lib.Dec.{T, leb}
-use Rattle.terms.specs.Lists.{Mem, All}
+use Rattle.basics.specs.Lists.{Mem, All, anyOf}
 use Rattle.terms.specs.Term.{number, Wide}
 use Rattle.terms.specs.RuleTests.{Want, aSymbol, aNumber, aCompound, Range}
 use Rattle.terms.specs.Outcome.{Holds, known, fits}
-use Rattle.terms.proofs.ListLaws.{all-at, all-from}
+use Rattle.basics.proofs.ListLaws.{all-at, all-from}
 use Rattle.terms.proofs.Outcomes.{true-holds}
-use Rattle.decision.specs.Rules.{anyOf}
 use Rattle.decision.specs.Cases.{Case, symbolCase, compoundCase, numbersCase, takes, isWanted, cutsOf, runsOf}
 use Rattle.decision.specs.AcceptedGraph.{CaseBefore, LowAtMostHigh}
-use Rattle.decision.proofs.Truth.{same-truth, holds-true}
-use Rattle.decision.proofs.Filters.{filter-mem, any-mem}
-use Rattle.terms.proofs.Sorted.{AscendingBy as Ascending}
-use Rattle.decision.proofs.Ascent.{ascending-map}
+use Rattle.decision.proofs.Truth.{holds-true}
+use Rattle.basics.proofs.Filters.{filter-mem, any-mem}
+use Rattle.basics.proofs.Ascent.{ascending-map}
 use Rattle.decision.proofs.Intervals.{both-le, Contains, in-one-only}
 use Rattle.decision.proofs.RangeRuns as Ranges
 use Rattle.decision.proofs.RangeRuns.{rangeRuns, covers-contains, run-between}
 use Rattle.decision.proofs.WantedRanges.{numberRuns, wantedRanges, numbersIn, range-wanted, wanted-range}
 use Rattle.decision.proofs.WantedRanges.{cuts-are, number-runs-are, run-case, case-run, runs-all}
+use Rattle.basics.proofs.Booleans.{same-truth}
+use Rattle.basics.proofs.Sorted.{AscendingBy as Ascending}
 
 -- What a rule of an accepted sheet can want: "Is its arity 1 to 4? Is low at most high?", and fields are wide.
 abbrev pub SoundWant : Want → Type 0

@@ -3,13 +3,13 @@ use Prim.Native.Nat.{ℕ, zero, suc}
 use mathlib.Core.Path.{_≡_, refl, ap, subst, _∙_}
 use mathlib.Core.List.{List, [], _∷_}
 use Rattle.terms.specs.Term.{Term, Terms}
-use Rattle.terms.specs.Lists.{Mem, here, there}
+use Rattle.basics.specs.Lists.{Mem, here, there}
 use Rattle.terms.specs.Filling.{Putss}
 use Rattle.decision.specs.Key.{Leaf}
 use Rattle.decision.specs.Node.{Node}
 use Rattle.decision.specs.Path.{Step, stop, goTo, noWay, stepAt, Path, ends, refusedAt, through, nodeAt}
 use Rattle.decision.specs.Path.{lastStep, nextStep, pathFrom}
-use Rattle.decision.proofs.Clash.{clash}
+use Rattle.basics.proofs.Clash.{clash}
 use Rattle.decision.proofs.SameStep.{StillNotKnownAt, same-step}
 
 -- Each test that is asked on the path is still not known if it was.

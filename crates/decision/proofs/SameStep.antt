@@ -1,7 +1,7 @@
 -- A piece filled in further takes the same step at a node whose test, if it was not known, is still not known.
 use Prim.Native.Nat.{ℕ}
 use mathlib.Core.Path.{_≡_, refl, ap, sym, _∙_}
-use mathlib.Core.Bool.{true, false, _&&_}
+use mathlib.Core.Bool.{_&&_, cond}
 use mathlib.Core.List.{List, [], _∷_}
 use lib.Dec.{T, eqb}
 use Rattle.terms.specs.Term.{Term, Terms, unknown, symbol, number, compound}
@@ -93,7 +93,7 @@ module _ {P : Term → Type 0} where
   same-follow {A} (c ∷ cs) x f k =
       let e = same-takes (c .case) f k in
       let d = same-follow cs x f k in
-      λ i. elim (e i) as (λ _. A) [ true ↦ c .target | false ↦ d i ]
+      λ i. cond (e i) (c .target) (d i)
 
   -- The step at a switch is the same,
   same-switch

@@ -2,11 +2,11 @@
 use Prim.Native.Nat.{ℕ, suc, pred, _+_}
 use mathlib.Core.Option.{Option, some, none}
 use Rattle.places.specs.Numbering.{stride}
-use Rattle.terms.specs.Lists.{All}
+use Rattle.basics.specs.Lists.{All}
 use Rattle.terms.specs.Pattern.{Pattern, Patterns, anything, theSymbol, theRange, theCompound, variable, rangedVariable, pnil, pcons}
 use Rattle.terms.specs.RuleTests.{PlaceTest, Range, rangeTest, patternTests, patternsTests, patternsRange, placeTests}
 use Rattle.terms.specs.Accepted.{Sound, Sounds, InCommon, AcceptedRule}
-use Rattle.terms.proofs.ListLaws.{all-join}
+use Rattle.basics.proofs.ListLaws.{all-join}
 use Rattle.terms.proofs.Ranges.{WideRange, ranges-wide}
 use Rattle.decision.proofs.Runs.{SoundWant}
 

@@ -1,16 +1,15 @@
 -- A step from a node follows one of its edges, and goes the same way where the edges lead to other things.
 use mathlib.Core.Path.{_≡_, refl, ap, subst}
-use mathlib.Core.Bool.{Bool, true, false}
+use mathlib.Core.Bool.{Bool, true, false, cond}
 use mathlib.Core.List.{List, [], _∷_, _++_, map}
-use Rattle.terms.specs.Lists.{Mem, here, there}
+use Rattle.basics.specs.Lists.{Mem, here, there}
 use Rattle.terms.specs.Term.{Term, Terms, unknown, symbol, number, compound}
 use Rattle.terms.specs.Lookup.{Found, lacking, found, termAt}
 use Rattle.terms.specs.Outcome.{Outcome, holds, notKnown, contradicted, compare}
-use Rattle.terms.proofs.Booleans.{choose}
 use Rattle.decision.specs.Cases.{takes}
 use Rattle.decision.specs.Node.{Node, CaseEdge, end, switch, pairNode, edges, mapCase, mapNode, follow}
 use Rattle.decision.specs.Path.{Step, stop, goTo, noWay, switchStep, byComparison, pairStep, stepAt}
-use Rattle.decision.proofs.Filters.{mem-right}
+use Rattle.basics.proofs.Filters.{mem-right}
 
 -- The same step to another thing.
 abbrev pub mapStep : {A B : Type 0} → (A → B) → Step A → Step B
@@ -26,7 +25,7 @@ module _ {A B : Type 0} (f : A → B) where
     where
       go
           : (b : Bool) → follow (map (mapCase f) cs) (f x) u ≡ f (follow cs x u)
-          → choose b (f (c .target)) (follow (map (mapCase f) cs) (f x) u) ≡ f (choose b (c .target) (follow cs x u))
+          → cond b (f (c .target)) (follow (map (mapCase f) cs) (f x) u) ≡ f (cond b (c .target) (follow cs x u))
       go true e = refl
       go false e = e
 
@@ -76,7 +75,7 @@ module _ {A : Type 0} where
     where
       go
           : (b : Bool) → Mem (follow cs x u) (targets cs x y)
-          → Mem (choose b (c .target) (follow cs x u)) (c .target ∷ targets cs x y)
+          → Mem (cond b (c .target) (follow cs x u)) (c .target ∷ targets cs x y)
       go true m = here
       go false m = there m
 

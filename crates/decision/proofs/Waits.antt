@@ -9,12 +9,12 @@ use lib.ListN.{length, getD}
 use Rattle.masks.specs.Mask.{has}
 use Rattle.masks.proofs.Extensionality.{maskOf-same}
 use Rattle.terms.specs.Term.{Terms}
-use Rattle.terms.specs.Lists.{All, Mem}
+use Rattle.basics.specs.Lists.{All, Mem}
 use Rattle.terms.specs.Pattern.{Patterns}
 use Rattle.terms.specs.Outcome.{Outcome, holds, notKnown, contradicted, ruleOutcome}
 use Rattle.terms.specs.Answer.{ruleAt, onlyRule}
 use Rattle.terms.specs.Answer as answers
-use Rattle.terms.proofs.Booleans.{true-both}
+use Rattle.basics.proofs.Booleans.{true-both}
 use Rattle.sheet_tests.specs.SheetTests.{Test, place, pair, sheetTests}
 use Rattle.decision.specs.Rules.{sameTest, testAt}
 use Rattle.decision.specs.Key.{fail, suspend, execute}
@@ -22,12 +22,12 @@ use Rattle.decision.specs.Node.{Node, end, switch, pairNode}
 use Rattle.decision.specs.Path.{Path, ends, refusedAt, nodeAt, path}
 use Rattle.decision.specs.Walk.{Walk, answered, testNotKnown, asksTest, isMet, suspendWaits, atLeaf, atEnd, walk}
 use Rattle.decision.specs.AcceptedGraph.{AcceptedNode}
-use Rattle.decision.proofs.Clash.{clash}
-use Rattle.decision.proofs.Filters.{mem-any}
+use Rattle.basics.proofs.Clash.{clash}
+use Rattle.basics.proofs.Filters.{mem-any}
 use Rattle.decision.proofs.Sets.{in-where}
-use Rattle.decision.proofs.TestNumbers.{number-of}
 use Rattle.decision.proofs.TestsOfRules.{test-same}
 use Rattle.decision.proofs.SameStep.{StillNotKnown, StillNotKnownAt}
+use Rattle.basics.proofs.Positions.{number-of}
 
 -- The answer at an execute node is never suspend.
 execute-not-suspend : {C : Type 0} (i : ℕ) (x : Outcome) → onlyRule i x ≡ answers.suspend → C

@@ -5,14 +5,13 @@ use mathlib.Core.Bool.{_||_}
 use mathlib.Core.Logic.{inl, inr}
 use mathlib.Core.List.{List, [], _∷_, map}
 use lib.Dec.{ltb}
-use Rattle.terms.specs.Lists.{Mem, here, there, All, filter}
-use Rattle.terms.specs.Order.{insertBy}
+use Rattle.basics.specs.Lists.{Mem, here, there, All, filter, anyOf}
+use Rattle.basics.specs.Order.{insertBy}
 use Rattle.terms.specs.RuleTests.{Want, aSymbol, aNumber, aCompound, Range}
-use Rattle.terms.proofs.ListLaws.{all-at, all-from, mem-cases, mem-none}
-use Rattle.decision.specs.Rules.{anyOf}
+use Rattle.basics.proofs.ListLaws.{all-at, all-from, mem-cases, mem-none}
 use Rattle.decision.specs.Cases.{Case, symbolCase, compoundCase, numbersCase, isWanted}
 use Rattle.decision.specs.Cases.{cutsOf, runsOf}
-use Rattle.decision.proofs.Filters.{mem-map, all-mapped, filter-map}
+use Rattle.basics.proofs.Filters.{mem-map, all-mapped, filter-map}
 use Rattle.decision.proofs.Intervals.{between}
 use Rattle.decision.proofs.RangeRuns.{rangeCuts, covers, isCovered, rangeRuns}
 

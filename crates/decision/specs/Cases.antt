@@ -1,14 +1,12 @@
 -- The cases of a switch (document 01, "Nodes").
 use Prim.Native.Nat.{ℕ, suc, pred}
-use mathlib.Core.Bool.{Bool, true, false, _&&_, _||_}
+use mathlib.Core.Bool.{Bool, false, _&&_}
 use mathlib.Core.List.{List, [], _∷_, _++_, map}
-use mathlib.Core.Option.{Option, some, none}
 use lib.Dec.{leb, ltb, eqb}
-use Rattle.terms.specs.Lists.{filter}
-use Rattle.terms.specs.Order.{insertBy, pairBefore}
+use Rattle.basics.specs.Lists.{filter, anyOf}
+use Rattle.basics.specs.Order.{insertBy, pairBefore}
 use Rattle.terms.specs.Term.{Term, count, unknown, symbol, number, compound}
 use Rattle.terms.specs.RuleTests.{Want, aSymbol, aNumber, aCompound}
-use Rattle.decision.specs.Rules.{anyOf}
 
 -- "44 symbol (id), 45 compound (id, arity), 46 numbers (low, high)".
 pub data Case : Type 0 where

@@ -1,6 +1,6 @@
 -- Nodes (document 01, "Records", "Graph").
 use Prim.Native.Nat.{ℕ}
-use mathlib.Core.Bool.{true, false}
+use mathlib.Core.Bool.{cond}
 use mathlib.Core.List.{List, [], _∷_, _++_, map}
 use Rattle.terms.specs.Term.{Term}
 use Rattle.decision.specs.Key.{Leaf}
@@ -36,4 +36,4 @@ mapNode f (pairNode p q x y) = pairNode p q (f x) (f y)
 -- Where a known term leads at a switch: by the first case that takes it, or by neither.
 abbrev pub follow : {A : Type 0} → List (CaseEdge A) → A → Term → A
 follow [] neither t = neither
-follow (c ∷ cs) neither t = elim (takes (c .case) t) [ true ↦ c .target | false ↦ follow cs neither t ]
+follow (c ∷ cs) neither t = cond (takes (c .case) t) (c .target) (follow cs neither t)

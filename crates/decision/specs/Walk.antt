@@ -4,19 +4,19 @@ use mathlib.Core.Bool.{Bool, true, false, _&&_, not}
 use mathlib.Core.List.{List}
 use mathlib.Core.Option.{Option, some, none}
 use lib.ListN.{length}
-use Rattle.terms.specs.Term.{Term, Terms, unknown, symbol, number, compound}
+use Rattle.terms.specs.Term.{Terms, unknown, symbol, number, compound}
 use Rattle.terms.specs.Pattern.{Patterns}
 use Rattle.terms.specs.RuleTests.{Want}
 use Rattle.terms.specs.Lookup.{Found, lacking, found, termAt}
 use Rattle.terms.specs.Outcome.{Outcome, holds, notKnown, contradicted, atPlaces, fits, atPlace, ruleOutcome}
 use Rattle.terms.specs.Answer.{Answer, ruleAt, onlyRule}
 use Rattle.terms.specs.Answer as answers
-use Rattle.masks.specs.Mask.{anyBelow}
 use Rattle.sheet_tests.specs.SheetTests.{Test, place, pair, sheetTests}
-use Rattle.decision.specs.Rules.{anyOf, sameTest, testAt, hasTest, wantAt, testsWhere}
+use Rattle.decision.specs.Rules.{sameTest, testAt, hasTest, wantAt, testsWhere}
 use Rattle.decision.specs.Key.{Leaf, fail, suspend, execute}
 use Rattle.decision.specs.Node.{Node, end, switch, pairNode}
 use Rattle.decision.specs.Path.{Path, ends, refusedAt, nodeAt, path}
+use Rattle.basics.specs.Lists.{anyBelow, anyOf}
 
 -- "An answer .. with the rule, edges walked, and a wait list: a set of tests, test t being bit t of 64."
 pub record Walk : Type 0 where

@@ -11,18 +11,17 @@ use lib.ListN.{length, getD}
 use Rattle.masks.specs.Mask.{has, maskOf, members}
 use Rattle.masks.proofs.Extensionality.{maskOf-lt}
 use Rattle.masks.proofs.Members.{in-members}
-use Rattle.terms.specs.Lists.{Mem, All}
+use Rattle.basics.specs.Lists.{Mem, All}
 use Rattle.terms.specs.Pattern.{Patterns}
 use Rattle.terms.specs.RuleTests.{Want}
-use Rattle.terms.proofs.ListLaws.{all-at, all-map}
+use Rattle.basics.proofs.ListLaws.{all-at, all-map}
 use Rattle.sheet_tests.specs.SheetTests.{place}
 use Rattle.decision.specs.Rules.{testAt, wantAt, rulesWhere}
 use Rattle.decision.specs.Key.{Key}
 use Rattle.decision.specs.Cases.{Case, isWanted, casesOf}
 use Rattle.decision.specs.Edges.{keeps, liveWants, leadsTo, butTest, byCase}
 use Rattle.decision.specs.AcceptedGraph.{CaseFields}
-use Rattle.decision.proofs.Truth.{same-truth}
-use Rattle.decision.proofs.Filters.{mem-map}
+use Rattle.basics.proofs.Filters.{mem-map}
 use Rattle.decision.proofs.Intervals.{both-le}
 use Rattle.decision.proofs.RangeRuns.{covers, rangeRuns, covers-contains, run-between}
 use Rattle.decision.proofs.CasesAccepted.{cases-fields}
@@ -35,6 +34,7 @@ use Rattle.edges.proofs.EdgeKeys.{but-left}
 use Rattle.edges.proofs.CodeRanges.{wantRange, caseRange, sound-want, wanted-covers}
 use Rattle.edges.proofs.CodeRuns.{cases-in-runs}
 use Rattle.edges.proofs.LiveWants.{wantsSomething, has-wanted, wants-sound, rule-wants, to-mem}
+use Rattle.basics.proofs.Booleans.{same-truth}
 
 -- A case is wanted where the want holds its first code.
 pub wanted-holds

@@ -1,15 +1,14 @@
 -- Going over the cases of a switch, as a loop does that asks for the first case after the last one.
 use Prim.Native.Nat.{ℕ, _+_, _≤_, _<_}
 use mathlib.Core.Path.{_≡_, refl, sym, ap, subst, _∙_}
-use mathlib.Core.Bool.{Bool, true, false}
+use mathlib.Core.Bool.{Bool, true, false, cond}
 use mathlib.Core.List.{List, [], _∷_}
 use native.Mathlib.Omega.{arith}
 use lib.Dec.{leb}
 use borrow.Author.Tests.{le-leb, lt-leb}
-use Rattle.terms.specs.Lists.{Mem, here, there, All}
-use Rattle.terms.proofs.Booleans.{choose}
-use Rattle.terms.proofs.ListLaws.{all-at, all-map}
-use Rattle.terms.proofs.Sorted.{AscendingBy}
+use Rattle.basics.specs.Lists.{Mem, here, there, All}
+use Rattle.basics.proofs.ListLaws.{all-at, all-map}
+use Rattle.basics.proofs.Sorted.{AscendingBy}
 use Rattle.decision.specs.Cases.{Case}
 use Rattle.edges.specs.declared.cases.NextCase.{NextCase}
 use Rattle.edges.specs.declared.cases.NextCase.the-variants.{Run, Nothing}
@@ -19,18 +18,18 @@ use Rattle.edges.specs.views.FirstCase.{firstCase, OfRun}
 -- The cases that begin at a code or above it, of cases in order.
 abbrev pub casesFrom : ℕ → List Case → List Case
 casesFrom from [] = []
-casesFrom from (c ∷ cs) = elim (leb from (caseLow c)) [ true ↦ c ∷ cs | false ↦ casesFrom from cs ]
+casesFrom from (c ∷ cs) = cond (leb from (caseLow c)) (c ∷ cs) (casesFrom from cs)
 
 -- Cases that all begin at a code or above it are those from it on.
 all-cases : (z : ℕ) (cs : List Case) → All (λ (c : Case). z ≤ caseLow c) cs → casesFrom z cs ≡ cs
 all-cases z [] h = refl
-all-cases z (c ∷ cs) h = ap (λ (b : Bool). choose b (c ∷ cs) (casesFrom z cs)) (le-leb z (caseLow c) (h .0))
+all-cases z (c ∷ cs) h = ap (λ (b : Bool). cond b (c ∷ cs) (casesFrom z cs)) (le-leb z (caseLow c) (h .0))
 
 -- At first all cases are to come.
 pub cases-start : (cs : List Case) → casesFrom 0 cs ≡ cs
 cases-start [] = refl
 cases-start (c ∷ cs) =
-    ap (λ (b : Bool). choose b (c ∷ cs) (casesFrom 0 cs)) (le-leb 0 (caseLow c) (omega arith))
+    ap (λ (b : Bool). cond b (c ∷ cs) (casesFrom 0 cs)) (le-leb 0 (caseLow c) (omega arith))
 
 -- Where there is no first case, none is to come.
 pub cases-done : (from : ℕ) (cs : List Case) → Nothing ≡ firstCase from cs → casesFrom from cs ≡ []
@@ -38,8 +37,8 @@ cases-done from [] e = refl
 cases-done from (c ∷ cs) e = go (leb from (caseLow c)) (cases-done from cs) e
   where
     go : (b : Bool) → (Nothing ≡ firstCase from cs → casesFrom from cs ≡ [])
-        → Nothing ≡ choose b (Run (caseLow c) (caseHigh c)) (firstCase from cs)
-        → choose b (c ∷ cs) (casesFrom from cs) ≡ []
+        → Nothing ≡ cond b (Run (caseLow c) (caseHigh c)) (firstCase from cs)
+        → cond b (c ∷ cs) (casesFrom from cs) ≡ []
     go true more d = let z : _≡_ {A = ℕ} 0 1 = cc in absurd (omega arith)
     go false more d = more d
 
@@ -60,7 +59,7 @@ cases-next from x y [] a f e = let z : _≡_ {A = ℕ} 0 1 = cc in absurd (omega
 cases-next from x y (c ∷ cs) a f e = go (leb from (caseLow c)) (cases-next from x y cs (a .1) (f .1)) e
   where
     passed : caseLow c < y + 1 → casesFrom (y + 1) (c ∷ cs) ≡ casesFrom (y + 1) cs
-    passed l = ap (λ (b : Bool). choose b (c ∷ cs) (casesFrom (y + 1) cs)) (lt-leb (y + 1) (caseLow c) l)
+    passed l = ap (λ (b : Bool). cond b (c ∷ cs) (casesFrom (y + 1) cs)) (lt-leb (y + 1) (caseLow c) l)
 
     others : y ≡ caseHigh c → casesFrom (y + 1) (c ∷ cs) ≡ cs
     others q =
@@ -69,8 +68,8 @@ cases-next from x y (c ∷ cs) a f e = go (leb from (caseLow c)) (cases-next fro
         (all-map (λ (d : Case). caseHigh c < caseLow d) (λ (d : Case). y + 1 ≤ caseLow d) (λ d l. omega arith) cs (a .0))
 
     go : (b : Bool) → (Run x y ≡ firstCase from cs → NextOf x y cs (casesFrom from cs))
-        → Run x y ≡ choose b (Run (caseLow c) (caseHigh c)) (firstCase from cs)
-        → NextOf x y (c ∷ cs) (choose b (c ∷ cs) (casesFrom from cs))
+        → Run x y ≡ cond b (Run (caseLow c) (caseHigh c)) (firstCase from cs)
+        → NextOf x y (c ∷ cs) (cond b (c ∷ cs) (casesFrom from cs))
     go true more d =
         let p : x ≡ caseLow c = cc in
         let q : y ≡ caseHigh c = cc in

@@ -1,14 +1,13 @@
 -- Where a loop over the cuts of a switch stands that looks for its first case from a code on.
 use Prim.Native.Nat.{ℕ, pred, _+_, _-_, _<_}
 use mathlib.Core.Path.{_≡_, sym, ap, _∙_}
-use mathlib.Core.Bool.{Bool, true, false, not}
+use mathlib.Core.Bool.{Bool, true, false, not, cond}
 use mathlib.Core.List.{List, _∷_}
 use native.Mathlib.Omega.{arith}
 use borrow.Author.Tests.{eq-eqb, ne-eqb}
-use Rattle.terms.specs.Lists.{All}
+use Rattle.basics.specs.Lists.{All}
 use Rattle.terms.specs.Pattern.{Patterns}
 use Rattle.terms.specs.RuleTests.{Want}
-use Rattle.terms.proofs.Booleans.{choose}
 use Rattle.sheet_tests.specs.SheetTests.{place}
 use Rattle.decision.specs.Rules.{testAt}
 use Rattle.decision.specs.Key.{Key}
@@ -75,13 +74,13 @@ module _ (rules : List Patterns) (rows low high : List ℕ) (t live n : ℕ) (as
       module _ (k : y < noCut) where
         two
             : (b : Bool) → isOpenAt x ≡ b
-            → firstCase from (casesOf wants) ≡ choose b (Run x (pred y)) (firstRun isOpenAt (cutsFrom (x + 1) cuts))
+            → firstCase from (casesOf wants) ≡ cond b (Run x (pred y)) (firstRun isOpenAt (cutsFrom (x + 1) cuts))
         two b d =
             let next = some-cut (x + 1) y cuts e k in
             whole
             ∙ ap (λ (l : List ℕ). firstRun isOpenAt (x ∷ l)) (next .1)
-            ∙ ap (λ (c : Bool). choose c (Run x (pred y)) (firstRun isOpenAt (y ∷ next .0))) d
-            ∙ ap (λ (l : List ℕ). choose b (Run x (pred y)) (firstRun isOpenAt l)) (sym (next .1))
+            ∙ ap (λ (c : Bool). cond c (Run x (pred y)) (firstRun isOpenAt (y ∷ next .0))) d
+            ∙ ap (λ (l : List ℕ). cond b (Run x (pred y)) (firstRun isOpenAt l)) (sym (next .1))
 
         -- Where a rule with the test stays at x, the case goes from x to the code before the next cut.
         pub left-here

@@ -6,19 +6,19 @@ use mathlib.Core.Bool.{Bool, false, _&&_}
 use mathlib.Core.Logic.{inl, inr}
 use mathlib.Core.List.{List, [], _∷_, map}
 use native.Mathlib.Omega.{arith}
-use lib.Dec.{T, leb, ltb, eqb, eqb→eq, eqb-refl}
-use Rattle.terms.specs.Order.{insertBy}
+use lib.Dec.{T, leb, ltb, eqb, eqb→eq}
+use Rattle.basics.specs.Order.{insertBy}
 use Rattle.terms.specs.RuleTests.{Want, aSymbol, aNumber, aCompound, Range}
-use Rattle.terms.proofs.Booleans.{both-true, true-both}
-use Rattle.terms.proofs.Sorted.{pair-before}
+use Rattle.basics.proofs.Booleans.{both-true, true-both, same-truth}
+use Rattle.basics.proofs.Sorted.{pair-before}
 use Rattle.edges.specs.views.Codes.{symbolCode, compoundCode, numberCode}
 use Rattle.decision.specs.Cases.{Case, symbolCase, compoundCase, numbersCase, isWanted}
 use Rattle.decision.specs.AcceptedGraph.{CaseBefore, CaseFields}
-use Rattle.decision.proofs.Truth.{same-truth}
 use Rattle.decision.proofs.Intervals.{both-le, EndsBefore}
 use Rattle.decision.proofs.RangeRuns.{rangeCuts, covers}
 use Rattle.decision.proofs.Runs as runs
 use Rattle.edges.specs.views.Codes.{wantLow, wantHigh, caseLow, caseHigh, SoundWant, cutCodes}
+use Rattle.basics.proofs.Numbers.{eq-true}
 
 -- The codes of a want, and of a case.
 abbrev pub wantRange : Want → Range
@@ -57,10 +57,6 @@ by-codes : (b : Bool) (x y z u : ℕ) → (T b → (x ≤ y) × (z ≤ u)) → (
 by-codes b x y z u f g =
     same-truth b (leb x y && leb z u) (λ h. both-le x y z u .1 (f h))
     (λ h. let s = both-le x y z u .0 h in g (s .0) (s .1))
-
--- Equal numbers pass the test.
-eq-true : (a b : ℕ) → a ≡ b → T (eqb a b)
-eq-true a b e = rw e (eqb-refl b)
 
 -- A case is wanted where the want's range covers its own.
 pub wanted-covers

@@ -3,22 +3,21 @@
 use Prim.Native.Nat.{ℕ, suc, _-_, _≤_, _<_}
 use mathlib.Core.Path.{_≡_, refl, sym, ap, subst}
 use mathlib.Core.Bool.{Bool}
-use mathlib.Core.Logic.{_⊎_, inl, inr, by-cases}
+use mathlib.Core.Logic.{inl, inr}
 use mathlib.Core.List.{List, [], _∷_, map}
-use native.Mathlib.Decide.{decLt}
 use native.Mathlib.Omega.{arith}
 use lib.Dec.{T}
-use Rattle.terms.specs.Lists.{Mem, All}
-use Rattle.terms.specs.Order.{pairBefore}
+use Rattle.basics.specs.Lists.{Mem, All}
+use Rattle.basics.specs.Order.{pairBefore}
 use Rattle.terms.specs.Term.{number}
 use Rattle.terms.specs.RuleTests.{Want, aSymbol, aNumber, aCompound, Range}
-use Rattle.terms.proofs.ListLaws.{all-at, all-from, all-always, all-map}
-use Rattle.terms.proofs.Sorted.{StrictOrder, AscendingBy, Ascending, same-members, pair-irreflexive, pair-transitive, pair-total, before-pair}
+use Rattle.basics.proofs.ListLaws.{all-at, all-from, all-always, all-map}
+use Rattle.basics.proofs.Sorted.{StrictOrder, AscendingBy, Ascending, same-members, pair-irreflexive, pair-transitive, pair-total, before-pair}
 use Rattle.edges.specs.views.Codes.{numberCode}
 use Rattle.decision.specs.Cases.{Case, symbolCase, compoundCase, numbersCase, takes, isWanted, symbolsOf, Functor, functorsOf, cutsOf, casesOf}
 use Rattle.decision.specs.AcceptedGraph.{CaseBefore, CaseFields}
-use Rattle.decision.proofs.Filters.{mem-map, all-mapped, filter-mem, any-mem}
-use Rattle.decision.proofs.Ascent.{ascending-map}
+use Rattle.basics.proofs.Filters.{mem-map, all-mapped, filter-mem, any-mem}
+use Rattle.basics.proofs.Ascent.{ascending-map}
 use Rattle.decision.proofs.Intervals.{both-le, Contains, EndsBefore, Uncut, between, Between, in-one-only}
 use Rattle.decision.proofs.Insertion.{symbol-wanted, functor-wanted}
 use Rattle.decision.proofs.RangeRuns as ranges
@@ -29,10 +28,7 @@ use Rattle.decision.proofs.CaseList.{compoundOf, cases-all, symbol-listed, comp
 use Rattle.decision.proofs.CasesAccepted.{cases-ascend, cases-fields}
 use Rattle.edges.specs.views.Codes.{wantLow, wantHigh, caseLow, caseHigh, SoundWant}
 use Rattle.edges.proofs.CodeRanges.{wantRange, caseRange, sound-want, case-before}
-
--- A number is at most another, or above it.
-le-or-lt : (m n : ℕ) → (m ≤ n) ⊎ (n < m)
-le-or-lt m n = by-cases (decLt n m) (λ (l : n < m). inr l) (λ (l : ¬ (n < m)). inl (omega arith))
+use Rattle.basics.proofs.Numbers.{le-or-lt}
 
 -- What is so of an order where the things are such holds in an ascending list of such things.
 ascending-imply

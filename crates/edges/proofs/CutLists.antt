@@ -2,7 +2,7 @@
 -- on.
 use Prim.Native.Nat.{ℕ, _≤_, _<_}
 use mathlib.Core.Path.{_≡_, refl, sym, ap, _∙_}
-use mathlib.Core.Bool.{Bool, true, false}
+use mathlib.Core.Bool.{Bool, true, false, cond}
 use mathlib.Core.List.{List, [], _∷_, map}
 use mathlib.Core.Logic.{_⊎_, inl, inr}
 use mathlib.Core.Option.{Option, some, none}
@@ -13,16 +13,16 @@ use borrow.Author.Tests.{leb-true, leb-false}
 use Rattle.masks.specs.Mask.{has, members}
 use Rattle.masks.proofs.Membership.{has-empty, has-lt}
 use Rattle.masks.proofs.Members.{of-members}
-use Rattle.terms.specs.Lists.{Mem, here, there, All}
+use Rattle.basics.specs.Lists.{Mem, here, there, All}
 use Rattle.terms.specs.Pattern.{Patterns}
 use Rattle.terms.specs.RuleTests.{Want, aSymbol, aNumber, aCompound, Range}
-use Rattle.terms.proofs.ListLaws.{all-at, all-from, mem-cases, mem-none}
-use Rattle.terms.proofs.Sorted.{AscendingBy}
+use Rattle.basics.proofs.ListLaws.{all-at, all-from, mem-cases, mem-none}
+use Rattle.basics.proofs.Sorted.{AscendingBy}
 use Rattle.sheet_tests.specs.SheetTests.{place}
 use Rattle.decision.specs.Rules.{testAt, wantAt}
 use Rattle.decision.specs.Key.{Key}
 use Rattle.decision.specs.Edges.{liveWants}
-use Rattle.decision.proofs.Filters.{mem-map, all-mapped}
+use Rattle.basics.proofs.Filters.{mem-map, all-mapped}
 use Rattle.decision.proofs.RangeRuns as ranges
 use Rattle.decision.proofs.RangeRuns.{CutBy, wanted-cut}
 use Rattle.edges.specs.views.Codes.{SoundWant, cutCodes}
@@ -87,7 +87,7 @@ first-unique from best (x ∷ xs) a small h found least =
 
     go : (b : Bool) → leb from x ≡ b
         → ((best ≡ noCut) ⊎ (Mem best xs × (from ≤ best)) → ((z : ℕ) → Mem z xs → from ≤ z → best ≤ z) → best ≡ firstFrom from xs)
-        → best ≡ elim b as (λ _. ℕ) [ true ↦ x | false ↦ firstFrom from xs ]
+        → best ≡ cond b x (firstFrom from xs)
     go true e rest = first (leb-true from x e) found
     go false e rest = rest (later (leb-false from x e) found) (λ z m k. least z (there m) k)
 

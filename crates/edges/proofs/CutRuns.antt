@@ -1,16 +1,15 @@
 -- Going over ascending cuts: the cuts from a code on, and the first run between neighbouring ones that counts.
 use Prim.Native.Nat.{ℕ, pred, _+_, _≤_, _<_}
 use mathlib.Core.Path.{_≡_, refl, sym, ap, _∙_}
-use mathlib.Core.Bool.{Bool, true, false}
+use mathlib.Core.Bool.{Bool, true, false, cond}
 use mathlib.Core.List.{List, [], _∷_, map}
 use native.Mathlib.Omega.{arith}
 use lib.Dec.{leb}
 use borrow.Author.Tests.{leb-true, leb-false, le-leb, lt-leb}
-use Rattle.terms.specs.Lists.{All, filter}
+use Rattle.basics.specs.Lists.{All, filter}
 use Rattle.terms.specs.RuleTests.{Range}
-use Rattle.terms.proofs.Booleans.{choose}
-use Rattle.terms.proofs.ListLaws.{all-map}
-use Rattle.terms.proofs.Sorted.{AscendingBy}
+use Rattle.basics.proofs.ListLaws.{all-map}
+use Rattle.basics.proofs.Sorted.{AscendingBy}
 use Rattle.decision.specs.Cases.{Case}
 use Rattle.decision.proofs.Intervals.{between}
 use Rattle.edges.specs.declared.cases.NextCase.{NextCase}
@@ -23,23 +22,23 @@ use Rattle.edges.proofs.CodeRanges.{caseRange}
 -- The cuts of an ascending list from a code on.
 abbrev pub cutsFrom : ℕ → List ℕ → List ℕ
 cutsFrom from [] = []
-cutsFrom from (x ∷ xs) = elim (leb from x) [ true ↦ x ∷ xs | false ↦ cutsFrom from xs ]
+cutsFrom from (x ∷ xs) = cond (leb from x) (x ∷ xs) (cutsFrom from xs)
 
 -- The first run between neighbouring cuts that counts, by its first code.
 abbrev pub firstRun : (ℕ → Bool) → List ℕ → NextCase
 firstRun p [] = Nothing
 firstRun p (x ∷ []) = Nothing
-firstRun p (x ∷ (y ∷ ys)) = elim (p x) [ true ↦ Run x (pred y) | false ↦ firstRun p (y ∷ ys) ]
+firstRun p (x ∷ (y ∷ ys)) = cond (p x) (Run x (pred y)) (firstRun p (y ∷ ys))
 
 -- The first range that begins at a code or above it.
 abbrev pub firstRange : ℕ → List Range → NextCase
 firstRange from [] = Nothing
-firstRange from (r ∷ rs) = elim (leb from (r .low)) [ true ↦ Run (r .low) (r .high) | false ↦ firstRange from rs ]
+firstRange from (r ∷ rs) = cond (leb from (r .low)) (Run (r .low) (r .high)) (firstRange from rs)
 
 -- The first case is the first of the cases' ranges.
 pub case-range : (from : ℕ) (cs : List Case) → firstCase from cs ≡ firstRange from (map caseRange cs)
 case-range from [] = refl
-case-range from (c ∷ cs) = ap (choose (leb from (caseLow c)) (Run (caseLow c) (caseHigh c))) (case-range from cs)
+case-range from (c ∷ cs) = ap (cond (leb from (caseLow c)) (Run (caseLow c) (caseHigh c))) (case-range from cs)
 
 -- The first of the ranges between cuts that count, where that is told by their first codes, is the first run that
 -- counts.
@@ -50,11 +49,11 @@ pub first-run
 first-run from q p [] a h = refl
 first-run from q p (x ∷ []) a h = go (leb from x)
   where
-    go : (b : Bool) → Nothing ≡ firstRun p (choose b (x ∷ []) [])
+    go : (b : Bool) → Nothing ≡ firstRun p (cond b (x ∷ []) [])
     go true = refl
     go false = refl
 first-run from q p (x ∷ (y ∷ ys)) a h =
-    ap (λ (b : Bool). firstRange from (choose b (r ∷ rest) rest)) (h .0)
+    ap (λ (b : Bool). firstRange from (cond b (r ∷ rest) rest)) (h .0)
     ∙ go (p x) refl (leb from x) refl (first-run from q p (y ∷ ys) (a .1) (h .1))
   where
     r : Range
@@ -63,21 +62,21 @@ first-run from q p (x ∷ (y ∷ ys)) a h =
     rest : List Range
     rest = filter q (between (y ∷ ys))
 
-    counts : (b : Bool) → p x ≡ b → firstRun p (x ∷ (y ∷ ys)) ≡ choose b (Run x (pred y)) (firstRun p (y ∷ ys))
-    counts b d = ap (λ (c : Bool). choose c (Run x (pred y)) (firstRun p (y ∷ ys))) d
+    counts : (b : Bool) → p x ≡ b → firstRun p (x ∷ (y ∷ ys)) ≡ cond b (Run x (pred y)) (firstRun p (y ∷ ys))
+    counts b d = ap (λ (c : Bool). cond c (Run x (pred y)) (firstRun p (y ∷ ys))) d
 
-    begins : (b : Bool) → leb from x ≡ b → firstRange from (r ∷ rest) ≡ choose b (Run x (pred y)) (firstRange from rest)
-    begins b e = ap (λ (c : Bool). choose c (Run x (pred y)) (firstRange from rest)) e
+    begins : (b : Bool) → leb from x ≡ b → firstRange from (r ∷ rest) ≡ cond b (Run x (pred y)) (firstRange from rest)
+    begins b e = ap (λ (c : Bool). cond c (Run x (pred y)) (firstRange from rest)) e
 
     go : (b : Bool) → p x ≡ b → (c : Bool) → leb from x ≡ c
         → firstRange from rest ≡ firstRun p (cutsFrom from (y ∷ ys))
-        → firstRange from (choose b (r ∷ rest) rest) ≡ firstRun p (choose c (x ∷ (y ∷ ys)) (cutsFrom from (y ∷ ys)))
+        → firstRange from (cond b (r ∷ rest) rest) ≡ firstRun p (cond c (x ∷ (y ∷ ys)) (cutsFrom from (y ∷ ys)))
     go true d true e more = begins true e ∙ sym (counts true d)
     go true d false e more = begins false e ∙ more
     go false d true e more =
         let l = leb-true from x e in
         more
-        ∙ ap (λ (c : Bool). firstRun p (choose c (y ∷ ys) (cutsFrom from ys))) (le-leb from y (omega (arith, a .0 .0)))
+        ∙ ap (λ (c : Bool). firstRun p (cond c (y ∷ ys) (cutsFrom from ys))) (le-leb from y (omega (arith, a .0 .0)))
         ∙ sym (counts false d)
     go false d false e more = more
 
@@ -87,9 +86,9 @@ pub some-cut
 some-cut since x [] e h = absurd (omega arith)
 some-cut since x (y ∷ ys) e h = go (leb since y) e (λ d. some-cut since x ys d h)
   where
-    go : (b : Bool) → x ≡ choose b y (firstFrom since ys)
+    go : (b : Bool) → x ≡ cond b y (firstFrom since ys)
         → (x ≡ firstFrom since ys → (rest : List ℕ) × (cutsFrom since ys ≡ x ∷ rest))
-        → (rest : List ℕ) × (choose b (y ∷ ys) (cutsFrom since ys) ≡ x ∷ rest)
+        → (rest : List ℕ) × (cond b (y ∷ ys) (cutsFrom since ys) ≡ x ∷ rest)
     go true d more = (ys, ap (λ (z : ℕ). z ∷ ys) (sym d))
     go false d more = more d
 
@@ -99,15 +98,15 @@ pub no-cut
 no-cut since x [] small e h = refl
 no-cut since x (y ∷ ys) small e h = go (leb since y) e (λ d. no-cut since x ys (small .1) d h)
   where
-    go : (b : Bool) → x ≡ choose b y (firstFrom since ys) → (x ≡ firstFrom since ys → cutsFrom since ys ≡ [])
-        → choose b (y ∷ ys) (cutsFrom since ys) ≡ []
+    go : (b : Bool) → x ≡ cond b y (firstFrom since ys) → (x ≡ firstFrom since ys → cutsFrom since ys ≡ [])
+        → cond b (y ∷ ys) (cutsFrom since ys) ≡ []
     go true d more = absurd (omega (arith, small .0))
     go false d more = more d
 
 -- Cuts that are all at a code or above it are those from it on.
 all-from-code : (z : ℕ) (l : List ℕ) → All (λ (w : ℕ). z ≤ w) l → cutsFrom z l ≡ l
 all-from-code z [] h = refl
-all-from-code z (w ∷ l) h = ap (λ (b : Bool). choose b (w ∷ l) (cutsFrom z l)) (le-leb z w (h .0))
+all-from-code z (w ∷ l) h = ap (λ (b : Bool). cond b (w ∷ l) (cutsFrom z l)) (le-leb z w (h .0))
 
 -- The first cut from a code on is not below it.
 cut-from : (since x : ℕ) (l rest : List ℕ) → cutsFrom since l ≡ x ∷ rest → since ≤ x
@@ -115,7 +114,7 @@ cut-from since x [] rest e = let z : _≡_ {A = ℕ} 0 1 = cc in absurd (omega a
 cut-from since x (y ∷ ys) rest e = go (leb since y) refl (cut-from since x ys rest) e
   where
     go : (b : Bool) → leb since y ≡ b → (cutsFrom since ys ≡ x ∷ rest → since ≤ x)
-        → choose b (y ∷ ys) (cutsFrom since ys) ≡ x ∷ rest → since ≤ x
+        → cond b (y ∷ ys) (cutsFrom since ys) ≡ x ∷ rest → since ≤ x
     go true d more k = let same : y ≡ x = cc in omega (arith, leb-true since y d)
     go false d more k = more k
 
@@ -126,10 +125,10 @@ next-cuts since x [] rest a e = let z : _≡_ {A = ℕ} 0 1 = cc in absurd (omeg
 next-cuts since x (y ∷ ys) rest a e = go (leb since y) refl (next-cuts since x ys rest (a .1)) e
   where
     passed : y < x + 1 → cutsFrom (x + 1) (y ∷ ys) ≡ cutsFrom (x + 1) ys
-    passed l = ap (λ (b : Bool). choose b (y ∷ ys) (cutsFrom (x + 1) ys)) (lt-leb (x + 1) y l)
+    passed l = ap (λ (b : Bool). cond b (y ∷ ys) (cutsFrom (x + 1) ys)) (lt-leb (x + 1) y l)
 
     go : (b : Bool) → leb since y ≡ b → (cutsFrom since ys ≡ x ∷ rest → cutsFrom (x + 1) ys ≡ rest)
-        → choose b (y ∷ ys) (cutsFrom since ys) ≡ x ∷ rest → cutsFrom (x + 1) (y ∷ ys) ≡ rest
+        → cond b (y ∷ ys) (cutsFrom since ys) ≡ x ∷ rest → cutsFrom (x + 1) (y ∷ ys) ≡ rest
     go true d more k =
         let same : y ≡ x = cc in
         let others : ys ≡ rest = cc in

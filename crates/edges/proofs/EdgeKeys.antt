@@ -3,12 +3,9 @@ use Prim.Native.Nat.{ℕ, _-_, _/_, _%_, _^_, _≤_, _<_}
 use mathlib.Core.Path.{_≡_, refl, sym, ap, _∙_}
 use mathlib.Core.Bool.{Bool, true, false, _&&_, _||_, not}
 use mathlib.Core.List.{List}
-use mathlib.Core.Logic.{by-cases}
-use native.Mathlib.Decide.{ℕ-discrete}
 use native.Mathlib.Omega.{arith}
 use lib.Dec.{eqb}
 use lib.ListN.{length, getD}
-use borrow.Author.Tests.{eq-eqb, ne-eqb}
 use Rattle.masks.specs.Mask.{has, maskOf}
 use Rattle.masks.proofs.Extensionality.{maskOf-lt, has-is}
 use Rattle.places.specs.Numbering.{atOrBelow}
@@ -22,13 +19,7 @@ use Rattle.edges.specs.views.Tables.{those, lacks, isBelow}
 use Rattle.edges.proofs.Widths.{those-where}
 use Rattle.edges.proofs.Leads.{leads-same, row-has}
 use Rattle.edges.proofs.TableReads.{below-place, below-pair}
-
--- Two numbers are equal either way round.
-pub eqb-swap : (a b : ℕ) → eqb a b ≡ eqb b a
-eqb-swap a b =
-    by-cases (ℕ-discrete a b)
-    (λ (e : a ≡ b). eq-eqb a b e ∙ sym (eq-eqb b a (sym e)))
-    (λ (n : ¬ (a ≡ b)). ne-eqb a b n ∙ sym (ne-eqb b a (λ e. n (sym e))))
+use Rattle.basics.proofs.Numbers.{eqb-swap}
 
 module _ (rules : List Patterns) (rows : List ℕ) (key : Key) (t : ℕ) (asked : Asked rules rows (key .live) t) where
   -- What is left without t is what the edge leaves.

@@ -1,7 +1,7 @@
 -- Which vertex a key is, read off the table of rows.
 use Prim.Native.Nat.{ℕ, _^_, _≤_, _<_}
 use mathlib.Core.Path.{_≡_, refl, sym, ap, _∙_}
-use mathlib.Core.Bool.{Bool, true, false, _&&_, not, and-false, and-comm, false≢true}
+use mathlib.Core.Bool.{Bool, true, false, _&&_, not, and-false, and-comm, false≢true, cond}
 use mathlib.Core.List.{List, [], _∷_}
 use mathlib.Core.Logic.{by-cases}
 use native.Mathlib.Decide.{decLt}
@@ -13,10 +13,10 @@ use lib.Count.{ones, trailingZeros}
 use lib.ListN.{length, getD}
 use lib.Pow.{pow-mono, pow-lt}
 use borrow.Author.Tests.{eq-eqb, ne-eqb, lt-ltb}
-use Rattle.masks.specs.Mask.{has, maskOf, members, anyBelow, inRows}
-use Rattle.masks.proofs.Membership.{by-test, has-empty, has-singleton, has-and, has-above}
+use Rattle.masks.specs.Mask.{has, maskOf, members}
+use Rattle.masks.proofs.Membership.{has-empty, has-singleton, has-and, has-above}
 use Rattle.masks.proofs.Extensionality.{ext, maskOf-lt, has-maskOf, has-is, maskOf-same}
-use Rattle.masks.proofs.AnyBelow.{any-none}
+use Rattle.basics.proofs.AnyBelow.{any-none}
 use Rattle.masks.proofs.Operations.{and-fits}
 use Rattle.masks.proofs.Members.{members-none, members-one, members-two}
 use Rattle.masks.proofs.Answers.{sole-one, one-only, one-lt}
@@ -29,6 +29,9 @@ use Rattle.edges.specs.views.VertexKey.{vertexKey}
 use Rattle.edges.specs.views.Compiled.{RowTable}
 use Rattle.edges.specs.views.Tables.{isClear, those}
 use Rattle.edges.proofs.Widths.{any-within, members-within, those-where}
+use Rattle.basics.specs.Lists.{anyBelow}
+use Rattle.basics.proofs.Booleans.{by-test}
+use Rattle.masks.specs.views.Rows.{inRows}
 
 -- A set with one member, which `trailing_zeros` gives, is that power of 2.
 pub one-power : (w m : ℕ) → m < 2 ^ w → ones m ≡ 1 → m ≡ 2 ^ trailingZeros w m
@@ -137,7 +140,7 @@ module _ (rules : List Patterns) (rows : List ℕ) (table : RowTable rules rows)
     module _ (some : live ≡ 0 → ⊥) (more : ones live ≡ 1 → ⊥) {pending clear : ℕ} (p : pending ≡ key .pending)
         (s : clear ≡ those live (isClear rows pending)) where
       abbrev chosen : Bool → Vertex
-      chosen b = elim b as (λ _. Vertex) [ true ↦ leaf suspend | false ↦ asking key ]
+      chosen b = cond b (leaf suspend) (asking key)
 
       two : (b : Bool) → ltb 1 (length (members 64 clear)) ≡ b → leadsTo rules live (has left) ≡ chosen b
       two b e =

@@ -1,32 +1,22 @@
 -- What the live rules want at a place: a rule has the place's test where it wants something there.
 use Prim.Native.Nat.{ℕ, suc}
 use mathlib.Core.Path.{_≡_, refl, sym, ap, subst, _∙_}
-use mathlib.Core.Bool.{Bool, true, false, _||_, or-false}
-use mathlib.Core.List.{List, [], _∷_, _++_, map, List·Memᴰ, List·Memᴰ·head, List·Memᴰ·tail, List·Memᴰ·not-nil, List·Memᴰ·cases-cons}
+use mathlib.Core.Bool.{Bool, true, false, _||_, or-false, cond}
+use mathlib.Core.List.{List, [], _∷_, map, List·Memᴰ, List·Memᴰ·head, List·Memᴰ·tail, List·Memᴰ·not-nil, List·Memᴰ·cases-cons}
 use mathlib.Core.Logic.{⊎-elim, inl, inr}
 use mathlib.Core.Option.{Option, some, none}
 use lib.Dec.{eqb}
-use Rattle.terms.specs.Lists.{Mem, here, there, All}
+use Rattle.basics.specs.Lists.{Mem, here, there, All, anyOf}
 use Rattle.terms.specs.Pattern.{Patterns}
 use Rattle.terms.specs.Answer.{ruleAt}
 use Rattle.terms.specs.RuleTests.{Want, PlaceTest, PairTest, placeTests, pairTests}
-use Rattle.terms.proofs.Booleans.{choose}
-use Rattle.terms.proofs.ListLaws.{mem-cases, mem-none}
+use Rattle.basics.proofs.ListLaws.{mem-cases, mem-none}
 use Rattle.sheet_tests.specs.SheetTests.{Test, place, pair, ruleTests}
-use Rattle.decision.specs.Rules.{anyOf, sameTest, wantIn, testAt, hasTest, wantAt}
+use Rattle.decision.specs.Rules.{sameTest, wantIn, testAt, hasTest, wantAt}
 use Rattle.decision.specs.Edges.{gatherWants}
 use Rattle.edges.specs.views.Codes.{SoundWant}
-use Rattle.edges.proofs.EdgeKeys.{eqb-swap}
-
--- A test is true somewhere in joined lists where it is so in one of them.
-any-join : {A : Type 0} (f : A → Bool) (xs ys : List A) → anyOf f (xs ++ ys) ≡ anyOf f xs || anyOf f ys
-any-join f [] ys = refl
-any-join f (x ∷ xs) ys = go (f x) (any-join f xs ys)
-  where
-    go : (b : Bool) → anyOf f (xs ++ ys) ≡ anyOf f xs || anyOf f ys
-        → b || anyOf f (xs ++ ys) ≡ (b || anyOf f xs) || anyOf f ys
-    go true e = refl
-    go false e = e
+use Rattle.basics.proofs.Numbers.{eqb-swap}
+use Rattle.basics.proofs.Filters.{any-join}
 
 abbrev pub wantsSomething : Option Want → Bool
 wantsSomething none = false
@@ -43,7 +33,7 @@ places-any n (x ∷ xs) = rw (eqb-swap n (x .place)) (go (eqb (x .place) n) (pla
     rest = anyOf (sameTest (place n)) (map (λ (y : PlaceTest). place (y .place)) xs)
 
     go : (b : Bool) → rest ≡ wantsSomething (wantIn xs n)
-        → b || rest ≡ wantsSomething (choose b (some (x .want)) (wantIn xs n))
+        → b || rest ≡ wantsSomething (cond b (some (x .want)) (wantIn xs n))
     go true e = refl
     go false e = e
 

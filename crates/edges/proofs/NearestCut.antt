@@ -1,7 +1,7 @@
 -- A loop over the live rules that finds the nearest of their cuts from a code on.
 use Prim.Native.Nat.{ℕ, _+_, _-_, _*_, _^_, _≤_, _<_}
 use mathlib.Core.Path.{_≡_, refl, sym, ap, subst, _∙_}
-use mathlib.Core.Bool.{Bool, true, false, _&&_, not, and-true, false≢true}
+use mathlib.Core.Bool.{Bool, true, false, _&&_, not, and-true, false≢true, cond}
 use mathlib.Core.List.{List}
 use mathlib.Core.Logic.{_⊎_, inl, inr, by-cases}
 use native.Mathlib.Decide.{ℕ-discrete}
@@ -12,10 +12,10 @@ use lib.Count.{trailingZeros}
 use lib.ListN.{getD}
 use borrow.Author.Tests.{ne-eqb, leb-true, leb-false, ltb-true, ltb-false, lt-leb}
 use Rattle.masks.specs.Mask.{has}
-use Rattle.masks.proofs.Membership.{and-both}
 use Rattle.masks.proofs.LowestMember.{trailing-in, has-rest}
 use Rattle.masks.proofs.Operations.{and-fits}
 use Rattle.edges.specs.views.Tables.{noCut, nearerOf}
+use Rattle.basics.proofs.Booleans.{and-both}
 
 -- A nearer cut is the best so far or the new one, and at most both where the new one counts.
 pub record Nearer (best from cut r : ℕ) : Type 0 where
@@ -28,7 +28,7 @@ unfolding nearerOf
 nearer-is best from cut = go (leb from cut) refl (ltb cut best) refl
   where
     go : (a : Bool) → leb from cut ≡ a → (b : Bool) → ltb cut best ≡ b
-        → Nearer best from cut (elim (a && b) as (λ _. ℕ) [ true ↦ cut | false ↦ best ])
+        → Nearer best from cut (cond (a && b) cut best)
     go true d true e =
         let l = leb-true from cut d in
         let k = ltb-true cut best e in

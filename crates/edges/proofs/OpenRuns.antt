@@ -2,7 +2,7 @@
 -- stay are then not only those without the test.
 use Prim.Native.Nat.{ℕ, _≤_, _<_}
 use mathlib.Core.Path.{_≡_, refl, sym, ap, subst, _∙_}
-use mathlib.Core.Bool.{Bool, true, false, _&&_, not, false≢true}
+use mathlib.Core.Bool.{Bool, true, false, _&&_, not, false≢true, cond}
 use mathlib.Core.List.{List, [], _∷_, map}
 use mathlib.Core.Option.{Option, some, none}
 use native.Mathlib.Omega.{arith}
@@ -10,20 +10,19 @@ use lib.Dec.{T, eqb, leb}
 use lib.ListN.{length}
 use borrow.Author.Tests.{eq-eqb, ne-eqb, le-leb}
 use Rattle.masks.specs.Mask.{has, members}
-use Rattle.masks.proofs.Membership.{by-test, has-lt}
+use Rattle.masks.proofs.Membership.{has-lt}
 use Rattle.masks.proofs.Extensionality.{has-maskOf, maskOf-same}
 use Rattle.masks.proofs.Members.{of-members}
-use Rattle.terms.specs.Lists.{Mem, All, filter}
+use Rattle.basics.specs.Lists.{Mem, All, filter}
 use Rattle.terms.specs.Pattern.{Patterns}
 use Rattle.terms.specs.RuleTests.{Want, Range}
-use Rattle.terms.proofs.Booleans.{choose}
-use Rattle.terms.proofs.ListLaws.{all-at, all-from, all-map}
+use Rattle.basics.proofs.ListLaws.{all-at, all-from, all-map}
 use Rattle.sheet_tests.specs.SheetTests.{place}
 use Rattle.decision.specs.Rules.{testAt, wantAt}
 use Rattle.decision.specs.Key.{Key}
 use Rattle.decision.specs.Cases.{casesOf}
 use Rattle.decision.specs.Edges.{liveWants}
-use Rattle.decision.proofs.Filters.{mem-map, all-mapped, any-mem, mem-any}
+use Rattle.basics.proofs.Filters.{mem-map, all-mapped, any-mem, mem-any}
 use Rattle.decision.proofs.Intervals.{both-le, Contains, between, Between, between-cuts}
 use Rattle.decision.proofs.RangeRuns as ranges
 use Rattle.decision.proofs.RangeRuns.{rangeCuts, covers, isCovered, covers-contains}
@@ -36,6 +35,7 @@ use Rattle.edges.proofs.CodeRuns.{cases-are-runs}
 use Rattle.edges.proofs.LiveWants.{wantsSomething, wants-rule, from-mem}
 use Rattle.edges.proofs.CaseKeys.{live-sound, lacks-is, live-wants, staysBy, stays-by}
 use Rattle.edges.proofs.CutRuns.{cutsFrom, firstRun, firstRange, case-range, first-run}
+use Rattle.basics.proofs.Booleans.{by-test}
 
 -- At the code some live rule stays that has the test.
 abbrev pub isOpen : List ℕ → List ℕ → List ℕ → ℕ → ℕ → ℕ → Bool
@@ -44,7 +44,7 @@ isOpen rows low high t live code = not (eqb (those live (stays rows low high t c
 -- Tests that agree on the things of a list leave the same of them.
 filter-same : {A : Type 0} (p q : A → Bool) (xs : List A) → All (λ (x : A). p x ≡ q x) xs → filter p xs ≡ filter q xs
 filter-same p q [] h = refl
-filter-same p q (x ∷ xs) h = λ i. choose (h .0 i) (x ∷ filter-same p q xs (h .1) i) (filter-same p q xs (h .1) i)
+filter-same p q (x ∷ xs) h = λ i. cond (h .0 i) (x ∷ filter-same p q xs (h .1) i) (filter-same p q xs (h .1) i)
 
 -- What lies between two numbers passes the two tests.
 within-true : (x y z : ℕ) → (x ≤ z) × (z ≤ y) → leb x z && leb z y ≡ true

@@ -1,19 +1,20 @@
 -- Vertices that occur have keys of their own: where two have the same key, they are the same.
 use Prim.Native.Nat.{ℕ, zero, suc, pred, _^_, _≤_, _<_}
 use mathlib.Core.Path.{_≡_, refl, sym, ap, _∙_}
-use mathlib.Core.Bool.{Bool, true, false}
+use mathlib.Core.Bool.{Bool, true, false, cond}
 use mathlib.Core.List.{List, [], _∷_, List·Memᴰ·head, List·Memᴰ·tail}
 use native.Mathlib.Omega.{arith}
 use lib.ListN.{length}
 use lib.Pow.{pow-pos}
 use borrow.Author.Tests.{eqb-true, eq-eqb}
-use Rattle.masks.specs.Mask.{has, members, consIf, listFrom}
+use Rattle.masks.specs.Mask.{has, members}
 use Rattle.masks.proofs.Membership.{has-singleton, has-pos}
 use Rattle.masks.proofs.Members.{of-members}
 use Rattle.terms.specs.Pattern.{Patterns}
 use Rattle.decision.specs.Key.{Key, Leaf, Vertex, leaf, asking, fail, suspend, execute, twoOrMore, settled, vertexWith, vertexOf}
 use Rattle.edges.specs.declared.Key as code
 use Rattle.edges.specs.views.VertexKey.{vertexKey}
+use Rattle.masks.proofs.Listed.{consIf, listFrom}
 
 -- Two different rules are live.
 pub record TwoLive (live : ℕ) : Type 0 where
@@ -32,7 +33,6 @@ Occurs (asking key) = TwoLive (key .live)
 
 -- The numbers of a list from i on are at least i,
 list-first : (n i y : ℕ) (l : List ℕ) (p : ℕ → Bool) → listFrom n i p ≡ y ∷ l → i ≤ y
-unfolding listFrom
 list-first zero i y l p e = let z : _≡_ {A = ℕ} 0 1 = cc in absurd (omega arith)
 list-first (suc n) i y l p e = go (p i) (list-first n (suc i) y l p) e
   where
@@ -42,7 +42,6 @@ list-first (suc n) i y l p e = go (p i) (list-first n (suc i) y l p) e
 
 -- and ascend.
 list-ascends : (n i x y : ℕ) (l : List ℕ) (p : ℕ → Bool) → listFrom n i p ≡ x ∷ (y ∷ l) → x < y
-unfolding listFrom
 list-ascends zero i x y l p e = let z : _≡_ {A = ℕ} 0 1 = cc in absurd (omega arith)
 list-ascends (suc n) i x y l p e = go (p i) (list-ascends n (suc i) x y l p) e
   where
@@ -77,7 +76,7 @@ vertex-occurs rules key = go (members (length rules) (key .live)) refl
         (members-two-live (length rules) (key .live) x y l e)
       where
         pick : (b : Bool) → TwoLive (key .live)
-            → Occurs (elim b as (λ _. Vertex) [ true ↦ leaf suspend | false ↦ asking key ])
+            → Occurs (cond b (leaf suspend) (asking key))
         pick true t = tt
         pick false t = t
 

@@ -7,11 +7,14 @@ use native.Mathlib.Decide.{decLt}
 use native.Mathlib.Nat.{add-suc, suc-add, lt-of-lt-of-le}
 use native.Mathlib.Omega.{arith}
 use lib.Pow.{pow-mono}
-use Rattle.masks.specs.Mask.{has, maskOf, consIf, listFrom, members, anyBelow}
-use Rattle.masks.proofs.Membership.{by-test, has-above}
+use Rattle.masks.specs.Mask.{has, maskOf, members}
+use Rattle.masks.proofs.Membership.{has-above}
 use Rattle.masks.proofs.Extensionality.{ext, maskOf-lt, has-maskOf}
-use Rattle.masks.proofs.AnyBelow.{any-none, any-some, any-found, any-nowhere}
+use Rattle.basics.proofs.AnyBelow.{any-none, any-some, any-found, any-nowhere}
 use Rattle.edges.specs.views.Tables.{those}
+use Rattle.basics.specs.Lists.{anyBelow}
+use Rattle.basics.proofs.Booleans.{by-test}
+use Rattle.masks.proofs.Listed.{consIf, listFrom}
 
 -- What holds nowhere from n on holds somewhere below w where it does below n.
 pub any-within
@@ -33,7 +36,6 @@ any-within n w p q h same none =
 -- A list of the numbers at which p holds is as long as it is wide where p holds nowhere further on.
 list-within
     : (n w i : ℕ) (p : ℕ → Bool) → n ≤ w → ((j : ℕ) → i + n ≤ j → p j ≡ false) → listFrom w i p ≡ listFrom n i p
-unfolding listFrom
 list-within zero zero i p h f = refl
 list-within zero (suc w) i p h f =
     rw (f i (omega arith)) (list-within zero w (suc i) p (omega arith) (λ j l. f j (omega arith)))

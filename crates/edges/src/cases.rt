@@ -5,7 +5,7 @@ use crate::keys::lead;
 ghost use mathlib.Core.Path.{_≡_};
 ghost use mathlib.Core.List.{List};
 ghost use Prim.Native.Nat.{ℕ, _+_, _≤_, _<_};
-ghost use Rattle.terms.specs.Lists.{Mem};
+ghost use Rattle.basics.specs.Lists.{Mem};
 ghost use Rattle.terms.specs.Pattern.{Patterns};
 ghost use Rattle.sheet_tests.specs.SheetTests.{place};
 ghost use Rattle.decision.specs.Rules.{testAt};

@@ -3,7 +3,7 @@
 use crate::Key;
 ghost use mathlib.Core.Path.{_≡_};
 ghost use mathlib.Core.List.{List};
-ghost use Prim.Native.Nat.{ℕ, _<_, _^_};
+ghost use Prim.Native.Nat.{_<_, _^_};
 ghost use lib.ListN.{length};
 ghost use Rattle.masks.specs.Mask.{has};
 ghost use Rattle.terms.specs.Pattern.{Patterns};

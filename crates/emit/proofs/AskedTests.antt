@@ -15,7 +15,7 @@ use Rattle.decision.specs.Key.{Key, Vertex}
 use Rattle.decision.specs.Node.{CaseEdge, mapNode}
 use Rattle.decision.specs.Edges.{byNone, byUnknown, byOther, askNode}
 use Rattle.decision.specs.GraphBytes.{casesBytes, nodeBytes}
-use Rattle.decision.proofs.Clash.{clash}
+use Rattle.basics.proofs.Clash.{clash}
 use Rattle.edges.specs.declared.Key as code
 use Rattle.edges.specs.views.Compiled.{isPlace, Compiled, Asked}
 use Rattle.edges.specs.views.VertexKey.{vertexKey, keyIn}

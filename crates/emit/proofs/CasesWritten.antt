@@ -4,9 +4,9 @@ use mathlib.Core.Path.{_≡_, sym, ap, _∙_}
 use mathlib.Core.List.{List, _++_, map}
 use native.Mathlib.Omega.{arith}
 use lib.ListN.{length, length-map}
-use Rattle.terms.specs.Lists.{Mem}
+use Rattle.basics.specs.Lists.{Mem}
 use Rattle.terms.specs.Pattern.{Patterns}
-use Rattle.terms.proofs.ListLaws.{all-at}
+use Rattle.basics.proofs.ListLaws.{all-at}
 use Rattle.decision.specs.Key.{Key, Vertex}
 use Rattle.decision.specs.Cases.{Case, casesOf}
 use Rattle.decision.specs.Node.{CaseEdge, mapCase}

@@ -6,9 +6,9 @@ use mathlib.Core.List.{List}
 use mathlib.Core.Option.{Option, some, none}
 use native.Mathlib.Omega.{arith}
 use lib.ListN.{length}
-use Rattle.terms.specs.Lists.{All}
+use Rattle.basics.specs.Lists.{All}
 use Rattle.terms.specs.Pattern.{Patterns}
-use Rattle.terms.proofs.ListLaws.{all-map}
+use Rattle.basics.proofs.ListLaws.{all-map}
 use Rattle.decision.specs.Key.{Key}
 use Rattle.decision.specs.Node.{Node}
 use Rattle.decision.specs.Graph.{graphOf}

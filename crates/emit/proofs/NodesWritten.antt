@@ -6,7 +6,7 @@ use mathlib.Core.Logic.{by-cases}
 use native.Mathlib.Decide.{ℕ-discrete}
 use native.Mathlib.Omega.{arith}
 use lib.ListN.{length, length-map}
-use Rattle.terms.specs.Lists.{All, countFrom}
+use Rattle.basics.specs.Lists.{All, countFrom}
 use Rattle.terms.specs.Pattern.{Patterns}
 use Rattle.decision.specs.Key.{Key}
 use Rattle.decision.specs.Node.{Node}

@@ -7,9 +7,9 @@ use native.Mathlib.Omega.{arith}
 use lib.Dec.{T, leb, ltb, leb→le, le→leb, ltb→lt, lt→ltb}
 use lib.ListN.{length}
 use Rattle.records.specs.Reading.{Reading, took, refused, ask, andThen}
-use Rattle.terms.specs.Lists.{All, Mem}
+use Rattle.basics.specs.Lists.{All, Mem}
 use Rattle.terms.specs.Pattern.{Patterns}
-use Rattle.terms.proofs.Booleans.{both-true, true-both}
+use Rattle.basics.proofs.Booleans.{both-true, true-both}
 use Rattle.sheet_tests.specs.SheetTests.{Test, place, pair, sheetTests}
 use Rattle.decision.specs.Key.{fail, suspend, execute}
 use Rattle.decision.specs.Node.{Node, CaseEdge, end, switch, pairNode}

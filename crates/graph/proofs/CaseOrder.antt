@@ -4,9 +4,9 @@ use mathlib.Core.Bool.{_&&_}
 use mathlib.Core.List.{List, [], _∷_}
 use native.Mathlib.Omega.{arith}
 use lib.Dec.{T, ltb→lt, lt→ltb, leb→le, le→leb}
-use Rattle.terms.specs.Lists.{All}
-use Rattle.terms.proofs.Booleans.{both-true, true-both}
-use Rattle.terms.proofs.ListLaws.{all-map}
+use Rattle.basics.specs.Lists.{All}
+use Rattle.basics.proofs.Booleans.{both-true, true-both}
+use Rattle.basics.proofs.ListLaws.{all-map}
 use Rattle.sheet_tests.specs.SheetTests.{pair}
 use Rattle.sheet_tests.proofs.TestOrder.{before-order}
 use Rattle.decision.specs.Cases.{Case, symbolCase, compoundCase, numbersCase}

@@ -8,7 +8,7 @@ use lib.ListN.{length, getD, drop}
 use lib.Seq.{drop-cons}
 use Rattle.records.specs.Fields.{IsByte, wideAt, wideThen}
 use Rattle.records.proofs.WideFields.{high-of, low-of}
-use Rattle.terms.specs.Lists.{All}
+use Rattle.basics.specs.Lists.{All}
 use Rattle.terms.specs.Term.{Wide}
 
 -- Each byte is one; so is 0, which stands for those that are lacking.

@@ -13,8 +13,8 @@ use Rattle.records.specs.Fields.{IsByte, wideAt, wideThen}
 use Rattle.records.specs.Reading.{Reading, took, refused}
 use Rattle.records.proofs.Questions.{ask-took}
 use Rattle.records.proofs.WideFields.{wide-of}
-use Rattle.terms.specs.Lists.{All}
-use Rattle.terms.proofs.Booleans.{both-true}
+use Rattle.basics.specs.Lists.{All}
+use Rattle.basics.proofs.Booleans.{both-true}
 use Rattle.sheet.specs.Sheet.{Sheet, SoundSheet}
 use Rattle.decision.specs.Node.{Node}
 use Rattle.decision.specs.Graph.{mostNodes}

@@ -1,16 +1,16 @@
 -- The records of cases are read as they are written, one and in rows of any number.
 use Prim.Native.Nat.{ℕ}
 use mathlib.Core.Path.{_≡_, refl}
-use mathlib.Core.Bool.{Bool, true, false}
+use mathlib.Core.Bool.{Bool, true, false, cond}
 use mathlib.Core.List.{List, _++_}
 use native.Mathlib.Omega.{arith}
 use borrow.Author.Tests.{le-leb, ne-eqb}
 use lib.Dec.{T, leb, eqb, eqb→eq, leb→le}
 use lib.ListN.{length, getD}
 use Rattle.records.specs.Fields.{IsByte, wideAt}
-use Rattle.records.specs.Reading.{Reading, took, isKind}
+use Rattle.records.specs.Reading.{Reading, took}
 use Rattle.records.proofs.WideFields.{wide-of}
-use Rattle.terms.specs.Lists.{All}
+use Rattle.basics.specs.Lists.{All}
 use Rattle.terms.specs.Term.{Wide}
 use Rattle.decision.specs.Cases.{Case, symbolCase, compoundCase, numbersCase}
 use Rattle.decision.specs.Node.{CaseEdge}
@@ -27,7 +27,7 @@ use Rattle.graph.proofs.FieldBytes.{byte-at, wide-at, byte-then, kind-t
 
 -- What holds of a record where its kind is told, and of the others, holds of the head.
 pub kind-holds
-    : {A : Type 0} (P : A → Type 0) (b : Bool) {this others : A} → (T b → P this) → P others → P (isKind b this others)
+    : {A : Type 0} (P : A → Type 0) (b : Bool) {this others : A} → (T b → P this) → P others → P (cond b this others)
 kind-holds P true h k = h tt
 kind-holds P false h k = k
 

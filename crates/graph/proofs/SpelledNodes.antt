@@ -11,7 +11,7 @@ use lib.Seq.{drop-drop}
 use Rattle.records.specs.Fields.{IsByte, wideAt, wideThen}
 use Rattle.records.specs.Reading.{Reading, took, refused, ask, after}
 use Rattle.records.proofs.WideFields.{wide-of}
-use Rattle.terms.specs.Lists.{All}
+use Rattle.basics.specs.Lists.{All}
 use Rattle.terms.specs.Term.{Wide}
 use Rattle.decision.specs.Key.{fail, suspend, execute}
 use Rattle.decision.specs.Node.{Node, CaseEdge, end, switch, pairNode}

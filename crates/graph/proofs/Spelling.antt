@@ -8,7 +8,7 @@ use lib.Seq.{drop-append-seam, drop-drop}
 use Rattle.records.specs.Fields.{IsByte}
 use Rattle.records.specs.Reading.{Reading, took, refused, after, andThen, readRow}
 use Rattle.records.proofs.Rows.{row-split}
-use Rattle.terms.specs.Lists.{All}
+use Rattle.basics.specs.Lists.{All}
 use Rattle.graph.proofs.FieldBytes.{bytes-drop}
 
 module _ {A : Type 0} (bytes : A → List ℕ) (Good : A → Type 0) where

@@ -4,11 +4,11 @@ use mathlib.Core.Path.{sym, subst}
 use mathlib.Core.List.{List, [], _∷_, map}
 use native.Mathlib.Omega.{arith}
 use lib.Dec.{T}
-use Rattle.terms.specs.Lists.{All, Mem}
+use Rattle.basics.specs.Lists.{All, Mem}
 use Rattle.terms.specs.Pattern.{Patterns, countPatterns}
 use Rattle.terms.specs.RuleTests.{PlaceTest, PairTest, Occurrence, placeTests, pairTests, ruleVariables, patternsRange}
 use Rattle.terms.specs.Accepted.{AcceptedRule}
-use Rattle.terms.proofs.ListLaws.{all-join, all-at, all-map}
+use Rattle.basics.proofs.ListLaws.{all-join, all-at, all-map}
 use Rattle.terms.proofs.TermPlaces.{extent, extent-le}
 use Rattle.terms.proofs.Ascending.{ascends-below}
 use Rattle.terms.proofs.PreorderTests.{testPlace, all-tests-ascend}
@@ -17,7 +17,7 @@ use Rattle.sheet_tests.specs.SheetTests.{Test, place, pair, ruleTests, allTests
 use Rattle.sheet_tests.proofs.TestOrder.{ascending-mem}
 use Rattle.sheet.specs.Sheet.{Sheet, SoundSheet}
 use Rattle.decision.specs.Rules.{sameTest}
-use Rattle.decision.proofs.Filters.{any-mem, mem-any}
+use Rattle.basics.proofs.Filters.{any-mem, mem-any}
 use Rattle.decision.proofs.TestsOfRules.{same-test, test-same}
 use Rattle.graph.specs.ReadGraph.{isTest}
 

@@ -1,11 +1,10 @@
 -- The record of a node, and of a case, that a list of bytes begins with (document 01, "Records", "Graph"; question 22).
 use Prim.Native.Nat.{ℕ}
-use mathlib.Core.Bool.{Bool, true, false}
+use mathlib.Core.Bool.{Bool, true, false, cond}
 use mathlib.Core.List.{List}
 use lib.ListN.{length, getD}
 use lib.Dec.{leb, eqb}
 use Rattle.records.specs.Fields.{wideAt}
-pub use Rattle.records.specs.Reading.{isKind}
 use Rattle.graph.specs.declared.Leaf.the-variants.{Fail, Suspend, Execute}
 use Rattle.graph.specs.declared.NodeRecord.{NodeRecord}
 use Rattle.graph.specs.declared.NodeRecord.the-variants.{End, Switch, Pair}
@@ -39,12 +38,12 @@ pairHead s = wholeNode (leb 9 (length s)) (Pair (wideAt s 1) (wideAt s 3) (wideA
 -- "Is the node of kind 40 to 43 or 47?"
 abbrev pub nodeHead : List ℕ → NodeHead
 nodeHead s =
-    isKind (eqb (length s) 0) (Refused 22)
-    (isKind (eqb (getD s 0 0) 0x40) (Whole (End Fail))
-    (isKind (eqb (getD s 0 0) 0x41) (Whole (End Suspend))
-    (isKind (eqb (getD s 0 0) 0x42) (executeHead s)
-    (isKind (eqb (getD s 0 0) 0x43) (switchHead s)
-    (isKind (eqb (getD s 0 0) 0x47) (pairHead s)
+    cond (eqb (length s) 0) (Refused 22)
+    (cond (eqb (getD s 0 0) 0x40) (Whole (End Fail))
+    (cond (eqb (getD s 0 0) 0x41) (Whole (End Suspend))
+    (cond (eqb (getD s 0 0) 0x42) (executeHead s)
+    (cond (eqb (getD s 0 0) 0x43) (switchHead s)
+    (cond (eqb (getD s 0 0) 0x47) (pairHead s)
     (Refused 22))))))
 
 -- "44 symbol (wide id, wide node), 45 compound (wide id, arity, wide node), 46 numbers (wide low, wide high, wide node)".
@@ -60,8 +59,8 @@ numbersHead s = wholeCase (leb 7 (length s)) (Numbers (wideAt s 1) (wideAt s 3) 
 -- "Its cases of kinds 44 to 46".
 abbrev pub caseHead : List ℕ → CaseHead
 caseHead s =
-    isKind (eqb (length s) 0) (case.Refused 22)
-    (isKind (eqb (getD s 0 0) 0x44) (symbolHead s)
-    (isKind (eqb (getD s 0 0) 0x45) (compoundHead s)
-    (isKind (eqb (getD s 0 0) 0x46) (numbersHead s)
+    cond (eqb (length s) 0) (case.Refused 22)
+    (cond (eqb (getD s 0 0) 0x44) (symbolHead s)
+    (cond (eqb (getD s 0 0) 0x45) (compoundHead s)
+    (cond (eqb (getD s 0 0) 0x46) (numbersHead s)
     (case.Refused 22))))

@@ -10,7 +10,7 @@ use Rattle.records.specs.Reading.{Reading, took, refused, ask, after, andThen, 
 use Rattle.terms.specs.Pattern.{Patterns}
 use Rattle.sheet_tests.specs.SheetTests.{Test, place, pair, sheetTests}
 use Rattle.sheet.specs.Sheet.{Sheet}
-use Rattle.decision.specs.Rules.{anyOf, sameTest}
+use Rattle.decision.specs.Rules.{sameTest}
 use Rattle.decision.specs.Key as key
 use Rattle.decision.specs.Cases.{Case, symbolCase, compoundCase, numbersCase, functorBefore}
 use Rattle.decision.specs.Node.{Node, CaseEdge, end, switch, pairNode}
@@ -24,6 +24,7 @@ use Rattle.graph.specs.declared.NodeHead.the-variants.{Whole, Refused}
 use Rattle.graph.specs.declared.CaseHead.{CaseHead}
 use Rattle.graph.specs.declared.CaseHead.the-variants as case
 use Rattle.graph.specs.NodeRecord.{nodeHead, caseHead}
+use Rattle.basics.specs.Lists.{anyOf}
 
 abbrev pub edge : Case → ℕ → CaseEdge ℕ
 edge c n = record { case = c; target = n }

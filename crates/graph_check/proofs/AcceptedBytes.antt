@@ -7,13 +7,12 @@ use lib.ListN.{length, getD, drop, length-append}
 use lib.Seq.{getD-take}
 use Rattle.records.specs.Fields.{IsByte}
 use Rattle.records.specs.Reading.{took}
-use Rattle.terms.specs.Lists.{All}
-use Rattle.terms.proofs.ListLaws.{all-at, all-map}
+use Rattle.basics.specs.Lists.{All}
+use Rattle.basics.proofs.ListLaws.{all-at, all-map}
 use Rattle.sheet.specs.Sheet.{Sheet, SoundSheet}
 use Rattle.decision.specs.Node.{Node}
 use Rattle.decision.specs.GraphBytes.{nodeBytes, nodesBytes, graphBytes}
 use Rattle.decision.specs.AcceptedGraph.{AcceptedNode}
-use Rattle.decision.proofs.TestNumbers.{mem-at}
 use Rattle.graph.specs.ReadGraph.{readGraph}
 use Rattle.graph.specs.views.Rewriting.{readRecord, readRecords}
 use Rattle.graph.proofs.Spelling.{row-spelled}
@@ -24,6 +23,7 @@ use Rattle.graph.proofs.Spelled.{SpelledGraph, graph-read}
 use Rattle.node_check.proofs.NodesPass.{node-size}
 use Rattle.node_check.proofs.Starts.{start-reads}
 use Rattle.graph_check.specs.views.GraphIndex.{AcceptedGraphAs}
+use Rattle.basics.proofs.Positions.{mem-at}
 
 -- Nodes have at most 1,793 bytes each.
 pub nodes-size : (ns : List (Node ℕ)) → All NodeFields ns → length (nodesBytes ns) ≤ 1793 * length ns

@@ -2,14 +2,13 @@
 use Prim.Native.Nat.{ℕ}
 use mathlib.Core.Path.{_≡_, sym, ap, _∙_}
 use mathlib.Core.List.{List}
-use lib.ListN.{length, take}
-use Rattle.records.specs.Reading.{took, refused, mapReading}
+use lib.ListN.{length}
+use Rattle.records.specs.Reading.{refused, mapReading}
 use Rattle.records.proofs.Rows.{took-view, refused-view}
 use Rattle.sheet.specs.Sheet.{Sheet}
 use Rattle.accepted.specs.views.AcceptedAs.{AcceptedTests}
-use Rattle.decision.specs.Node.{Node}
 use Rattle.graph.specs.ReadGraph.{isTest, readBy, readGraph}
-use Rattle.node_check.specs.views.CheckNode.{keptTest, startsFrom}
+use Rattle.node_check.specs.views.CheckNode.{keptTest}
 use Rattle.graph_check.specs.declared.GraphCheck.{GraphCheck}
 use Rattle.graph_check.specs.declared.GraphCheck.the-variants.{Accepted, Refused}
 use Rattle.graph_check.specs.views.GraphIndex.{GraphIndex, graphIndex, indexed, AcceptedGraphAs}

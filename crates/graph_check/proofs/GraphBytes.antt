@@ -9,7 +9,7 @@ use lib.ListN.{length}
 use Rattle.records.specs.Fields.{IsByte}
 use Rattle.records.specs.Reading.{Reading, took, refused, andThen}
 use Rattle.records.specs.Writing.{splice}
-use Rattle.terms.specs.Lists.{All}
+use Rattle.basics.specs.Lists.{All}
 use Rattle.sheet.specs.Sheet.{Sheet}
 use Rattle.sheet.specs.WriteSheet.{sheetBytes}
 use Rattle.sheet_tests.specs.CheckSheet.{acceptSheet, AcceptedSheet}

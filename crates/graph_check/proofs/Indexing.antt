@@ -11,7 +11,7 @@ use lib.Seq.{length-take-le}
 use Rattle.records.specs.Fields.{wideAt}
 use Rattle.records.specs.Reading.{Reading, took, refused, ask, after, mapReading}
 use Rattle.records.proofs.Rows.{after-took}
-use Rattle.terms.proofs.Booleans.{both-true}
+use Rattle.basics.proofs.Booleans.{both-true}
 use Rattle.sheet_tests.specs.SheetTests.{Test}
 use Rattle.decision.specs.Node.{Node}
 use Rattle.decision.specs.Graph.{mostNodes}

@@ -8,19 +8,19 @@ use native.Mathlib.Decide.{decLe}
 use native.Mathlib.Omega.{arith}
 use lib.Dec.{T, eqb, eqb→eq, eqb-refl}
 use lib.ListN.{length, take}
-use Rattle.terms.specs.Lists.{countFrom}
+use Rattle.basics.specs.Lists.{countFrom, anyOf}
 use Rattle.terms.specs.Pattern.{Patterns}
 use Rattle.sheet_tests.specs.SheetTests.{Test, place, pair, sheetTests}
 use Rattle.sheet_tests.specs.views.TestedPlaces.{hasPlace, placesIn}
 use Rattle.sheet_tests.specs.views.KeptPairs.{codePair}
 use Rattle.sheet_tests.specs.views.TestsRead.{keptTests}
-use Rattle.sheet_tests.proofs.NumberLists.{mem-count}
-use Rattle.decision.specs.Rules.{anyOf, sameTest}
-use Rattle.decision.proofs.Truth.{same-truth}
-use Rattle.decision.proofs.Filters.{mem-filter, filter-mem, mem-any, any-mem}
+use Rattle.decision.specs.Rules.{sameTest}
+use Rattle.basics.proofs.Filters.{mem-filter, filter-mem, mem-any, any-mem}
 use Rattle.graph.specs.ReadGraph.{isTest, readBy}
 use Rattle.node_check.specs.views.CheckNode.{isPair, keptTest}
 use Rattle.node_check.proofs.KeptTests.{place-lacking}
+use Rattle.basics.proofs.Booleans.{same-truth}
+use Rattle.basics.proofs.Counting.{mem-count}
 
 -- A place is looked for among the places, a pair among the pairs.
 place-any : (ps cs : List ℕ) (n : ℕ) → anyOf (sameTest (place n)) (map place ps ++ map codePair cs) ≡ anyOf (eqb n) ps

@@ -9,7 +9,7 @@ use lib.ListN.{length, drop}
 use Rattle.records.specs.Fields.{IsByte, wideThen}
 use Rattle.records.specs.Reading.{Reading, took, refused, ask, andThen, mapReading}
 use Rattle.records.specs.Writing.{splice}
-use Rattle.terms.specs.Lists.{All}
+use Rattle.basics.specs.Lists.{All}
 use Rattle.sheet.specs.Sheet.{Sheet, SoundSheet}
 use Rattle.sheet_tests.specs.CheckSheet.{acceptSheet}
 use Rattle.accepted.proofs.Acceptance.{sheet-accepted}

@@ -1,28 +1,26 @@
 -- The cases of a switch in turn: each begins above the one before, so those left are the ones from its next code on.
-use Prim.Native.Nat.{ℕ, zero, suc, _+_, _≤_, _<_}
+use Prim.Native.Nat.{ℕ, _+_, _≤_, _<_}
 use mathlib.Core.Path.{_≡_, refl, sym, ap, _∙_}
-use mathlib.Core.Bool.{Bool, true, false}
+use mathlib.Core.Bool.{Bool, true, false, cond}
 use mathlib.Core.Logic.{inl, inr}
 use mathlib.Core.List.{List, [], _∷_}
 use native.Mathlib.Omega.{arith}
 use lib.Dec.{leb, ltb}
 use lib.ListN.{length}
 use borrow.Author.Tests.{leb-true, leb-false, le-leb, lt-leb, lt-ltb, le-ltb}
-use Rattle.terms.specs.Lists.{Mem, here, there, All, filter}
-use Rattle.terms.proofs.Booleans.{choose}
-use Rattle.terms.proofs.ListLaws.{all-at, all-from, all-map}
-use Rattle.terms.proofs.Sorted.{AscendingBy, pair-before}
+use Rattle.basics.specs.Lists.{Mem, here, there, All}
+use Rattle.basics.proofs.ListLaws.{all-at, all-from, all-map}
+use Rattle.basics.proofs.Sorted.{AscendingBy, pair-before}
 use Rattle.terms.specs.RuleTests.{Want}
 use Rattle.decision.specs.Cases.{Case, symbolCase, compoundCase, numbersCase, casesOf}
 use Rattle.decision.specs.GraphBytes.{caseBytes}
 use Rattle.decision.specs.AcceptedGraph.{CaseBefore, LowAtMostHigh, CaseFields}
-use Rattle.decision.proofs.CasesAccepted.{cases-ascend, cases-ordered, cases-fields}
-use Rattle.edges.specs.declared.cases.NextCase.{NextCase}
+use Rattle.decision.proofs.CasesAccepted.{cases-ordered, cases-fields}
 use Rattle.edges.specs.declared.cases.NextCase.the-variants.{Run, Nothing}
 use Rattle.edges.specs.views.Codes.{caseLow, caseHigh, SoundWant}
 use Rattle.edges.specs.views.FirstCase.{firstCase}
 use Rattle.edges.proofs.CodeRanges.{sound-want}
-use Rattle.keys.specs.views.Switching.{casesFrom, casesLength, lengthAt}
+use Rattle.keys.specs.views.Switching.{casesFrom, lengthAt}
 
 -- The fields of the case hold it, and its low is at most its high.
 abbrev pub Sound : Case → Type 0
@@ -43,19 +41,19 @@ low-before (numbersCase l h) (numbersCase x y) f g k = omega (arith, f .1)
 
 -- The lengths of records: of a symbol's,
 pub symbol-length : (code : ℕ) → code < 0x200_0000 → lengthAt code ≡ 5
-symbol-length code h = ap (λ (b : Bool). choose b 5 (choose (ltb code 0x300_0000) 6 7)) (lt-ltb code 0x200_0000 h)
+symbol-length code h = ap (λ (b : Bool). cond b 5 (cond (ltb code 0x300_0000) 6 7)) (lt-ltb code 0x200_0000 h)
 
 -- a compound's,
 pub compound-length : (code : ℕ) → 0x200_0000 ≤ code → code < 0x300_0000 → lengthAt code ≡ 6
 compound-length code h k =
-    ap (λ (b : Bool). choose b 5 (choose (ltb code 0x300_0000) 6 7)) (le-ltb code 0x200_0000 h)
-    ∙ ap (λ (b : Bool). choose b 6 7) (lt-ltb code 0x300_0000 k)
+    ap (λ (b : Bool). cond b 5 (cond (ltb code 0x300_0000) 6 7)) (le-ltb code 0x200_0000 h)
+    ∙ ap (λ (b : Bool). cond b 6 7) (lt-ltb code 0x300_0000 k)
 
 -- and a case of numbers.
 pub numbers-length : (code : ℕ) → 0x200_0000 ≤ code → 0x300_0000 ≤ code → lengthAt code ≡ 7
 numbers-length code h k =
-    ap (λ (b : Bool). choose b 5 (choose (ltb code 0x300_0000) 6 7)) (le-ltb code 0x200_0000 h)
-    ∙ ap (λ (b : Bool). choose b 6 7) (le-ltb code 0x300_0000 k)
+    ap (λ (b : Bool). cond b 5 (cond (ltb code 0x300_0000) 6 7)) (le-ltb code 0x200_0000 h)
+    ∙ ap (λ (b : Bool). cond b 6 7) (le-ltb code 0x300_0000 k)
 
 -- The length of a case's record is read off its lowest code.
 pub length-at : (c : Case) (node : ℕ) → Sound c → lengthAt (caseLow c) ≡ length (caseBytes c node)
@@ -68,7 +66,7 @@ length-at (numbersCase l h) node f = numbers-length (caseLow (numbersCase l h)) 
 from-all : (from : ℕ) (cs : List Case) → All (λ (c : Case). from ≤ caseLow c) cs → casesFrom from cs ≡ cs
 from-all from [] h = refl
 from-all from (c ∷ cs) h =
-    ap (λ (b : Bool). choose b (c ∷ casesFrom from cs) (casesFrom from cs)) (le-leb from (caseLow c) (h .0))
+    ap (λ (b : Bool). cond b (c ∷ casesFrom from cs) (casesFrom from cs)) (le-leb from (caseLow c) (h .0))
     ∙ ap (λ (l : List Case). c ∷ l) (from-all from cs (h .1))
 
 -- The next case from a code on, and those left after it.
@@ -98,11 +96,11 @@ next-run from x y (c ∷ cs) f a e = go (leb from (caseLow c)) refl (next-run fr
 
     passed : (code : ℕ) → caseLow c < code → casesFrom code (c ∷ cs) ≡ casesFrom code cs
     passed code h =
-        ap (λ (b : Bool). choose b (c ∷ casesFrom code cs) (casesFrom code cs)) (lt-leb code (caseLow c) h)
+        ap (λ (b : Bool). cond b (c ∷ casesFrom code cs) (casesFrom code cs)) (lt-leb code (caseLow c) h)
 
     go
         : (b : Bool) → leb from (caseLow c) ≡ b → (firstCase from cs ≡ Run x y → NextIs from x y cs)
-        → choose b (Run (caseLow c) (caseHigh c)) (firstCase from cs) ≡ Run x y → NextIs from x y (c ∷ cs)
+        → cond b (Run (caseLow c) (caseHigh c)) (firstCase from cs) ≡ Run x y → NextIs from x y (c ∷ cs)
     go true t g k =
         let low : caseLow c ≡ x = cc in
         let high : caseHigh c ≡ y = cc in
@@ -113,7 +111,7 @@ next-run from x y (c ∷ cs) f a e = go (leb from (caseLow c)) refl (next-run fr
           low = sym low;
           high = sym high;
           above = omega arith;
-          rest = ap (λ (b : Bool). choose b (c ∷ casesFrom from cs) (casesFrom from cs)) t
+          rest = ap (λ (b : Bool). cond b (c ∷ casesFrom from cs) (casesFrom from cs)) t
               ∙ ap (λ (l : List Case). c ∷ l)
               (from-all from cs (all-map (λ (d : Case). caseLow c < caseLow d) (λ (d : Case). from ≤ caseLow d)
               (λ d h. omega arith) cs above-all)
@@ -140,8 +138,8 @@ next-none from (c ∷ cs) e = go (leb from (caseLow c)) (next-none from cs) e
   where
     go
         : (b : Bool) → (firstCase from cs ≡ Nothing → casesFrom from cs ≡ [])
-        → choose b (Run (caseLow c) (caseHigh c)) (firstCase from cs) ≡ Nothing
-        → choose b (c ∷ casesFrom from cs) (casesFrom from cs) ≡ []
+        → cond b (Run (caseLow c) (caseHigh c)) (firstCase from cs) ≡ Nothing
+        → cond b (c ∷ casesFrom from cs) (casesFrom from cs) ≡ []
     go true g k = clash (sym k)
     go false g k = g k
 

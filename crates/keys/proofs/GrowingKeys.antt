@@ -1,5 +1,5 @@
 -- The loop that meets all keys: the first k of the keys met have their edges met, and the records of their nodes are measured.
-use Prim.Native.Nat.{ℕ, zero, suc, _+_, _≤_, _<_}
+use Prim.Native.Nat.{ℕ, _+_, _≤_, _<_}
 use mathlib.Core.Path.{_≡_, refl, sym, ap, subst, _∙_}
 use mathlib.Core.List.{List, [], _∷_, _++_, map}
 use native.Mathlib.Numerals.{add-one}
@@ -7,13 +7,12 @@ use native.Mathlib.Omega.{arith}
 use lib.Dec.{T}
 use lib.ListN.{length, getD, set, take, length-append}
 use lib.Seq.{take-all, take-suc, take-append-le}
-use Rattle.terms.specs.Lists.{All}
+use Rattle.basics.specs.Lists.{All}
 use Rattle.terms.specs.Pattern.{Patterns}
-use Rattle.terms.proofs.ListLaws.{all-at}
+use Rattle.basics.proofs.ListLaws.{all-at}
 use Rattle.decision.specs.Key.{Key, Vertex, asking, sameKey}
 use Rattle.decision.specs.Graph.{newOnes, mostNodes}
 use Rattle.decision.specs.GraphBytes.{nodeBytes, nodesBytes}
-use Rattle.decision.proofs.TestNumbers.{mem-at}
 use Rattle.decision.proofs.SameVertex.{same-vertex, vertex-same}
 use Rattle.edges.specs.views.Compiled.{RowTable}
 use Rattle.keys.specs.views.KeysMet.{keyWith, keyAt, keysIn, numberOf, meetAll, Sized}
@@ -26,6 +25,7 @@ use Rattle.keys.proofs.Meeting.{meet-all, meet-longer}
 use Rattle.keys.proofs.Growing.{leftFrom, left-turn, left-done, left-many}
 use Rattle.keys.proofs.Measures.{length-anywhere}
 use Rattle.keys.proofs.NamedKeys.{Named, named-fits, next-named, root-named, meets-all}
+use Rattle.basics.proofs.Positions.{mem-at}
 
 -- Keys that are the same are equal.
 pub key-sound : (x y : Key) → T (sameKey x y) → x ≡ y

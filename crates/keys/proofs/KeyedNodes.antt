@@ -1,14 +1,14 @@
 -- The graph by keys is the graph: where all keys are met, their nodes are the nodes of the vertices.
 use Prim.Native.Nat.{ℕ, zero, suc, _≤_}
 use mathlib.Core.Path.{_≡_, refl, sym, ap, subst, _∙_}
-use mathlib.Core.Bool.{Bool, true, false}
+use mathlib.Core.Bool.{Bool, cond}
 use mathlib.Core.List.{List, [], _∷_, _++_, map}
 use mathlib.Core.Option.{Option, some, none}
 use lib.Dec.{T}
 use lib.ListN.{length}
-use Rattle.terms.specs.Lists.{Mem, All}
+use Rattle.basics.specs.Lists.{All}
 use Rattle.terms.specs.Pattern.{Patterns}
-use Rattle.terms.proofs.ListLaws.{all-join, all-at, all-from, all-map, all-split}
+use Rattle.basics.proofs.ListLaws.{all-join, all-at, all-from, all-map, all-split}
 use Rattle.decision.specs.Key.{Key, Vertex, rootKey, vertexOf, sameKey, sameVertex}
 use Rattle.decision.specs.Node.{Node, CaseEdge, end, switch, pairNode, edges, mapCase, mapNode}
 use Rattle.decision.specs.Edges.{nodeOf}
@@ -17,7 +17,7 @@ use Rattle.decision.proofs.BreadthFirst.{some-none, new-from}
 use Rattle.decision.proofs.ExploreMap.{named, number-named}
 use Rattle.decision.proofs.SameVertex.{same-vertex, vertex-same}
 use Rattle.keys.specs.views.KeysMet.{numberOf}
-use Rattle.keys.specs.views.KeyGraph.{nameOf, vertexIn, nextKeys, keyedNode, keyedNodes}
+use Rattle.keys.specs.views.KeyGraph.{nameOf, nextKeys, keyedNode, keyedNodes}
 use Rattle.keys.specs.views.Grown.{graphKeys}
 use Rattle.keys.proofs.Names.{named-vertex, told-apart}
 use Rattle.keys.proofs.Occurring.{Occurs, edges-occur, root-occurs, keys-explored}
@@ -28,7 +28,7 @@ number-any
 number-any same f g [] x = refl
 number-any same f g (y ∷ xs) x =
     let rest = number-any same f g xs x in
-    λ i. elim (same x y) as (λ _. ℕ) [ true ↦ 0 | false ↦ suc (rest i) ]
+    λ i. cond (same x y) 0 (suc (rest i))
 
 -- Cases that lead to the same numbers are the same,
 cases-same

@@ -1,18 +1,17 @@
 -- Where keys stand once each, a key's number is where it stands.
 use Prim.Native.Nat.{ℕ, zero, suc, _<_}
 use mathlib.Core.Path.{_≡_, refl, sym, ap, subst, _∙_}
-use mathlib.Core.Bool.{Bool, true, false}
+use mathlib.Core.Bool.{Bool, true, false, cond}
 use mathlib.Core.List.{List, [], _∷_}
 use native.Mathlib.Omega.{arith}
 use lib.Dec.{T}
 use lib.ListN.{length, getD}
-use Rattle.terms.specs.Lists.{Mem}
-use Rattle.terms.proofs.Booleans.{choose}
+use Rattle.basics.specs.Lists.{Mem}
 use Rattle.decision.specs.Key.{Key, sameKey}
-use Rattle.decision.proofs.TestNumbers.{mem-at}
-use Rattle.keys.specs.views.KeysMet.{keyWith, keyAt, keysIn, numberOf, isAt, Once}
+use Rattle.keys.specs.views.KeysMet.{keyAt, keysIn, numberOf, isAt, Once}
 use Rattle.keys.proofs.Searching.{keys-length, key-at, at-member}
 use Rattle.keys.proofs.GrowingKeys.{key-sound, key-same}
+use Rattle.basics.proofs.Positions.{mem-at}
 
 -- The key at a position has that number.
 number-there
@@ -20,7 +19,7 @@ number-there
 number-there d key [] once i h e = absurd (let z : ⊥ = omega arith in z)
 number-there d key (k ∷ keys) once zero h e = go (sameKey key k) (subst (λ (x : Key). T (sameKey key x)) (sym e) (key-same key))
   where
-    go : (b : Bool) → T b → 0 ≡ choose b 0 (suc (numberOf keys key))
+    go : (b : Bool) → T b → 0 ≡ cond b 0 (suc (numberOf keys key))
     go true t = refl
     go false t = absurd t
 number-there d key (k ∷ keys) once (suc i) h e =
@@ -29,7 +28,7 @@ number-there d key (k ∷ keys) once (suc i) h e =
     among : Mem key keys
     among = subst (λ (x : Key). Mem x keys) e (mem-at d keys i (omega arith))
 
-    go : (b : Bool) → (T b → key ≡ k) → i ≡ numberOf keys key → suc i ≡ choose b 0 (suc (numberOf keys key))
+    go : (b : Bool) → (T b → key ≡ k) → i ≡ numberOf keys key → suc i ≡ cond b 0 (suc (numberOf keys key))
     go true same n = absurd (once .0 (subst (λ (x : Key). Mem x keys) (same tt) among))
     go false same n = ap suc n
 

@@ -1,27 +1,26 @@
 -- One key is met: found among those met before, added behind them, or one too many.
 use Prim.Native.Nat.{ℕ, _+_, _≤_, _<_}
 use mathlib.Core.Path.{_≡_, refl, sym, ap, subst, _∙_}
-use mathlib.Core.Bool.{Bool, true, false}
+use mathlib.Core.Bool.{Bool, true, false, cond}
 use mathlib.Core.List.{List, [], _∷_, _++_, append-nil}
 use native.Mathlib.Omega.{arith}
 use lib.Dec.{T}
 use lib.ListN.{length, set, length-set, length-append}
-use Rattle.terms.proofs.Booleans.{choose}
-use Rattle.decision.specs.Rules.{anyOf}
 use Rattle.decision.specs.Key.{Key, sameKey}
 use Rattle.decision.specs.Graph.{newOnes}
 use Rattle.decision.proofs.ExploreSteps.{meet-one}
-use Rattle.decision.proofs.Filters.{mem-any}
+use Rattle.basics.proofs.Filters.{mem-any}
 use Rattle.keys.specs.views.KeysMet.{keyWith, keysIn, numberOf, isAt, meet, meetAll, Sized, Met}
 use Rattle.keys.proofs.Searching.{met-before, not-met-before, keys-length, keys-added, at-member}
+use Rattle.basics.specs.Lists.{anyOf}
 
 -- Where a key is among those met, nothing is added,
 pub meet-old : (keys : List Key) (key : Key) → anyOf (sameKey key) keys ≡ true → meet keys key ≡ keys
-meet-old keys key e = ap (λ (t : Bool). choose t keys (keys ++ key ∷ [])) e
+meet-old keys key e = ap (λ (t : Bool). cond t keys (keys ++ key ∷ [])) e
 
 -- and where it is not, it comes last.
 pub meet-new : (keys : List Key) (key : Key) → anyOf (sameKey key) keys ≡ false → meet keys key ≡ keys ++ key ∷ []
-meet-new keys key e = ap (λ (t : Bool). choose t keys (keys ++ key ∷ [])) e
+meet-new keys key e = ap (λ (t : Bool). cond t keys (keys ++ key ∷ [])) e
 
 module _ (lives pendings : List ℕ) (count live pending number : ℕ) (sizeOfLives : length lives ≡ 1024)
     (sizeOfPendings : length pendings ≡ 1024) (few : count ≤ 1024)

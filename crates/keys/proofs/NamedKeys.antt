@@ -6,12 +6,11 @@ use mathlib.Core.List.{List, [], _∷_, _++_, map}
 use lib.ListN.{length}
 use lib.Pow.{pow-lt, pow-pos}
 use Rattle.masks.proofs.Extensionality.{maskOf-lt}
-use Rattle.terms.specs.Lists.{All}
+use Rattle.basics.specs.Lists.{All, anyOf}
 use Rattle.terms.specs.Pattern.{Patterns}
-use Rattle.terms.proofs.Booleans.{choose-holds}
-use Rattle.terms.proofs.ListLaws.{all-join}
+use Rattle.basics.proofs.Booleans.{cond-holds}
+use Rattle.basics.proofs.ListLaws.{all-join}
 use Rattle.sheet_tests.specs.SheetTests.{sheetTests}
-use Rattle.decision.specs.Rules.{anyOf}
 use Rattle.decision.specs.Key.{Key, Vertex, leaf, asking, fail, suspend, execute, isHeld, rootKey, vertexOf, sameKey}
 use Rattle.decision.specs.Graph.{nextVertices, lowestFirst}
 use Rattle.decision.proofs.EdgeKeys.{led-means}
@@ -69,5 +68,5 @@ pub meets-all : (Q : Key → Type 0) (keys ks : List Key) → All Q keys → All
 meets-all Q keys [] all new = all
 meets-all Q keys (k ∷ ks) all new =
     meets-all Q (meet keys k) ks
-    (choose-holds (All Q) (anyOf (sameKey k) keys) keys (keys ++ k ∷ []) all (all-join Q keys (k ∷ []) all (new .0, tt)))
+    (cond-holds (All Q) (anyOf (sameKey k) keys) keys (keys ++ k ∷ []) all (all-join Q keys (k ∷ []) all (new .0, tt)))
     (new .1)

@@ -1,5 +1,5 @@
 -- Vertices and their keys: a vertex that occurs is read off its key, so keys tell vertices apart.
-use Prim.Native.Nat.{ℕ, zero, suc, pred, _^_, _≤_, _<_}
+use Prim.Native.Nat.{ℕ, zero, suc, _^_, _≤_, _<_}
 use mathlib.Core.Path.{_≡_, refl, sym, ap, subst, _∙_}
 use mathlib.Core.Bool.{Bool, true, false}
 use mathlib.Core.List.{List, [], _∷_}
@@ -10,17 +10,18 @@ use lib.Pow.{pow-lt}
 use borrow.Author.Tests.{eq-eqb}
 use Rattle.masks.specs.Mask.{has, members}
 use Rattle.masks.specs.views.Answers.{soleOf}
-use Rattle.masks.specs.declared.Sole.the-variants.{None, One, More}
+use Rattle.masks.specs.declared.Sole.the-variants.{One}
 use Rattle.masks.proofs.Membership.{has-singleton}
 use Rattle.masks.proofs.Members.{members-none}
 use Rattle.masks.proofs.Answers.{only-one}
 use Rattle.terms.specs.Pattern.{Patterns}
 use Rattle.decision.specs.Key.{Key, Vertex, leaf, asking, fail, suspend, execute, twoOrMore, sameKey, sameVertex}
-use Rattle.decision.proofs.Sets.{is-true, true-is, Two, members-two}
-use Rattle.decision.proofs.Vertices.{Means, Live}
+use Rattle.decision.proofs.Sets.{Two, members-two}
+use Rattle.decision.proofs.Vertices.{Live}
 use Rattle.decision.proofs.SameVertex.{same-vertex, vertex-same}
 use Rattle.decision.proofs.EdgeKeys.{LedTo, ledKey, led-means}
 use Rattle.keys.specs.views.KeyGraph.{nameOf, vertexBy, vertexIn}
+use Rattle.basics.proofs.Booleans.{true-is, is-true}
 
 -- What the only member of a list is.
 sole-list : (l : List ℕ) (i : ℕ) → soleOf l ≡ One i → l ≡ i ∷ []

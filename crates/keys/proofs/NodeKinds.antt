@@ -1,26 +1,24 @@
 -- What the node of a key is, by its numbers of live rules and pending tests.
 use Prim.Native.Nat.{ℕ, zero, suc, _+_, _^_, _≤_, _<_}
-use mathlib.Core.Path.{_≡_, refl, sym, ap, _∙_}
-use mathlib.Core.Bool.{Bool, true, false}
+use mathlib.Core.Path.{_≡_, refl, ap, _∙_}
+use mathlib.Core.Bool.{Bool, true, false, cond}
 use mathlib.Core.List.{List, [], _∷_}
 use mathlib.Core.Logic.{by-cases}
-use mathlib.Core.Option.{Option, some, none}
+use mathlib.Core.Option.{some, none}
 use native.Mathlib.Decide.{ℕ-discrete}
 use native.Mathlib.Omega.{arith}
-use lib.Dec.{eqb}
 use lib.Count.{ones, trailingZeros}
 use lib.ListN.{length}
 use borrow.Author.Tests.{eq-eqb, ne-eqb}
-use Rattle.masks.specs.Mask.{has, members}
+use Rattle.masks.specs.Mask.{has}
 use Rattle.masks.proofs.Membership.{has-empty, has-lt}
 use Rattle.masks.proofs.LowestMember.{trailing-in, trailing-first}
 use Rattle.masks.proofs.Members.{members-none, members-one, members-two}
-use Rattle.terms.specs.Lists.{countFrom}
+use Rattle.basics.specs.Lists.{countFrom}
 use Rattle.terms.specs.Pattern.{Patterns}
-use Rattle.terms.proofs.Booleans.{choose}
 use Rattle.sheet_tests.specs.SheetTests.{sheetTests}
 use Rattle.decision.specs.Rules.{testAt}
-use Rattle.decision.specs.Key.{Key, Vertex, Leaf, leaf, asking, fail, suspend, execute}
+use Rattle.decision.specs.Key.{Key, Vertex, fail, suspend, execute}
 use Rattle.decision.specs.Node.{Node, end}
 use Rattle.decision.specs.Edges.{firstIn, askNode, askFirst, nodeOf}
 use Rattle.decision.specs.Graph.{lowestFirst}
@@ -34,15 +32,15 @@ first-lowest set t i zero h k there lower = absurd (let z : ⊥ = omega arith in
 first-lowest set t i (suc n) h k there lower =
     by-cases (ℕ-discrete i t)
     (λ (e : i ≡ t).
-    ap (λ (b : Bool). choose b (some i) (firstIn set (countFrom (suc i) n))) (ap (has set) e ∙ there) ∙ ap some e)
+    ap (λ (b : Bool). cond b (some i) (firstIn set (countFrom (suc i) n))) (ap (has set) e ∙ there) ∙ ap some e)
     (λ (e : ¬ (i ≡ t)).
-    ap (λ (b : Bool). choose b (some i) (firstIn set (countFrom (suc i) n))) (lower i (omega arith))
+    ap (λ (b : Bool). cond b (some i) (firstIn set (countFrom (suc i) n))) (lower i (omega arith))
     ∙ first-lowest set t (suc i) n (omega arith) (omega arith) there lower)
 
 -- and no number is in the empty set.
 first-none : (l : List ℕ) → firstIn 0 l ≡ none
 first-none [] = refl
-first-none (t ∷ l) = ap (λ (b : Bool). choose b (some t) (firstIn 0 l)) (has-empty t) ∙ first-none l
+first-none (t ∷ l) = ap (λ (b : Bool). cond b (some t) (firstIn 0 l)) (has-empty t) ∙ first-none l
 
 module _ (rules : List Patterns) (key : Key) where
   abbrev order : List ℕ
@@ -55,13 +53,13 @@ module _ (rules : List Patterns) (key : Key) where
   pub kind-fail : key .live ≡ 0 → key .pending ≡ 0 → nodeBy rules key ≡ end fail
   kind-fail e d =
       ap nodeWith (members-none 64 (key .live) e)
-      ∙ ap (λ (b : Bool). end (choose b fail suspend)) (eq-eqb (key .pending) 0 d)
+      ∙ ap (λ (b : Bool). end (cond b fail suspend)) (eq-eqb (key .pending) 0 d)
 
   -- and else suspend.
   pub kind-suspend : key .live ≡ 0 → (key .pending ≡ 0 → ⊥) → nodeBy rules key ≡ end suspend
   kind-suspend e d =
       ap nodeWith (members-none 64 (key .live) e)
-      ∙ ap (λ (b : Bool). end (choose b fail suspend)) (ne-eqb (key .pending) 0 d)
+      ∙ ap (λ (b : Bool). end (cond b fail suspend)) (ne-eqb (key .pending) 0 d)
 
   -- A key with one live rule is execute.
   pub kind-execute

@@ -1,15 +1,15 @@
 -- The vertices of a sheet's graph: each is that of a key whose live rules are rules of the sheet.
 use Prim.Native.Nat.{ℕ, _^_, _≤_, _<_}
-use mathlib.Core.Path.{_≡_, refl, sym, ap, _∙_}
-use mathlib.Core.Bool.{Bool, true, false, _&&_, not}
+use mathlib.Core.Path.{_≡_, refl, ap}
+use mathlib.Core.Bool.{true, _&&_, not}
 use mathlib.Core.List.{List, [], _∷_, map}
 use mathlib.Core.Option.{Option, some, none}
 use lib.ListN.{length}
 use Rattle.masks.specs.Mask.{has}
 use Rattle.masks.proofs.Extensionality.{maskOf-lt}
-use Rattle.terms.specs.Lists.{All}
+use Rattle.basics.specs.Lists.{All}
 use Rattle.terms.specs.Pattern.{Patterns}
-use Rattle.terms.proofs.ListLaws.{all-join}
+use Rattle.basics.proofs.ListLaws.{all-join}
 use Rattle.sheet_tests.specs.SheetTests.{Test, place, pair}
 use Rattle.decision.specs.Rules.{testAt, hasTest, wantAt, rulesWhere}
 use Rattle.decision.specs.Key.{Key, Vertex, leaf, asking, rootKey, vertexOf, sameKey, sameVertex}
@@ -18,9 +18,9 @@ use Rattle.decision.specs.Node.{CaseEdge, edges}
 use Rattle.decision.specs.Edges.{firstIn, settledByUnknown, keeps, liveWants, butTest}
 use Rattle.decision.specs.Edges.{byCase, byNone, byUnknown, byOther, askNode, askFirst}
 use Rattle.decision.specs.Graph.{nextVertices, lowestFirst, explore, vertices, mostNodes}
-use Rattle.decision.proofs.EdgeKeys.{LedTo, ledKey, led-means}
+use Rattle.decision.proofs.EdgeKeys.{LedTo, led-means}
 use Rattle.decision.proofs.ExploreMap.{named, explore-named}
-use Rattle.keys.specs.views.KeyGraph.{nameOf, vertexIn, nextKeys}
+use Rattle.keys.specs.views.KeyGraph.{nameOf, nextKeys}
 use Rattle.keys.proofs.Names.{named-vertex, told-apart}
 
 module _ (rules : List Patterns) where

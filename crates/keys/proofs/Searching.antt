@@ -1,7 +1,7 @@
 -- Laws of the search for a key among those met, and of a key that is added to them.
 use Prim.Native.Nat.{ℕ, zero, suc, _+_, _-_, _≤_, _<_}
 use mathlib.Core.Path.{_≡_, refl, sym, ap, subst, _∙_}
-use mathlib.Core.Bool.{Bool, true, false, _&&_, _||_}
+use mathlib.Core.Bool.{Bool, true, false, _&&_, _||_, cond}
 use mathlib.Core.Logic.{_⊎_, inl, inr}
 use mathlib.Core.List.{List, [], _∷_, _++_, map}
 use native.Mathlib.Omega.{arith}
@@ -9,18 +9,13 @@ use lib.Dec.{eqb, ltb}
 use lib.ListN.{length, getD, set, length-map, List·getD-map}
 use lib.Seq.{getD-set-same, getD-set-other}
 use borrow.Author.Tests.{eq-eqb, ne-eqb, lt-ltb, le-ltb, ltb-true}
-use Rattle.masks.proofs.Membership.{and-both}
-use Rattle.terms.specs.Lists.{Mem, countFrom}
-use Rattle.terms.proofs.Booleans.{choose}
-use Rattle.decision.specs.Rules.{anyOf}
+use Rattle.basics.specs.Lists.{Mem, countFrom, anyOf}
 use Rattle.decision.specs.Key.{Key, sameKey}
-use Rattle.decision.proofs.TestNumbers.{mem-at}
-use Rattle.keys.specs.views.KeysMet.{keyWith, keyAt, keysIn, numberOf, isAt, meet}
-
--- So many numbers are counted.
-count-length : (i n : ℕ) → length (countFrom i n) ≡ n
-count-length i zero = refl
-count-length i (suc n) = ap suc (count-length (suc i) n)
+use Rattle.keys.specs.views.KeysMet.{keyWith, keyAt, keysIn, numberOf, isAt}
+use Rattle.basics.proofs.Booleans.{and-both}
+use Rattle.basics.proofs.Positions.{mem-at}
+use Rattle.basics.proofs.Counting.{count-length}
+use Rattle.basics.proofs.Filters.{map-join}
 
 -- One number more stands at the end.
 count-more : (i n : ℕ) → countFrom i (n + 1) ≡ countFrom i n ++ (i + n) ∷ []
@@ -69,7 +64,7 @@ module _ (lives pendings : List ℕ) (live pending : ℕ) where
   pub search-here : (i n : ℕ) → i < n → getD lives i 0 ≡ live → getD pendings i 0 ≡ pending → i + numberFrom i (n - i) ≡ i
   search-here i n h d e =
       ap (λ (m : ℕ). i + numberFrom i m) (one-more i n h)
-      ∙ ap (λ (t : Bool). i + choose t 0 (suc (numberFrom (suc i) (n - (i + 1)))))
+      ∙ ap (λ (t : Bool). i + cond t 0 (suc (numberFrom (suc i) (n - (i + 1)))))
       (same-key live pending (getD lives i 0) (getD pendings i 0) d e)
       ∙ (let z : i + 0 ≡ i = omega arith in z)
 
@@ -79,7 +74,7 @@ module _ (lives pendings : List ℕ) (live pending : ℕ) where
       → i + numberFrom i (n - i) ≡ (i + 1) + numberFrom (i + 1) (n - (i + 1))
   search-on i n h d =
       ap (λ (m : ℕ). i + numberFrom i m) (one-more i n h)
-      ∙ ap (λ (t : Bool). i + choose t 0 (suc (numberFrom (suc i) (n - (i + 1)))))
+      ∙ ap (λ (t : Bool). i + cond t 0 (suc (numberFrom (suc i) (n - (i + 1)))))
       (other-key live pending (getD lives i 0) (getD pendings i 0) d)
       ∙ (let z : i + suc (numberFrom (suc i) (n - (i + 1))) ≡ (i + 1) + numberFrom (suc i) (n - (i + 1)) = omega arith in z)
       ∙ (let z : suc i ≡ i + 1 = omega arith in ap (λ (k : ℕ). (i + 1) + numberFrom k (n - (i + 1))) z)
@@ -108,7 +103,7 @@ met-before (k ∷ keys) key h = go (sameKey key k) (met-before keys key) h
   where
     go
         : (t : Bool) → (numberOf keys key < length keys → anyOf (sameKey key) keys ≡ true)
-        → choose t 0 (suc (numberOf keys key)) < suc (length keys) → t || anyOf (sameKey key) keys ≡ true
+        → cond t 0 (suc (numberOf keys key)) < suc (length keys) → t || anyOf (sameKey key) keys ≡ true
     go true f h = refl
     go false f h = f (omega arith)
 
@@ -119,7 +114,7 @@ not-met-before (k ∷ keys) key h = go (sameKey key k) (not-met-before keys key)
   where
     go
         : (t : Bool) → (length keys ≤ numberOf keys key → anyOf (sameKey key) keys ≡ false)
-        → suc (length keys) ≤ choose t 0 (suc (numberOf keys key)) → t || anyOf (sameKey key) keys ≡ false
+        → suc (length keys) ≤ cond t 0 (suc (numberOf keys key)) → t || anyOf (sameKey key) keys ≡ false
     go true f h = absurd (let z : ⊥ = omega arith in z)
     go false f h = f (omega arith)
 
@@ -128,7 +123,7 @@ number-most : (keys : List Key) (key : Key) → numberOf keys key ≤ length key
 number-most [] key = omega arith
 number-most (k ∷ keys) key = go (sameKey key k) (number-most keys key)
   where
-    go : (b : Bool) → numberOf keys key ≤ length keys → choose b 0 (suc (numberOf keys key)) ≤ suc (length keys)
+    go : (b : Bool) → numberOf keys key ≤ length keys → cond b 0 (suc (numberOf keys key)) ≤ suc (length keys)
     go true h = omega arith
     go false h = omega arith
 
@@ -183,10 +178,6 @@ keys-kept lives pendings live pending i (suc n) m h =
     let second = getD-set-other pendings m i pending 0 other in
     let rest = keys-kept lives pendings live pending (suc i) n m (omega arith) in
     λ j. keyWith (first j) (second j) ∷ rest j
-
-map-join : {A B : Type 0} (f : A → B) (xs ys : List A) → map f (xs ++ ys) ≡ map f xs ++ map f ys
-map-join f [] ys = refl
-map-join {B = B} f (x ∷ xs) ys = ap (λ (l : List B). f x ∷ l) (map-join f xs ys)
 
 -- A key stored behind the others is added to them.
 pub keys-added

@@ -1,19 +1,18 @@
 -- The loop over the cases of a switch: the keys behind those left are still to be met, and their records to be counted.
 use Prim.Native.Nat.{ℕ, _+_, _≤_, _<_}
 use mathlib.Core.Path.{_≡_, refl, sym, ap, _∙_}
-use mathlib.Core.List.{List, [], _∷_, map}
+use mathlib.Core.List.{List, map}
 use native.Mathlib.Omega.{arith}
 use lib.ListN.{length}
-use Rattle.terms.specs.Lists.{Mem, All}
+use Rattle.basics.specs.Lists.{Mem, All}
 use Rattle.terms.specs.Pattern.{Patterns}
-use Rattle.terms.proofs.ListLaws.{all-at}
+use Rattle.basics.proofs.ListLaws.{all-at}
 use Rattle.decision.specs.Key.{Key}
 use Rattle.decision.specs.Cases.{Case, casesOf}
 use Rattle.decision.specs.Edges.{liveWants, byCase}
 use Rattle.decision.specs.GraphBytes.{caseBytes}
 use Rattle.decision.proofs.CasesAccepted.{cases-ascend}
 use Rattle.edges.specs.declared.Key as code
-use Rattle.edges.specs.declared.cases.NextCase.{NextCase}
 use Rattle.edges.specs.declared.cases.NextCase.the-variants.{Run, Nothing}
 use Rattle.edges.specs.views.Codes.{caseLow}
 use Rattle.edges.specs.views.FirstCase.{firstCase}
@@ -21,7 +20,7 @@ use Rattle.edges.specs.views.VertexKey.{vertexKey, keyIn}
 use Rattle.edges.proofs.CaseKeys.{live-sound}
 use Rattle.keys.specs.views.KeysMet.{keysIn, meet, meetAll, Met}
 use Rattle.keys.specs.views.KeyGraph.{nameOf}
-use Rattle.keys.specs.views.Switching.{Switches, casesFrom, switchCases, caseKeys, casesLength, lengthAt}
+use Rattle.keys.specs.views.Switching.{Switches, switchCases, caseKeys, casesLength, lengthAt}
 use Rattle.keys.proofs.Meeting.{meet-longer}
 use Rattle.keys.proofs.CasesInTurn.{Sound, NextIs, length-at, next-run, next-none, wanted-sound}
 

@@ -11,7 +11,7 @@ use lib.Seq.{drop-drop}
 use Rattle.records.specs.Fields.{IsByte, wideAt}
 use Rattle.records.specs.Reading.{Reading, took, refused, mapReading, after}
 use Rattle.records.proofs.Rows.{row-none, row-refused, row-next}
-use Rattle.terms.specs.Lists.{All}
+use Rattle.basics.specs.Lists.{All}
 use Rattle.decision.specs.Cases.{symbolCase, compoundCase, numbersCase}
 use Rattle.decision.specs.Node.{CaseEdge}
 use Rattle.decision.specs.GraphBytes.{casesBytes}

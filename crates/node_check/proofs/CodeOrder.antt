@@ -6,17 +6,17 @@ use mathlib.Core.Logic.{_⊎_, inl, inr}
 use mathlib.Core.List.{List, [], _∷_}
 use native.Mathlib.Omega.{arith}
 use borrow.Author.Tests.{lt-ltb, le-ltb, ltb-true, ltb-false}
-use lib.Dec.{T, leb, ltb, ltb→lt, lt→ltb, leb→le, le→leb}
-use Rattle.terms.specs.Lists.{All}
-use Rattle.terms.specs.Order.{pairBefore}
-use Rattle.terms.proofs.Sorted.{pair-before, before-pair}
+use lib.Dec.{leb, ltb, ltb→lt, lt→ltb, leb→le, le→leb}
+use Rattle.basics.specs.Lists.{All}
+use Rattle.basics.specs.Order.{pairBefore}
+use Rattle.basics.proofs.Sorted.{pair-before, before-pair}
 use Rattle.piece.specs.views.Cells.{symbolCode, compoundCode, numberCode}
 use Rattle.decision.specs.Cases.{Case, symbolCase, compoundCase, numbersCase}
 use Rattle.decision.specs.Node.{CaseEdge}
 use Rattle.decision.specs.AcceptedGraph.{CaseFields}
-use Rattle.decision.proofs.Truth.{same-truth}
 use Rattle.graph.specs.ReadGraph.{caseBefore, lowAtMostHigh, beforeNext, casesAscend}
 use Rattle.node_check.specs.views.CaseCodes.{firstCode, lastCode}
+use Rattle.basics.proofs.Booleans.{same-truth}
 
 -- Codes of compounds ascend by id, then by arity.
 compound-order : (a n b m : ℕ) → n < 256 → m < 256 → ltb (compoundCode a n) (compoundCode b m) ≡ pairBefore a n b m

@@ -10,7 +10,7 @@ use Rattle.records.specs.Fields.{IsByte, wideThen}
 use Rattle.records.specs.Reading.{Reading, took, refused, ask, after}
 use Rattle.records.specs.Writing.{splice}
 use Rattle.records.proofs.Writing.{splice-more}
-use Rattle.terms.specs.Lists.{All}
+use Rattle.basics.specs.Lists.{All}
 use Rattle.decision.specs.Key.{fail}
 use Rattle.decision.specs.Node.{Node, CaseEdge, end, switch}
 use Rattle.decision.specs.GraphBytes.{casesBytes, nodeBytes}

@@ -11,7 +11,7 @@ use Rattle.records.specs.Reading.{Reading, took, refused, after, readRow}
 use Rattle.records.specs.Writing.{splice}
 use Rattle.records.proofs.Rows.{row-none, row-next, row-refused}
 use Rattle.records.proofs.Writing.{splice-none, splice-more, splice-length}
-use Rattle.terms.specs.Lists.{All}
+use Rattle.basics.specs.Lists.{All}
 use Rattle.graph.specs.views.Rewriting.{IsTook, readOr}
 use Rattle.graph.proofs.FieldBytes.{bytes-drop}
 use Rattle.graph.proofs.Spelling.{Spelled, begins-read, begins-length}

@@ -11,11 +11,10 @@ use lib.ListN.{length, getD, take, drop, List·getD-eq-default}
 use lib.Seq.{drop-cons}
 use Rattle.masks.specs.Mask.{has}
 use Rattle.masks.proofs.Membership.{has-empty}
-use Rattle.terms.proofs.Booleans.{both-true, true-both}
+use Rattle.basics.proofs.Booleans.{both-true, true-both, same-truth}
 use Rattle.sheet_tests.specs.views.TestedPlaces.{hasPlace}
-use Rattle.decision.specs.Rules.{anyOf}
-use Rattle.decision.proofs.Truth.{same-truth}
 use Rattle.node_check.specs.views.CheckNode.{isPair}
+use Rattle.basics.specs.Lists.{anyOf}
 
 -- A place whose word is lacking is not in the set.
 pub place-lacking : (words : List ℕ) (n : ℕ) → length words ≤ n / 64 → false ≡ hasPlace words n

@@ -11,7 +11,7 @@ use lib.Seq.{drop-drop, take-suc-set}
 use Rattle.records.specs.Fields.{IsByte}
 use Rattle.records.specs.Reading.{Reading, took, refused, after, readRow}
 use Rattle.records.proofs.Rows.{row-none, row-refused, row-next}
-use Rattle.terms.specs.Lists.{All}
+use Rattle.basics.specs.Lists.{All}
 use Rattle.sheet_tests.specs.SheetTests.{Test}
 use Rattle.decision.specs.Node.{Node, CaseEdge, end, switch, pairNode}
 use Rattle.decision.specs.Key.{fail, suspend, execute}

@@ -8,15 +8,13 @@ use graph::put_case;
 use graph::put_node;
 ghost use Prim.Native.Nat.{_+_, _≤_};
 ghost use mathlib.Core.Path.{_≡_};
-ghost use mathlib.Core.List.{[], _∷_};
+ghost use mathlib.Core.List.{[]};
 ghost use lib.ListN.{length, drop};
-ghost use Rattle.records.specs.Reading.{readRow};
 ghost use Rattle.records.specs.Writing.{splice};
 ghost use Rattle.decision.specs.Key.{fail};
 ghost use Rattle.decision.specs.Node.{end};
 ghost use Rattle.decision.specs.GraphBytes.{casesBytes, nodeBytes, nodesBytes};
-ghost use Rattle.graph.specs.NodeRecord.{nodeHead};
-ghost use Rattle.graph.specs.ReadGraph.{readCases, onNode};
+ghost use Rattle.graph.specs.ReadGraph.{readCases};
 ghost use Rattle.graph.specs.views.Rewriting.{IsTook, readOr, readRecord, readRecords};
 
 // So many cases from a position of the graph to the same of the buffer, and the position behind them.

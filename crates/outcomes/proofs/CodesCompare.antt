@@ -1,11 +1,10 @@
 -- Two terms compare as their codes say, but for the arguments of compounds.
 use Prim.Native.Nat.{ℕ}
 use mathlib.Core.Path.{_≡_, refl, _∙_}
-use mathlib.Core.Bool.{Bool, true, false, _&&_, _||_}
+use mathlib.Core.Bool.{Bool, true, false, _&&_, _||_, cond}
 use native.Mathlib.Omega.{arith}
 use lib.Dec.{eqb}
 use borrow.Author.Tests.{ne-eqb}
-use Rattle.terms.specs.Choice.{choose}
 use Rattle.terms.specs.Term.{Term, count, unknown, symbol, number, compound}
 use Rattle.terms.specs.Lookup.{found}
 use Rattle.terms.specs.Outcome.{Outcome, holds, notKnown, contradicted, known, compare}
@@ -23,17 +22,17 @@ byCodes (number a) u x = compare (number a) u
 byCodes (compound a ts) unknown x = notKnown
 byCodes (compound a ts) (symbol b) x = contradicted
 byCodes (compound a ts) (number b) x = contradicted
-byCodes (compound a ts) (compound b us) x = choose (eqb a b && eqb (count ts) (count us)) x contradicted
+byCodes (compound a ts) (compound b us) x = cond (eqb a b && eqb (count ts) (count us)) x contradicted
 
 -- Two codes compare by whether they are unknown, the same, and a compound's.
 by-tests
     : (a b : ℕ) (x : Outcome) {u v same inner : Bool} → eqb a unknownCode ≡ u → eqb b unknownCode ≡ v → eqb a b ≡ same
     → isCompound a ≡ inner
-    → compareCodes a b x ≡ choose (u || v) notKnown (choose same (choose inner x holds) contradicted)
+    → compareCodes a b x ≡ cond (u || v) notKnown (cond same (cond inner x holds) contradicted)
 by-tests a b x left right same inner = rw (left, right, same, inner)
 
 -- Equal where the test is true, else different.
-chosen : (b : Bool) → choose b holds contradicted ≡ known b
+chosen : (b : Bool) → cond b holds contradicted ≡ known b
 chosen true = refl
 chosen false = refl
 
@@ -53,7 +52,7 @@ second-unknown a x = go (eqb a unknownCode)
   where
     go
         : (b : Bool)
-        → choose (b || true) notKnown (choose (eqb a unknownCode) (choose (isCompound a) x holds) contradicted) ≡ notKnown
+        → cond (b || true) notKnown (cond (eqb a unknownCode) (cond (isCompound a) x holds) contradicted) ≡ notKnown
     go true = refl
     go false = refl
 

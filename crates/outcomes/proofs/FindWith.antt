@@ -2,7 +2,7 @@
 -- nothing, as the cells have it. Its laws hold for any number of levels; one of them is that finding composes.
 use Prim.Native.Nat.{ℕ, zero, suc, pred, _+_, _-_, _<_}
 use mathlib.Core.Path.{_≡_, refl, ap, sym, _∙_}
-use mathlib.Core.Bool.{true, false}
+use mathlib.Core.Bool.{cond}
 use native.Mathlib.Nat.{suc-add, zero-add}
 use native.Mathlib.Decide.{decLt}
 use native.Mathlib.Omega.{arith}
@@ -11,7 +11,7 @@ use Rattle.places.specs.Numbering.{stride, levelsIn}
 use Rattle.places.proofs.Levels.{levels-first, levels-next, levels-below, levels-fit}
 use Rattle.terms.specs.Term.{Term, Terms, unknown, symbol, number, compound, nil, cons}
 use Rattle.terms.specs.Lookup.{Found, lacking, found, find, finds}
-use Rattle.terms.proofs.Booleans.{choose-true, choose-false, choose-related}
+use Rattle.basics.proofs.Booleans.{cond-true, cond-false, cond-related}
 
 -- What stands n places into a term with r levels, and the same for a row of terms.
 abbrev mutual
@@ -28,7 +28,7 @@ abbrev mutual
   pub findsWith : Found → Terms → ℕ → ℕ → Found
   findsWith x nil r n = lacking
   findsWith x (cons t ts) r n =
-      elim (ltb n (stride r)) [ true ↦ findWith x t r n | false ↦ findsWith x ts r (n - stride r) ]
+      cond (ltb n (stride r)) (findWith x t r n) (findsWith x ts r (n - stride r))
 
 mutual
   -- With an unknown below an unknown it is document 01's finding: in a term,
@@ -46,7 +46,7 @@ mutual
   pub finds-is : (ts : Terms) (r n : ℕ) → finds ts r n ≡ findsWith (found unknown) ts r n
   finds-is nil r n = refl
   finds-is (cons t ts) r n =
-      choose-related (λ f g. f ≡ g) (ltb n (stride r)) (find-is t r n) (finds-is ts r (n - stride r))
+      cond-related (λ f g. f ≡ g) (ltb n (stride r)) (find-is t r n) (finds-is ts r (n - stride r))
 
 module _ (x : Found) where
   -- A term itself stands at its place.
@@ -58,13 +58,13 @@ module _ (x : Found) where
 
   -- The first places of a row are those of its first term,
   pub with-here : (t : Term) (ts : Terms) (r n : ℕ) → n < stride r → findsWith x (cons t ts) r n ≡ findWith x t r n
-  with-here t ts r n h = choose-true (ltb n (stride r)) _ _ (lt→ltb n (stride r) h)
+  with-here t ts r n h = cond-true (ltb n (stride r)) _ _ (lt→ltb n (stride r) h)
 
   -- and the next ones those of the row of the others.
   pub with-there : (t : Term) (ts : Terms) (r n : ℕ) → findsWith x (cons t ts) r (stride r + n) ≡ findsWith x ts r n
   with-there t ts r n =
       let back : (stride r + n) - stride r ≡ n = omega arith in
-      choose-false (ltb (stride r + n) (stride r)) _ _ (λ h. omega (arith, ltb→lt (stride r + n) (stride r) h))
+      cond-false (ltb (stride r + n) (stride r)) _ _ (λ h. omega (arith, ltb→lt (stride r + n) (stride r) h))
       ∙ ap (findsWith x ts r) back
 
 -- Going on from what was found.

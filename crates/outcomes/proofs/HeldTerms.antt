@@ -1,14 +1,13 @@
 -- Cells compare as the terms that they hold do, for any number of levels below them and of arguments.
 use Prim.Native.Nat.{ℕ, zero, suc, _+_, _≤_, _<_}
 use mathlib.Core.Path.{_≡_, refl, ap, ap₂, sym, _∙_}
-use mathlib.Core.Bool.{Bool, true, false, _&&_}
+use mathlib.Core.Bool.{Bool, true, false, _&&_, cond}
 use mathlib.Core.List.{List}
 use native.Mathlib.Omega.{arith}
 use lib.ListN.{getD}
 use lib.Dec.{eqb}
 use borrow.Author.Tests.{eqb-true, eqb-false}
 use Rattle.places.specs.Numbering.{stride}
-use Rattle.terms.specs.Choice.{choose}
 use Rattle.terms.specs.Term.{Term, Terms, count, unknown, symbol, number, compound, nil, cons}
 use Rattle.terms.specs.Lookup.{lacking}
 use Rattle.terms.specs.Outcome.{Outcome, holds, notKnown, contradicted, known, _and_, compare, compares}
@@ -45,7 +44,7 @@ compounds-compare a b ts us x arguments =
   where
     go
         : (id counts : Bool) → (counts ≡ true → count ts ≡ count us) → (counts ≡ false → count ts ≡ count us → ⊥)
-        → choose (id && counts) x contradicted ≡ _and_ (known id) (compares ts us)
+        → cond (id && counts) x contradicted ≡ _and_ (known id) (compares ts us)
     go false counts same other = refl
     go true true same other = arguments (same refl)
     go true false same other = sym (other-lengths ts us (other refl))

@@ -10,7 +10,7 @@ use Rattle.places.specs.Numbering.{stride}
 use Rattle.places.proofs.Rows.{stride-grows}
 use Rattle.terms.specs.Term.{Term, Terms, unknown, symbol, number, compound, nil, cons}
 use Rattle.terms.specs.Lookup.{Found, lacking, found}
-use Rattle.terms.proofs.Booleans.{choose-related}
+use Rattle.basics.proofs.Booleans.{cond-related}
 use Rattle.outcomes.proofs.FindWith.{findWith, findsWith, with-zero, with-here, with-there, goOn}
 
 -- What is found, and what is stored.
@@ -33,7 +33,7 @@ mutual
   -- and so is each place of a row of terms.
   pub stores-row : (ts : Terms) (r n : ℕ) → Stores (findsWith (found unknown) ts r n) (findsWith lacking ts r n)
   stores-row nil r n = shown lacking
-  stores-row (cons t ts) r n = choose-related Stores (ltb n (stride r)) (stores t r n) (stores-row ts r (n - stride r))
+  stores-row (cons t ts) r n = cond-related Stores (ltb n (stride r)) (stores t r n) (stores-row ts r (n - stride r))
 
 -- The first place of each term in a row is no place below an unknown.
 pub first-same

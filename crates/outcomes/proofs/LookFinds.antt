@@ -1,7 +1,7 @@
 -- In the cells of an accepted piece, looking at a place gives the code of what stands there.
 use Prim.Native.Nat.{ℕ, zero, suc, pred, _+_, _-_, _*_, _≤_, _<_}
 use mathlib.Core.Path.{_≡_, refl, ap, sym, subst, _∙_}
-use mathlib.Core.Bool.{Bool, true, false}
+use mathlib.Core.Bool.{Bool, true, false, cond}
 use native.Mathlib.Nat.{mul-comm, zero-add}
 use native.Mathlib.Decide.{ℕ-discrete, decLt}
 use native.Mathlib.Omega.{arith}
@@ -12,7 +12,6 @@ use Rattle.places.specs.Numbering.{stride, levelsAt, parentAt}
 use Rattle.places.proofs.Rows.{child-fit, stride-grows}
 use Rattle.places.proofs.Levels.{levels-range}
 use Rattle.places.proofs.Parents.{child-of-parent, parent-before, argument-without-parent}
-use Rattle.terms.specs.Choice.{choose}
 use Rattle.terms.specs.Term.{Term, Terms, count, unknown}
 use Rattle.terms.specs.Lookup.{Found, lacking, found, termAt}
 use Rattle.terms.specs.Accepted.{AcceptedPiece}
@@ -43,7 +42,7 @@ unknown-if true = refl
 unknown-if false = refl
 
 -- Its code is an unknown's, and that of nothing is 0.
-code-if : (b : Bool) → foundCode (unknownIf b) ≡ choose b unknownCode 0
+code-if : (b : Bool) → foundCode (unknownIf b) ≡ cond b unknownCode 0
 code-if true = refl
 code-if false = refl
 
@@ -54,7 +53,7 @@ module _ (piece : Terms) where
 
   -- Whether an unknown stands at the place above place n.
   abbrev aboveUnknown : ℕ → Bool
-  aboveUnknown n = choose (eqb (parentAt n) 680) false (isUnknown (termAt piece (parentAt n)))
+  aboveUnknown n = cond (eqb (parentAt n) 680) false (isUnknown (termAt piece (parentAt n)))
 
   -- Nothing stands above an argument.
   above-none : (n : ℕ) → parentAt n ≡ 680 → aboveUnknown n ≡ false

@@ -1,13 +1,12 @@
 -- In the cells of an accepted piece, an equality test has the outcome that it has in the piece.
 use Prim.Native.Nat.{ℕ, suc, pred, _+_, _≤_, _<_}
 use mathlib.Core.Path.{_≡_, refl, ap, ap₂, sym, subst, _∙_}
-use mathlib.Core.Bool.{Bool, true, false, _||_, false≢true}
+use mathlib.Core.Bool.{Bool, true, false, _||_, false≢true, cond}
 use native.Mathlib.Omega.{arith}
 use lib.Dec.{eqb}
 use borrow.Author.Tests.{ne-eqb}
 use Rattle.places.specs.Numbering.{stride, levelsAt}
 use Rattle.places.proofs.Levels.{levels-range, levels-fit-row}
-use Rattle.terms.specs.Choice.{choose}
 use Rattle.terms.specs.Term.{Term, Terms, unknown, symbol, number, compound}
 use Rattle.terms.specs.RuleTests.{both}
 use Rattle.terms.specs.Lookup.{Found, lacking, found, termAt}
@@ -38,7 +37,7 @@ module _ (x : Outcome) where
   -- The outcome is not known where the second of two terms is unknown, and else x,
   second-agrees
       : (t u : Term) → (isUnknown (found u) ≡ false → x ≡ compare t u)
-      → choose (isUnknown (found u)) notKnown x ≡ compare t u
+      → cond (isUnknown (found u)) notKnown x ≡ compare t u
   second-agrees t unknown known = sym (with-unknown t)
   second-agrees t (symbol b) known = known refl
   second-agrees t (number b) known = known refl
@@ -47,7 +46,7 @@ module _ (x : Outcome) where
   -- and so where the first is.
   terms-agree
       : (t u : Term) → (isUnknown (found t) ≡ false → isUnknown (found u) ≡ false → x ≡ compare t u)
-      → choose (isUnknown (found t) || isUnknown (found u)) notKnown x ≡ compare t u
+      → cond (isUnknown (found t) || isUnknown (found u)) notKnown x ≡ compare t u
   terms-agree unknown u known = refl
   terms-agree (symbol a) u known = second-agrees (symbol a) u (known refl)
   terms-agree (number a) u known = second-agrees (number a) u (known refl)
@@ -59,14 +58,14 @@ second-lacking a x = go (eqb a 0)
   where
     go
         : (b : Bool)
-        → choose (b || true) contradicted (choose (eqb a unknownCode || eqb 0 unknownCode) notKnown x) ≡ contradicted
+        → cond (b || true) contradicted (cond (eqb a unknownCode || eqb 0 unknownCode) notKnown x) ≡ contradicted
     go true = refl
     go false = refl
 
 -- Where both codes are there, the outcome is not known where one is an unknown's, else x.
 both-there
     : (a b : ℕ) (x : Outcome) {u v : Bool} → (a ≡ 0 → ⊥) → (b ≡ 0 → ⊥) → eqb a unknownCode ≡ u → eqb b unknownCode ≡ v
-    → codesOutcome a b x ≡ choose (u || v) notKnown x
+    → codesOutcome a b x ≡ cond (u || v) notKnown x
 both-there a b x some some-other left right = rw (ne-eqb a 0 some, ne-eqb b 0 some-other, left, right)
 
 -- The test at two codes is the test at what they are the codes of, where x is how two known terms compare.

@@ -1,11 +1,10 @@
 -- In the cells of an accepted piece, a place test has the outcome that it has in the piece.
 use Prim.Native.Nat.{ℕ, _≤_, _<_}
 use mathlib.Core.Path.{_≡_, refl, ap, _∙_}
-use mathlib.Core.Bool.{_&&_, and-eq-true-iff}
+use mathlib.Core.Bool.{_&&_, and-eq-true-iff, cond}
 use native.Mathlib.Omega.{arith}
 use lib.Dec.{leb, eqb}
 use borrow.Author.Tests.{eqb-true, eq-eqb}
-use Rattle.terms.specs.Choice.{choose}
 use Rattle.terms.specs.Term.{Terms, count, unknown, symbol, number, compound, Wide}
 use Rattle.terms.specs.RuleTests.{Want, aSymbol, aNumber, aCompound, at}
 use Rattle.terms.specs.Lookup.{Found, lacking, found, termAt}
@@ -34,7 +33,7 @@ Between w code = known (leb (wantLow w) code && leb code (wantHigh w))
 -- What a want says of a code is what it says of the term.
 want-agrees
     : (w : Want) (f : Found) → SoundWant w → IfFound WellFormed f
-    → choose (isUnknown f) notKnown (Between w (foundCode f)) ≡ atPlace (fits w) f
+    → cond (isUnknown f) notKnown (Between w (foundCode f)) ≡ atPlace (fits w) f
 want-agrees (aSymbol a) lacking sound ok = ap known (under (symbolCode a) (symbolCode a) 0 (omega arith))
 want-agrees (aNumber l h) lacking sound ok = ap known (under (numberCode l) (numberCode h) 0 (omega arith))
 want-agrees (aCompound a n) lacking sound ok = ap known (under (compoundCode a n) (compoundCode a n) 0 (omega arith))
@@ -77,5 +76,5 @@ pub place-test-agrees
 place-test-agrees arity piece accepted few w sound n inside =
     let ok = finds-well-formed piece (accepted .wellFormed) 4 n in
     ap (codeOutcome (wantLow w) (wantHigh w)) (look-finds arity piece accepted few n inside)
-    ∙ ap (λ b. choose b notKnown (Between w (foundCode (termAt piece n)))) (code-unknown (termAt piece n) ok)
+    ∙ ap (λ b. cond b notKnown (Between w (foundCode (termAt piece n)))) (code-unknown (termAt piece n) ok)
     ∙ want-agrees w (termAt piece n) sound ok

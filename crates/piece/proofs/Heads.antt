@@ -1,14 +1,13 @@
 -- The record of a term that bytes begin with: what is known of the bytes in each case.
 use Prim.Native.Nat.{ℕ, _≤_}
 use mathlib.Core.Path.{_≡_, refl, subst}
-use mathlib.Core.Bool.{Bool, true, false}
+use mathlib.Core.Bool.{Bool, true, false, cond}
 use mathlib.Core.List.{List}
 use native.Mathlib.Omega.{arith}
 use lib.ListN.{length, getD}
 use lib.Dec.{leb, eqb}
 use borrow.Author.Tests.{leb-true, eqb-true, eqb-false}
 use Rattle.records.specs.Fields.{wideAt}
-use Rattle.records.specs.Reading.{isKind}
 use Rattle.records.proofs.Questions.{kind-cases}
 use Rattle.piece.specs.declared.TermRecord.{TermRecord}
 use Rattle.piece.specs.declared.TermRecord.the-variants.{Unknown, Symbol, Number, Compound}
@@ -26,7 +25,7 @@ module _ (P : TermHead → Type 0) (s : List ℕ) (none : P (Refused 14)) where
   -- A record of that kind, whole where its k bytes are there.
   of-kind
       : (kind k : ℕ) (r : TermRecord) (others : TermHead) → (k ≤ length s → getD s 0 0 ≡ kind → P (Whole r)) → P others
-      → P (isKind (eqb (getD s 0 0) kind) (wholeIf (leb k (length s)) r) others)
+      → P (cond (eqb (getD s 0 0) kind) (wholeIf (leb k (length s)) r) others)
   of-kind kind k r others whole rest =
       kind-cases P (eqb (getD s 0 0) kind) (wholeIf (leb k (length s)) r) others
       (λ is. whole-cases P (leb k (length s)) r none (λ there.

@@ -1,11 +1,10 @@
 -- The record of a term that a list of bytes begins with (document 01, "Records", "Piece"; question 14).
 use Prim.Native.Nat.{ℕ}
-use mathlib.Core.Bool.{Bool, true, false}
+use mathlib.Core.Bool.{Bool, true, false, cond}
 use mathlib.Core.List.{List}
 use lib.ListN.{length, getD}
 use lib.Dec.{leb, eqb}
 use Rattle.records.specs.Fields.{wideAt}
-pub use Rattle.records.specs.Reading.{isKind}
 use Rattle.piece.specs.declared.TermRecord.{TermRecord}
 use Rattle.piece.specs.declared.TermRecord.the-variants.{Unknown, Symbol, Number, Compound}
 use Rattle.piece.specs.declared.TermHead.{TermHead}
@@ -19,11 +18,11 @@ wholeIf false r = Refused 14
 -- "14 Is each term a whole record of kinds 30 to 33?"
 abbrev pub termHead : List ℕ → TermHead
 termHead s =
-    isKind (eqb (length s) 0) (Refused 14)
-    (isKind (eqb (getD s 0 0) 0x30) (Whole Unknown)
-    (isKind (eqb (getD s 0 0) 0x31) (wholeIf (leb 3 (length s)) (Symbol (wideAt s 1)))
-    (isKind (eqb (getD s 0 0) 0x32) (wholeIf (leb 3 (length s)) (Number (wideAt s 1)))
-    (isKind (eqb (getD s 0 0) 0x33) (wholeIf (leb 4 (length s)) (Compound (wideAt s 1) (getD s 3 0)))
+    cond (eqb (length s) 0) (Refused 14)
+    (cond (eqb (getD s 0 0) 0x30) (Whole Unknown)
+    (cond (eqb (getD s 0 0) 0x31) (wholeIf (leb 3 (length s)) (Symbol (wideAt s 1)))
+    (cond (eqb (getD s 0 0) 0x32) (wholeIf (leb 3 (length s)) (Number (wideAt s 1)))
+    (cond (eqb (getD s 0 0) 0x33) (wholeIf (leb 4 (length s)) (Compound (wideAt s 1) (getD s 3 0)))
     (Refused 14)))))
 
 -- The number of the question that a head got a no from, 0 for a whole record.

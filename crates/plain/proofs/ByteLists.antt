@@ -4,7 +4,7 @@ use mathlib.Core.List.{List, [], _∷_}
 use native.Mathlib.Omega.{arith}
 use lib.ListN.{getD}
 use Rattle.records.specs.Fields.{IsByte}
-use Rattle.terms.specs.Lists.{All}
+use Rattle.basics.specs.Lists.{All}
 
 -- Where a byte stands at each index, all numbers are bytes,
 pub bytes-all : (s : List ℕ) → ((i : ℕ) → IsByte (getD s i 0)) → All IsByte s

@@ -1,7 +1,7 @@
 -- Outcomes gathered one after another.
 use mathlib.Core.Path.{_≡_, refl, sym, ap, _∙_}
 use mathlib.Core.List.{List, [], _∷_, _++_}
-use Rattle.terms.specs.Lists.{All}
+use Rattle.basics.specs.Lists.{All}
 use Rattle.terms.specs.Outcome.{Outcome, holds, notKnown, contradicted, _and_, together}
 
 -- Three outcomes together, taken in either order.

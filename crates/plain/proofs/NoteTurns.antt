@@ -1,8 +1,8 @@
 -- The tests of the notes in an array, note by note.
 use Prim.Native.Nat.{ℕ, _+_, _≤_, _<_}
 use mathlib.Core.Path.{_≡_, refl, sym, ap, _∙_, subst}
-use mathlib.Core.Bool.{Bool, true, false}
-use mathlib.Core.List.{List, [], _∷_, _++_}
+use mathlib.Core.Bool.{Bool, true, false, cond}
+use mathlib.Core.List.{List, _∷_}
 use lib.Dec.{T, eqb}
 use lib.ListN.{length, getD, drop}
 use Rattle.terms.specs.RuleTests.{Occurrence, PairTest, both, pairsWith, pairsOf}
@@ -27,9 +27,9 @@ named
     : (p v n u : ℕ) (os : List Occurrence) (b : Bool) → eqb v u ≡ b
     → pairsWith p v (record { place = n; name = u } ∷ os) ≡ pairIf b (both p n) (pairsWith p v os)
 named p v n u os true e =
-    ap (λ (c : Bool). elim c as (λ _. List PairTest) [ true ↦ both p n ∷ pairsWith p v os | false ↦ pairsWith p v os ]) e
+    ap (λ (c : Bool). cond c (both p n ∷ pairsWith p v os) (pairsWith p v os)) e
 named p v n u os false e =
-    ap (λ (c : Bool). elim c as (λ _. List PairTest) [ true ↦ both p n ∷ pairsWith p v os | false ↦ pairsWith p v os ]) e
+    ap (λ (c : Bool). cond c (both p n ∷ pairsWith p v os) (pairsWith p v os)) e
 
 -- The pairs with a note more: a variable of that name, or any other record.
 named-pairs

@@ -8,15 +8,15 @@ use native.Mathlib.Omega.{arith}
 use lib.Dec.{eqb}
 use lib.ListN.{getD}
 use borrow.Author.Tests.{le-leb}
-use Rattle.terms.specs.Lists.{All}
+use Rattle.basics.specs.Lists.{All}
 use Rattle.terms.specs.Term.{Terms}
 use Rattle.terms.specs.Pattern.{Patterns}
-use Rattle.terms.specs.RuleTests.{Range, Want, aSymbol, aNumber, aCompound, at, PairTest, both, Occurrence, rangeTest, pairsWith, pairsOf, patternsRange}
-use Rattle.terms.specs.Outcome.{Outcome, _and_, together, placeOutcome, ruleOutcome}
+use Rattle.terms.specs.RuleTests.{Range, Want, aSymbol, aNumber, aCompound, at, PairTest, both, Occurrence, rangeTest, pairsWith, pairsOf}
+use Rattle.terms.specs.Outcome.{_and_, together, placeOutcome, ruleOutcome}
 use Rattle.terms.specs.Outcome as outcome
 use Rattle.terms.specs.Accepted.{AcceptedRule, AcceptedPiece}
-use Rattle.terms.proofs.Booleans.{choose-holds}
-use Rattle.terms.proofs.ListLaws.{all-join, all-map}
+use Rattle.basics.proofs.Booleans.{cond-holds}
+use Rattle.basics.proofs.ListLaws.{all-join, all-map}
 use Rattle.terms.proofs.Ranges.{WideRange, ranges-wide}
 use Rattle.sheet.specs.declared.PatternRecord.{PatternRecord}
 use Rattle.sheet.specs.declared.PatternRecord.the-variants.{Anything, Symbol, Range as RangeOf, Compound, Variable, Ranged}
@@ -34,7 +34,7 @@ use Rattle.piece.specs.views.LaidOut.{pieceCells}
 use Rattle.outcomes.specs.views.CellOutcome.{wantLow, wantHigh, placeCells}
 use Rattle.outcomes.proofs.PlaceTestsAgree.{SoundWant, place-test-agrees}
 use Rattle.outcomes.proofs.PairTestsAgree.{pair-test-agrees}
-use Rattle.plain.specs.views.NotesOutcome.{testedIf, rangeOutcome, recordOutcome, noteOutcome, pairOutcome, placesOutcome, pairsOutcome, notesOutcome, cellsOutcome}
+use Rattle.plain.specs.views.NotesOutcome.{testedIf, rangeOutcome, recordOutcome, pairOutcome, placesOutcome, pairsOutcome, notesOutcome, cellsOutcome}
 use Rattle.plain.proofs.Gathering.{and-holds, together-append, together-same}
 use Rattle.plain.proofs.SoundNotes.{NoteFits, rule-fits, rule-notes-placed}
 
@@ -57,7 +57,7 @@ with-placed
     : (p v : ℕ) → p < 680 → (os : List Occurrence) → All OccurrencePlaced os → All PairPlaced (pairsWith p v os)
 with-placed p v own [] h = tt
 with-placed p v own (o ∷ os) h =
-    choose-holds (All PairPlaced) (eqb v (o .name)) (both p (o .place) ∷ pairsWith p v os) (pairsWith p v os)
+    cond-holds (All PairPlaced) (eqb v (o .name)) (both p (o .place) ∷ pairsWith p v os) (pairsWith p v os)
     ((own, h .0), with-placed p v own os (h .1)) (with-placed p v own os (h .1))
 
 pairs-placed : (os : List Occurrence) → All OccurrencePlaced os → All PairPlaced (pairsOf os)

@@ -1,18 +1,17 @@
 -- What the reader of a piece tells of how the piece is read.
-use Prim.Native.Nat.{ℕ, _≤_}
+use Prim.Native.Nat.{ℕ}
 use mathlib.Core.Path.{_≡_, sym, ap, _∙_, subst}
 use mathlib.Core.List.{List}
 use native.Mathlib.Omega.{arith}
 use lib.ListN.{length, getD}
 use Rattle.records.specs.Fields.{IsByte}
-use Rattle.records.specs.Reading.{took, refused, mapReading}
+use Rattle.records.specs.Reading.{refused, mapReading}
 use Rattle.records.proofs.Rows.{took-view, refused-view}
 use Rattle.terms.specs.Accepted.{AcceptedPiece}
 use Rattle.piece.specs.declared.PieceCheck.{PieceCheck}
 use Rattle.piece.specs.declared.PieceCheck.the-variants as check
-use Rattle.piece.specs.Piece.{Piece}
 use Rattle.piece.specs.ReadPiece.{readPiece}
-use Rattle.piece.specs.views.LaidOut.{LaidOut, layOut, pieceCells, pieceRead}
+use Rattle.piece.specs.views.LaidOut.{LaidOut, layOut, pieceRead}
 use Rattle.piece.proofs.Spelled.{piece-spelled}
 use Rattle.outcomes.specs.views.CompareCells.{Narrow}
 use Rattle.outcomes.proofs.LookFinds.{narrow}

@@ -2,18 +2,14 @@
 use Prim.Native.Nat.{ℕ}
 use mathlib.Core.Path.{_≡_, sym, _∙_, subst}
 use mathlib.Core.List.{List}
-use Rattle.records.specs.Fields.{IsByte}
-use Rattle.records.specs.Reading.{took}
-use Rattle.terms.specs.Lists.{All}
+use Rattle.basics.specs.Lists.{All}
 use Rattle.terms.specs.Filling.{FilledFurther}
 use Rattle.terms.specs.Accepted.{AcceptedRule, AcceptedPiece}
 use Rattle.terms.specs.Answer.{Answer, plainAnswer}
 use Rattle.terms.specs.Right.{Right, Keeps}
 use Rattle.terms.proofs.Plain.{plain-answer-right, plain-answer-keeps}
 use Rattle.sheet.specs.Sheet.{Sheet}
-use Rattle.sheet_tests.specs.CheckSheet.{acceptSheet}
 use Rattle.piece.specs.Piece.{Piece}
-use Rattle.piece.specs.ReadPiece.{readPiece}
 use Rattle.piece.proofs.Spelled.{piece-spelled}
 use Rattle.plain.specs.AcceptedBytes.{AcceptedBytes}
 use Rattle.plain.specs.Plain.{plainReading, answerValues, readingValues}

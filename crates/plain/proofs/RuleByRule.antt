@@ -1,16 +1,15 @@
 -- The plain answer is what the rules, one after another, move fail to.
-use Prim.Native.Nat.{ℕ, zero, suc, pred, _+_}
+use Prim.Native.Nat.{ℕ, zero, suc, _+_}
 use mathlib.Core.Path.{_≡_, refl, sym, ap, _∙_}
-use mathlib.Core.Bool.{Bool}
+use mathlib.Core.Bool.{Bool, cond}
 use mathlib.Core.List.{List, [], _∷_}
 use native.Mathlib.Omega.{arith}
 use lib.ListN.{length, getD}
-use Rattle.terms.specs.Lists.{All, filter, countFrom}
+use Rattle.basics.specs.Lists.{All, filter, countFrom}
 use Rattle.terms.specs.Term.{Terms}
 use Rattle.terms.specs.Pattern.{Patterns, pnil}
 use Rattle.terms.specs.Outcome.{Outcome, holds, notKnown, contradicted, ruleOutcome}
 use Rattle.terms.specs.Answer.{Answer, commit, execute, suspend, fail, ruleAt, isOpen, onlyRule, decide, plainAnswer}
-use Rattle.terms.proofs.Booleans.{choose}
 use Rattle.plain.specs.views.RuleByRule.{opened, moved, movedBy}
 
 -- Suspend stays.
@@ -46,7 +45,7 @@ module _ (outcome : ℕ → Outcome) where
 
       go
           : (o : Outcome) → decide outcome (j ∷ rest) ≡ counted (suc i) k a
-          → decide outcome (j ∷ choose (isOpen o) (i ∷ rest) rest) ≡ counted (suc i) k (moved a i o)
+          → decide outcome (j ∷ cond (isOpen o) (i ∷ rest) rest) ≡ counted (suc i) k (moved a i o)
       go holds onward = sym (ap (counted (suc i) k) (first .1 (commit i)) ∙ suspended (suc i) k)
       go notKnown onward = sym (ap (counted (suc i) k) (first .1 (execute i)) ∙ suspended (suc i) k)
       go contradicted onward = onward
@@ -60,7 +59,7 @@ module _ (outcome : ℕ → Outcome) where
 
       go
           : (o : Outcome) → outcome i ≡ o → decide outcome rest ≡ counted (suc i) k fail
-          → decide outcome (choose (isOpen o) (i ∷ rest) rest) ≡ counted (suc i) k (moved fail i o)
+          → decide outcome (cond (isOpen o) (i ∷ rest) rest) ≡ counted (suc i) k (moved fail i o)
       go holds e onward = one-open i (suc i) k (commit i) (ap (onlyRule i) e, λ only. refl)
       go notKnown e onward = one-open i (suc i) k (execute i) (ap (onlyRule i) e, λ only. refl)
       go contradicted e onward = onward

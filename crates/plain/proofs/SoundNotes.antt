@@ -1,12 +1,11 @@
 -- The notes of an accepted rule: their places and their fields.
 use Prim.Native.Nat.{ℕ, suc, pred, _+_, _≤_}
-use mathlib.Core.List.{List}
 use native.Mathlib.Omega.{arith}
 use Rattle.places.specs.Numbering.{stride}
-use Rattle.terms.specs.Lists.{All}
-use Rattle.terms.specs.Pattern.{Pattern, Patterns, countPatterns, anything, theSymbol, theRange, theCompound, variable, rangedVariable, pnil, pcons}
+use Rattle.basics.specs.Lists.{All}
+use Rattle.terms.specs.Pattern.{Pattern, Patterns, anything, theSymbol, theRange, theCompound, variable, rangedVariable, pnil, pcons}
 use Rattle.terms.specs.Accepted.{Sound, Sounds, AcceptedRule}
-use Rattle.terms.proofs.ListLaws.{all-join}
+use Rattle.basics.proofs.ListLaws.{all-join}
 use Rattle.sheet.specs.views.Noted.{Note, patternNotes, patternsNotes, ruleNotes}
 use Rattle.sheet.specs.views.NoteCode.{Fitting}
 use Rattle.sheet_tests.specs.views.NoteTests.{Placed}

@@ -5,7 +5,7 @@ use mathlib.Core.List.{List}
 use lib.ListN.{length}
 use Rattle.records.specs.Fields.{IsByte}
 use Rattle.records.specs.Reading.{took}
-use Rattle.terms.specs.Lists.{All}
+use Rattle.basics.specs.Lists.{All}
 use Rattle.terms.specs.Accepted.{AcceptedPiece}
 use Rattle.sheet.specs.Sheet.{Sheet}
 use Rattle.sheet_tests.specs.CheckSheet.{acceptSheet}

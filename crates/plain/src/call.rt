@@ -7,7 +7,7 @@ ghost use mathlib.Core.Path.{_≡_};
 ghost use mathlib.Core.List.{List};
 ghost use Prim.Native.Nat.{ℕ, _≤_};
 ghost use Rattle.records.specs.Reading.{took};
-ghost use Rattle.terms.specs.Lists.{All};
+ghost use Rattle.basics.specs.Lists.{All};
 ghost use Rattle.terms.specs.Pattern.{Patterns};
 ghost use Rattle.terms.specs.Accepted.{AcceptedRule};
 ghost use Rattle.sheet.specs.ReadSheet.{readRules};

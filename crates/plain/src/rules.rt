@@ -8,7 +8,7 @@ ghost use mathlib.Core.Path.{_≡_};
 ghost use Prim.Native.Nat.{_≤_};
 ghost use lib.ListN.{length};
 ghost use Rattle.records.specs.Reading.{mapReading};
-ghost use Rattle.terms.specs.Lists.{All};
+ghost use Rattle.basics.specs.Lists.{All};
 ghost use Rattle.terms.specs.Answer.{fail};
 ghost use Rattle.sheet.specs.views.NoteArray.{notesIn};
 ghost use Rattle.sheet.specs.ReadSheet.{readRules};

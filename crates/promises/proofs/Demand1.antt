@@ -16,7 +16,6 @@ use Rattle.piece.specs.ReadPiece.{readPiece}
 use Rattle.piece.specs.views.LaidOut.{checkedPiece}
 use Rattle.plain.specs.Plain.{pieceReading, plainReading, readingValues}
 use Rattle.decision.specs.Node.{Node}
-use Rattle.decision.specs.Path.{ends}
 use Rattle.decision.specs.Walk.{Walk, Reply, answered, walk}
 use Rattle.decision.specs.Walk as reply
 use Rattle.graph.specs.ReadGraph.{readGraph}

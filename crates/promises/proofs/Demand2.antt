@@ -11,7 +11,7 @@ use borrow.Author.Tests.{le-leb}
 use Rattle.records.specs.Fields.{IsByte}
 use Rattle.records.specs.Reading.{Reading, took, refused, ask, andThen, mapReading}
 use Rattle.records.specs.Writing.{splice}
-use Rattle.terms.specs.Lists.{All}
+use Rattle.basics.specs.Lists.{All}
 use Rattle.sheet.specs.Sheet.{Sheet}
 use Rattle.sheet_tests.specs.CheckSheet.{acceptSheet, AcceptedSheet}
 use Rattle.accepted.proofs.Acceptance.{sheet-accepted}

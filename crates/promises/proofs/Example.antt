@@ -5,11 +5,11 @@ use mathlib.Core.List.{List, [], _∷_}
 use mathlib.Core.Option.{some}
 use native.Mathlib.Omega.{arith}
 use lib.ListN.{replicate}
-use Rattle.masks.specs.Mask.{has, maskOf, members, listFrom, anyBelow}
+use Rattle.masks.specs.Mask.{has, maskOf, members}
 use Rattle.records.specs.Reading.{took, readRow}
 use Rattle.terms.specs.Marked.{exampleRules}
 use Rattle.sheet.specs.Sheet.{Sheet}
-use Rattle.sheet.specs.ReadSheet.{readPattern, allBelow, readHeader, readSheet}
+use Rattle.sheet.specs.ReadSheet.{readPattern, readHeader, readSheet}
 use Rattle.sheet_tests.specs.CheckSheet.{acceptSheet}
 use Rattle.decision.specs.Key.{suspend, execute}
 use Rattle.decision.specs.Cases.{symbolCase}
@@ -17,6 +17,7 @@ use Rattle.decision.specs.Node.{Node, CaseEdge, end, switch, pairNode}
 use Rattle.decision.specs.Graph.{graphOf}
 use Rattle.build.specs.BuildOutcome.{buildOutcome}
 use Rattle.build.proofs.BuiltBytes.{Building, built-outcome}
+use Rattle.basics.specs.Lists.{anyBelow, allBelow}
 
 -- "Sheet f(X, X), f(1, 2) in symbols: 10 02 02 24 00 24 00 21 00 01 21 00 02. Graph, 58 bytes:"
 abbrev pub exampleSheet : List ℕ
@@ -56,7 +57,7 @@ exampleNodes =
     ∷ []
 
 pub example-nodes : graphOf exampleRules ≡ some exampleNodes
-unfolding has maskOf members listFrom anyBelow
+unfolding has maskOf members anyBelow
 example-nodes = refl
 
 -- Building the example into a buffer of 58 bytes, all 0 before, writes its 7 nodes.

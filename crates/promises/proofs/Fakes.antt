@@ -5,12 +5,12 @@ use mathlib.Core.List.{List, [], _∷_}
 use mathlib.Core.Option.{Option, some, none}
 use native.Mathlib.Omega.{arith}
 use lib.ListN.{replicate, getD}
-use Rattle.masks.specs.Mask.{has, maskOf, members, listFrom, anyBelow}
+use Rattle.masks.specs.Mask.{has, maskOf, members}
 use Rattle.records.specs.Reading.{Reading, took, readRow}
 use Rattle.terms.specs.Answer.{wordOf, execute}
 use Rattle.terms.specs.Marked.{Walked}
 use Rattle.sheet.specs.Sheet.{Sheet}
-use Rattle.sheet.specs.ReadSheet.{readPattern, allBelow, readHeader, readSheet}
+use Rattle.sheet.specs.ReadSheet.{readPattern, readHeader, readSheet}
 use Rattle.sheet_tests.specs.CheckSheet.{acceptSheet}
 use Rattle.decision.specs.Key.{fail}
 use Rattle.decision.specs.Node.{end}
@@ -23,6 +23,7 @@ use Rattle.build.proofs.BuiltBytes.{Building, built-outcome}
 use Rattle.promises.specs.BuiltGraph.{BuiltGraph}
 use Rattle.promises.proofs.MarkedBytes.{marked-bytes}
 use Rattle.promises.proofs.Example.{exampleSheet, example-built}
+use Rattle.basics.specs.Lists.{anyBelow, allBelow}
 
 -- A buffer of 58 bytes, all 0.
 abbrev buffer : List ℕ
@@ -51,7 +52,7 @@ unfolding acceptSheet readSheet readHeader readPattern readRow allBelow
 empty-accepted = refl
 
 empty-nodes : graphOf [] ≡ some (end fail ∷ [])
-unfolding has maskOf members listFrom anyBelow
+unfolding has maskOf members anyBelow
 empty-nodes = refl
 
 empty-built : getD (buildOutcome emptySheet buffer .buffer) 1 0 ≡ 1

@@ -1,6 +1,6 @@
 -- A graph is refused by one of its own questions, 21 to 25, and a walk over its nodes by 26 or 27.
 use Prim.Native.Nat.{ℕ, zero, suc, _-_}
-use mathlib.Core.Bool.{Bool, true, false}
+use mathlib.Core.Bool.{Bool, true, false, cond}
 use mathlib.Core.List.{List, [], _∷_}
 use native.Mathlib.Omega.{arith}
 use lib.Dec.{leb, eqb}
@@ -24,7 +24,7 @@ use Rattle.graph.specs.declared.NodeHead.{NodeHead}
 use Rattle.graph.specs.declared.NodeHead.the-variants.{Whole, Refused}
 use Rattle.graph.specs.declared.CaseHead.{CaseHead}
 use Rattle.graph.specs.declared.CaseHead.the-variants as case
-use Rattle.graph.specs.NodeRecord.{wholeNode, wholeCase, isKind, nodeHead, caseHead}
+use Rattle.graph.specs.NodeRecord.{wholeNode, wholeCase, nodeHead, caseHead}
 use Rattle.graph.specs.ReadGraph.{onCase, readCases, onNode, isTest, inRange, inOrder, readNode, readNodes, endGraph, hasHeader, readBy, readGraph}
 use Rattle.accepted.proofs.Named.{Between, Named, ask-named, then-named, after-named, row-named}
 
@@ -44,7 +44,7 @@ whole-case : (b : Bool) (r : CaseRecord) → CaseNamed (wholeCase b r)
 whole-case true r = tt
 whole-case false r = (omega arith, omega arith)
 
-kind-case : (b : Bool) (x y : CaseHead) → CaseNamed x → CaseNamed y → CaseNamed (isKind b x y)
+kind-case : (b : Bool) (x y : CaseHead) → CaseNamed x → CaseNamed y → CaseNamed (cond b x y)
 kind-case true x y h k = h
 kind-case false x y h k = k
 
@@ -76,7 +76,7 @@ whole-node : (b : Bool) (r : NodeRecord) → NodeNamed (wholeNode b r)
 whole-node true r = tt
 whole-node false r = (omega arith, omega arith)
 
-kind-node : (b : Bool) (x y : NodeHead) → NodeNamed x → NodeNamed y → NodeNamed (isKind b x y)
+kind-node : (b : Bool) (x y : NodeHead) → NodeNamed x → NodeNamed y → NodeNamed (cond b x y)
 kind-node true x y h k = h
 kind-node false x y h k = k
 

@@ -7,12 +7,12 @@ use mathlib.Core.Option.{some}
 use lib.Dec.{T, ltb, ltb→lt}
 use Rattle.records.specs.Fields.{IsByte}
 use Rattle.records.specs.Reading.{took, readRow}
-use Rattle.terms.specs.Lists.{All}
-use Rattle.terms.proofs.Booleans.{both-true}
+use Rattle.basics.specs.Lists.{All, allBelow}
+use Rattle.basics.proofs.Booleans.{both-true}
 use Rattle.terms.specs.Marked.{MarkedCase, markedCases}
 use Rattle.sheet.specs.Sheet.{Sheet}
 use Rattle.sheet.specs.WriteSheet.{sheetBytes}
-use Rattle.sheet.specs.ReadSheet.{readPattern, allBelow, readHeader, readSheet}
+use Rattle.sheet.specs.ReadSheet.{readPattern, readHeader, readSheet}
 use Rattle.sheet_tests.specs.CheckSheet.{acceptSheet}
 use Rattle.piece.specs.Piece.{Piece}
 use Rattle.piece.specs.WritePiece.{pieceBytes}

@@ -1,6 +1,6 @@
 -- A piece is refused by one of its own questions, 12 to 17.
 use Prim.Native.Nat.{ℕ, zero, suc}
-use mathlib.Core.Bool.{Bool, true, false, _&&_}
+use mathlib.Core.Bool.{Bool, true, false, _&&_, cond}
 use mathlib.Core.List.{List}
 use native.Mathlib.Omega.{arith}
 use lib.Dec.{leb, eqb}
@@ -12,7 +12,7 @@ use Rattle.piece.specs.declared.TermRecord.{TermRecord}
 use Rattle.piece.specs.declared.TermRecord.the-variants.{Unknown, Symbol, Number, Compound}
 use Rattle.piece.specs.declared.TermHead.{TermHead}
 use Rattle.piece.specs.declared.TermHead.the-variants.{Whole, Refused}
-use Rattle.piece.specs.TermRecord.{wholeIf, isKind, termHead}
+use Rattle.piece.specs.TermRecord.{wholeIf, termHead}
 use Rattle.piece.specs.Piece.{Piece}
 use Rattle.piece.specs.ReadPiece.{onHead, readTerm, readTerms, readArity, readPrefix, readPiece}
 use Rattle.accepted.proofs.Named.{Between, Named, ask-named, then-named, after-named, row-named}
@@ -30,7 +30,7 @@ whole-named : (b : Bool) (r : TermRecord) → HeadNamed (wholeIf b r)
 whole-named true r = tt
 whole-named false r = (omega arith, omega arith)
 
-kind-named : (b : Bool) (x y : TermHead) → HeadNamed x → HeadNamed y → HeadNamed (isKind b x y)
+kind-named : (b : Bool) (x y : TermHead) → HeadNamed x → HeadNamed y → HeadNamed (cond b x y)
 kind-named true x y h k = h
 kind-named false x y h k = k
 

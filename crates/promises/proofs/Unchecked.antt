@@ -5,7 +5,7 @@ use mathlib.Core.List.{List}
 use lib.ListN.{length, take}
 use Rattle.records.specs.Fields.{IsByte}
 use Rattle.records.specs.Reading.{took}
-use Rattle.terms.specs.Lists.{All}
+use Rattle.basics.specs.Lists.{All}
 use Rattle.sheet.specs.Sheet.{Sheet}
 use Rattle.accepted.specs.views.AcceptedAs.{AcceptedTests}
 use Rattle.graph.specs.ReadGraph.{readGraph}

@@ -15,7 +15,7 @@ use Rattle.decision.specs.Walk.{Walk, walk}
 use Rattle.decision.proofs.WaitSentence.{ListedNotKnown, wait-sentence-accepted, wait-sentence-built}
 use Rattle.graph.specs.ReadGraph.{readGraph}
 use Rattle.graph.proofs.Spelled.{graph-read}
-use Rattle.terms.specs.Lists.{All}
+use Rattle.basics.specs.Lists.{All}
 use Rattle.records.specs.Fields.{IsByte}
 use Rattle.walk.specs.Walking.{readingOf, walkReply}
 use Rattle.promises.specs.BuiltGraph.{BuiltGraph}

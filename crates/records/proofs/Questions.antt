@@ -1,10 +1,10 @@
 -- Questions that were asked: what follows one is reached exactly where its answer is yes. And kinds that were told apart.
 use Prim.Native.Nat.{ℕ}
 use mathlib.Core.Path.{_≡_, refl}
-use mathlib.Core.Bool.{Bool, true, false}
+use mathlib.Core.Bool.{Bool, true, false, cond}
 use native.Mathlib.Omega.{arith}
 use lib.Dec.{T}
-use Rattle.records.specs.Reading.{Reading, took, refused, ask, isKind}
+use Rattle.records.specs.Reading.{Reading, took, ask}
 
 -- Where something was read, the question before it got a yes.
 pub ask-took : {A : Type 0} (q : ℕ) (b : Bool) (r : Reading A) {a : ℕ} {x : A} → ask q b r ≡ took a x → T b × (r ≡ took a x)
@@ -19,6 +19,6 @@ ask-yes q false r h = absurd h
 -- What holds of a record where its kind is told, and of the others where it is not, holds of the one that the kind chooses.
 pub kind-cases
     : {A : Type 0} (P : A → Type 0) (b : Bool) (this others : A) → (b ≡ true → P this) → (b ≡ false → P others)
-    → P (isKind b this others)
+    → P (cond b this others)
 kind-cases P true this others h k = h refl
 kind-cases P false this others h k = k refl

@@ -1,7 +1,7 @@
 -- The fields of records (document 01, "Records").
 use Prim.Native.Nat.{ℕ, _+_, _*_, _/_, _%_, _<_}
-use mathlib.Core.List.{List, [], _∷_}
-use lib.ListN.{length, getD}
+use mathlib.Core.List.{List, _∷_}
+use lib.ListN.{getD}
 
 -- Bytes are numbers below 256.
 abbrev pub IsByte : ℕ → Type 0

@@ -14,11 +14,6 @@ abbrev pub ask : {A : Type 0} → ℕ → Bool → Reading A → Reading A
 ask q true next = next
 ask q false next = refused q
 
--- "A record is one kind byte and a body": this where the answer to one kind is yes, else what the other kinds say.
-abbrev pub isKind : {A : Type 0} → Bool → A → A → A
-isKind true this others = this
-isKind false this others = others
-
 -- Another view of what was read.
 abbrev pub mapReading : {A B : Type 0} → (A → B) → Reading A → Reading B
 mapReading f (took a x) = took a (f x)

@@ -8,7 +8,7 @@ use lib.Seq.{drop-cons}
 use borrow.Author.Tests.{ne-eqb, le-leb}
 use Rattle.records.specs.Fields.{IsByte, wideAt, wideThen}
 use Rattle.records.proofs.WideFields.{wide-bound, high-of, low-of, wide-of}
-use Rattle.terms.specs.Lists.{All, countFrom}
+use Rattle.basics.specs.Lists.{All, countFrom}
 use Rattle.terms.specs.Term.{Wide}
 use Rattle.sheet.specs.declared.PatternRecord.{PatternRecord}
 use Rattle.sheet.specs.declared.PatternRecord.the-variants.{Anything, Symbol, Range, Compound, Variable, Ranged}

@@ -1,14 +1,13 @@
 -- What the record that a list of bytes begins with says of the list.
 use Prim.Native.Nat.{ℕ, _≤_}
 use mathlib.Core.Path.{_≡_, refl, subst}
-use mathlib.Core.Bool.{Bool, true, false}
+use mathlib.Core.Bool.{Bool, true, false, cond}
 use mathlib.Core.List.{List}
 use native.Mathlib.Omega.{arith}
 use lib.ListN.{length, getD}
 use lib.Dec.{leb, eqb}
 use borrow.Author.Tests.{leb-true, eqb-true, eqb-false}
 use Rattle.records.specs.Fields.{wideAt}
-use Rattle.records.specs.Reading.{isKind}
 use Rattle.records.proofs.Questions.{kind-cases}
 use Rattle.sheet.specs.declared.PatternRecord.{PatternRecord}
 use Rattle.sheet.specs.declared.PatternRecord.the-variants.{Anything, Symbol, Range, Compound, Variable, Ranged}
@@ -29,7 +28,7 @@ module _ (P : PatternHead → Type 0) where
     kind-case
         : (kind k : ℕ) (r : PatternRecord) (others : PatternHead) → P (Refused 4)
         → (k ≤ length s → getD s 0 0 ≡ kind → P (Whole r)) → P others
-        → P (isKind (eqb (getD s 0 0) kind) (wholeIf (leb k (length s)) r) others)
+        → P (cond (eqb (getD s 0 0) kind) (wholeIf (leb k (length s)) r) others)
     kind-case kind k r others short long other =
         kind-cases P (eqb (getD s 0 0) kind) _ others
         (λ is. whole k (length s) r short (λ there. long there (eqb-true (getD s 0 0) kind is))) (λ not. other)

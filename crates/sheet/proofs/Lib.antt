@@ -7,7 +7,6 @@ pub mod Leaves
 pub mod Compounds
 pub mod Rows
 -- Of the common ranges of variables, and of reading rules:
-pub mod AllBelow
 pub mod CommonRanges
 pub mod RangeArrays
 pub mod RuleReads

@@ -1,10 +1,9 @@
 -- A note is read back from its number as it was.
 use Prim.Native.Nat.{ℕ, _%_, _<_}
 use mathlib.Core.Path.{_≡_, ap, _∙_}
-use mathlib.Core.Bool.{Bool, true, false}
+use mathlib.Core.Bool.{Bool, true, false, cond}
 use native.Mathlib.Omega.{arith}
 use lib.Dec.{eqb}
-use Rattle.records.specs.Reading.{isKind}
 use Rattle.terms.specs.Term.{Wide}
 use Rattle.sheet.specs.declared.PatternRecord.{PatternRecord}
 use Rattle.sheet.specs.declared.PatternRecord.the-variants.{Anything, Symbol, Range, Compound, Variable, Ranged}
@@ -14,9 +13,9 @@ use Rattle.sheet.specs.views.NoteCode.{packed, noteCode, noteOf, codePla
 -- The record of kind k with these fields.
 abbrev recordWith : ℕ → ℕ → ℕ → ℕ → ℕ → PatternRecord
 recordWith k v x y arity =
-    isKind (eqb k 1) (Symbol x)
-    (isKind (eqb k 2) (Range x y)
-    (isKind (eqb k 3) (Compound x arity) (isKind (eqb k 4) (Variable v) (isKind (eqb k 5) (Ranged v x y) Anything))))
+    cond (eqb k 1) (Symbol x)
+    (cond (eqb k 2) (Range x y)
+    (cond (eqb k 3) (Compound x arity) (cond (eqb k 4) (Variable v) (cond (eqb k 5) (Ranged v x y) Anything))))
 
 -- Each part of a number made of parts that fit is that part.
 note-packed
@@ -43,7 +42,7 @@ note-kept n (Compound a k) h =
 note-kept n (Variable v) h = note-packed n 4 v 0 0 (omega arith) h (omega arith) (omega arith)
 note-kept n (Ranged v l h) f = note-packed n 5 v l h (omega arith) (f .0) (f .1) (f .2)
 
-either-fits : (b : Bool) (x y : PatternRecord) → Fitting x → Fitting y → Fitting (isKind b x y)
+either-fits : (b : Bool) (x y : PatternRecord) → Fitting x → Fitting y → Fitting (cond b x y)
 either-fits true x y hx hy = hx
 either-fits false x y hx hy = hy
 

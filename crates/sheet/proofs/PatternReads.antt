@@ -15,8 +15,8 @@ use Rattle.sheet.specs.declared.PatternHead.{PatternHead}
 use Rattle.sheet.specs.declared.PatternHead.the-variants.{Whole, Refused}
 use Rattle.sheet.specs.PatternRecord.{patternHead}
 use Rattle.sheet.specs.ReadSheet.{onHead, readPattern, readPatterns}
-use Rattle.sheet.proofs.AllBelow.{and-true}
 use Rattle.sheet.proofs.Compounds.{compoundOf, pattern-by-head}
+use Rattle.basics.proofs.Booleans.{and-both}
 
 -- A pattern that takes so many bytes of the list, with so many levels below it.
 pub data PatternIs (below : ℕ) (s : List ℕ) : ℕ → Pattern → Type 0 where
@@ -47,7 +47,7 @@ compound-reads (suc below) s {a} {n} head =
     ask-holds (Reads (suc below) s) 6 (leb 1 n && leb n 4)
     (after 4 (theCompound a) (readPatterns below n (drop 4 s))) tt
     (λ yes-both.
-    let each = and-true (leb 1 n) (leb n 4) yes-both in
+    let each = and-both (leb 1 n) (leb n 4) yes-both in
     arguments-read (suc below) s head (omega arith) (leb-true 1 n (each .0)) (leb-true n 4 (each .1))
     (readPatterns below n (drop 4 s)) refl)
 

@@ -11,7 +11,7 @@ use denote.Enum.Declared.{tagOf}
 use lib.ListN.{length, getD, set, replicate, length-set}
 use borrow.Author.Tests.{eq-eqb, ne-eqb}
 use lib.Seq.{ext-getD, getD-set-same, getD-set-other}
-use Rattle.terms.specs.Lists.{countFrom}
+use Rattle.basics.specs.Lists.{countFrom}
 use Rattle.terms.specs.Term.{Wide}
 use Rattle.terms.specs.RuleTests.{Range, commonPart}
 use Rattle.sheet.specs.declared.PatternRecord.{PatternRecord}

@@ -1,7 +1,7 @@
 -- Question 9 gets a yes exactly where each variable's ranges have a number in common.
 use Prim.Native.Nat.{ℕ, _≤_}
 use mathlib.Core.Path.{_≡_, refl, sym, ap, subst}
-use mathlib.Core.Bool.{true, false}
+use mathlib.Core.Bool.{true, cond}
 use mathlib.Core.Option.{Option, some, none}
 use native.Mathlib.Decide.{decLt}
 use native.Mathlib.Omega.{arith}
@@ -10,7 +10,7 @@ use Rattle.terms.specs.Pattern.{Pattern, Patterns, anything, theSymbol, theRang
 use Rattle.terms.specs.RuleTests.{Range, commonPart, patternRange, patternsRange}
 use Rattle.terms.specs.Accepted.{Sound, Sounds, InCommon}
 use Rattle.sheet.specs.ReadSheet.{inCommon, rangesMeet}
-use Rattle.sheet.proofs.AllBelow.{all-at, all-true}
+use Rattle.basics.proofs.AllBelow.{all-at, all-true}
 
 in-common-yes : (x : Option Range) → inCommon x ≡ true → InCommon x
 in-common-yes none e = tt
@@ -29,7 +29,7 @@ mutual
   range-beyond (theCompound a ps) r v h k = ranges-beyond ps _ v (h .4) k
   range-beyond (variable u) r v h k = refl
   range-beyond (rangedVariable u l m) r v h k =
-      ap (λ b. elim b as (λ _. Option Range) [ true ↦ some (record { low = l; high = m }) | false ↦ none ])
+      ap (λ b. cond b (some (record { low = l; high = m })) none)
       (ne-eqb u v (λ e. omega arith))
 
   ranges-beyond : (ps : Patterns) (r v : ℕ) → Sounds ps r → 16 ≤ v → patternsRange ps v ≡ none

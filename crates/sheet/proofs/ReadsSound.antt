@@ -8,7 +8,7 @@ use Rattle.records.specs.Fields.{IsByte}
 use Rattle.records.specs.Reading.{took}
 use Rattle.records.proofs.Rows.{row-size}
 use Rattle.records.proofs.Spelling.{row-holds}
-use Rattle.terms.specs.Lists.{All}
+use Rattle.basics.specs.Lists.{All}
 use Rattle.terms.specs.Pattern.{Pattern, Patterns, pnil, pcons}
 use Rattle.terms.specs.Accepted.{Sound, Sounds, AcceptedRule}
 use Rattle.sheet.specs.Sheet.{Sheet, SoundSheet}

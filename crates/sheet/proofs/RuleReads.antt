@@ -15,7 +15,7 @@ use Rattle.sheet.specs.views.NoteArray.{notesIn}
 use Rattle.sheet.specs.views.NotesBehind.{rowBehind}
 use Rattle.sheet.specs.views.NoteRanges.{rangeIn, lowEnd, highEnd, endsMeet, notesMeet}
 use Rattle.sheet.proofs.NoteArrays.{notes-none}
-use Rattle.sheet.proofs.AllBelow.{all-same}
+use Rattle.basics.proofs.AllBelow.{all-same}
 use Rattle.sheet.proofs.CommonRanges.{rule-range}
 use Rattle.sheet.proofs.RangeArrays.{variable-at}
 

@@ -12,7 +12,7 @@ use Rattle.records.proofs.Rows.{ask-holds}
 use Rattle.terms.specs.Pattern.{Patterns}
 use Rattle.sheet.specs.Sheet.{Sheet, SheetHead, mostRules}
 use Rattle.sheet.specs.ReadSheet.{readPatterns, rangesMeet, readRule, readHeader, readRules, endSheet, readSheet}
-use Rattle.sheet.proofs.AllBelow.{and-true}
+use Rattle.basics.proofs.Booleans.{and-both}
 
 -- A rule that was read is a row of patterns whose ranges meet.
 abbrev RuleRead : ℕ → List ℕ → Reading Patterns → Type 0
@@ -67,8 +67,8 @@ header-asked s =
     ask-holds (HeaderRead s) 1 (leb 3 (length s) && eqb (getD s 0 0) 0x10) _ tt (λ first.
     ask-holds (HeaderRead s) 2 (leb 1 (getD s 1 0) && leb (getD s 1 0) 8) _ tt (λ second.
     ask-holds (HeaderRead s) 3 (leb (getD s 2 0) mostRules) _ tt (λ third.
-    let begins = and-true (leb 3 (length s)) (eqb (getD s 0 0) 0x10) first in
-    let arguments = and-true (leb 1 (getD s 1 0)) (leb (getD s 1 0) 8) second in
+    let begins = and-both (leb 3 (length s)) (eqb (getD s 0 0) 0x10) first in
+    let arguments = and-both (leb 1 (getD s 1 0)) (leb (getD s 1 0) 8) second in
     record {
       whole = leb-true 3 (length s) (begins .0);
       kind = eqb-true (getD s 0 0) 0x10 (begins .1);

@@ -8,7 +8,7 @@ use borrow.Author.Tests.{le-leb}
 use Rattle.records.specs.Reading.{took, ask, after, andThen}
 use Rattle.records.proofs.Rows.{row-none}
 use Rattle.records.proofs.Spelling.{row-joined}
-use Rattle.terms.specs.Lists.{All}
+use Rattle.basics.specs.Lists.{All}
 use Rattle.terms.specs.Pattern.{Pattern, Patterns, countPatterns, anything, theSymbol, theRange, theCompound, variable, rangedVariable, pnil, pcons}
 use Rattle.terms.specs.Accepted.{Sound, Sounds, AcceptedRule}
 use Rattle.sheet.specs.declared.PatternRecord.{PatternRecord}

@@ -1,11 +1,10 @@
 -- The record of a pattern that a list of bytes begins with (document 01, "Records", "Sheet"; question 4).
 use Prim.Native.Nat.{ℕ}
-use mathlib.Core.Bool.{Bool, true, false}
+use mathlib.Core.Bool.{Bool, true, false, cond}
 use mathlib.Core.List.{List}
 use lib.ListN.{length, getD}
 use lib.Dec.{leb, eqb}
 use Rattle.records.specs.Fields.{wideAt}
-use Rattle.records.specs.Reading.{isKind}
 use Rattle.sheet.specs.declared.PatternRecord.{PatternRecord}
 use Rattle.sheet.specs.declared.PatternRecord.the-variants.{Anything, Symbol, Range, Compound, Variable, Ranged}
 use Rattle.sheet.specs.declared.PatternHead.{PatternHead}
@@ -35,11 +34,11 @@ rangedHead s = wholeIf (leb 6 (length s)) (Ranged (getD s 1 0) (wideAt s 2) (wid
 -- "4 Is it a whole record of kinds 20 to 25?"
 abbrev pub patternHead : List ℕ → PatternHead
 patternHead s =
-    isKind (eqb (length s) 0) (Refused 4)
-    (isKind (eqb (getD s 0 0) 0x20) (Whole Anything)
-    (isKind (eqb (getD s 0 0) 0x21) (wholeIf (leb 3 (length s)) (Symbol (wideAt s 1)))
-    (isKind (eqb (getD s 0 0) 0x22) (rangeHead s)
-    (isKind (eqb (getD s 0 0) 0x23) (wholeIf (leb 4 (length s)) (Compound (wideAt s 1) (getD s 3 0)))
-    (isKind (eqb (getD s 0 0) 0x24) (wholeIf (leb 2 (length s)) (Variable (getD s 1 0)))
-    (isKind (eqb (getD s 0 0) 0x25) (rangedHead s)
+    cond (eqb (length s) 0) (Refused 4)
+    (cond (eqb (getD s 0 0) 0x20) (Whole Anything)
+    (cond (eqb (getD s 0 0) 0x21) (wholeIf (leb 3 (length s)) (Symbol (wideAt s 1)))
+    (cond (eqb (getD s 0 0) 0x22) (rangeHead s)
+    (cond (eqb (getD s 0 0) 0x23) (wholeIf (leb 4 (length s)) (Compound (wideAt s 1) (getD s 3 0)))
+    (cond (eqb (getD s 0 0) 0x24) (wholeIf (leb 2 (length s)) (Variable (getD s 1 0)))
+    (cond (eqb (getD s 0 0) 0x25) (rangedHead s)
     (Refused 4)))))))

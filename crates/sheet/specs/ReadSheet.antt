@@ -15,6 +15,7 @@ use Rattle.sheet.specs.declared.PatternHead.{PatternHead}
 use Rattle.sheet.specs.declared.PatternHead.the-variants.{Whole, Refused}
 use Rattle.sheet.specs.PatternRecord.{patternHead}
 use Rattle.sheet.specs.Sheet.{Sheet, SheetHead, mostRules}
+use Rattle.basics.specs.Lists.{allBelow}
 
 -- "1 Does it begin with a whole 10 record? 2 Is its arity 1 to 8? 3 Has it at most 32 rules (0 is allowed)?"
 unfoldable pub readHeader : List ℕ → Reading SheetHead
@@ -57,10 +58,6 @@ readPatterns below n s = readRow pnil pcons (readPattern below) n s
 abbrev pub inCommon : Option Range → Bool
 inCommon none = true
 inCommon (some x) = leb (x .low) (x .high)
-
-unfoldable pub allBelow : ℕ → (ℕ → Bool) → Bool
-allBelow zero f = true
-allBelow (suc n) f = allBelow n f && f n
 
 abbrev pub rangesMeet : Patterns → Bool
 rangesMeet rule = allBelow 16 (λ v. inCommon (patternsRange rule v))

@@ -1,7 +1,7 @@
 -- The tests of a sheet as they are left, from what was gathered of its rules.
 use Prim.Native.Nat.{ℕ, _+_, _*_, _-_, _≤_, _<_}
 use mathlib.Core.Path.{_≡_, refl, sym, ap, _∙_, subst}
-use mathlib.Core.Bool.{Bool, true, false}
+use mathlib.Core.Bool.{Bool, true, false, cond}
 use mathlib.Core.List.{List, [], _∷_, _++_, map}
 use native.Mathlib.Omega.{arith}
 use lib.Dec.{leb, eqb}
@@ -12,10 +12,10 @@ use Rattle.records.specs.Fields.{IsByte}
 use Rattle.records.specs.Reading.{Reading, took, refused, ask, mapReading, andThen}
 use Rattle.records.proofs.Rows.{took-view, refused-view, row-size}
 use Rattle.records.proofs.Spelling.{row-holds}
-use Rattle.terms.specs.Lists.{All}
+use Rattle.basics.specs.Lists.{All}
 use Rattle.terms.specs.Pattern.{Patterns}
-use Rattle.terms.specs.RuleTests.{Occurrence, PairTest, pairsWith, pairsOf, ruleVariables}
-use Rattle.terms.proofs.ListLaws.{all-join}
+use Rattle.terms.specs.RuleTests.{Occurrence, pairsWith, pairsOf, ruleVariables}
+use Rattle.basics.proofs.ListLaws.{all-join}
 use Rattle.terms.specs.Accepted.{AcceptedRule}
 use Rattle.sheet.specs.views.Noted.{Note, ruleNotes}
 use Rattle.sheet.specs.Sheet.{Sheet}
@@ -39,10 +39,10 @@ use Rattle.sheet_tests.specs.views.Gathered.{Gathered, gather, held, gat
 use Rattle.sheet_tests.specs.CheckSheet.{mostTests, askTests, acceptSheet, checkValues, sheetValues}
 use Rattle.sheet_tests.specs.views.TestsRead.{keptTests, testsFound, sheetFound, foundValues, Counted, Held}
 use Rattle.sheet_tests.proofs.NotedTests.{rule-placed, rule-varied}
-use Rattle.sheet_tests.proofs.NumberLists.{filter-count}
 use Rattle.sheet_tests.proofs.PlaceSets.{places-none}
 use Rattle.sheet_tests.proofs.KeptLists.{pairs-many, pairs-these, keep-all}
 use Rattle.sheet_tests.proofs.TestsSplit.{Small, SmallRule, tests-split, tests-count}
+use Rattle.basics.proofs.Counting.{filter-count}
 
 -- A variable's place is one of the 680.
 abbrev Within680 : Occurrence → Type 0
@@ -61,7 +61,7 @@ with-small p v [] h = tt
 with-small p v (o ∷ os) h = go (eqb v (o .name)) (with-small p v os (h .1))
   where
     go : (b : Bool) → All Small (pairsWith p v os)
-        → All Small (elim b as (λ _. List PairTest) [ true ↦ record { first = p; second = o .place } ∷ pairsWith p v os | false ↦ pairsWith p v os ])
+        → All Small (cond b (record { first = p; second = o .place } ∷ pairsWith p v os) (pairsWith p v os))
     go true k = (omega (arith, h .0), k)
     go false k = k
 

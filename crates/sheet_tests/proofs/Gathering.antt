@@ -1,15 +1,14 @@
 -- What a rule's notes gather is what the rule tests.
 use Prim.Native.Nat.{ℕ, _<_}
 use mathlib.Core.Path.{_≡_, refl, sym, ap, _∙_}
-use mathlib.Core.Bool.{Bool, true, false, _&&_}
+use mathlib.Core.Bool.{Bool, true, false, _&&_, cond}
 use mathlib.Core.List.{List, [], _∷_, map}
 use mathlib.Core.Option.{Option, some, none}
 use native.Mathlib.Omega.{arith}
 use lib.Dec.{ltb, eqb}
 use lib.ListN.{getD, take}
 use borrow.Author.Tests.{lt-ltb}
-use Rattle.masks.specs.Mask.{consIf}
-use Rattle.terms.specs.Lists.{All}
+use Rattle.basics.specs.Lists.{All}
 use Rattle.terms.specs.Pattern.{Patterns}
 use Rattle.terms.specs.RuleTests.{Range, commonPart, pairsOf}
 use Rattle.terms.specs.Accepted.{AcceptedRule}
@@ -26,6 +25,7 @@ use Rattle.sheet_tests.specs.views.Gathered.{Gathered, gathered, gather,
 use Rattle.sheet_tests.proofs.NotedTests.{isSome, rule-tested, rule-varied}
 use Rattle.sheet_tests.proofs.NumberLists.{all-insert-append}
 use Rattle.sheet_tests.proofs.KeptLists.{keep-append}
+use Rattle.masks.proofs.Listed.{consIf}
 
 -- The fields of a note fit.
 abbrev pub Fits : Note → Type 0
@@ -58,7 +58,7 @@ record-ends (Compound a n) v h = tt
 record-ends (Variable u) v h = tt
 record-ends (Ranged u l t) v h = go (eqb u v)
   where
-    go : (b : Bool) → Ends (elim b as (λ _. Option Range) [ true ↦ some (record { low = l; high = t }) | false ↦ none ])
+    go : (b : Bool) → Ends (cond b (some (record { low = l; high = t })) none)
     go true = h .2
     go false = tt
 

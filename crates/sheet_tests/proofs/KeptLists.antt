@@ -8,7 +8,7 @@ use lib.Dec.{ltb, leb}
 use lib.ListN.{length, getD, take, drop}
 use lib.Seq.{length-take-le, getD-take, take-take}
 use borrow.Author.Tests.{le-leb, lt-leb, leb-false}
-use Rattle.terms.specs.Order.{insertBy}
+use Rattle.basics.specs.Order.{insertBy}
 use Rattle.sheet_tests.specs.views.Slot.{slot}
 use Rattle.sheet_tests.specs.CheckSheet.{mostTests}
 use Rattle.sheet_tests.specs.views.TestedPlaces.{insertAll}

@@ -1,12 +1,11 @@
 -- Loops over the notes in an array that keep the pairs of a rule.
 use Prim.Native.Nat.{ℕ, _+_, _≤_, _<_}
 use mathlib.Core.Path.{_≡_, refl, sym, ap, _∙_, subst}
-use mathlib.Core.Bool.{Bool, true, false}
+use mathlib.Core.Bool.{Bool, true, false, cond}
 use mathlib.Core.List.{List, _∷_, map-append}
 use lib.Dec.{T, eqb}
 use lib.ListN.{length, getD, drop}
-use Rattle.masks.specs.Mask.{consIf}
-use Rattle.terms.specs.RuleTests.{PairTest, both, pairsWith, pairsOf}
+use Rattle.terms.specs.RuleTests.{both, pairsWith, pairsOf}
 use Rattle.sheet.specs.views.Noted.{Note, note}
 use Rattle.sheet.specs.views.NoteCode.{codePlace, codeRecord}
 use Rattle.sheet.specs.views.NoteArray.{notesIn}
@@ -18,6 +17,7 @@ use Rattle.sheet_tests.specs.views.KeptPairs.{Kept, pairCode, keep, keep
 use Rattle.sheet_tests.specs.views.NoteTests.{nameOf, isNamed, occurrence, notesVariables, pairCodes, codesWith, notesCodes}
 use Rattle.sheet_tests.proofs.KeptLists.{keep-append, keep-all-many, pairs-many}
 use Rattle.sheet_tests.proofs.NoteRows.{notes-next, notes-end}
+use Rattle.masks.proofs.Listed.{consIf}
 
 -- Where too many are kept, what is left to keep changes nothing.
 pub full-done
@@ -32,10 +32,10 @@ named
     → pairCodes (pairsWith p v (record { place = n; name = u } ∷ notesVariables ns)) ≡ consIf b (pairCode p n) (codesWith p v ns)
 named p v n u ns true e =
     let rest = pairsWith p v (notesVariables ns) in
-    ap (λ (c : Bool). pairCodes (elim c as (λ _. List PairTest) [ true ↦ both p n ∷ rest | false ↦ rest ])) e
+    ap (λ (c : Bool). pairCodes (cond c (both p n ∷ rest) rest)) e
 named p v n u ns false e =
     let rest = pairsWith p v (notesVariables ns) in
-    ap (λ (c : Bool). pairCodes (elim c as (λ _. List PairTest) [ true ↦ both p n ∷ rest | false ↦ rest ])) e
+    ap (λ (c : Bool). pairCodes (cond c (both p n ∷ rest) rest)) e
 
 -- The pairs with a note more: a variable of that name, or any other record.
 named-codes

@@ -8,14 +8,14 @@ use native.Mathlib.Omega.{arith}
 use lib.Dec.{ltb}
 use lib.ListN.{length, getD, take, drop, length-map, drop-of-length-le, List·getD-map}
 use lib.Seq.{length-take-le, drop-cons, getD-take}
-use Rattle.masks.specs.Mask.{consIf}
-use Rattle.terms.specs.Lists.{All}
-use Rattle.terms.specs.Order.{insertBy}
+use Rattle.basics.specs.Lists.{All}
+use Rattle.basics.specs.Order.{insertBy}
 use Rattle.sheet.specs.views.Noted.{Note}
 use Rattle.sheet.specs.views.NoteCode.{noteOf, codePlace, codeRecord}
 use Rattle.sheet.specs.views.NoteArray.{notesIn}
 use Rattle.sheet_tests.specs.views.TestedPlaces.{insertAll}
 use Rattle.sheet_tests.specs.views.NoteTests.{isTested, testedPlaces}
+use Rattle.masks.proofs.Listed.{consIf}
 
 module _ (codes : List ℕ) (n : ℕ) (within : n ≤ length codes) where
   notes-length : length (notesIn codes n) ≡ n

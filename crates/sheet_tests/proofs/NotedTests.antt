@@ -5,8 +5,7 @@ use mathlib.Core.Bool.{Bool, true, false}
 use mathlib.Core.List.{List, [], _∷_, _++_, map, map-append}
 use mathlib.Core.Option.{Option, some, none}
 use native.Mathlib.Omega.{arith}
-use Rattle.masks.specs.Mask.{consIf}
-use Rattle.terms.specs.Lists.{All}
+use Rattle.basics.specs.Lists.{All}
 use Rattle.terms.specs.Pattern.{Patterns}
 use Rattle.terms.specs.RuleTests.{Range, PlaceTest, Occurrence, rangeTest, placeTests, ruleVariables}
 use Rattle.terms.specs.Accepted.{AcceptedRule}
@@ -17,6 +16,7 @@ use Rattle.sheet.specs.views.NoteRanges.{rangeIn}
 use Rattle.sheet.proofs.NotePlaces.{Ascending, notes-places}
 use Rattle.sheet.proofs.NoteTests.{recordTests, testsIn, recordVariables, variablesIn, rule-tests, rule-variables}
 use Rattle.sheet_tests.specs.views.NoteTests.{testedPlaces, isTested, nameOf, occurrence, notesVariables, Placed}
+use Rattle.masks.proofs.Listed.{consIf}
 
 -- There is a range.
 abbrev pub isSome : Option Range → Bool

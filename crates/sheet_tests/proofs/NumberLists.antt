@@ -1,56 +1,22 @@
 -- Ascending lists of numbers: those that pass a test, out of a row of numbers one after another.
-use Prim.Native.Nat.{ℕ, zero, suc, _+_, _≤_, _<_}
+use Prim.Native.Nat.{ℕ, zero, suc, _+_, _<_}
 use mathlib.Core.Path.{_≡_, refl, sym, ap, _∙_, subst}
-use mathlib.Core.Bool.{Bool, true, false}
-use mathlib.Core.Logic.{_⊎_, inl, inr, by-cases}
+use mathlib.Core.Bool.{Bool, true, false, cond}
+use mathlib.Core.Logic.{_⊎_, inl, inr}
 use mathlib.Core.List.{List, [], _∷_, _++_}
-use native.Mathlib.Decide.{ℕ-discrete}
 use native.Mathlib.Omega.{arith}
-use lib.Dec.{T, ltb, lt→ltb, ltb→lt}
+use lib.Dec.{T, ltb}
 use lib.ListN.{length}
-use Rattle.masks.specs.Mask.{consIf, listFrom}
-use Rattle.terms.specs.Lists.{Mem, here, there, All, filter, countFrom}
-use Rattle.terms.specs.Order.{insertBy}
-use Rattle.terms.proofs.ListLaws.{mem-cases, mem-none}
-use Rattle.terms.proofs.Sorted.{StrictOrder, Ascending, insert-has, insert-keeps, insert-mem, insert-ascends}
+use Rattle.basics.specs.Lists.{Mem, here, there, All, filter, countFrom}
+use Rattle.basics.specs.Order.{insertBy}
+use Rattle.basics.proofs.ListLaws.{mem-cases, mem-none}
+use Rattle.basics.proofs.Sorted.{Ascending, insert-has, insert-keeps, insert-mem, insert-ascends, number-order}
 use Rattle.sheet_tests.specs.views.TestedPlaces.{insertAll}
-
--- The order of numbers is strict and total.
-pub number-order : StrictOrder ltb
-number-order = record { irreflexive = irreflexive; transitive = transitive; total = total }
-  where
-    irreflexive : (x : ℕ) → T (ltb x x) → ⊥
-    irreflexive x h = omega (arith, ltb→lt x x h)
-
-    transitive : (x y z : ℕ) → T (ltb x y) → T (ltb y z) → T (ltb x z)
-    transitive x y z h k = lt→ltb x z (omega (arith, ltb→lt x y h, ltb→lt y z k))
-
-    total : (x y : ℕ) → (T (ltb x y) → ⊥) → (T (ltb y x) → ⊥) → x ≡ y
-    total x y h k =
-        let f : x < y → ⊥ = λ l. h (lt→ltb x y l) in
-        let g : y < x → ⊥ = λ l. k (lt→ltb y x l) in
-        omega arith
-
--- What is in a row of numbers lies between its ends.
-pub count-mem : (a k x : ℕ) → Mem x (countFrom a k) → (a ≤ x) × (x < a + k)
-count-mem a zero x m = absurd (mem-none m)
-count-mem a (suc k) x m =
-    elim (mem-cases m) [
-      | inl e ↦ (omega arith, omega arith)
-      | inr l ↦ let h = count-mem (suc a) k x l in (omega arith, omega arith)
-    ]
-
--- What lies between the ends is in the row.
-pub mem-count : (a k x : ℕ) → a ≤ x → x < a + k → Mem x (countFrom a k)
-mem-count a zero x h l = absurd (omega arith)
-mem-count a (suc k) x h l =
-    by-cases (ℕ-discrete a x)
-    (λ (e : a ≡ x). subst (λ (y : ℕ). Mem x (y ∷ countFrom (suc a) k)) (sym e) here)
-    (λ (n : a ≡ x → ⊥). there (mem-count (suc a) k x (omega arith) (omega arith)))
+use Rattle.masks.proofs.Listed.{consIf, listFrom}
 
 module _ {A : Type 0} (f : A → Bool) where
   abbrev consWhere : Bool → A → List A → List A
-  consWhere b x l = elim b as (λ _. List A) [ true ↦ x ∷ l | false ↦ l ]
+  consWhere b x l = cond b (x ∷ l) l
 
   -- What passed the test is in the list and passes.
   pub filter-mem : (xs : List A) {x : A} → Mem x (filter f xs) → Mem x xs × (f x ≡ true)
@@ -105,42 +71,10 @@ module _ {A : Type 0} (f : A → Bool) where
       go true e = ap (λ (l : List A). x ∷ l) e
       go false e = e
 
--- A row of numbers ascends.
-count-above : (a b k : ℕ) → a < b → All (λ (y : ℕ). T (ltb a y)) (countFrom b k)
-count-above a b zero h = tt
-count-above a b (suc k) h = (lt→ltb a b h, count-above a (suc b) k (omega arith))
-
-pub count-ascends : (a k : ℕ) → Ascending ltb (countFrom a k)
-count-ascends a zero = tt
-count-ascends a (suc k) = (count-above a (suc a) k (omega arith), count-ascends (suc a) k)
-
--- A row of numbers is two rows, one after the other.
-pub count-append : (a k m : ℕ) → countFrom a (k + m) ≡ countFrom a k ++ countFrom (a + k) m
-count-append a zero m =
-    let e : 0 + m ≡ m = omega arith in
-    let d : a ≡ a + 0 = omega arith in
-    ap (countFrom a) e ∙ ap (λ (b : ℕ). countFrom b m) d
-count-append a (suc k) m =
-    let d : suc k + m ≡ suc (k + m) = omega arith in
-    let e : suc a + k ≡ a + suc k = omega arith in
-    ap (countFrom a) d
-    ∙ ap (λ (l : List ℕ). a ∷ l) (count-append (suc a) k m ∙ ap (λ (b : ℕ). countFrom (suc a) k ++ countFrom b m) e)
-
--- Those of a row that pass a test are no more than the row has.
-pub filter-count : (f : ℕ → Bool) (a k : ℕ) → length (filter f (countFrom a k)) ≤ k
-filter-count f a zero = omega arith
-filter-count f a (suc k) = go (f a) (filter-count f (suc a) k)
-  where
-    go : (b : Bool) → length (filter f (countFrom (suc a) k)) ≤ k
-        → length {A = ℕ} (elim b as (λ _. List ℕ) [ true ↦ a ∷ filter f (countFrom (suc a) k) | false ↦ filter f (countFrom (suc a) k) ]) ≤ suc k
-    go true h = omega arith
-    go false h = omega arith
-
 -- As many of one row pass a test as of another where the tests agree.
 pub filter-listed
     : (f g : ℕ → Bool) (a b k : ℕ) → ((j : ℕ) → j < k → f (a + j) ≡ g (b + j))
     → length (filter f (countFrom a k)) ≡ length (listFrom k b g)
-unfolding listFrom
 filter-listed f g a b zero h = refl
 filter-listed f g a b (suc k) h =
     go (f a) (g b) first (filter-listed f g (suc a) (suc b) k (λ j l. later j l))
@@ -158,7 +92,7 @@ filter-listed f g a b (suc k) h =
         ap f p ∙ h (suc j) (omega arith) ∙ ap g q
 
     go : (x y : Bool) → x ≡ y → length (filter f (countFrom (suc a) k)) ≡ length (listFrom k (suc b) g)
-        → length {A = ℕ} (elim x as (λ _. List ℕ) [ true ↦ a ∷ filter f (countFrom (suc a) k) | false ↦ filter f (countFrom (suc a) k) ])
+        → length {A = ℕ} (cond x (a ∷ filter f (countFrom (suc a) k)) (filter f (countFrom (suc a) k)))
         ≡ length (consIf y b (listFrom k (suc b) g))
     go true true e i = ap suc i
     go true false e i = absurd (subst T e tt)

@@ -12,11 +12,12 @@ use lib.Seq.{getD-set-same, getD-set-other}
 use borrow.Author.Tests.{eq-eqb, ne-eqb}
 use Rattle.masks.specs.Mask.{has, maskOf, members}
 use Rattle.masks.proofs.Extensionality.{has-is}
-use Rattle.terms.specs.Lists.{Mem, filter, countFrom}
-use Rattle.terms.specs.Order.{insertBy}
-use Rattle.terms.proofs.Sorted.{Ascending, insert-has, insert-keeps, insert-mem, insert-ascends, same-members}
+use Rattle.basics.specs.Lists.{Mem, filter, countFrom}
+use Rattle.basics.specs.Order.{insertBy}
+use Rattle.basics.proofs.Sorted.{Ascending, insert-has, insert-keeps, insert-mem, insert-ascends, same-members, number-order}
 use Rattle.sheet_tests.specs.views.TestedPlaces.{hasPlace, placesIn}
-use Rattle.sheet_tests.proofs.NumberLists.{number-order, count-mem, mem-count, count-ascends, count-append, filter-mem, mem-filter, filter-ascends, filter-append, filter-count, filter-listed}
+use Rattle.sheet_tests.proofs.NumberLists.{filter-mem, mem-filter, filter-ascends, filter-append, filter-listed}
+use Rattle.basics.proofs.Counting.{count-mem, mem-count, count-ascends, count-append, filter-count}
 
 module _ (words : List ℕ) where
   -- The places of a set ascend.

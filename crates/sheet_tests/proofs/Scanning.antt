@@ -9,7 +9,7 @@ use Rattle.records.specs.Fields.{IsByte}
 use Rattle.records.specs.Reading.{Reading, took, refused, mapReading, after}
 use Rattle.records.proofs.Parts.{rest, rest-length}
 use Rattle.records.proofs.Rows.{took-view, refused-view, row-none, row-refused, row-next}
-use Rattle.terms.specs.Lists.{All}
+use Rattle.basics.specs.Lists.{All}
 use Rattle.terms.specs.Pattern.{Patterns}
 use Rattle.terms.specs.Accepted.{AcceptedRule}
 use Rattle.sheet.specs.declared.Took.{Took}

@@ -1,7 +1,7 @@
 -- Where a number belongs in a list, and the list with the number there.
 use Prim.Native.Nat.{ℕ, suc, _+_, _-_, _≤_, _<_}
 use mathlib.Core.Path.{_≡_, refl, ap, _∙_}
-use mathlib.Core.Bool.{Bool, true, false}
+use mathlib.Core.Bool.{Bool, true, false, cond}
 use mathlib.Core.List.{List, [], _∷_, _++_}
 use native.Mathlib.Omega.{arith}
 use lib.Dec.{ltb}
@@ -9,12 +9,12 @@ use native.Mathlib.Numerals.{add-one}
 use lib.ListN.{length, getD, take, drop, drop-of-length-le}
 use lib.Seq.{length-take-le, drop-cons, getD-take}
 use borrow.Author.Tests.{lt-ltb, le-ltb, ltb-true, ltb-false}
-use Rattle.terms.specs.Order.{insertBy}
+use Rattle.basics.specs.Order.{insertBy}
 use Rattle.sheet_tests.specs.views.Slot.{slot}
 
 abbrev inserted : ℕ → ℕ → List ℕ → Bool → Bool → List ℕ
 inserted c y ys a b =
-    elim a as (λ _. List ℕ) [ true ↦ c ∷ y ∷ ys | false ↦ elim b as (λ _. List ℕ) [ true ↦ y ∷ insertBy ltb c ys | false ↦ y ∷ ys ] ]
+    cond a (c ∷ y ∷ ys) (cond b (y ∷ insertBy ltb c ys) (y ∷ ys))
 
 insert-step : (c y : ℕ) {a b : Bool} (ys : List ℕ) → ltb c y ≡ a → ltb y c ≡ b → insertBy ltb c (y ∷ ys) ≡ inserted c y ys a b
 insert-step c y ys d e = λ i. inserted c y ys (d i) (e i)
@@ -25,7 +25,7 @@ slot-within c [] = omega arith
 slot-within c (y ∷ ys) = go (ltb y c) (slot-within c ys)
   where
     go : (b : Bool) → slot c ys ≤ length ys
-        → elim b as (λ _. ℕ) [ true ↦ suc (slot c ys) | false ↦ 0 ] ≤ suc (length ys)
+        → cond b (suc (slot c ys)) 0 ≤ suc (length ys)
     go true h = omega arith
     go false h = omega arith
 
@@ -35,8 +35,8 @@ insert-there c [] h e = absurd (omega arith)
 insert-there c (y ∷ ys) h e = go (ltb y c) refl (insert-there c ys) h e
   where
     go : (b : Bool) → ltb y c ≡ b → (slot c ys < length ys → getD ys (slot c ys) 0 ≡ c → insertBy ltb c ys ≡ ys)
-        → elim b as (λ _. ℕ) [ true ↦ suc (slot c ys) | false ↦ 0 ] < suc (length ys)
-        → getD (y ∷ ys) (elim b as (λ _. ℕ) [ true ↦ suc (slot c ys) | false ↦ 0 ]) 0 ≡ c
+        → cond b (suc (slot c ys)) 0 < suc (length ys)
+        → getD (y ∷ ys) (cond b (suc (slot c ys)) 0) 0 ≡ c
         → insertBy ltb c (y ∷ ys) ≡ y ∷ ys
     go true d more h e =
         insert-step c y ys (le-ltb c y (omega (arith, ltb-true y c d))) d ∙ ap (λ (t : List ℕ). y ∷ t) (more (omega arith) e)
@@ -50,11 +50,11 @@ insert-here c (y ∷ ys) h = go (ltb y c) refl (insert-here c ys) h
   where
     go : (b : Bool) → ltb y c ≡ b
         → ((slot c ys < length ys → getD ys (slot c ys) 0 ≡ c → ⊥) → insertBy ltb c ys ≡ take (slot c ys) ys ++ (c ∷ drop (slot c ys) ys))
-        → (elim b as (λ _. ℕ) [ true ↦ suc (slot c ys) | false ↦ 0 ] < suc (length ys)
-        → getD (y ∷ ys) (elim b as (λ _. ℕ) [ true ↦ suc (slot c ys) | false ↦ 0 ]) 0 ≡ c → ⊥)
+        → (cond b (suc (slot c ys)) 0 < suc (length ys)
+        → getD (y ∷ ys) (cond b (suc (slot c ys)) 0) 0 ≡ c → ⊥)
         → insertBy ltb c (y ∷ ys)
-        ≡ take (elim b as (λ _. ℕ) [ true ↦ suc (slot c ys) | false ↦ 0 ]) (y ∷ ys)
-        ++ (c ∷ drop (elim b as (λ _. ℕ) [ true ↦ suc (slot c ys) | false ↦ 0 ]) (y ∷ ys))
+        ≡ take (cond b (suc (slot c ys)) 0) (y ∷ ys)
+        ++ (c ∷ drop (cond b (suc (slot c ys)) 0) (y ∷ ys))
     go true d more h =
         insert-step c y ys (le-ltb c y (omega (arith, ltb-true y c d))) d
         ∙ ap (λ (t : List ℕ). y ∷ t) (more (λ l e. h (omega arith) e))
@@ -91,7 +91,7 @@ module _ (c : ℕ) (l : List ℕ) (n i : ℕ) (within : n ≤ length l) (passed 
     slot-found k =
         let rest = drop (suc i) (take n l) in
         let here : slot c (getD l i 0 ∷ rest) ≡ 0 =
-        ap (λ (b : Bool). elim b as (λ _. ℕ) [ true ↦ suc (slot c rest) | false ↦ 0 ]) (le-ltb (getD l i 0) c k) in
+        ap (λ (b : Bool). cond b (suc (slot c rest)) 0) (le-ltb (getD l i 0) c k) in
         omega (arith, ap (slot c) next)
 
     -- A number below c is passed.
@@ -99,5 +99,5 @@ module _ (c : ℕ) (l : List ℕ) (n i : ℕ) (within : n ≤ length l) (passed 
     slot-further k =
         let rest = drop (suc i) (take n l) in
         let past : slot c (getD l i 0 ∷ rest) ≡ suc (slot c rest) =
-        ap (λ (b : Bool). elim b as (λ _. ℕ) [ true ↦ suc (slot c rest) | false ↦ 0 ]) (lt-ltb (getD l i 0) c k) in
+        ap (λ (b : Bool). cond b (suc (slot c rest)) 0) (lt-ltb (getD l i 0) c k) in
         omega (arith, ap (slot c) next, ap (λ (j : ℕ). slot c (drop j (take n l))) (add-one i))

@@ -1,11 +1,11 @@
 -- The order of tests is strict and total, so the tests of a sheet ascend, each once, and are those of its rules.
 use mathlib.Core.Path.{_≡_, ap, sym, subst}
-use mathlib.Core.Logic.{_⊎_, inl, inr}
+use mathlib.Core.Logic.{inl, inr}
 use mathlib.Core.List.{List, [], _∷_}
 use lib.Dec.{T}
-use Rattle.terms.specs.Lists.{Mem, here, there}
-use Rattle.terms.proofs.ListLaws.{mem-cases}
-use Rattle.terms.proofs.Sorted.{StrictOrder, Ascending, number-order, pair-irreflexive, pair-transitive, pair-total, insert-has, insert-keeps, insert-mem, insert-ascends}
+use Rattle.basics.specs.Lists.{Mem, here, there}
+use Rattle.basics.proofs.ListLaws.{mem-cases}
+use Rattle.basics.proofs.Sorted.{StrictOrder, Ascending, number-order, pair-irreflexive, pair-transitive, pair-total, insert-has, insert-keeps, insert-mem, insert-ascends}
 use Rattle.sheet_tests.specs.SheetTests.{Test, place, pair, before, ascending}
 
 -- The order of tests is strict and total.

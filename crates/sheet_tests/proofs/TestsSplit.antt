@@ -8,11 +8,11 @@ use native.Mathlib.Decide.{decLt}
 use native.Mathlib.Omega.{arith}
 use lib.Dec.{T, ltb, ltb→lt}
 use lib.ListN.{length, length-append, length-map}
-use Rattle.terms.specs.Lists.{Mem, here, there, All}
+use Rattle.basics.specs.Lists.{Mem, here, there, All}
 use Rattle.terms.specs.Pattern.{Patterns}
 use Rattle.terms.specs.RuleTests.{PlaceTest, PairTest, placeTests, pairTests}
-use Rattle.terms.proofs.ListLaws.{mem-cases, mem-none, all-join, all-map, all-always}
-use Rattle.terms.proofs.Sorted.{Ascending, same-members, before-pair}
+use Rattle.basics.proofs.ListLaws.{mem-cases, mem-none, all-join, all-map, all-always}
+use Rattle.basics.proofs.Sorted.{Ascending, same-members, before-pair}
 use Rattle.sheet_tests.specs.SheetTests.{Test, place, pair, before, ruleTests, allTests, sheetTests}
 use Rattle.sheet_tests.specs.views.TestedPlaces.{insertAll}
 use Rattle.sheet_tests.specs.views.KeptPairs.{codePair, pairCode}

@@ -3,7 +3,7 @@ ghost use mathlib.Core.Path.{_≡_};
 ghost use Prim.Native.Nat.{_<_};
 ghost use lib.Dec.{ltb};
 ghost use lib.ListN.{length};
-ghost use Rattle.terms.specs.Order.{insertBy};
+ghost use Rattle.basics.specs.Order.{insertBy};
 ghost use Rattle.sheet_tests.specs.views.TestedPlaces.{placesIn};
 
 // Puts a place into the set. Not that place alone, nor the place with the same bit in another word.

@@ -9,7 +9,7 @@ use Rattle.places.proofs.Levels.{levels-next, levels-below, levels-fit}
 use Rattle.terms.specs.Term.{Term, Terms, unknown, symbol, number, compound, nil, cons}
 use Rattle.terms.specs.Lookup.{find, finds, termAt}
 use Rattle.terms.proofs.Unknown.{IsUnknown}
-use Rattle.terms.proofs.Booleans.{both-true}
+use Rattle.basics.proofs.Booleans.{both-true}
 use Rattle.terms.proofs.TermPlaces.{finds-here, finds-there}
 
 mutual

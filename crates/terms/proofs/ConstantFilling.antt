@@ -7,7 +7,7 @@ use Rattle.terms.specs.Term.{Term, Terms, unknown, symbol, number, compo
 use Rattle.terms.specs.Lookup.{Found, find, finds}
 use Rattle.terms.specs.Filling.{Ground, putUnknown, putSymbol, putNumber, putCompound, putNil, putCons, Fills, Filling}
 use Rattle.terms.proofs.Unknown.{IsUnknown}
-use Rattle.terms.proofs.Booleans.{choose-related}
+use Rattle.basics.proofs.Booleans.{cond-related}
 
 -- The term with c in every unknown.
 abbrev mutual
@@ -54,5 +54,5 @@ module _ (Q : Found → Type 0) (c : Term) (always : (r n : ℕ) → Q (find c r
     pub unknowns-with : (ts : Terms) (r n : ℕ) → IsUnknown (finds ts r n) → Q (finds (fillAllWith ts c) r n)
     unknowns-with nil r n h = absurd h
     unknowns-with (cons t ts) r n h =
-        choose-related (λ (x y : Found). IsUnknown x → Q y) (ltb n (stride r)) (λ k. unknown-with t r n k)
+        cond-related (λ (x y : Found). IsUnknown x → Q y) (ltb n (stride r)) (λ k. unknown-with t r n k)
         (λ k. unknowns-with ts r (n - stride r) k) h

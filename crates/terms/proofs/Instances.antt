@@ -9,7 +9,7 @@ use mathlib.Core.Option.{Option, some, none}
 use native.Mathlib.Omega.{arith}
 use lib.Dec.{leb, eqb, T, le→leb, eqb→eq, eqb-refl}
 use Rattle.places.specs.Numbering.{stride}
-use Rattle.terms.specs.Lists.{All}
+use Rattle.basics.specs.Lists.{All}
 use Rattle.terms.specs.Term.{Term, Terms, count, Wide, unknown, symbol, number, compound, nil, cons}
 use Rattle.terms.specs.Pattern.{Pattern, Patterns, countPatterns, anything, theSymbol, theRange, theCompound, variable, rangedVariable, pnil, pcons}
 use Rattle.terms.specs.RuleTests.{Want, aSymbol, aNumber, aCompound, PlaceTest, at, Occurrence, Range, rangeTest, patternVariables, patternsVariables, patternTests, patternsTests}
@@ -17,8 +17,8 @@ use Rattle.terms.specs.Lookup.{Found, found}
 use Rattle.terms.specs.Outcome.{Holds, fits, atPlace}
 use Rattle.terms.specs.Filling.{Grounds, putUnknown, putSymbol, putNumber, putCompound, putNil, putCons, Fills, Filling}
 use Rattle.terms.specs.Accepted.{Sound, Sounds}
-use Rattle.terms.proofs.Booleans.{both-true, true-both}
-use Rattle.terms.proofs.ListLaws.{all-split, all-join}
+use Rattle.basics.proofs.Booleans.{both-true, true-both}
+use Rattle.basics.proofs.ListLaws.{all-split, all-join}
 use Rattle.terms.proofs.Outcomes.{Open, open-true, true-holds}
 use Rattle.terms.proofs.Stays.{puts-count}
 use Rattle.terms.proofs.TermPlaces.{IfFound, unknowns, count-unknowns, Shows, Showss, shows-root, shows-arguments, shows-unknown, shows-head, shows-tail}

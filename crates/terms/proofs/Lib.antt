@@ -1,9 +1,6 @@
 -- The laws of terms, tests and fillings, for the proofs of this crate and of those that use it.
-pub mod ListLaws
-pub mod Sorted
 pub mod Outcomes
 pub mod RuleOutcomes
-pub mod Booleans
 pub mod Unknown
 pub mod Stays
 pub mod TermPlaces

@@ -14,7 +14,7 @@ use Rattle.terms.specs.Outcome.{Holds, NotKnown, fits, atPlace, placeOut
 use Rattle.terms.specs.Filling.{Ground, Filling}
 use Rattle.terms.specs.Accepted.{AcceptedRule, AcceptedPiece}
 use Rattle.terms.proofs.Unknown.{IsUnknown}
-use Rattle.terms.proofs.ListLaws.{all-at}
+use Rattle.basics.proofs.ListLaws.{all-at}
 use Rattle.terms.proofs.Outcomes.{known-decided, not-known-open, and-not-known, together-not-known}
 use Rattle.terms.proofs.RuleOutcomes.{outcome-open}
 use Rattle.terms.proofs.ConstantFilling.{fillAllWith, fill-all-with, unknowns-with}

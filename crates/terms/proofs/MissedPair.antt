@@ -2,10 +2,10 @@
 -- two places.
 use Prim.Native.Nat.{ℕ, _<_}
 use mathlib.Core.Path.{_≡_, refl, ap, sym, subst, _∙_}
-use mathlib.Core.Bool.{Bool, true, false}
+use mathlib.Core.Bool.{Bool, true, false, cond}
 use native.Mathlib.Omega.{arith}
 use lib.Dec.{eqb, T, eqb→eq, eqb-refl}
-use Rattle.terms.specs.Lists.{Mem, All}
+use Rattle.basics.specs.Lists.{Mem, All}
 use Rattle.terms.specs.Term.{Term, Terms, symbol}
 use Rattle.terms.specs.Pattern.{Patterns}
 use Rattle.terms.specs.RuleTests.{PlaceTest, PairTest, Occurrence, patternsRange, patternsTests, placeTests, pairTests, ruleVariables}
@@ -13,8 +13,8 @@ use Rattle.terms.specs.Lookup.{Found, lacking, found, termAt}
 use Rattle.terms.specs.Outcome.{Holds, NotKnown, atPlaces, placeOutcome, pairOutcome}
 use Rattle.terms.specs.Filling.{Filling}
 use Rattle.terms.specs.Accepted.{AcceptedRule, AcceptedPiece}
-use Rattle.terms.proofs.Booleans.{choose, choose-true, choose-false}
-use Rattle.terms.proofs.ListLaws.{all-always, all-at}
+use Rattle.basics.proofs.Booleans.{cond-true, cond-false}
+use Rattle.basics.proofs.ListLaws.{all-always, all-at}
 use Rattle.terms.proofs.Outcomes.{Open}
 use Rattle.terms.proofs.TermPlaces.{shows-row}
 use Rattle.terms.proofs.ConstantFilling.{fillWith, fill-with, zero-ground}
@@ -35,7 +35,7 @@ plain-fills (found t) = fill-with t (symbol 0) zero-ground
 
 -- Terms for the places: as given, but g at place p.
 abbrev put : ℕ → Term → (ℕ → Term) → ℕ → Term
-put p g given n = choose (eqb n p) g (given n)
+put p g given n = cond (eqb n p) g (given n)
 
 -- The terms fill what stands at each place where g does so at p and the given ones elsewhere.
 put-fills
@@ -43,7 +43,7 @@ put-fills
     → (n : ℕ) → FillsFound (look n) (given n) → FillsFound (look n) (put p g given n)
 put-fills look p g given fill n other = go (eqb n p) (eqb→eq n p)
   where
-    go : (b : Bool) → (T b → n ≡ p) → FillsFound (look n) (choose b g (given n))
+    go : (b : Bool) → (T b → n ≡ p) → FillsFound (look n) (cond b g (given n))
     go true same = subst (λ m. FillsFound (look m) g) (sym (same tt)) fill
     go false same = other
 
@@ -57,13 +57,13 @@ module _ (look : ℕ → Found) (p q : ℕ) (g h : Term) where
 
   -- g is for place p,
   two-first : two p ≡ g
-  two-first = choose-true (eqb p p) g (rest p) (eqb-refl p)
+  two-first = cond-true (eqb p p) g (rest p) (eqb-refl p)
 
   -- h is for place q,
   two-second : p < q → two q ≡ h
   two-second before =
-      choose-false (eqb q p) g (rest q) (λ t. omega (arith, eqb→eq q p t))
-      ∙ choose-true (eqb q q) h (plain (look q)) (eqb-refl q)
+      cond-false (eqb q p) g (rest q) (λ t. omega (arith, eqb→eq q p t))
+      ∙ cond-true (eqb q q) h (plain (look q)) (eqb-refl q)
 
   -- and each fills what stands there.
   two-fills : FillsFound (look p) g → FillsFound (look q) h → (n : ℕ) → FillsFound (look n) (two n)

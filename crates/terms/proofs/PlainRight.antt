@@ -1,19 +1,18 @@
 -- The plain answer is right: going through the rules in order, it meets no open rule, one, or a second.
 use Prim.Native.Nat.{ℕ, zero, suc, _+_, _≤_, _<_}
 use mathlib.Core.Path.{_≡_}
-use mathlib.Core.Bool.{Bool, true, false}
+use mathlib.Core.Bool.{Bool, true, false, cond}
 use mathlib.Core.List.{List, _∷_}
 use borrow.Author.Count.{below-more}
 use native.Mathlib.Omega.{arith}
 use lib.Dec.{T}
 use lib.ListN.{length}
-use Rattle.terms.specs.Lists.{filter, countFrom}
+use Rattle.basics.specs.Lists.{filter, countFrom}
 use Rattle.terms.specs.Term.{Terms}
 use Rattle.terms.specs.Pattern.{Patterns}
 use Rattle.terms.specs.Outcome.{Outcome, Contradicted, ruleOutcome}
 use Rattle.terms.specs.Answer.{ruleAt, isOpen, decide, plainAnswer}
 use Rattle.terms.specs.Right.{IsRule, Right}
-use Rattle.terms.proofs.Booleans.{choose}
 use Rattle.terms.proofs.Outcomes.{Open, is-open, is-not-open}
 use Rattle.terms.proofs.Says.{Says}
 use Rattle.terms.proofs.Verdict.{right-fail, right-only, right-suspend}
@@ -26,7 +25,7 @@ filter-cases Q f x xs = go (f x)
   where
     go
         : (b : Bool) → (T b → Q (x ∷ filter f xs)) → ((T b → ⊥) → Q (filter f xs))
-        → Q (choose b (x ∷ filter f xs) (filter f xs))
+        → Q (cond b (x ∷ filter f xs) (filter f xs))
     go true kept left = kept tt
     go false kept left = left (λ h. h)
 

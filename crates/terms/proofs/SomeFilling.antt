@@ -4,7 +4,7 @@ use Prim.Native.Nat.{ℕ}
 use mathlib.Core.Path.{refl, sym, subst, _∙_}
 use mathlib.Core.List.{List}
 use mathlib.Core.Option.{Option}
-use Rattle.terms.specs.Lists.{Mem, All}
+use Rattle.basics.specs.Lists.{Mem, All}
 use Rattle.terms.specs.Term.{Term, Terms}
 use Rattle.terms.specs.Pattern.{Patterns}
 use Rattle.terms.specs.RuleTests.{Occurrence, Range, patternsRange, rangeTest, placeTests, pairTests, ruleVariables}
@@ -12,7 +12,7 @@ use Rattle.terms.specs.Lookup.{Found, termAt}
 use Rattle.terms.specs.Outcome.{Meets}
 use Rattle.terms.specs.Filling.{WellFormed, Fills, Filling}
 use Rattle.terms.specs.Accepted.{AcceptedRule, AcceptedPiece}
-use Rattle.terms.proofs.ListLaws.{all-map, all-always, all-at, all-from}
+use Rattle.basics.proofs.ListLaws.{all-map, all-always, all-at, all-from}
 use Rattle.terms.proofs.RuleOutcomes.{NoneContradicted}
 use Rattle.terms.proofs.TermPlaces.{shows-row}
 use Rattle.terms.proofs.WellFormed.{finds-well-formed}

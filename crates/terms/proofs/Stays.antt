@@ -11,7 +11,7 @@ use Rattle.terms.specs.RuleTests.{Want, aSymbol, aNumber, aCompound, Pla
 use Rattle.terms.specs.Lookup.{Found, lacking, found, find, finds}
 use Rattle.terms.specs.Outcome.{known, fits, compare, compares, atPlace, atPlaces, placeOutcome, pairOutcome, together, ruleOutcome}
 use Rattle.terms.specs.Filling.{Puts, Putss, putUnknown, putSymbol, putNumber, putCompound, putNil, putCons, Filling, FilledFurther}
-use Rattle.terms.proofs.Booleans.{choose-related}
+use Rattle.basics.proofs.Booleans.{cond-related}
 use Rattle.terms.proofs.Outcomes.{Stays, Kept, stays-kept, known-stays, and-stays, together-stays}
 
 -- Filling in keeps the number of terms.
@@ -41,7 +41,7 @@ module _ {P : Term → Type 0} where
     pub finds-becomes : {ts gs : Terms} → Putss P ts gs → (r n : ℕ) → Becomes P (finds ts r n) (finds gs r n)
     finds-becomes putNil r n = staysLacking
     finds-becomes (putCons f fs) r n =
-        choose-related (Becomes P) (ltb n (stride r)) (find-becomes f r n) (finds-becomes fs r (n - stride r))
+        cond-related (Becomes P) (ltb n (stride r)) (find-becomes f r n) (finds-becomes fs r (n - stride r))
 
   -- What a place test says of a term stays when the term is filled in.
   fits-stays : {t g : Term} (w : Want) → Puts P t g → Stays (fits w t) (fits w g)

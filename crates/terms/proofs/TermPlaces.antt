@@ -10,7 +10,7 @@ use Rattle.places.specs.Numbering.{stride}
 use Rattle.places.proofs.Levels.{stride-of}
 use Rattle.terms.specs.Term.{Term, Terms, count, unknown, symbol, number, compound, nil, cons}
 use Rattle.terms.specs.Lookup.{Found, lacking, found, find, finds}
-use Rattle.terms.proofs.Booleans.{choose-true, choose-false}
+use Rattle.basics.proofs.Booleans.{cond-true, cond-false}
 
 -- Q holds of what stands there, if anything does.
 abbrev pub IfFound : (Term → Type 0) → Found → Type 0
@@ -31,13 +31,13 @@ find-zero (compound a ts) r = refl
 
 -- The first places of a row are those of its first term,
 pub finds-here : (t : Term) (ts : Terms) (r n : ℕ) → n < stride r → finds (cons t ts) r n ≡ find t r n
-finds-here t ts r n h = choose-true (ltb n (stride r)) _ _ (lt→ltb n (stride r) h)
+finds-here t ts r n h = cond-true (ltb n (stride r)) _ _ (lt→ltb n (stride r) h)
 
 -- and the next ones those of the row of the others.
 pub finds-there : (t : Term) (ts : Terms) (r n : ℕ) → finds (cons t ts) r (stride r + n) ≡ finds ts r n
 finds-there t ts r n =
     let back : (stride r + n) - stride r ≡ n = omega arith in
-    choose-false (ltb (stride r + n) (stride r)) _ _ (λ h. omega (arith, ltb→lt (stride r + n) (stride r) h))
+    cond-false (ltb (stride r + n) (stride r)) _ _ (λ h. omega (arith, ltb→lt (stride r + n) (stride r) h))
     ∙ ap (finds ts r) back
 
 -- How many places k terms with r levels each take up.

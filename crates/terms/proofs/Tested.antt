@@ -9,7 +9,7 @@ use mathlib.Core.Option.{Option, some, none}
 use native.Mathlib.Omega.{arith}
 use lib.Dec.{eqb, eqb→eq}
 use Rattle.places.specs.Numbering.{stride}
-use Rattle.terms.specs.Lists.{Mem, All}
+use Rattle.basics.specs.Lists.{Mem, All}
 use Rattle.terms.specs.Term.{Term, Terms, count, unknown, symbol, number, compound, nil, cons}
 use Rattle.terms.specs.Pattern.{Pattern, Patterns, countPatterns, anything, theSymbol, theRange, theCompound, variable, rangedVariable, pnil, pcons}
 use Rattle.terms.specs.RuleTests.{aCompound, PlaceTest, at, PairTest, Occurrence, Range, patternsRange, rangeTest}
@@ -18,8 +18,8 @@ use Rattle.terms.specs.RuleTests.{placeTests, pairTests, ruleVariables}
 use Rattle.terms.specs.Lookup.{Found, lacking, found, termAt}
 use Rattle.terms.specs.Outcome.{Contradicted, fits, atPlace, placeOutcome}
 use Rattle.terms.specs.Accepted.{Sound, Sounds, AcceptedRule, AcceptedPiece}
-use Rattle.terms.proofs.Booleans.{both-true}
-use Rattle.terms.proofs.ListLaws.{all-split, all-join, all-at, all-from}
+use Rattle.basics.proofs.Booleans.{both-true}
+use Rattle.basics.proofs.ListLaws.{all-split, all-join, all-at, all-from}
 use Rattle.terms.proofs.Outcomes.{Open, open-or-contradicted, open-true}
 use Rattle.terms.proofs.TermPlaces.{extent, extent-fits, unknowns, count-unknowns, Shows, Showss}
 use Rattle.terms.proofs.TermPlaces.{shows-row, shows-root, shows-arguments, shows-unknown, shows-head, shows-tail}

@@ -2,19 +2,18 @@
 -- term fills them all, in the variable's range if it has one.
 use Prim.Native.Nat.{ℕ}
 use mathlib.Core.Path.{_≡_, refl, ap, sym, subst, _∙_}
-use mathlib.Core.Bool.{Bool, true, false}
+use mathlib.Core.Bool.{Bool, true, false, cond}
 use mathlib.Core.List.{List, [], _∷_, _++_}
 use mathlib.Core.Option.{Option, some, none}
 use lib.Dec.{eqb, T, eqb→eq, eqb-refl}
-use Rattle.terms.specs.Lists.{All}
+use Rattle.basics.specs.Lists.{All}
 use Rattle.terms.specs.Term.{Term, unknown, symbol}
 use Rattle.terms.specs.RuleTests.{aNumber, PairTest, both, Occurrence, Range, rangeTest, pairsWith, pairsOf}
 use Rattle.terms.specs.Lookup.{Found, lacking, found}
 use Rattle.terms.specs.Outcome.{Outcome, Holds, fits, compare, atPlace, atPlaces}
 use Rattle.terms.specs.Filling.{Ground, WellFormed, Fills}
 use Rattle.terms.specs.Accepted.{InCommon}
-use Rattle.terms.proofs.Booleans.{choose}
-use Rattle.terms.proofs.ListLaws.{all-split, all-join, all-map, all-always}
+use Rattle.basics.proofs.ListLaws.{all-split, all-join, all-map, all-always}
 use Rattle.terms.proofs.Outcomes.{Open}
 use Rattle.terms.proofs.TermPlaces.{IfFound, found-always}
 use Rattle.terms.proofs.WellFormed.{fills-ground, equal-self}
@@ -68,7 +67,7 @@ module _ (look : ℕ → Found) where
   -- The terms at the places of variable v.
   abbrev pub termsOf : ℕ → List Occurrence → List Term
   termsOf v [] = []
-  termsOf v (o ∷ os) = choose (eqb v (o .name)) (foundTerms (look (o .place))) [] ++ termsOf v os
+  termsOf v (o ∷ os) = cond (eqb v (o .name)) (foundTerms (look (o .place))) [] ++ termsOf v os
 
   module _ (Q : Term → Type 0) (v : ℕ) where
     -- Q holds of what stands where the variable does, if it is v.
@@ -79,10 +78,10 @@ module _ (look : ℕ → Found) where
     pub terms-from : (os : List Occurrence) → All AtVariable os → All Q (termsOf v os)
     terms-from [] h = tt
     terms-from (o ∷ os) h =
-        all-join Q (choose (eqb v (o .name)) (foundTerms (look (o .place))) []) (termsOf v os)
+        all-join Q (cond (eqb v (o .name)) (foundTerms (look (o .place))) []) (termsOf v os)
         (go (eqb v (o .name)) (look (o .place)) (λ t. h .0 (eqb→eq v (o .name) t))) (terms-from os (h .1))
       where
-        go : (b : Bool) (x : Found) → (T b → IfFound Q x) → All Q (choose b (foundTerms x) [])
+        go : (b : Bool) (x : Found) → (T b → IfFound Q x) → All Q (cond b (foundTerms x) [])
         go false x k = tt
         go true lacking k = tt
         go true (found t) k = (k tt, tt)
@@ -91,10 +90,10 @@ module _ (look : ℕ → Found) where
     pub terms-at : (os : List Occurrence) → All Q (termsOf v os) → All AtVariable os
     terms-at [] h = tt
     terms-at (o ∷ os) h =
-        let s = all-split Q (choose (eqb v (o .name)) (foundTerms (look (o .place))) []) (termsOf v os) h in
+        let s = all-split Q (cond (eqb v (o .name)) (foundTerms (look (o .place))) []) (termsOf v os) h in
         (λ e. go (eqb v (o .name)) (look (o .place)) (subst (λ u. T (eqb v u)) e (eqb-refl v)) (s .0), terms-at os (s .1))
       where
-        go : (b : Bool) (x : Found) → T b → All Q (choose b (foundTerms x) []) → IfFound Q x
+        go : (b : Bool) (x : Found) → T b → All Q (cond b (foundTerms x) []) → IfFound Q x
         go false x t k = absurd t
         go true lacking t k = tt
         go true (found u) t k = k .0
@@ -130,7 +129,7 @@ module _ (look : ℕ → Found) where
 
       go
           : (b : Bool) (x : Found) → look (o .place) ≡ x → (T b → v ≡ o .name) → Pairs → Pairwise (termsOf v os)
-          → Pairwise (choose b (foundTerms x) [] ++ termsOf v os)
+          → Pairwise (cond b (foundTerms x) [] ++ termsOf v os)
       go false x e same k later = later
       go true lacking e same k later = later
       go true (found t) e same k later = (to t e (same tt) k, later)

@@ -7,7 +7,7 @@ use Rattle.terms.specs.Term.{Term, Terms, unknown, symbol, number, compo
 use Rattle.terms.specs.Lookup.{find, finds}
 use Rattle.terms.specs.Outcome.{Holds, known, compare, compares}
 use Rattle.terms.specs.Filling.{Ground, Grounds, WellFormed, WellFormeds, putUnknown, putSymbol, putNumber, putCompound, putNil, putCons, Fills, Filling}
-use Rattle.terms.proofs.Booleans.{choose-holds}
+use Rattle.basics.proofs.Booleans.{cond-holds}
 use Rattle.terms.proofs.Outcomes.{true-holds, holds-and}
 use Rattle.terms.proofs.Stays.{puts-count}
 use Rattle.terms.proofs.TermPlaces.{IfFound}
@@ -57,5 +57,5 @@ mutual
   pub finds-well-formed : (ts : Terms) → WellFormeds ts → (r n : ℕ) → IfFound WellFormed (finds ts r n)
   finds-well-formed nil ok r n = tt
   finds-well-formed (cons t ts) ok r n =
-      choose-holds (IfFound WellFormed) (ltb n (stride r)) (find t r n) (finds ts r (n - stride r))
+      cond-holds (IfFound WellFormed) (ltb n (stride r)) (find t r n) (finds ts r (n - stride r))
       (find-well-formed t (ok .0) r n) (finds-well-formed ts (ok .1) r (n - stride r))

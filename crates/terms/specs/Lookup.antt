@@ -1,6 +1,6 @@
 -- What stands at a place of a piece (document 01, "Places and tests").
 use Prim.Native.Nat.{ℕ, zero, suc, pred, _-_}
-use mathlib.Core.Bool.{true, false}
+use mathlib.Core.Bool.{cond}
 use lib.Dec.{ltb}
 use Rattle.places.specs.Numbering.{stride}
 use Rattle.terms.specs.Term.{Term, Terms, unknown, symbol, number, compound, nil, cons}
@@ -24,7 +24,7 @@ abbrev mutual
 
   pub finds : Terms → ℕ → ℕ → Found
   finds nil r n = lacking
-  finds (cons t ts) r n = elim (ltb n (stride r)) [ true ↦ find t r n | false ↦ finds ts r (n - stride r) ]
+  finds (cons t ts) r n = cond (ltb n (stride r)) (find t r n) (finds ts r (n - stride r))
 
 -- In a piece: its arguments have 4 levels and begin at place 0.
 abbrev pub termAt : Terms → ℕ → Found

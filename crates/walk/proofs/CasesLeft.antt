@@ -1,14 +1,13 @@
 -- The cases of a switch are read one after another: those that are left lead where all do, until one takes the code.
 use Prim.Native.Nat.{ℕ, suc, _+_, _-_, _<_, _≤_}
 use mathlib.Core.Path.{_≡_, refl, sym, ap, subst, _∙_}
-use mathlib.Core.Bool.{Bool, true, false, _&&_}
+use mathlib.Core.Bool.{Bool, true, false, _&&_, cond}
 use mathlib.Core.List.{List, [], _∷_}
 use native.Mathlib.Omega.{arith}
 use lib.Dec.{leb}
 use lib.ListN.{length, drop, length-drop}
 use Rattle.records.specs.Reading.{took}
 use Rattle.records.proofs.Rows.{row-none}
-use Rattle.terms.specs.Choice.{choose}
 use Rattle.decision.specs.Node.{CaseEdge}
 use Rattle.graph.specs.declared.CaseRecord.{CaseRecord}
 use Rattle.graph.specs.declared.CaseRecord.the-variants.{Symbol, Compound, Numbers}
@@ -69,7 +68,7 @@ module _ (s : List ℕ) (neither code : ℕ) where
 
         leads-next
             : leadsFrom count start
-            ≡ choose (takesCode (edgeOf c .case) code) (edgeOf c .target) (leadsFrom (count - (i + 1)) (at + rangeOf c .bytes))
+            ≡ cond (takesCode (edgeOf c .case) code) (edgeOf c .target) (leadsFrom (count - (i + 1)) (at + rangeOf c .bytes))
         leads-next =
             p .leads
             ∙ ap (λ (cs : List (CaseEdge ℕ)). followCode cs neither code)
@@ -82,7 +81,7 @@ module _ (s : List ℕ) (neither code : ℕ) where
         -- It takes the code,
         pub passed-takes : takesCode (edgeOf c .case) code ≡ true → edgeOf c .target ≡ leadsFrom count start
         passed-takes t =
-            sym (leads-next ∙ ap (λ (b : Bool). choose b (edgeOf c .target) (leadsFrom (count - (i + 1)) (at + rangeOf c .bytes))) t)
+            sym (leads-next ∙ ap (λ (b : Bool). cond b (edgeOf c .target) (leadsFrom (count - (i + 1)) (at + rangeOf c .bytes))) t)
 
         -- or those behind it are left.
         pub passed-next : takesCode (edgeOf c .case) code ≡ false → Passed start count (at + rangeOf c .bytes) (i + 1)
@@ -91,7 +90,7 @@ module _ (s : List ℕ) (neither code : ℕ) where
           there = passed-inside;
           left = others-left readCase s (count - i) (count - (i + 1)) at more (p .left) read;
           leads =
-              leads-next ∙ ap (λ (b : Bool). choose b (edgeOf c .target) (leadsFrom (count - (i + 1)) (at + rangeOf c .bytes))) f;
+              leads-next ∙ ap (λ (b : Bool). cond b (edgeOf c .target) (leadsFrom (count - (i + 1)) (at + rangeOf c .bytes))) f;
         }
 
 -- A record's range holds the codes that its case takes, and leads where the case does.

@@ -1,13 +1,12 @@
 -- A case takes exactly the terms whose codes lie in its range, so a code leads where its term does.
 use Prim.Native.Nat.{ℕ}
 use mathlib.Core.Path.{_≡_, refl}
-use mathlib.Core.Bool.{_&&_, and-eq-true-iff}
+use mathlib.Core.Bool.{_&&_, and-eq-true-iff, cond}
 use mathlib.Core.List.{List, [], _∷_}
 use native.Mathlib.Omega.{arith}
 use lib.Dec.{eqb}
 use borrow.Author.Tests.{eqb-true, eq-eqb}
-use Rattle.terms.specs.Choice.{choose}
-use Rattle.terms.specs.Lists.{All}
+use Rattle.basics.specs.Lists.{All}
 use Rattle.terms.specs.Term.{Term, count, unknown, symbol, number, compound}
 use Rattle.terms.specs.Filling.{WellFormed}
 use Rattle.piece.specs.views.Cells.{symbolCode, compoundCode, numberCode, unknownCode, termCode}
@@ -50,4 +49,4 @@ pub follow-code
     → followCode cs neither (termCode t) ≡ follow cs neither t
 follow-code [] neither t h ok = refl
 follow-code (c ∷ cs) neither t h ok =
-    λ i. choose (takes-code (c .case) t (h .0) ok i) (c .target) (follow-code cs neither t (h .1) ok i)
+    λ i. cond (takes-code (c .case) t (h .0) ok i) (c .target) (follow-code cs neither t (h .1) ok i)

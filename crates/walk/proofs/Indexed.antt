@@ -1,15 +1,15 @@
 -- The nodes of an index: each is read where its start says, asks a kept test, and leads to nodes.
 use Prim.Native.Nat.{ℕ, zero, suc, _+_, _<_}
-use mathlib.Core.Path.{_≡_, refl, sym, ap, subst, _∙_}
+use mathlib.Core.Path.{_≡_, sym, ap, subst, _∙_}
 use mathlib.Core.Bool.{Bool, true, false, _||_}
 use mathlib.Core.List.{List, [], _∷_, map}
 use native.Mathlib.Omega.{arith}
 use lib.Dec.{eqb}
 use lib.ListN.{length, getD, length-map}
-use Rattle.terms.specs.Lists.{All, countFrom}
+use Rattle.basics.specs.Lists.{All, countFrom}
 use Rattle.terms.specs.Outcome.{Outcome, holds, notKnown, contradicted}
-use Rattle.terms.proofs.Booleans.{choose-holds}
-use Rattle.terms.proofs.ListLaws.{all-split}
+use Rattle.basics.proofs.Booleans.{cond-holds}
+use Rattle.basics.proofs.ListLaws.{all-split}
 use Rattle.sheet_tests.specs.SheetTests.{place, pair}
 use Rattle.outcomes.specs.views.Look.{look}
 use Rattle.outcomes.specs.views.CellOutcome.{pairCells}
@@ -24,6 +24,7 @@ use Rattle.walk.specs.views.TestNumbers.{KeptOpen}
 use Rattle.walk.specs.views.Following.{nodeFrom, nodesAt, KeptNode}
 use Rattle.walk.proofs.KeptNumbers.{kept-mem}
 use Rattle.walk.proofs.MetTests.{AskedIn}
+use Rattle.basics.proofs.Counting.{count-length}
 
 module _ (nodes : ℕ) where
   abbrev Leads : Step ℕ → Type 0
@@ -36,7 +37,7 @@ module _ (nodes : ℕ) where
       → followCode cs x code < nodes
   follow-inside [] x code h k = k
   follow-inside (c ∷ cs) x code h k =
-      choose-holds (λ (m : ℕ). m < nodes) (takesCode (c .case) code) _ _ (h .0) (follow-inside cs x code (h .1) k)
+      cond-holds (λ (m : ℕ). m < nodes) (takesCode (c .case) code) _ _ (h .0) (follow-inside cs x code (h .1) k)
 
   compared : (x y : ℕ) (o : Outcome) → x < nodes → y < nodes → Leads (byComparison x y o)
   compared x y holds h k = k
@@ -49,10 +50,10 @@ module _ (nodes : ℕ) where
   step-leads cells (switch p cs x y) h =
       let code = look cells p in
       let (cases, others) = all-split (λ (m : ℕ). m < nodes) (map (λ (c : CaseEdge ℕ). c .target) cs) (x ∷ y ∷ []) h in
-      choose-holds Leads (eqb code 0) _ _ tt
-      (choose-holds (λ (m : ℕ). m < nodes) (eqb code unknownCode) _ _ (others .1 .0) (follow-inside cs x code cases (others .0)))
+      cond-holds Leads (eqb code 0) _ _ tt
+      (cond-holds (λ (m : ℕ). m < nodes) (eqb code unknownCode) _ _ (others .1 .0) (follow-inside cs x code cases (others .0)))
   step-leads cells (pairNode p q x y) h =
-      choose-holds Leads (eqb (look cells p) 0 || eqb (look cells q) 0) _ _ tt (compared x y (pairCells cells p q) (h .0) (h .1 .0))
+      cond-holds Leads (eqb (look cells p) 0 || eqb (look cells q) 0) _ _ tt (compared x y (pairCells cells p q) (h .0) (h .1 .0))
 
   pub step-inside
       : (cells : List ℕ) (n : Node ℕ) → All (λ (m : ℕ). m < nodes) (edges n) → {m : ℕ} → goTo m ≡ stepCells cells n → m < nodes
@@ -81,11 +82,6 @@ module _ (words codes : List ℕ) (count : ℕ) (size : length words ≡ 11) whe
       go : (b : Bool) → KeptOpen words codes count (openIf b (pair p q))
       go true = (near, kept)
       go false = tt
-
--- The nodes at the starts, by their numbers.
-count-length : (a k : ℕ) → length (countFrom a k) ≡ k
-count-length a zero = refl
-count-length a (suc k) = ap suc (count-length (suc a) k)
 
 mapped-at : (f : ℕ → Node ℕ) (a k n : ℕ) → n < k → getD (map f (countFrom a k)) n (end fail) ≡ f (a + n)
 mapped-at f a zero n h = absurd (omega arith)

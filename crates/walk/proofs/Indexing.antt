@@ -10,9 +10,9 @@ use lib.ListN.{length, getD, take, drop, drop-of-length-le}
 use lib.Seq.{getD-take}
 use Rattle.records.specs.Fields.{IsByte}
 use Rattle.records.specs.Reading.{took}
-use Rattle.terms.specs.Lists.{All, Mem, countFrom}
-use Rattle.terms.proofs.Booleans.{true-both}
-use Rattle.terms.proofs.ListLaws.{all-map, all-at, all-join}
+use Rattle.basics.specs.Lists.{All, Mem, countFrom}
+use Rattle.basics.proofs.Booleans.{true-both, is-true}
+use Rattle.basics.proofs.ListLaws.{all-map, all-at, all-join}
 use Rattle.sheet_tests.specs.SheetTests.{Test, place, pair, sheetTests}
 use Rattle.sheet_tests.specs.views.TestedPlaces.{hasPlace, placesIn}
 use Rattle.sheet_tests.specs.views.KeptPairs.{codePair}
@@ -23,9 +23,7 @@ use Rattle.decision.specs.Node.{Node, CaseEdge, end, switch, pairNode}
 use Rattle.decision.specs.GraphBytes.{nodeBytes, nodesBytes}
 use Rattle.decision.specs.AcceptedGraph.{AcceptedNode, AcceptedGraph}
 use Rattle.decision.proofs.BreadthFirst.{mem-join}
-use Rattle.decision.proofs.Filters.{map-mem, mem-any, all-mapped}
-use Rattle.decision.proofs.Sets.{is-true}
-use Rattle.decision.proofs.TestNumbers.{mem-at}
+use Rattle.basics.proofs.Filters.{map-mem, mem-any, all-mapped}
 use Rattle.graph.specs.ReadGraph.{readGraph}
 use Rattle.graph.specs.views.Rewriting.{IsTook, readOr, readRecord}
 use Rattle.graph.proofs.TestedPlaces.{Near, tests-near}
@@ -40,6 +38,7 @@ use Rattle.walk.specs.views.TestNumbers.{NearTest}
 use Rattle.walk.specs.views.Following.{nodeFrom, nodesAt, GoodNode, Index}
 use Rattle.walk.specs.views.Ready.{LeafNode}
 use Rattle.walk.proofs.StepsAgree.{FieldsFit}
+use Rattle.basics.proofs.Positions.{mem-at}
 
 -- A test that stands among the kept tests is kept.
 pub mem-kept

@@ -1,7 +1,7 @@
 -- The numbers of kept tests: a place is counted in its words, a pair behind all places.
 use Prim.Native.Nat.{ℕ, zero, suc, _+_, _-_, _*_, _/_, _%_, _<_, _≤_}
 use mathlib.Core.Path.{_≡_, refl, sym, ap, subst, _∙_}
-use mathlib.Core.Bool.{Bool, true, false, _&&_, and-true, and-false}
+use mathlib.Core.Bool.{Bool, true, false, _&&_, and-true, and-false, cond}
 use mathlib.Core.Logic.{by-cases}
 use mathlib.Core.List.{List, [], _∷_, _++_, map, append-assoc, map-append}
 use native.Mathlib.Decide.{decLt}
@@ -11,29 +11,28 @@ use borrow.Author.Tests.{eq-eqb, ne-eqb, lt-ltb, le-ltb}
 use lib.Dec.{T, eqb, ltb, eqb→eq}
 use lib.ListN.{length, getD, take, drop, length-map, length-append}
 use lib.Seq.{drop-cons}
-use Rattle.masks.specs.Mask.{has, maskOf, consIf, listFrom, members}
+use Rattle.masks.specs.Mask.{has, maskOf, members}
 use Rattle.masks.proofs.Extensionality.{has-is}
 use Rattle.masks.proofs.Members.{list-same, members-maskOf}
-use Rattle.terms.specs.Choice.{choose}
-use Rattle.terms.specs.Lists.{Mem, filter, countFrom}
-use Rattle.terms.proofs.Booleans.{both-true}
-use Rattle.terms.proofs.ListLaws.{all-from}
+use Rattle.basics.specs.Lists.{Mem, filter, countFrom}
+use Rattle.basics.proofs.Booleans.{both-true, true-is}
+use Rattle.basics.proofs.ListLaws.{all-from}
 use Rattle.sheet_tests.specs.SheetTests.{Test, place, pair}
 use Rattle.sheet_tests.specs.views.TestedPlaces.{hasPlace, placesIn}
 use Rattle.sheet_tests.specs.views.KeptPairs.{codePair}
-use Rattle.sheet_tests.proofs.NumberLists.{count-mem, mem-count, count-append, filter-mem, mem-filter, filter-append, filter-count, filter-listed}
+use Rattle.sheet_tests.proofs.NumberLists.{filter-mem, mem-filter, filter-append, filter-listed}
 use Rattle.sheet_tests.proofs.PlaceSets.{placesBelow}
 use Rattle.decision.specs.Rules.{sameTest}
-use Rattle.decision.proofs.Filters.{mem-left, mem-right, mem-map, any-mem, all-mapped, mapped-always}
-use Rattle.decision.proofs.Sets.{true-is}
+use Rattle.basics.proofs.Filters.{mem-left, mem-right, mem-map, any-mem, all-mapped, mapped-always}
 use Rattle.node_check.specs.views.CheckNode.{isPair, keptTest}
 use Rattle.sheet_tests.specs.views.TestsRead.{keptTests}
 use Rattle.walk.specs.views.TestNumbers.{numberIn, placesUnder, NearTest}
 use Rattle.walk.proofs.Numbers.{number-behind, number-first}
+use Rattle.basics.proofs.Counting.{count-mem, mem-count, count-append, filter-count}
+use Rattle.masks.proofs.Listed.{consIf, listFrom}
 
 -- None of a row of numbers passes a test that is passed nowhere there,
 list-none : (n i : ℕ) (p : ℕ → Bool) → ((j : ℕ) → i ≤ j → p j ≡ false) → listFrom n i p ≡ []
-unfolding listFrom
 list-none zero i p f = refl
 list-none (suc n) i p f = rw (f i (omega arith)) (list-none n (suc i) p (λ j h. f j (omega arith)))
 
@@ -41,7 +40,6 @@ list-none (suc n) i p f = rw (f i (omega arith)) (list-none n (suc i) p (λ j h.
 list-cut
     : (n i last : ℕ) (p : ℕ → Bool) → i ≤ last → last ≤ i + n
     → listFrom n i (λ j. p j && ltb j last) ≡ listFrom (last - i) i p
-unfolding listFrom
 list-cut zero i last p h k = let none : last - i ≡ 0 = omega arith in sym (ap (λ (m : ℕ). listFrom m i p) none)
 list-cut (suc n) i last p h k =
     by-cases (decLt i last)
@@ -114,7 +112,7 @@ row-number f n p ys h e =
     ∙ none
   where
     kept : Bool → ℕ → List ℕ → List ℕ
-    kept b x l = elim b [ true ↦ x ∷ l | false ↦ l ]
+    kept b x l = cond b (x ∷ l) l
 
 module _ (words codes : List ℕ) (count : ℕ) where
   -- A kept place has as its number how many kept places are below it.
@@ -169,11 +167,11 @@ module _ (codes : List ℕ) (count p q : ℕ) (small : q < 0x1_0000) where
     module _ (h : i < count) (k : i < length codes) where
       search-step
           : numberFrom i
-          ≡ choose (sameTest (codePair (getD codes i 0)) (pair p q)) 0 (suc (numberFrom (i + 1)))
+          ≡ cond (sameTest (codePair (getD codes i 0)) (pair p q)) 0 (suc (numberFrom (i + 1)))
       search-step =
           let more : count - i ≡ suc (count - (i + 1)) = omega arith in
           (λ j. numberIn (map codePair (take (more j) (drop-cons codes i 0 k j))) (pair p q))
-          ∙ ap (λ (m : ℕ). choose (sameTest (codePair (getD codes i 0)) (pair p q)) 0 (suc (numberIn (map codePair (take (count - (i + 1)) (drop m codes))) (pair p q)))) (sym (add-one i))
+          ∙ ap (λ (m : ℕ). cond (sameTest (codePair (getD codes i 0)) (pair p q)) 0 (suc (numberIn (map codePair (take (count - (i + 1)) (drop m codes))) (pair p q)))) (sym (add-one i))
 
       -- It stands at i,
       pub search-here : getD codes i 0 ≡ p * 0x1_0000 + q → i ≡ i + numberFrom i
@@ -181,14 +179,14 @@ module _ (codes : List ℕ) (count p q : ℕ) (small : q < 0x1_0000) where
           let c = getD codes i 0 in
           let left = eq-eqb (c / 0x1_0000) p (omega arith) in
           let right = eq-eqb (c % 0x1_0000) q (omega arith) in
-          omega (arith, search-step ∙ (λ j. choose (left j && right j) 0 (suc (numberFrom (i + 1)))))
+          omega (arith, search-step ∙ (λ j. cond (left j && right j) 0 (suc (numberFrom (i + 1)))))
 
       -- or behind it.
       pub search-next : (getD codes i 0 ≡ p * 0x1_0000 + q → ⊥) → i + numberFrom i ≡ i + 1 + numberFrom (i + 1)
       search-next ne =
           let c = getD codes i 0 in
           let differ : sameTest (codePair c) (pair p q) ≡ false = not-same (sameTest (codePair c) (pair p q)) refl in
-          omega (arith, search-step ∙ ap (λ (b : Bool). choose b 0 (suc (numberFrom (i + 1)))) differ)
+          omega (arith, search-step ∙ ap (λ (b : Bool). cond b 0 (suc (numberFrom (i + 1)))) differ)
         where
           not-same : (b : Bool) → sameTest (codePair (getD codes i 0)) (pair p q) ≡ b → b ≡ false
           not-same true e =

@@ -1,12 +1,11 @@
 -- The rule of the leaf at which a walk ends is one of the sheet's.
 use Prim.Native.Nat.{ℕ, zero, suc}
 use mathlib.Core.Path.{_≡_, sym, subst}
-use mathlib.Core.Bool.{Bool, true, false, _||_}
+use mathlib.Core.Bool.{Bool, true, false, _||_, cond}
 use mathlib.Core.List.{List}
 use lib.Dec.{eqb}
 use lib.ListN.{getD}
-use Rattle.terms.specs.Choice.{choose}
-use Rattle.terms.specs.Lists.{All}
+use Rattle.basics.specs.Lists.{All}
 use Rattle.terms.specs.Outcome.{Outcome, holds, notKnown, contradicted}
 use Rattle.sheet_tests.specs.SheetTests.{Test}
 use Rattle.outcomes.specs.views.Look.{look}
@@ -35,7 +34,7 @@ module _ (count : ℕ) where
   LeafEnd (reached l edges met) = LeafIn count l
   LeafEnd (stopped q) = Unit
 
-  goes-on : (b : Bool) (s : Step ℕ) → LeafStep s → LeafStep (choose b noWay s)
+  goes-on : (b : Bool) (s : Step ℕ) → LeafStep s → LeafStep (cond b noWay s)
   goes-on true s h = tt
   goes-on false s h = h
 

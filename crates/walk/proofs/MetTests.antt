@@ -1,7 +1,7 @@
 -- The tests met not known on a walk, as one set: a node more adds its test where that is not known.
 use Prim.Native.Nat.{ℕ, _^_, _≤_, _<_}
 use mathlib.Core.Path.{_≡_, refl, sym, ap, ap₂, subst, _∙_}
-use mathlib.Core.Bool.{Bool, true, false, _&&_, _||_, and-true, and-false, or-true, or-false, or-assoc}
+use mathlib.Core.Bool.{Bool, true, false, _&&_, _||_, and-true, and-false, or-true, or-false}
 use mathlib.Core.Logic.{by-cases}
 use mathlib.Core.List.{List, [], _∷_, _++_}
 use native.Mathlib.Decide.{decLt}
@@ -14,9 +14,9 @@ use lib.Pow.{pow-pos, pow-mono}
 use Rattle.masks.specs.Mask.{has, maskOf}
 use Rattle.masks.proofs.Membership.{has-empty, has-above}
 use Rattle.masks.proofs.Extensionality.{ext, maskOf-lt, has-maskOf, maskOf-same, maskOf-unique}
-use Rattle.terms.specs.Lists.{Mem}
+use Rattle.basics.specs.Lists.{Mem}
 use Rattle.sheet_tests.specs.SheetTests.{Test, place, pair}
-use Rattle.decision.specs.Rules.{anyOf, sameTest}
+use Rattle.decision.specs.Rules.{sameTest}
 use Rattle.decision.specs.Node.{Node, end, switch, pairNode}
 use Rattle.decision.specs.Walk.{asksTest}
 use Rattle.decision.proofs.TestsOfRules.{same-test}
@@ -24,11 +24,7 @@ use Rattle.walk.specs.views.CodeSteps.{openCells, openIf, openAt}
 use Rattle.walk.specs.views.TestNumbers.{numberIn, Once, withTest}
 use Rattle.walk.specs.views.Following.{node, test, isMet, metOpen}
 use Rattle.walk.proofs.Numbers.{number-there, number-at}
-
--- A test is true somewhere in two joined lists where it is in one of them.
-any-join : {A : Type 0} (f : A → Bool) (xs ys : List A) → anyOf f (xs ++ ys) ≡ anyOf f xs || anyOf f ys
-any-join f [] ys = refl
-any-join f (x ∷ xs) ys = ap (λ (b : Bool). f x || b) (any-join f xs ys) ∙ sym (or-assoc (f x) (anyOf f xs) (anyOf f ys))
+use Rattle.basics.proofs.Filters.{any-join}
 
 -- One more truth value that is true only where the test is known adds nothing,
 adds-none : (q s o : Bool) → (s ≡ true → o ≡ false) → q && o ≡ (q || (s || false)) && o

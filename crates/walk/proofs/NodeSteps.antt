@@ -1,7 +1,7 @@
 -- What happens at a node, by the codes at its places and by its record.
 use Prim.Native.Nat.{ℕ, _+_, _≤_}
 use mathlib.Core.Path.{_≡_, refl, sym, ap, subst, _∙_}
-use mathlib.Core.Bool.{Bool, true, false}
+use mathlib.Core.Bool.{Bool, true, false, cond}
 use mathlib.Core.Logic.{_⊎_}
 use mathlib.Core.List.{List, []}
 use mathlib.Core.Option.{none}
@@ -10,7 +10,6 @@ use lib.Dec.{leb, eqb}
 use lib.ListN.{length, drop, length-drop}
 use lib.Seq.{drop-drop}
 use Rattle.records.specs.Reading.{Reading, took, refused, ask, after}
-use Rattle.terms.specs.Choice.{choose}
 use Rattle.terms.specs.Outcome.{Outcome}
 use Rattle.sheet_tests.specs.SheetTests.{Test}
 use Rattle.piece.specs.views.Cells.{unknownCode}
@@ -42,9 +41,9 @@ module _ (cs : List (CaseEdge ℕ)) (neither unknownEdge : ℕ) (t : Test) (code
   switch-lacking e f = (rw e, ap (λ (b : Bool). openIf b t) (sym f))
 
   pub switch-on
-      : (b : Bool) → eqb code 0 ≡ false → eqb code unknownCode ≡ b → Switched (choose b unknownEdge (followCode cs neither code)) b
+      : (b : Bool) → eqb code 0 ≡ false → eqb code unknownCode ≡ b → Switched (cond b unknownEdge (followCode cs neither code)) b
   switch-on b e f =
-      ((λ i. choose (sym e i) noWay (goTo (choose (sym f i) unknownEdge (followCode cs neither code)))), ap (λ (x : Bool). openIf x t) (sym f))
+      ((λ i. cond (sym e i) noWay (goTo (cond (sym f i) unknownEdge (followCode cs neither code)))), ap (λ (x : Bool). openIf x t) (sym f))
 
 -- A pair of which a place is lacking, or none.
 module _ (a b differ other : ℕ) (compared : Outcome) (t : Test) where

@@ -1,27 +1,26 @@
 -- The number of a test in a list.
 use Prim.Native.Nat.{ℕ, zero, suc, _+_, _-_, _<_}
 use mathlib.Core.Path.{_≡_, refl, sym, ap, subst, _∙_}
-use mathlib.Core.Bool.{Bool, true, false}
+use mathlib.Core.Bool.{Bool, true, false, cond}
 use mathlib.Core.Logic.{inl, inr}
 use mathlib.Core.List.{List, [], _∷_, _++_}
 use native.Mathlib.Omega.{arith}
 use borrow.Author.Tests.{eq-eqb, ne-eqb}
 use lib.Dec.{T, eqb, eqb·suc-suc}
 use lib.ListN.{length, getD}
-use Rattle.terms.specs.Choice.{choose}
-use Rattle.terms.specs.Lists.{Mem, All}
-use Rattle.terms.proofs.ListLaws.{mem-cases, mem-none, all-at, all-map}
-use Rattle.terms.proofs.Sorted.{Ascending}
+use Rattle.basics.specs.Lists.{Mem, All}
+use Rattle.basics.proofs.ListLaws.{mem-cases, mem-none, all-at, all-map}
+use Rattle.basics.proofs.Sorted.{Ascending}
 use Rattle.sheet_tests.specs.SheetTests.{Test, before, sheetTests, allTests}
 use Rattle.sheet_tests.proofs.TestOrder.{before-order, ascending-ascends}
 use Rattle.terms.specs.Pattern.{Patterns}
 use Rattle.decision.specs.Rules.{sameTest}
 use Rattle.decision.proofs.TestsOfRules.{same-test, test-same}
-use Rattle.decision.proofs.TestNumbers.{mem-at}
 use Rattle.walk.specs.views.TestNumbers.{numberIn, Once}
+use Rattle.basics.proofs.Positions.{mem-at}
 
 -- A choice by cases, with what the test said.
-by-choice : {A : Type 0} (Q : A → Type 0) (b : Bool) {x y : A} → (b ≡ true → Q x) → (b ≡ false → Q y) → Q (choose b x y)
+by-choice : {A : Type 0} (Q : A → Type 0) (b : Bool) {x y : A} → (b ≡ true → Q x) → (b ≡ false → Q y) → Q (cond b x y)
 by-choice Q true f g = f refl
 by-choice Q false f g = g refl
 
@@ -31,13 +30,13 @@ module _ (t : Test) where
       : (xs ys : List Test) → All (λ (u : Test). sameTest u t ≡ false) xs → numberIn (xs ++ ys) t ≡ length xs + numberIn ys t
   number-behind [] ys h = let none : numberIn ys t ≡ 0 + numberIn ys t = omega arith in none
   number-behind (x ∷ xs) ys h =
-      ap (λ (b : Bool). choose b 0 (suc (numberIn (xs ++ ys) t))) (h .0)
+      ap (λ (b : Bool). cond b 0 (suc (numberIn (xs ++ ys) t))) (h .0)
       ∙ ap suc (number-behind xs ys (h .1))
       ∙ (let more : suc (length xs + numberIn ys t) ≡ suc (length xs) + numberIn ys t = omega arith in more)
 
   -- At the first that is the same.
   pub number-first : (u : Test) (us : List Test) → sameTest u t ≡ true → numberIn (u ∷ us) t ≡ 0
-  number-first u us e = ap (λ (b : Bool). choose b 0 (suc (numberIn us t))) e
+  number-first u us e = ap (λ (b : Bool). cond b 0 (suc (numberIn us t))) e
 
   same-mem : (u : Test) (us : List Test) → Mem t (u ∷ us) → sameTest u t ≡ false → Mem t us
   same-mem u us m f =

@@ -1,7 +1,7 @@
 -- The set of the tests that are not known, one test after another.
 use Prim.Native.Nat.{ℕ, _+_, _-_, _<_, _≤_, _^_}
 use mathlib.Core.Path.{_≡_, sym, ap, subst, _∙_}
-use mathlib.Core.Bool.{Bool, true, false}
+use mathlib.Core.Bool.{Bool, true, false, cond}
 use mathlib.Core.List.{List}
 use native.Mathlib.Nat.{lt-of-lt-of-le}
 use native.Mathlib.Omega.{arith}
@@ -12,7 +12,6 @@ use Rattle.masks.specs.Mask.{maskOf}
 use Rattle.masks.proofs.Extensionality.{maskOf-lt}
 use Rattle.masks.proofs.Loops.{turn-yes, turn-no}
 use Rattle.masks.proofs.Operations.{insert-is}
-use Rattle.terms.specs.Choice.{choose}
 use Rattle.sheet_tests.specs.SheetTests.{place}
 use Rattle.sheet_tests.specs.views.KeptPairs.{codePair}
 use Rattle.walk.specs.views.LeafAnswers.{listedTest, withIf}
@@ -27,8 +26,8 @@ set-turn t p false e h is = turn-no t p e is
 -- A place that is listed, and a pair.
 pub listed-place : (places : List ℕ) (m : ℕ) (codes : List ℕ) (t : ℕ) → t < m → listedTest places m codes t ≡ place (getD places t 0)
 listed-place places m codes t h =
-    ap (λ (b : Bool). choose b (place (getD places t 0)) (codePair (getD codes (t - m) 0))) (lt-ltb t m h)
+    ap (λ (b : Bool). cond b (place (getD places t 0)) (codePair (getD codes (t - m) 0))) (lt-ltb t m h)
 
 pub listed-pair : (places : List ℕ) (m : ℕ) (codes : List ℕ) (t : ℕ) → m ≤ t → listedTest places m codes t ≡ codePair (getD codes (t - m) 0)
 listed-pair places m codes t h =
-    ap (λ (b : Bool). choose b (place (getD places t 0)) (codePair (getD codes (t - m) 0))) (le-ltb t m h)
+    ap (λ (b : Bool). cond b (place (getD places t 0)) (codePair (getD codes (t - m) 0))) (le-ltb t m h)

@@ -1,9 +1,9 @@
 -- The tests of a rule that are not known, as one set: those of the rule, and those that are not known.
-use Prim.Native.Nat.{ℕ, zero, suc, pred, _+_, _-_, _<_, _≤_}
-use mathlib.Core.Path.{_≡_, refl, sym, ap, ap₂, subst, _∙_}
+use Prim.Native.Nat.{ℕ, suc, pred, _+_, _-_, _<_, _≤_}
+use mathlib.Core.Path.{_≡_, sym, ap, ap₂, subst, _∙_}
 use mathlib.Core.Bool.{Bool, _&&_}
 use mathlib.Core.Logic.{by-cases}
-use mathlib.Core.List.{List, [], _∷_, _++_, map}
+use mathlib.Core.List.{List, _++_, map}
 use native.Mathlib.Decide.{decLt}
 use native.Mathlib.Nat.{lt-of-lt-of-le}
 use native.Mathlib.Omega.{arith}
@@ -13,12 +13,12 @@ use lib.Seq.{length-take-le, getD-take, getD-append-add}
 use Rattle.masks.specs.Mask.{has, maskOf}
 use Rattle.masks.proofs.Membership.{has-above}
 use Rattle.masks.proofs.Extensionality.{ext, maskOf-lt, has-maskOf, maskOf-same}
-use Rattle.terms.specs.Lists.{All, Mem}
+use Rattle.basics.specs.Lists.{All, Mem}
 use Rattle.terms.specs.Term.{Terms}
 use Rattle.terms.specs.Pattern.{Patterns}
 use Rattle.terms.specs.Accepted.{AcceptedRule, AcceptedPiece}
 use Rattle.terms.specs.Answer.{ruleAt}
-use Rattle.terms.proofs.ListLaws.{all-at}
+use Rattle.basics.proofs.ListLaws.{all-at}
 use Rattle.sheet.specs.views.Noted.{ruleNotes}
 use Rattle.sheet_tests.specs.SheetTests.{Test, place, sheetTests}
 use Rattle.sheet_tests.specs.views.TestedPlaces.{placesIn}
@@ -28,18 +28,12 @@ use Rattle.compiled.proofs.CompiledRight.{rule-row}
 use Rattle.piece.specs.views.LaidOut.{pieceCells}
 use Rattle.decision.specs.Rules.{testAt, hasTest, testsWhere}
 use Rattle.decision.specs.Walk.{testNotKnown}
-use Rattle.decision.proofs.TestNumbers.{mem-at}
 use Rattle.walk.specs.views.CodeSteps.{openCells}
 use Rattle.walk.specs.views.TestNumbers.{NearTest}
 use Rattle.walk.specs.views.LeafAnswers.{listedTest, openSet, ownTests, ownWaits}
 use Rattle.walk.proofs.StepsAgree.{open-agrees}
 use Rattle.walk.proofs.OpenSets.{listed-place, listed-pair}
-
--- Within a list it does not matter what would stand past its end.
-getD-any : (l : List Test) (n : ℕ) (d e : Test) → n < length l → getD l n d ≡ getD l n e
-getD-any [] n d e h = absurd (omega arith)
-getD-any (x ∷ l) zero d e h = refl
-getD-any (x ∷ l) (suc n) d e h = getD-any l n d e (omega arith)
+use Rattle.basics.proofs.Positions.{mem-at, getD-any}
 
 module _ (words codes : List ℕ) (n : ℕ) (all : n ≤ length codes) where
   pairs-length : length (map codePair (take n codes)) ≡ n

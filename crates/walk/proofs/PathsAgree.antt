@@ -5,7 +5,7 @@ use mathlib.Core.Bool.{Bool, _&&_}
 use mathlib.Core.List.{List, [], _∷_}
 use lib.ListN.{length, getD}
 use Rattle.masks.proofs.Extensionality.{maskOf-same}
-use Rattle.terms.specs.Lists.{All, Mem}
+use Rattle.basics.specs.Lists.{All, Mem}
 use Rattle.terms.specs.Term.{Terms}
 use Rattle.terms.specs.Pattern.{Patterns}
 use Rattle.terms.specs.Accepted.{AcceptedPiece}
@@ -16,11 +16,11 @@ use Rattle.decision.specs.Node.{Node, end}
 use Rattle.decision.specs.Path.{Step, stop, goTo, noWay, Path, ends, refusedAt, through, stepAt, lastStep, nextStep, pathFrom, path}
 use Rattle.decision.specs.Walk.{suspendWaits}
 use Rattle.decision.specs.Walk as walk
-use Rattle.decision.proofs.TestNumbers.{mem-at}
 use Rattle.walk.specs.views.CodeSteps.{stepCells, NearNode}
 use Rattle.walk.specs.views.TestNumbers.{NearTest}
 use Rattle.walk.specs.views.Following.{lastOf, nextOf, pathBy, Ended, reached, stopped, isMet, metOpen, endOf, cellsEnd}
 use Rattle.walk.proofs.StepsAgree.{FieldsFit, step-agrees, open-agrees}
+use Rattle.basics.proofs.Positions.{mem-at}
 
 -- What is said of each node of a list is said of each number's, where it is said of the node that stands for no number.
 pub nodes-each

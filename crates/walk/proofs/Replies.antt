@@ -8,7 +8,7 @@ use lib.ListN.{length, drop, take}
 use borrow.Author.Tests.{eq-eqb, ne-eqb}
 use Rattle.records.specs.Fields.{IsByte}
 use Rattle.records.specs.Reading.{Reading, took, refused, ask, andThen}
-use Rattle.terms.specs.Lists.{All}
+use Rattle.basics.specs.Lists.{All}
 use Rattle.terms.specs.Accepted.{AcceptedPiece}
 use Rattle.sheet.specs.Sheet.{Sheet, SoundSheet}
 use Rattle.sheet.specs.ReadSheet.{readRules}

@@ -1,12 +1,11 @@
 -- In the cells of an accepted piece, what happens at a node, and which tests are not known, is what the piece says.
 use Prim.Native.Nat.{ℕ, _≤_}
 use mathlib.Core.Path.{_≡_, refl, ap, _∙_}
-use mathlib.Core.Bool.{Bool, true, false, _||_}
+use mathlib.Core.Bool.{Bool, true, false, _||_, cond}
 use mathlib.Core.List.{List}
 use lib.Dec.{eqb}
 use borrow.Author.Tests.{ne-eqb}
-use Rattle.terms.specs.Choice.{choose}
-use Rattle.terms.specs.Lists.{All}
+use Rattle.basics.specs.Lists.{All}
 use Rattle.terms.specs.Term.{Terms, unknown, symbol, number, compound}
 use Rattle.terms.specs.Lookup.{Found, lacking, found, termAt}
 use Rattle.terms.specs.Outcome.{atPlaces}
@@ -37,9 +36,9 @@ FieldsFit (pairNode p q x y) = Unit
 
 -- A code that is there leads on: by unknown where it is an unknown's, else by the cases.
 module _ (cs : List (CaseEdge ℕ)) (x y : ℕ) where
-  leads-on : {n : ℕ} (code : ℕ) (b : Bool) → (code ≡ 0 → ⊥) → eqb code unknownCode ≡ b → choose b y (followCode cs x code) ≡ n → codeStep cs x y code ≡ goTo n
+  leads-on : {n : ℕ} (code : ℕ) (b : Bool) → (code ≡ 0 → ⊥) → eqb code unknownCode ≡ b → cond b y (followCode cs x code) ≡ n → codeStep cs x y code ≡ goTo n
   leads-on code b some is leads =
-      (λ i. choose (ne-eqb code 0 some i) noWay (goTo (choose (is i) y (followCode cs x code)))) ∙ ap goTo leads
+      (λ i. cond (ne-eqb code 0 some i) noWay (goTo (cond (is i) y (followCode cs x code)))) ∙ ap goTo leads
 
   -- So at a switch the code of what is found leads where the found does.
   switch-agrees
@@ -65,7 +64,7 @@ code-lacking lacking = refl
 code-lacking (found t) = ne-eqb (termCode t) 0 (code-some t)
 
 pair-steps
-    : (x y : ℕ) (f g : Found) → choose (isLacking f || isLacking g) noWay (byComparison x y (atPlaces f g)) ≡ pairStep x y f g
+    : (x y : ℕ) (f g : Found) → cond (isLacking f || isLacking g) noWay (byComparison x y (atPlaces f g)) ≡ pairStep x y f g
 pair-steps x y lacking g = refl
 pair-steps x y (found t) lacking = refl
 pair-steps x y (found t) (found u) = refl
@@ -89,7 +88,7 @@ module _ (arity : ℕ) (piece : Terms) (accepted : AcceptedPiece arity piece) (f
       let outcome = pair-test-agrees arity piece accepted few p q (near .0) (near .1) in
       let left = ap (λ (k : ℕ). eqb k 0) (look-finds arity piece accepted few p (near .0)) ∙ code-lacking (termAt piece p) in
       let right = ap (λ (k : ℕ). eqb k 0) (look-finds arity piece accepted few q (near .1)) ∙ code-lacking (termAt piece q) in
-      (λ i. choose (left i || right i) noWay (byComparison x y (outcome i))) ∙ pair-steps x y (termAt piece p) (termAt piece q)
+      (λ i. cond (left i || right i) noWay (byComparison x y (outcome i))) ∙ pair-steps x y (termAt piece p) (termAt piece q)
 
   -- Whether a test is not known.
   pub open-agrees : (t : Test) → NearTest t → openCells (pieceCells piece) t ≡ testNotKnown piece t

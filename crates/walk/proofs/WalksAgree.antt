@@ -7,13 +7,13 @@ use native.Mathlib.Omega.{arith}
 use lib.ListN.{length, take}
 use Rattle.records.specs.Fields.{IsByte}
 use Rattle.records.specs.Reading.{took, andThen}
-use Rattle.terms.specs.Lists.{All}
+use Rattle.basics.specs.Lists.{All}
 use Rattle.terms.specs.Term.{Terms}
 use Rattle.terms.specs.Pattern.{Patterns, pnil}
 use Rattle.terms.specs.Outcome.{Outcome, holds, notKnown, contradicted, ruleOutcome}
 use Rattle.terms.specs.Accepted.{AcceptedRule, AcceptedPiece}
 use Rattle.terms.specs.Answer.{ruleAt, onlyRule}
-use Rattle.terms.proofs.ListLaws.{all-at, all-from}
+use Rattle.basics.proofs.ListLaws.{all-at, all-from}
 use Rattle.sheet.specs.Sheet.{Sheet, SoundSheet}
 use Rattle.sheet.specs.views.Noted.{ruleNotes}
 use Rattle.sheet_tests.specs.SheetTests.{Test, sheetTests}
@@ -26,7 +26,6 @@ use Rattle.decision.specs.Node.{Node}
 use Rattle.decision.specs.Rules.{testAt, hasTest, testsWhere}
 use Rattle.decision.specs.Path.{Path, ends, refusedAt, path}
 use Rattle.decision.specs.Walk.{testNotKnown, executeWaits, atEnd, walk}
-use Rattle.decision.proofs.TestNumbers.{mem-at}
 use Rattle.graph.specs.ReadGraph.{readGraph}
 use Rattle.graph.proofs.TestedPlaces.{tests-near}
 use Rattle.node_check.specs.views.CheckNode.{startsFrom}
@@ -38,6 +37,7 @@ use Rattle.walk.proofs.OwnWaits.{own-right}
 use Rattle.walk.proofs.PathsAgree.{pieceEnd, paths-same, path-agrees}
 use Rattle.walk.proofs.Indexing.{near-test, nodes-near, nodes-fit, nodes-are, nodes-leaves}
 use Rattle.walk.proofs.LeafRules.{LeafPath, cells-leaf}
+use Rattle.basics.proofs.Positions.{mem-at}
 
 -- A wait list goes by the outcome.
 waits-by

@@ -10,7 +10,7 @@ ghost use Prim.Native.Nat.{_+_, _≤_};
 ghost use mathlib.Core.Path.{_≡_};
 ghost use mathlib.Core.List.{[]};
 ghost use lib.ListN.{length};
-ghost use Rattle.terms.specs.Lists.{All};
+ghost use Rattle.basics.specs.Lists.{All};
 ghost use Rattle.terms.specs.Answer.{ruleAt};
 ghost use Rattle.sheet.specs.views.Noted.{ruleNotes};
 ghost use Rattle.sheet.specs.views.NoteArray.{notesIn};

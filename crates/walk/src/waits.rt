@@ -7,7 +7,7 @@ ghost use Prim.Native.Nat.{ℕ, _+_, _≤_, _<_};
 ghost use mathlib.Core.Path.{_≡_};
 ghost use lib.ListN.{length};
 ghost use Rattle.masks.specs.Mask.{maskOf};
-ghost use Rattle.terms.specs.Lists.{All};
+ghost use Rattle.basics.specs.Lists.{All};
 ghost use Rattle.sheet.specs.views.NoteArray.{notesIn};
 ghost use Rattle.sheet_tests.specs.views.NoteTests.{Placed};
 ghost use Rattle.sheet_tests.specs.views.TestedPlaces.{placesIn};

@@ -1,6 +1,6 @@
 -- The cases of a switch one after another, as runs of codes.
 use Prim.Native.Nat.{ℕ}
-use mathlib.Core.Bool.{true, false}
+use mathlib.Core.Bool.{cond}
 use mathlib.Core.List.{List, [], _∷_}
 use lib.Dec.{leb}
 use Rattle.decision.specs.Cases.{Case}
@@ -13,7 +13,7 @@ use Rattle.edges.specs.views.Codes.{caseLow, caseHigh}
 abbrev pub firstCase : ℕ → List Case → NextCase
 firstCase from [] = Nothing
 firstCase from (c ∷ cs) =
-    elim (leb from (caseLow c)) [ true ↦ Run (caseLow c) (caseHigh c) | false ↦ firstCase from cs ]
+    cond (leb from (caseLow c)) (Run (caseLow c) (caseHigh c)) (firstCase from cs)
 
 -- Where there is a case, this holds of its lowest and its highest code.
 abbrev pub OfRun : NextCase → (ℕ → ℕ → Type 0) → Type 0

@@ -1,11 +1,12 @@
 -- What is read off the tables of a sheet, whatever they hold.
 use Prim.Native.Nat.{ℕ, _+_, _-_, _*_, _/_, _%_}
-use mathlib.Core.Bool.{Bool, true, false, not, _&&_, _||_}
+use mathlib.Core.Bool.{Bool, not, _&&_, _||_, cond}
 use mathlib.Core.List.{List, [], _∷_}
 use lib.Dec.{leb, ltb}
 use lib.ListN.{getD}
 use Rattle.places.specs.Numbering.{atOrBelow}
-use Rattle.masks.specs.Mask.{has, maskOf, anyBelow}
+use Rattle.masks.specs.Mask.{has, maskOf}
+use Rattle.basics.specs.Lists.{anyBelow}
 
 -- The members of a set of numbers below 64 at which p holds.
 unfoldable pub those : ℕ → (ℕ → Bool) → ℕ
@@ -27,10 +28,7 @@ stays rows low high t code i =
 -- Test u is a place at or below place p, or a pair with such a place; the first so many tests are places.
 unfoldable pub isBelow : List ℕ → List ℕ → ℕ → ℕ → ℕ → Bool
 isBelow places pairs count p u =
-    elim (ltb u count) [
-      | true ↦ atOrBelow p (getD places u 0)
-      | false ↦ atOrBelow p (getD pairs (u - count) 0 / 0x1_0000) || atOrBelow p (getD pairs (u - count) 0 % 0x1_0000)
-    ]
+    cond (ltb u count) (atOrBelow p (getD places u 0)) (atOrBelow p (getD pairs (u - count) 0 / 0x1_0000) || atOrBelow p (getD pairs (u - count) 0 % 0x1_0000))
 
 -- The code that stands after all: no cut is there.
 abbrev pub noCut : ℕ
@@ -39,8 +37,8 @@ noCut = 0x400_0000
 -- The first of ascending cuts from a code on.
 abbrev pub firstFrom : ℕ → List ℕ → ℕ
 firstFrom from [] = noCut
-firstFrom from (x ∷ xs) = elim (leb from x) [ true ↦ x | false ↦ firstFrom from xs ]
+firstFrom from (x ∷ xs) = cond (leb from x) x (firstFrom from xs)
 
 -- The nearest of the cuts from a code on: the new one where it is nearer than the best so far.
 unfoldable pub nearerOf : ℕ → ℕ → ℕ → ℕ
-nearerOf best from cut = elim (leb from cut && ltb cut best) [ true ↦ cut | false ↦ best ]
+nearerOf best from cut = cond (leb from cut && ltb cut best) cut best

@@ -1,7 +1,7 @@
 -- The keys whose nodes are written, and the nodes (document 01, "Nodes").
 use Prim.Native.Nat.{ℕ}
 use mathlib.Core.List.{List, map}
-use Rattle.terms.specs.Lists.{All}
+use Rattle.basics.specs.Lists.{All}
 use Rattle.terms.specs.Pattern.{Patterns}
 use Rattle.decision.specs.Rules.{testAt}
 use Rattle.decision.specs.Key.{Key, Vertex}

@@ -1,7 +1,7 @@
 -- The graph by the keys of its vertices. "All fail nodes are one, all suspend nodes one, execute nodes one for each rule": each has
 -- one key, which no node that asks has, for that has two live rules or more.
 use Prim.Native.Nat.{ℕ, suc}
-use mathlib.Core.Bool.{true, false}
+use mathlib.Core.Bool.{cond}
 use mathlib.Core.List.{List, [], _∷_, map}
 use lib.Dec.{eqb}
 use Rattle.masks.specs.Mask.{members}
@@ -19,7 +19,7 @@ nameOf v = keyIn (vertexKey v)
 
 -- The vertex that has a key, by its live rules.
 abbrev pub vertexBy : List ℕ → Key → Vertex
-vertexBy [] key = leaf (elim (eqb (key .pending) 0) [ true ↦ fail | false ↦ suspend ])
+vertexBy [] key = leaf (cond (eqb (key .pending) 0) fail suspend)
 vertexBy (i ∷ []) key = leaf (execute (suc i))
 vertexBy (i ∷ (j ∷ l)) key = asking key
 

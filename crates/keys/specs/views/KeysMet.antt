@@ -2,12 +2,11 @@
 -- place among them.
 use Prim.Native.Nat.{ℕ, _≤_, _<_}
 use mathlib.Core.Path.{_≡_}
-use mathlib.Core.Bool.{Bool, true, false, _&&_}
+use mathlib.Core.Bool.{Bool, _&&_, cond}
 use mathlib.Core.List.{List, [], _∷_, _++_, map}
 use lib.Dec.{ltb}
 use lib.ListN.{length, getD}
-use Rattle.terms.specs.Lists.{Mem, countFrom}
-use Rattle.decision.specs.Rules.{anyOf}
+use Rattle.basics.specs.Lists.{Mem, countFrom, anyOf}
 use Rattle.decision.specs.Key.{Key, sameKey}
 use Rattle.decision.specs.Graph.{numberIn, mostNodes}
 
@@ -32,7 +31,7 @@ isAt lives pendings count key i = ltb i count && sameKey key (keyAt lives pendin
 
 -- What is met once one key more is.
 abbrev pub meet : List Key → Key → List Key
-meet keys key = elim (anyOf (sameKey key) keys) [ true ↦ keys | false ↦ keys ++ key ∷ [] ]
+meet keys key = cond (anyOf (sameKey key) keys) keys (keys ++ key ∷ [])
 
 -- What is met once some keys more are, one after another.
 abbrev pub meetAll : List Key → List Key → List Key

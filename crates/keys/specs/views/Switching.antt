@@ -1,11 +1,11 @@
 -- The cases of a switch one after another, the keys behind them, and the bytes of their records.
-use Prim.Native.Nat.{ℕ, _+_, _≤_}
+use Prim.Native.Nat.{ℕ, _+_}
 use mathlib.Core.Path.{_≡_}
-use mathlib.Core.Bool.{true, false}
+use mathlib.Core.Bool.{cond}
 use mathlib.Core.List.{List, [], _∷_, map}
 use lib.Dec.{leb, ltb}
 use lib.ListN.{length}
-use Rattle.terms.specs.Lists.{filter}
+use Rattle.basics.specs.Lists.{filter}
 use Rattle.terms.specs.Pattern.{Patterns}
 use Rattle.sheet_tests.specs.SheetTests.{place}
 use Rattle.decision.specs.Rules.{testAt}
@@ -15,7 +15,6 @@ use Rattle.decision.specs.Edges.{liveWants, byCase}
 use Rattle.decision.specs.GraphBytes.{caseBytes}
 use Rattle.edges.specs.views.Codes.{caseLow}
 use Rattle.edges.specs.views.Compiled.{Asked, CodeTable}
-use Rattle.keys.specs.views.KeysMet.{Met, meetAll}
 use Rattle.keys.specs.views.KeyGraph.{nameOf}
 
 -- The tables are those of rules with these live, whose test t asks at place n.
@@ -44,4 +43,4 @@ casesLength (c ∷ cs) = length (caseBytes c 0) + casesLength cs
 
 -- How long the record of the case is that begins at a code.
 abbrev pub lengthAt : ℕ → ℕ
-lengthAt code = elim (ltb code 0x200_0000) [ true ↦ 5 | false ↦ elim (ltb code 0x300_0000) [ true ↦ 6 | false ↦ 7 ] ]
+lengthAt code = cond (ltb code 0x200_0000) 5 (cond (ltb code 0x300_0000) 6 7)

@@ -8,7 +8,6 @@ use lib.ListN.{length, take}
 use Rattle.records.specs.Reading.{Reading, took, refused, ask, andThen}
 use Rattle.sheet_tests.specs.SheetTests.{Test, place, pair}
 use Rattle.sheet_tests.specs.views.TestedPlaces.{hasPlace}
-use Rattle.decision.specs.Rules.{anyOf}
 use Rattle.decision.specs.Node.{Node}
 use Rattle.decision.specs.GraphBytes.{nodeBytes}
 use Rattle.graph.specs.declared.Leaf.{Leaf}
@@ -17,6 +16,7 @@ use Rattle.graph.specs.declared.NodeHead.the-variants.{Whole}
 use Rattle.node_check.specs.declared.NodeCheck.{NodeCheck}
 use Rattle.node_check.specs.declared.NodeCheck.the-variants.{Used, Refused}
 use Rattle.graph.specs.ReadGraph.{allInside, casesAscend, readCases, onNode, askNode}
+use Rattle.basics.specs.Lists.{anyOf}
 
 -- A pair is among the first so many codes, each of which has p in its two high bytes and q in its two low ones.
 abbrev pub isPair : ℕ → ℕ → ℕ → Bool

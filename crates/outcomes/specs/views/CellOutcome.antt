@@ -1,10 +1,9 @@
 -- The outcomes of tests in a piece that is laid out by place (document 01, "Places and tests").
 use Prim.Native.Nat.{ℕ, pred}
-use mathlib.Core.Bool.{_&&_, _||_}
+use mathlib.Core.Bool.{_&&_, _||_, cond}
 use mathlib.Core.List.{List}
 use lib.Dec.{leb, eqb}
 use Rattle.places.specs.Numbering.{levelsAt}
-use Rattle.terms.specs.Choice.{choose}
 use Rattle.terms.specs.RuleTests.{Want, aSymbol, aNumber, aCompound}
 use Rattle.terms.specs.Outcome.{Outcome, holds, notKnown, contradicted, known}
 use Rattle.piece.specs.views.Cells.{symbolCode, compoundCode, numberCode, unknownCode}
@@ -32,7 +31,7 @@ wantHigh (aCompound a n) = compoundCode a n
 
 -- A place test at a code: "it is not known at an unknown and contradicted at anything else" than what it wants.
 abbrev pub codeOutcome : ℕ → ℕ → ℕ → Outcome
-codeOutcome low high code = choose (eqb code unknownCode) notKnown (known (leb low code && leb code high))
+codeOutcome low high code = cond (eqb code unknownCode) notKnown (known (leb low code && leb code high))
 
 -- A place test at place p.
 abbrev pub placeCells : List ℕ → ℕ → ℕ → ℕ → Outcome
@@ -42,7 +41,7 @@ placeCells cells p low high = codeOutcome low high (look cells p)
 -- lacking.
 abbrev pub codesOutcome : ℕ → ℕ → Outcome → Outcome
 codesOutcome a b compared =
-    choose (eqb a 0 || eqb b 0) contradicted (choose (eqb a unknownCode || eqb b unknownCode) notKnown compared)
+    cond (eqb a 0 || eqb b 0) contradicted (cond (eqb a unknownCode || eqb b unknownCode) notKnown compared)
 
 -- An equality test at places p and q. A place has one level less below it than it has levels.
 abbrev pub pairCells : List ℕ → ℕ → ℕ → Outcome

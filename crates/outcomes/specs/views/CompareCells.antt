@@ -1,11 +1,10 @@
 -- How two terms of a piece compare, as its cells tell it (document 01, "Places and tests").
 use Prim.Native.Nat.{ℕ, zero, suc, _+_, _%_, _≤_}
-use mathlib.Core.Bool.{Bool, _&&_, _||_}
+use mathlib.Core.Bool.{Bool, _&&_, _||_, cond}
 use mathlib.Core.List.{List}
 use lib.ListN.{getD}
 use lib.Dec.{leb, ltb, eqb}
 use Rattle.places.specs.Numbering.{stride}
-use Rattle.terms.specs.Choice.{choose}
 use Rattle.terms.specs.Outcome.{Outcome, holds, notKnown, contradicted, _and_}
 use Rattle.piece.specs.views.Cells.{compoundCode, numberCode, unknownCode}
 
@@ -24,8 +23,8 @@ Narrow cells = (i : ℕ) → arityOf (getD cells i 0) ≤ 4
 -- numbers are equal, and two compounds are as their arguments say.
 abbrev pub compareCodes : ℕ → ℕ → Outcome → Outcome
 compareCodes a b arguments =
-    choose (eqb a unknownCode || eqb b unknownCode) notKnown
-    (choose (eqb a b) (choose (isCompound a) arguments holds) contradicted)
+    cond (eqb a unknownCode || eqb b unknownCode) notKnown
+    (cond (eqb a b) (cond (isCompound a) arguments holds) contradicted)
 
 -- n pairs of terms in turn, the first at places p and q, each compared by one: the next ones stand i and j places
 -- later.

@@ -1,10 +1,10 @@
 -- What stands at a place of a piece that is laid out by place (document 01, "Places and tests").
+use mathlib.Core.Bool.{cond}
 use Prim.Native.Nat.{ℕ, zero, suc}
 use mathlib.Core.List.{List}
 use lib.ListN.{getD}
 use lib.Dec.{eqb}
 use Rattle.places.specs.Numbering.{parentAt}
-use Rattle.terms.specs.Choice.{choose}
 use Rattle.piece.specs.views.Cells.{unknownCode}
 
 -- The cell of the nearest place that has one, of p and the places above it, so many in all; 0 where none has. The
@@ -12,12 +12,12 @@ use Rattle.piece.specs.views.Cells.{unknownCode}
 abbrev pub nearest : ℕ → List ℕ → ℕ → ℕ
 nearest zero cells p = 0
 nearest (suc k) cells p =
-    choose (eqb p 680) 0 (choose (eqb (getD cells p 0) 0) (nearest k cells (parentAt p)) (getD cells p 0))
+    cond (eqb p 680) 0 (cond (eqb (getD cells p 0) 0) (nearest k cells (parentAt p)) (getD cells p 0))
 
 -- What stands at place p: its cell; where that is 0, unknown if the nearest place above it with a cell is, since "a
 -- place below an unknown is unknown", else nothing. At most 3 places are above it.
 abbrev pub look : List ℕ → ℕ → ℕ
 look cells p =
-    choose (eqb (getD cells p 0) 0)
-    (choose (eqb (nearest 3 cells (parentAt p)) unknownCode) unknownCode 0)
+    cond (eqb (getD cells p 0) 0)
+    (cond (eqb (nearest 3 cells (parentAt p)) unknownCode) unknownCode 0)
     (getD cells p 0)

@@ -1,5 +1,5 @@
 -- The outcome of a rule's tests in a piece that is laid out by place, off the rule's notes.
-use Prim.Native.Nat.{ℕ, _<_}
+use Prim.Native.Nat.{ℕ}
 use mathlib.Core.Bool.{Bool, true, false}
 use mathlib.Core.List.{List}
 use lib.Dec.{leb}

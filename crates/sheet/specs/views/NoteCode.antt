@@ -1,8 +1,8 @@
 -- A note as one number of 64 bits, so that the notes of a rule are one array. From the highest bits down: the place,
 -- the kind of the record (its kind byte less 0x20), the variable (4 bits) and two fields of 16 bits.
+use mathlib.Core.Bool.{cond}
 use Prim.Native.Nat.{ℕ, _+_, _*_, _/_, _%_, _<_}
 use lib.Dec.{eqb}
-use Rattle.records.specs.Reading.{isKind}
 use Rattle.terms.specs.Term.{Wide}
 use Rattle.sheet.specs.declared.PatternRecord.{PatternRecord}
 use Rattle.sheet.specs.declared.PatternRecord.the-variants.{Anything, Symbol, Range, Compound, Variable, Ranged}
@@ -52,11 +52,11 @@ codeSecond c = c % 0x1_0000
 -- The record and the note that a number stands for. An arity is one byte.
 unfoldable pub codeRecord : ℕ → PatternRecord
 codeRecord c =
-    isKind (eqb (codeKind c) 1) (Symbol (codeFirst c))
-    (isKind (eqb (codeKind c) 2) (Range (codeFirst c) (codeSecond c))
-    (isKind (eqb (codeKind c) 3) (Compound (codeFirst c) (c % 256))
-    (isKind (eqb (codeKind c) 4) (Variable (codeVariable c))
-    (isKind (eqb (codeKind c) 5) (Ranged (codeVariable c) (codeFirst c) (codeSecond c))
+    cond (eqb (codeKind c) 1) (Symbol (codeFirst c))
+    (cond (eqb (codeKind c) 2) (Range (codeFirst c) (codeSecond c))
+    (cond (eqb (codeKind c) 3) (Compound (codeFirst c) (c % 256))
+    (cond (eqb (codeKind c) 4) (Variable (codeVariable c))
+    (cond (eqb (codeKind c) 5) (Ranged (codeVariable c) (codeFirst c) (codeSecond c))
     Anything))))
 
 abbrev pub noteOf : ℕ → Note

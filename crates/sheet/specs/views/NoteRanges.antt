@@ -1,17 +1,16 @@
 -- The common range of each variable of a rule, off its notes (document 01, "Places and tests"; question 9).
 use Prim.Native.Nat.{ℕ}
-use mathlib.Core.Bool.{Bool, true, false}
+use mathlib.Core.Bool.{Bool, cond}
 use mathlib.Core.List.{List, [], _∷_, map}
 use mathlib.Core.Option.{Option, some, none}
 use lib.Dec.{eqb, leb}
 use lib.ListN.{getD}
-use Rattle.terms.specs.Lists.{countFrom}
+use Rattle.basics.specs.Lists.{countFrom, allBelow}
 use Rattle.terms.specs.RuleTests.{Range, commonPart}
 use Rattle.sheet.specs.declared.PatternRecord.{PatternRecord}
 use Rattle.sheet.specs.declared.PatternRecord.the-variants.{Anything, Symbol, Range as RangeOf, Compound, Variable, Ranged}
 use Rattle.sheet.specs.declared.Ranges.{Ranges}
 use Rattle.sheet.specs.views.Noted.{Note}
-use Rattle.sheet.specs.ReadSheet.{allBelow}
 
 -- The range that a record gives to variable v.
 abbrev pub recordRange : PatternRecord → ℕ → Option Range
@@ -20,7 +19,7 @@ recordRange (Symbol a) v = none
 recordRange (RangeOf l h) v = none
 recordRange (Compound a n) v = none
 recordRange (Variable u) v = none
-recordRange (Ranged u l h) v = elim (eqb u v) [ true ↦ some (record { low = l; high = h }) | false ↦ none ]
+recordRange (Ranged u l h) v = cond (eqb u v) (some (record { low = l; high = h })) none
 
 -- "The common part of those ranges", of variable v.
 abbrev pub rangeIn : List Note → ℕ → Option Range

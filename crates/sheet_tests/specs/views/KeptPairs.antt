@@ -4,7 +4,7 @@ use mathlib.Core.Bool.{Bool, true, false}
 use mathlib.Core.List.{List, [], _∷_}
 use lib.Dec.{leb, ltb}
 use lib.ListN.{length, take}
-use Rattle.terms.specs.Order.{insertBy}
+use Rattle.basics.specs.Order.{insertBy}
 use Rattle.sheet_tests.specs.SheetTests.{Test, pair}
 use Rattle.sheet_tests.specs.CheckSheet.{mostTests}
 

@@ -4,7 +4,6 @@ use mathlib.Core.Bool.{Bool, true, false, _&&_}
 use mathlib.Core.List.{List, [], _∷_, map}
 use lib.Dec.{ltb, eqb}
 use lib.ListN.{getD}
-use Rattle.masks.specs.Mask.{consIf}
 use Rattle.terms.specs.RuleTests.{Occurrence, PairTest, pairsOf, pairsWith}
 use Rattle.sheet.specs.declared.PatternRecord.{PatternRecord}
 use Rattle.sheet.specs.declared.PatternRecord.the-variants.{Anything, Symbol, Range, Compound, Variable, Ranged}
@@ -12,6 +11,7 @@ use Rattle.sheet.specs.views.Noted.{Note}
 use Rattle.sheet_tests.specs.declared.Name.{Name}
 use Rattle.sheet_tests.specs.declared.Name.the-variants.{Nameless, Of}
 use Rattle.sheet_tests.specs.views.KeptPairs.{pairCode}
+use Rattle.masks.proofs.Listed.{consIf}
 
 -- A record is a place test: a symbol, a range, a compound, or a variable with a range.
 abbrev pub isTested : (ℕ → Bool) → PatternRecord → Bool

@@ -5,8 +5,8 @@ use mathlib.Core.List.{List, [], _∷_}
 use lib.Dec.{ltb}
 use lib.ListN.{length, getD}
 use Rattle.masks.specs.Mask.{has}
-use Rattle.terms.specs.Lists.{filter, countFrom}
-use Rattle.terms.specs.Order.{insertBy}
+use Rattle.basics.specs.Lists.{filter, countFrom}
+use Rattle.basics.specs.Order.{insertBy}
 
 -- Place n is in the set where bit n % 64 of word n / 64 is 1.
 abbrev pub hasPlace : List ℕ → ℕ → Bool

@@ -1,10 +1,9 @@
 -- What happens at a node (document 01, "The walk"), as the cells of a piece tell it: a number for what stands at each place.
 use Prim.Native.Nat.{ℕ, _<_}
-use mathlib.Core.Bool.{Bool, true, false, _&&_, _||_}
+use mathlib.Core.Bool.{Bool, true, false, _&&_, _||_, cond}
 use mathlib.Core.List.{List, [], _∷_}
 use mathlib.Core.Option.{Option, some, none}
 use lib.Dec.{leb, eqb}
-use Rattle.terms.specs.Choice.{choose}
 use Rattle.terms.specs.Outcome.{Outcome}
 use Rattle.sheet_tests.specs.SheetTests.{Test, place, pair}
 use Rattle.piece.specs.views.Cells.{unknownCode}
@@ -27,18 +26,18 @@ takesCode c code = leb (firstCode c) code && leb code (lastCode c)
 -- Where a code leads at a switch: by the first case that takes it, or by the "node for neither".
 abbrev pub followCode : List (CaseEdge ℕ) → ℕ → ℕ → ℕ
 followCode [] neither code = neither
-followCode (c ∷ cs) neither code = choose (takesCode (c .case) code) (c .target) (followCode cs neither code)
+followCode (c ∷ cs) neither code = cond (takesCode (c .case) code) (c .target) (followCode cs neither code)
 
 -- The step at a switch where its place has this code, 0 where the piece lacks it: "27 Is each place it tests in the piece, or
 -- below an unknown?" An unknown leads by the "node for unknown".
 abbrev pub codeStep : List (CaseEdge ℕ) → ℕ → ℕ → ℕ → Step ℕ
 codeStep cs neither unknownEdge code =
-    choose (eqb code 0) noWay (goTo (choose (eqb code unknownCode) unknownEdge (followCode cs neither code)))
+    cond (eqb code 0) noWay (goTo (cond (eqb code unknownCode) unknownEdge (followCode cs neither code)))
 
 -- The step at a pair where its places have these codes and its test this outcome: by the "node for no" where they differ, else by
 -- the "node for other".
 abbrev pub codesStep : ℕ → ℕ → ℕ → ℕ → Outcome → Step ℕ
-codesStep differ other a b outcome = choose (eqb a 0 || eqb b 0) noWay (byComparison differ other outcome)
+codesStep differ other a b outcome = cond (eqb a 0 || eqb b 0) noWay (byComparison differ other outcome)
 
 -- A test, or none.
 abbrev pub openIf : Bool → Test → Option Test

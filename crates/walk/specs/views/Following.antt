@@ -6,9 +6,8 @@ use mathlib.Core.List.{List, [], _∷_, map}
 use lib.Dec.{T}
 use lib.ListN.{length, getD, drop}
 use Rattle.masks.specs.Mask.{maskOf}
-use Rattle.terms.specs.Lists.{All, countFrom}
+use Rattle.basics.specs.Lists.{All, countFrom, anyOf}
 use Rattle.sheet_tests.specs.SheetTests.{Test, place, pair}
-use Rattle.decision.specs.Rules.{anyOf}
 use Rattle.decision.specs.Key.{Leaf, fail}
 use Rattle.decision.specs.Node.{Node, end, switch, pairNode, edges}
 use Rattle.decision.specs.Path.{Step, stop, goTo, noWay, Path, ends, refusedAt, through}

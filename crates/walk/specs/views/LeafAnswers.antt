@@ -1,12 +1,11 @@
 -- What is answered at a leaf (document 01, "The walk"), as the cells of a piece tell it.
 use Prim.Native.Nat.{ℕ, _-_, _≤_}
-use mathlib.Core.Bool.{Bool, true, false, _&&_, _||_}
+use mathlib.Core.Bool.{Bool, true, false, _&&_, _||_, cond}
 use mathlib.Core.List.{List}
 use lib.Dec.{eqb, ltb}
 use lib.ListN.{length, getD, take, replicate}
 use Rattle.masks.specs.Mask.{has, maskOf}
 use Rattle.records.specs.Reading.{Reading, took, refused}
-use Rattle.terms.specs.Choice.{choose}
 use Rattle.terms.specs.Pattern.{Patterns}
 use Rattle.terms.specs.Outcome.{Outcome, holds, notKnown, contradicted}
 use Rattle.terms.specs.Answer.{ruleAt, onlyRule}
@@ -26,7 +25,7 @@ use Rattle.walk.specs.views.Following.{Ended, reached, stopped}
 
 -- Test t, where m places and then pairs are listed: "its distinct tested places ascending, then its distinct pairs".
 abbrev pub listedTest : List ℕ → ℕ → List ℕ → ℕ → Test
-listedTest places m codes t = choose (ltb t m) (place (getD places t 0)) (codePair (getD codes (t - m) 0))
+listedTest places m codes t = cond (ltb t m) (place (getD places t 0)) (codePair (getD codes (t - m) 0))
 
 -- "A set of tests, test t being bit t of 64": with t, or as it is.
 abbrev pub withIf : Bool → ℕ → ℕ → ℕ

@@ -2,14 +2,13 @@
 -- pairs .., numbered from 0". The check of a sheet leaves the places as a set in words of 64 bits and the pairs as codes.
 use Prim.Native.Nat.{ℕ, suc, _<_}
 use mathlib.Core.Path.{_≡_}
-use mathlib.Core.Bool.{_||_}
+use mathlib.Core.Bool.{_||_, cond}
 use mathlib.Core.List.{List, [], _∷_}
 use mathlib.Core.Option.{Option, some, none}
 use lib.Dec.{T, eqb}
 use lib.ListN.{length}
 use Rattle.masks.specs.Mask.{has, maskOf}
-use Rattle.terms.specs.Choice.{choose}
-use Rattle.terms.specs.Lists.{All, filter, countFrom}
+use Rattle.basics.specs.Lists.{All, filter, countFrom}
 use Rattle.sheet_tests.specs.SheetTests.{Test, place, pair}
 use Rattle.sheet_tests.specs.views.TestedPlaces.{hasPlace}
 use Rattle.decision.specs.Rules.{sameTest}
@@ -18,7 +17,7 @@ use Rattle.node_check.specs.views.CheckNode.{keptTest}
 -- The number of a test in a list: that of the first that is the same, how many there are where none is.
 abbrev pub numberIn : List Test → Test → ℕ
 numberIn [] t = 0
-numberIn (u ∷ us) t = choose (sameTest u t) 0 (suc (numberIn us t))
+numberIn (u ∷ us) t = cond (sameTest u t) 0 (suc (numberIn us t))
 
 -- How many places of a set are below p.
 unfoldable pub placesUnder : List ℕ → ℕ → ℕ

@@ -1,7 +1,7 @@
 -- `node::kind_of` meets its contract. Assumes nothing.
 use Prim.Native.Nat.{_<_, _^_}
 use native.Mathlib.Omega.{arith}
-use lib.Count.{trailingZeros, trailing-le}
+use lib.Count.{trailing-le}
 use Rattle.masks.proofs.LowestMember.{trailing-lt}
 use Rattle.edges.specs.views.VertexKey.{keyIn}
 use Rattle.keys.proofs.NodeKinds.{kind-fail, kind-suspend, kind-execute, kind-settled, kind-asks, asks-below}

@@ -9,7 +9,7 @@ use denote.Ref.{now}
 use borrow.Author.Needs.{needs}
 use Rattle.records.specs.Fields.{IsByte}
 use Rattle.records.specs.Writing.{splice}
-use Rattle.terms.specs.Lists.{All}
+use Rattle.basics.specs.Lists.{All}
 use Rattle.lines.specs.Listing.{mostBytes, listed, listingBytes}
 use Rattle.lines.proofs.Wrote.{wrote-as}
 use Rattle.walk.specs.Walking.{walkReply}

@@ -1,7 +1,6 @@
 -- `graph::kept::has_pair` meets its contract: what is left to search gives the same answer.
 use Rattle.node_check.proofs.KeptTests.{among, among-here, among-next, among-none}
 use Rattle.node_check.specs.views.CheckNode.{isPair, hasPair}
-use Rattle.decision.specs.Rules.{anyOf}
 use lib.ListN.{take}
 use Prim.Native.Nat.{_-_, _≤_}
 use denote.Ref.{now}
@@ -10,6 +9,7 @@ use mathlib.Core.Path.{_≡_, sym, ap, _∙_}
 use borrow.Author.Needs.{needs}
 use Rattle.node_check.proofs.kept.has_pair.Statement.{statement}
 use Rattle.node_check.proofs.kept.has_pair.Tie as tie
+use Rattle.basics.specs.Lists.{anyOf}
 
 abbrev Inv-loop : tie.InvT-loop
 Inv-loop codes count p q code i₀ i = (i ≤ count) × (hasPair codes count p q ≡ among codes count p q i)

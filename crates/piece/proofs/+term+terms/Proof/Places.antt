@@ -13,7 +13,6 @@ use borrow.Fn.Kinds.{In}
 use borrow.Fn.PlainCycle.{Measures, is, falls, and}
 use Rattle.places.specs.Numbering.{stride}
 use Rattle.places.proofs.step.Reads as step-reads
-use Rattle.records.specs.Reading.{refused}
 use Rattle.records.proofs.Parts.{rest, rest-length}
 use Rattle.piece.specs.declared.Taken.the-variants.{Bytes}
 use Rattle.piece.specs.declared.TermRecord.{TermRecord}

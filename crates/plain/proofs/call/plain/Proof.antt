@@ -6,7 +6,7 @@ use denote.Ref.{now}
 use lib.ListN.{getD}
 use Rattle.records.specs.Fields.{IsByte}
 use Rattle.records.proofs.Parts.{rest}
-use Rattle.terms.specs.Lists.{All}
+use Rattle.basics.specs.Lists.{All}
 use Rattle.terms.specs.Accepted.{AcceptedRule}
 use Rattle.sheet.specs.ReadSheet.{readRules}
 use Rattle.sheet_tests.specs.CheckSheet.{checkValues}

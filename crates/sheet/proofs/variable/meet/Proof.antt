@@ -6,12 +6,12 @@ use native.Mathlib.Omega.{arith}
 use lib.Dec.{leb}
 use lib.ListN.{getD}
 use borrow.Author.Tests.{le-leb, lt-leb}
-use Rattle.sheet.specs.ReadSheet.{allBelow}
 use Rattle.sheet.specs.views.NoteRanges.{endsMeet}
-use Rattle.sheet.proofs.AllBelow.{all-none, all-more, all-fails}
+use Rattle.basics.proofs.AllBelow.{all-none, all-more, all-fails}
 use borrow.Author.Needs.{needs}
 use Rattle.sheet.proofs.variable.meet.Statement.{statement}
 use Rattle.sheet.proofs.variable.meet.Tie as tie
+use Rattle.basics.specs.Lists.{allBelow}
 
 abbrev Inv-loop : tie.InvT-loop
 Inv-loop ranges v₀ v =

@@ -6,7 +6,7 @@ use mathlib.Core.Logic.{⊎-elim}
 use native.Mathlib.Omega.{arith}
 use lib.Dec.{ltb}
 use lib.ListN.{length}
-use Rattle.terms.specs.Order.{insertBy}
+use Rattle.basics.specs.Order.{insertBy}
 use Rattle.sheet_tests.specs.views.TestedPlaces.{placesIn}
 use Rattle.sheet_tests.specs.views.NoteTests.{isTested, hasRange, Placed}
 use Rattle.sheet_tests.proofs.NoteRows.{placesFrom, places-yes, places-no, places-end, notes-each}

@@ -1,5 +1,4 @@
 -- The tests are read, then counted.
-use mathlib.Core.Path.{sym, ap, _∙_}
 use native.Mathlib.Omega.{arith}
 use Rattle.sheet_tests.specs.CheckSheet.{acceptSheet}
 use Rattle.sheet_tests.proofs.Checking.{read-counted, check-no, check-yes}

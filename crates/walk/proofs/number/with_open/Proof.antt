@@ -8,7 +8,6 @@ use lib.Dec.{eqb}
 use Rattle.sheet_tests.specs.views.TestedPlaces.{hasPlace}
 use Rattle.sheet_tests.specs.SheetTests.{place, pair}
 use Rattle.masks.specs.Mask.{has, maskOf}
-use Rattle.decision.proofs.Sets.{true-is}
 use Rattle.walk.specs.declared.Open.{Open}
 use Rattle.sheet_tests.specs.views.TestsRead.{keptTests}
 use Rattle.walk.specs.views.TestNumbers.{KeptOpen, withTest}
@@ -18,6 +17,7 @@ use Rattle.walk.proofs.Numbers.{number-there}
 use borrow.Author.Needs.{needs}
 use Rattle.walk.proofs.number.with_open.Statement.{statement}
 use Rattle.walk.proofs.number.with_open.Tie as tie
+use Rattle.basics.proofs.Booleans.{true-is}
 
 enum-told : tie.Need-enum-told
 enum-told c = search needs

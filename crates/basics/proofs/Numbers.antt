@@ -1,0 +1,27 @@
+-- Laws of numbers and their tests.
+use Prim.Native.Nat.{ℕ, _≤_, _<_}
+use mathlib.Core.Path.{_≡_, sym, _∙_}
+use mathlib.Core.Bool.{Bool, true, false, not}
+use mathlib.Core.Logic.{_⊎_, inl, inr, by-cases}
+use native.Mathlib.Decide.{ℕ-discrete}
+use lib.Dec.{T, leb, eqb, leb→le, nleb→lt, eqb-refl}
+use borrow.Author.Tests.{eq-eqb, ne-eqb}
+
+-- Two numbers are equal either way round.
+pub eqb-swap : (a b : ℕ) → eqb a b ≡ eqb b a
+eqb-swap a b =
+    by-cases (ℕ-discrete a b)
+    (λ (e : a ≡ b). eq-eqb a b e ∙ sym (eq-eqb b a (sym e)))
+    (λ (n : ¬ (a ≡ b)). ne-eqb a b n ∙ sym (ne-eqb b a (λ e. n (sym e))))
+
+-- One of two numbers is at most the other, or above it.
+pub le-or-lt : (m n : ℕ) → (m ≤ n) ⊎ (n < m)
+le-or-lt m n = go (leb m n) (leb→le m n) (nleb→lt m n)
+  where
+    go : (b : Bool) → (T b → m ≤ n) → (T (not b) → n < m) → (m ≤ n) ⊎ (n < m)
+    go true f g = inl (f tt)
+    go false f g = inr (g tt)
+
+-- Equal numbers pass the test.
+pub eq-true : (a b : ℕ) → a ≡ b → T (eqb a b)
+eq-true a b e = rw e (eqb-refl b)
