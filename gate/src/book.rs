@@ -29,8 +29,11 @@ pub fn faults(most: usize) -> Vec<String> {
             faults.push(format!("{file}: in the book's folder, but nothing believed names it"));
         }
     }
-    let lines: usize =
-        book.iter().map(|file| defining_lines(&read_to_string(file).unwrap_or_default())).sum();
+    let lines: usize = book
+        .iter()
+        .filter(|file| is_book(file))
+        .map(|file| defining_lines(&read_to_string(file).unwrap_or_default()))
+        .sum();
     println!("the book: {} files, {lines} lines to be believed", book.len());
     if most < lines {
         faults.push(format!("the book has {lines} lines, more than {most}"));
