@@ -1,0 +1,32 @@
+//! Rule sheets of coin sorters, their decision graphs and the answers for pieces: the static library
+//! `voltunnis` as safe Rust functions.
+//!
+//! Sheets, pieces and graphs are bytes, laid out as document 01 says. Each call answers or hands back
+//! a [`Refusal`]: the question that got a no. The library reads the bytes that it is given, writes to
+//! the buffer that it is lent, keeps nothing and reaches nothing else.
+//!
+//! ```
+//! // f(X, X) and f(1, 2), in symbols.
+//! let sheet = [0x10, 2, 2, 0x24, 0, 0x24, 0, 0x21, 0, 1, 0x21, 0, 2];
+//! // (?, 1): the first reading is not taken yet.
+//! let piece = [0x11, 2, 0x30, 0x31, 0, 1];
+//!
+//! let graph = voltunnis::graph(&sheet)?;
+//! let answer = voltunnis::answer(&sheet, &graph, &piece)?;
+//! assert_eq!(answer.to_string(), "execute 1 2 0000000000000004");
+//! # Ok::<(), voltunnis::Refusal>(())
+//! ```
+
+mod calls;
+mod packed;
+mod refusal;
+mod results;
+pub mod window;
+
+pub use calls::{answer, build, check_graph, check_piece, check_sheet, graph, plain, rewrite, wait, walk};
+pub use refusal::Refusal;
+pub use results::{Answer, Built, GraphSize, PieceSize, Plain, SheetSize, Walk, Word, Written};
+
+/// The most bytes that a graph has, built or accepted: 5, and for each of 1,024 nodes 8 and 255 cases
+/// of 7.
+pub const MOST_BYTES: usize = 1_836_037;

@@ -1,0 +1,185 @@
+//! A call with its arguments read as far as they can be, and what each step makes of it.
+
+use super::{bytes, graphs, parts, pieces, sheets, Step, Value};
+use crate::calls::{Call, Name, Role};
+use crate::nodes::GraphNodes;
+use crate::trees::{piece_bytes, read_piece, SheetTree, Term};
+use std::collections::BTreeSet;
+
+/// A call, and its arguments as trees, each with the bytes after it, where they can be read.
+pub struct Case<'a> {
+    pub call: Call,
+    build: &'a dyn Fn(&[u8]) -> Option<Vec<u8>>,
+    sheet: Option<(SheetTree, Vec<u8>)>,
+    piece: Option<(Vec<Term>, Vec<u8>)>,
+    graph: Option<(GraphNodes, Vec<u8>)>,
+    /// Whether the graph is the sheet's own.
+    own: bool,
+    /// How many bytes a writer needs.
+    needed: Option<usize>,
+}
+
+/// A tree and the bytes after it.
+fn kept<T>((tree, tail): (T, &[u8])) -> (T, Vec<u8>) {
+    (tree, tail.to_vec())
+}
+
+/// How many bytes a writer needs: those of the sheet's own graph, or of the graph that it is given.
+fn needed(call: &Call, own: Option<&[u8]>) -> Option<usize> {
+    match call.name() {
+        Name::Build => own.map(<[u8]>::len),
+        _ => call.argument(Role::Graph).map(<[u8]>::len),
+    }
+}
+
+impl<'a> Case<'a> {
+    pub fn new(call: Call, build: &'a dyn Fn(&[u8]) -> Option<Vec<u8>>) -> Case<'a> {
+        let own = call.argument(Role::Sheet).and_then(build);
+        Case {
+            sheet: call.argument(Role::Sheet).and_then(SheetTree::read).map(kept),
+            piece: call.argument(Role::Piece).and_then(read_piece).map(kept),
+            graph: call.argument(Role::Graph).and_then(GraphNodes::read).map(kept),
+            own: own.is_some() && call.argument(Role::Graph) == own.as_deref(),
+            needed: needed(&call, own.as_deref()),
+            call,
+            build,
+        }
+    }
+
+    /// All steps to try, those that leave out most first.
+    pub fn steps(&self) -> Vec<Step> {
+        let mut steps: Vec<Step> = Name::ALL.into_iter().map(Step::Simpler).collect();
+        if let Some((sheet, _)) = &self.sheet {
+            steps.extend(sheets::steps(sheet).map(Step::Sheet));
+        }
+        if let Some((terms, _)) = &self.piece {
+            steps.extend(pieces::steps(terms).map(Step::Piece));
+        }
+        steps.extend([Value::Id, Value::Number].map(Step::Ranked));
+        if let Some((graph, _)) = &self.graph {
+            steps.extend(graphs::steps(graph).map(Step::Graph));
+        }
+        if let Some(buffer) = self.call.argument(Role::Buffer) {
+            let shorter = parts(buffer.len()).map(|part| buffer.len() - part.len());
+            steps.extend(self.needed.into_iter().chain(shorter).map(Step::Length));
+            steps.push(Step::Zeros);
+        }
+        for (role, argument) in self.call.arguments().filter(|(role, _)| *role != Role::Buffer) {
+            steps.extend(bytes::steps(argument).map(|step| Step::Bytes(role, step)));
+        }
+        steps
+    }
+
+    /// The call after a step, if the step can be made.
+    pub fn after(&self, step: &Step) -> Option<Call> {
+        match step {
+            Step::Simpler(name) => self.simpler(*name),
+            Step::Sheet(step) => self.with_sheet(sheets::after(&self.sheet.as_ref()?.0, step)?, step),
+            Step::Piece(step) => {
+                let (terms, tail) = self.piece.as_ref()?;
+                Some(self.with_piece(&self.call, &pieces::after(terms, step)?, tail))
+            }
+            Step::Ranked(value) => self.ranked(*value),
+            Step::Graph(step) => {
+                let (graph, tail) = self.graph.as_ref()?;
+                let bytes = [graphs::after(graph, step)?.bytes(), tail.clone()].concat();
+                Some(self.refitted(self.call.with(Role::Graph, &bytes)))
+            }
+            Step::Length(length) => {
+                let buffer = self.call.argument(Role::Buffer)?;
+                Some(self.call.with(Role::Buffer, buffer.get(..*length)?))
+            }
+            Step::Zeros => {
+                let buffer = self.call.argument(Role::Buffer)?;
+                Some(self.call.with(Role::Buffer, &vec![0; buffer.len()]))
+            }
+            Step::Bytes(role, step) => {
+                let bytes = bytes::after(self.call.argument(*role)?, step)?;
+                Some(self.call.with(*role, &bytes))
+            }
+        }
+    }
+
+    /// The call of this name with the arguments at hand; a buffer just large enough is made up.
+    fn simpler(&self, name: Name) -> Option<Call> {
+        let of = |role| self.call.argument(role).map(<[u8]>::to_vec);
+        let lacks = |role: &Role| self.call.argument(*role).is_none();
+        let fits = |len: usize| vec![0; len];
+        if name == self.call.name() || name.roles().iter().any(|role| *role != Role::Buffer && lacks(role)) {
+            return None;
+        }
+        let own = || self.call.argument(Role::Sheet).and_then(self.build);
+        let buffer = match name {
+            Name::Build => of(Role::Buffer).or_else(|| own().map(|graph| fits(graph.len()))),
+            _ => of(Role::Buffer).or_else(|| of(Role::Graph).map(|graph| fits(graph.len()))),
+        };
+        Some(Call::new(name, |role| match role {
+            Role::Buffer => buffer.clone().unwrap_or_default(),
+            other => of(other).unwrap_or_default(),
+        }))
+    }
+
+    /// A call with another piece, which these bytes follow.
+    fn with_piece(&self, call: &Call, terms: &[Term], tail: &[u8]) -> Call {
+        call.with(Role::Piece, &[&piece_bytes(terms), tail].concat())
+    }
+
+    /// The call with another sheet, and with what belongs to the sheet changed alike.
+    fn with_sheet(&self, sheet: SheetTree, step: &sheets::Step) -> Option<Call> {
+        let (old, tail) = self.sheet.as_ref()?;
+        let bytes = [sheet.bytes(), tail.clone()].concat();
+        let mut call = self.call.with(Role::Sheet, &bytes);
+        if let Some((terms, tail)) = &self.piece {
+            call = self.with_piece(&call, &pieces::following(terms, old, step)?, tail);
+        }
+        let own = if self.own { (self.build)(&bytes) } else { None };
+        call = match (own, &self.graph, self.call.argument(Role::Graph)) {
+            (Some(own), ..) => call.with(Role::Graph, &own),
+            (None, Some((graph, tail)), _) => {
+                let graph = graphs::following(graph, old, &sheet, step);
+                call.with(Role::Graph, &[graph.bytes(), tail.clone()].concat())
+            }
+            (None, None, Some(graph)) => call.with(Role::Graph, &graphs::following_bytes(graph, &sheet)),
+            (None, None, None) => call,
+        };
+        Some(self.refitted(call))
+    }
+
+    /// The call with ids or numbers of sheet and piece made small alike.
+    fn ranked(&self, which: Value) -> Option<Call> {
+        let (mut sheet, mut piece) = (self.sheet.clone(), self.piece.clone());
+        let mut each = |change: &mut dyn FnMut(&mut u16)| {
+            if let Some((sheet, _)) = &mut sheet {
+                sheets::each(sheet, which, change);
+            }
+            if let Some((terms, _)) = &mut piece {
+                pieces::each(terms, which, change);
+            }
+        };
+        let mut used = BTreeSet::new();
+        each(&mut |value| used.extend([*value]));
+        each(&mut |value| *value = used.range(..*value).count() as u16);
+        let mut call = self.call.clone();
+        if let Some((terms, tail)) = &piece {
+            call = self.with_piece(&call, terms, tail);
+        }
+        let Some((sheet, tail)) = sheet else { return Some(call) };
+        let bytes = [sheet.bytes(), tail].concat();
+        call = call.with(Role::Sheet, &bytes);
+        if self.own {
+            call = call.with(Role::Graph, &(self.build)(&bytes)?);
+        }
+        Some(self.refitted(call))
+    }
+
+    /// The call with its buffer as much longer, or shorter, than needed as before.
+    fn refitted(&self, call: Call) -> Call {
+        let (Some(buffer), Some(before)) = (call.argument(Role::Buffer), self.needed) else { return call };
+        let own =
+            if call.name() == Name::Build { call.argument(Role::Sheet).and_then(self.build) } else { None };
+        let Some(needed) = needed(&call, own.as_deref()) else { return call };
+        let mut buffer = buffer.to_vec();
+        buffer.resize((buffer.len() + needed).saturating_sub(before), 0);
+        call.with(Role::Buffer, &buffer)
+    }
+}

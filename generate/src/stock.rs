@@ -1,0 +1,34 @@
+//! What random patterns and terms are made of. Ids and numbers are few, so that rules collide.
+
+use crate::random::Random;
+
+/// Ids of symbols and compounds, some with a high byte.
+pub const IDS: [u16; 4] = [1, 2, 0x0102, 0xffff];
+
+/// Numbers and ends of ranges, the lowest and the highest among them.
+pub const NUMBERS: [u16; 10] = [0, 1, 2, 3, 4, 0x00ff, 0x0100, 0x7fff, 0xfffe, 0xffff];
+
+/// The ids, numbers and compounds to choose from.
+#[derive(Clone, Copy)]
+pub struct Stock {
+    pub ids: &'static [u16],
+    pub numbers: &'static [u16],
+    pub most_arguments: usize,
+    /// The deepest depth at which a compound may stand.
+    pub deepest_compound: usize,
+}
+
+impl Stock {
+    /// All of it.
+    pub const FULL: Stock = Stock { ids: &IDS, numbers: &NUMBERS, most_arguments: 4, deepest_compound: 3 };
+
+    /// A part of it.
+    pub fn random(random: &mut Random) -> Stock {
+        Stock {
+            ids: &IDS[..random.between(1, IDS.len())],
+            numbers: &NUMBERS[..random.between(2, NUMBERS.len())],
+            most_arguments: random.between(1, 4),
+            deepest_compound: random.between(1, 3),
+        }
+    }
+}

@@ -1,0 +1,131 @@
+//! The maker's wrong twin: `maker --wrong TRAP` makes one mistake, which `vt conform` finds.
+//!
+//! - `chain` links a variable's places in a chain only.
+//! - `hasty` commits at one live rule without making its tests.
+//! - `drop` drops a rule because its test is not known.
+//! - `spill` writes a zero after a graph, where the buffer is longer.
+//! - `touch` writes to the buffer before it looks whether the graph fits.
+//! - `panic` ends on a sheet with a range whose low is above its high.
+//! - `stale` gives each accepted piece the arity of the first.
+//! - `mute` says nothing at all, `chatter` says each reply twice, `half` knows no graphs.
+
+use super::{call as right, Said};
+use std::collections::BTreeSet;
+use std::sync::OnceLock;
+use voltunnis_tests::reference::piece::Piece;
+use voltunnis_tests::reference::sheet::{Rule, Sheet};
+use voltunnis_tests::reference::{build, graph, plain, truth::Truth, walk};
+
+type Result<T> = std::result::Result<T, u8>;
+
+/// The sheet with the pairs of neighbours only.
+fn chained(bytes: &[u8]) -> Result<Sheet> {
+    let mut sheet = Sheet::read(bytes)?;
+    for rule in &mut sheet.rules {
+        let all = rule.pairs.clone();
+        let between = |p, q| all.iter().any(|(a, b)| *a == p && all.contains(&(*b, q)));
+        rule.pairs.retain(|(p, q)| !between(*p, *q));
+    }
+    let pairs: BTreeSet<_> = sheet.rules.iter().flat_map(|rule| rule.pairs.iter().copied()).collect();
+    sheet.tests.pairs = pairs.into_iter().collect();
+    Ok(sheet)
+}
+
+/// Sheet and piece, if they have the same arity.
+fn both(sheet: Sheet, piece: &[u8]) -> Result<(Sheet, Piece)> {
+    let piece = Piece::read(piece)?;
+    if sheet.arity == piece.arity {
+        Ok((sheet, piece))
+    } else {
+        Err(20)
+    }
+}
+
+/// The calls that chained pairs change.
+fn chain(name: &str, arguments: &mut [Vec<u8>]) -> Option<Said> {
+    let sheet = match arguments.first().map(|bytes| chained(bytes)) {
+        Some(Ok(sheet)) => sheet,
+        _ => return right(name, arguments),
+    };
+    Some(match (name, &mut *arguments) {
+        ("check_sheet", _) => Ok(format!("{} {} {}", sheet.arity, sheet.rules.len(), sheet.tests.count())),
+        ("plain", [_, piece]) => both(sheet, piece).map(|(sheet, piece)| {
+            let answer = plain::answer(&sheet, &piece);
+            format!("{} {}", answer.word.name(), answer.rule)
+        }),
+        ("build", [_, buffer]) => build::nodes(&sheet).and_then(|nodes| {
+            let bytes = build::write(&sheet, &nodes, buffer)?;
+            Ok(format!("{} {bytes}", nodes.len()))
+        }),
+        ("walk", [_, bytes, piece]) => walked(sheet, bytes, piece),
+        _ => return right(name, arguments),
+    })
+}
+
+fn walked(sheet: Sheet, bytes: &[u8], piece: &[u8]) -> Result<String> {
+    let (sheet, piece) = both(sheet, piece)?;
+    let nodes = graph::read(&sheet, bytes)?;
+    walk::walk(&sheet, &nodes, &piece).map(|answer| answer.to_string())
+}
+
+/// The walk whose execute nodes find no test to make.
+fn hasty(sheet: &[u8], graph: &[u8], piece: &[u8]) -> Result<String> {
+    let mut sheet = Sheet::read(sheet)?;
+    sheet.rules.iter_mut().for_each(|rule| *rule = Rule::default());
+    walked(sheet, graph, piece)
+}
+
+/// The plain answer from the rules that surely hold.
+fn dropping(sheet: &[u8], piece: &[u8]) -> Result<String> {
+    let (sheet, piece) = both(Sheet::read(sheet)?, piece)?;
+    let holds = |rule: &&Rule| plain::rule_truth(&piece, rule) == Truth::Holds;
+    let left = sheet.rules.iter().filter(holds).count();
+    let first = sheet.rules.iter().position(|rule| holds(&rule)).map_or(0, |at| at + 1);
+    Ok(match left {
+        0 => "fail 0".into(),
+        1 => format!("commit {first}"),
+        _ => "suspend 0".into(),
+    })
+}
+
+/// The arity of the first accepted piece.
+static FIRST: OnceLock<String> = OnceLock::new();
+
+/// A call with one mistake.
+pub fn call(trap: &str, name: &str, arguments: &mut [Vec<u8>]) -> Option<Said> {
+    match (trap, name, &mut *arguments) {
+        ("chain", ..) => chain(name, arguments),
+        ("hasty", "walk", [sheet, graph, piece]) => Some(hasty(sheet, graph, piece)),
+        ("drop", "plain", [sheet, piece]) => Some(dropping(sheet, piece)),
+        ("spill", "build", _) => {
+            let result = right(name, arguments);
+            let end = result.clone()?.ok().and_then(|fields| fields.split(' ').nth(1)?.parse::<usize>().ok());
+            if let Some(byte) = end.and_then(|end| arguments[1].get_mut(end)) {
+                *byte = 0;
+            }
+            result
+        }
+        ("touch", "build", [_, buffer]) => {
+            buffer.iter_mut().take(1).for_each(|byte| *byte = 0x12);
+            right(name, arguments)
+        }
+        ("panic", ..) => {
+            let result = right(name, arguments);
+            assert!(result != Some(Err(7)), "low is above high");
+            result
+        }
+        ("stale", "check_piece", _) => {
+            let fresh = right(name, arguments)?;
+            Some(fresh.map(|arity| FIRST.get_or_init(|| arity).clone()))
+        }
+        ("mute", ..) => loop {
+            std::thread::park();
+        },
+        ("chatter", ..) => {
+            println!("unknown");
+            right(name, arguments)
+        }
+        ("half", "check_graph" | "build" | "rewrite" | "walk", _) => None,
+        _ => right(name, arguments),
+    }
+}

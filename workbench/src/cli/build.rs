@@ -1,0 +1,28 @@
+//! `vt build`: the graph of a sheet.
+
+use super::args::{Args, BYTES, JSON, OUTPUT};
+use super::bytes::{graph_parts, write};
+use super::input::{GraphInput, SheetInput};
+use super::out::Out;
+use super::stop::Stop;
+use super::Command;
+use crate::json::Json;
+
+pub const COMMAND: Command = Command {
+    name: "build",
+    usage: "SHEET",
+    summary: "build a sheet's decision graph",
+    about:
+        "Writes the bytes of the graph that the library builds. Without -o they are shown in hexadecimal:\n\
+            a head, then a line for each node. `vt text` shows a graph in words, `vt draw` as a picture.",
+    options: &[OUTPUT, BYTES, JSON],
+    examples: &[("vt build coins.sheet -o coins.bin", "write the graph to a file")],
+    run,
+};
+
+fn run(args: &Args, out: &Out) -> Result<(), Stop> {
+    let [path] = &args.rest[..] else { return Err(args.wrong("expected one sheet")) };
+    let graph = GraphInput::built(&SheetInput::load(path, args)?)?;
+    let json = vec![("kind", Json::text("graph")), ("nodes", Json::count(graph.graph.nodes.len()))];
+    write(args, out, json, &graph_parts(&graph.graph))
+}

@@ -1,0 +1,93 @@
+//! Inputs: files and standard input, text or bytes.
+
+use super::args::{Args, BYTES};
+use super::out::reason;
+use super::stop::Stop;
+use std::ffi::OsStr;
+use std::io::Read;
+use std::path::Path;
+
+/// What an input holds.
+pub enum Content {
+    Text(String),
+    Bytes(Vec<u8>),
+}
+
+/// An input: its name for messages, and what it holds.
+pub struct Source {
+    pub name: String,
+    pub content: Content,
+}
+
+/// What an input is about, by the ending of its name or else by its first word or byte.
+#[derive(Clone, Copy, Debug, PartialEq, Eq)]
+pub enum About {
+    Sheet,
+    Pieces,
+    Graph,
+}
+
+impl Source {
+    /// Reads a file, or standard input for `-`. A file that ends in .bin holds bytes, one that ends in
+    /// .sheet, .pieces, .graph or .txt text; any other, and standard input, text unless `--bytes` is
+    /// given.
+    pub fn load(path: &str, args: &Args) -> Result<Source, Stop> {
+        let mut bytes = Vec::new();
+        let (name, read) = match path {
+            "-" => ("standard input", std::io::stdin().lock().read_to_end(&mut bytes).map(drop)),
+            _ => (path, std::fs::read(path).map(|read| bytes = read)),
+        };
+        read.map_err(|error| Stop::wrong(format!("{name}: {}", reason(&error))))?;
+        let is_bytes = match Path::new(path).extension().and_then(OsStr::to_str) {
+            Some("bin") => true,
+            Some("sheet" | "pieces" | "graph" | "txt") => false,
+            _ => args.has(BYTES),
+        };
+        if is_bytes {
+            return Ok(Source { name: name.into(), content: Content::Bytes(bytes) });
+        }
+        if matches!(bytes.first(), Some(0x10..=0x12)) {
+            let help = "it begins as bytes do: call it .bin or say --bytes";
+            return Err(Stop::wrong(format!("{name}: not a text; {help}")));
+        }
+        match String::from_utf8(bytes) {
+            Ok(text) => Ok(Source { name: name.into(), content: Content::Text(text) }),
+            Err(error) => {
+                let at = error.utf8_error().valid_up_to();
+                Err(Stop::wrong(format!("{name}: not a text: byte {at} is no character of UTF-8")))
+            }
+        }
+    }
+
+    /// Its text, if it holds one.
+    pub fn text(&self) -> Option<&str> {
+        match &self.content {
+            Content::Text(text) => Some(text),
+            Content::Bytes(_) => None,
+        }
+    }
+
+    /// What it is about.
+    pub fn about(&self) -> About {
+        match &self.content {
+            Content::Text(_) if self.name.ends_with(".sheet") => About::Sheet,
+            Content::Text(_) if self.name.ends_with(".pieces") => About::Pieces,
+            Content::Text(_) if self.name.ends_with(".graph") => About::Graph,
+            Content::Bytes(bytes) => match bytes.first() {
+                Some(0x11) => About::Pieces,
+                Some(0x12) => About::Graph,
+                _ => About::Sheet,
+            },
+            Content::Text(text) => {
+                let telling =
+                    |line: &&str| !(line.is_empty() || line.starts_with("--") || line.starts_with("name "));
+                let first = text.lines().map(str::trim_start).find(telling);
+                match first {
+                    Some(line) if line.starts_with("graph") => About::Graph,
+                    Some(line) if line.starts_with('(') => About::Pieces,
+                    _ => About::Sheet,
+                }
+            }
+        }
+    }
+}

@@ -1,0 +1,65 @@
+//! The notation for sheets, pieces and graphs, as docs/NOTATION.md describes it.
+//!
+//! Printing and parsing are inverse: the bytes of a sheet, a piece or a graph, printed and parsed again,
+//! are the same bytes.
+
+mod names;
+mod parse_graph;
+mod parse_piece;
+mod parse_sheet;
+mod parser;
+pub mod places;
+mod print;
+mod print_graph;
+mod read;
+mod span;
+mod token;
+mod tree;
+mod write;
+
+pub use names::{distance, Name, Names};
+pub use parse_graph::parse_graph;
+pub use parse_piece::{parse_piece, parse_pieces};
+pub use parse_sheet::{parse_sheet, SheetText};
+pub use print_graph::count;
+pub use read::Unread;
+pub use span::{position, Fault, Position, Span};
+pub use tree::{Case, Form, Graph, Kind, Node, Pattern, Piece, Rule, Sheet, Term, What};
+
+/// The sheet that these bytes spell, as text.
+///
+/// ```
+/// use voltunnis_workbench::notation::print_sheet;
+///
+/// let bytes = [0x10, 2, 2, 0x24, 0, 0x24, 0, 0x21, 0, 1, 0x22, 0, 5, 0, 9];
+/// assert_eq!(print_sheet(&bytes).unwrap(), "sheet 2\n1: (X, X)\n2: (#1, 5..9)\n");
+/// assert_eq!(print_sheet(&[0x10, 1, 1, 0x26]).unwrap_err().at, 3);
+/// ```
+pub fn print_sheet(bytes: &[u8]) -> Result<String, Unread> {
+    Sheet::read(bytes).map(|sheet| sheet.print(&Names::default()))
+}
+
+/// The piece that these bytes spell, as text.
+///
+/// ```
+/// use voltunnis_workbench::notation::print_piece;
+///
+/// assert_eq!(print_piece(&[0x11, 2, 0x30, 0x33, 0, 7, 1, 0x32, 0, 180]).unwrap(), "(?, #7(180))");
+/// ```
+pub fn print_piece(bytes: &[u8]) -> Result<String, Unread> {
+    Piece::read(bytes).map(|piece| piece.print(&Names::default()))
+}
+
+/// The graph that these bytes spell, as text.
+///
+/// ```
+/// use voltunnis_workbench::notation::print_graph;
+///
+/// let bytes = [0x12, 1, 1, 0, 3, 0x43, 0, 0, 1, 0, 2, 0, 1, 0x46, 0, 5, 0, 9, 0, 1, 0x42, 1, 0x40];
+/// let text = "graph 1, 1 rule, 3 nodes\n0: argument 1\n   5..9    -> 1\n   neither -> 2\n   unknown -> 1\n\
+///             1: execute 1\n2: fail\n";
+/// assert_eq!(print_graph(&bytes).unwrap(), text);
+/// ```
+pub fn print_graph(bytes: &[u8]) -> Result<String, Unread> {
+    Graph::read(bytes).map(|graph| graph.print(&Names::default(), |_| None))
+}

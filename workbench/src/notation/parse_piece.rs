@@ -1,0 +1,93 @@
+//! Pieces from text.
+
+use super::names::Names;
+use super::parser::Parser;
+use super::span::Fault;
+use super::token::Token;
+use super::tree::{Piece, Term, What};
+
+/// The piece that a text spells, by these names.
+///
+/// ```
+/// use voltunnis_workbench::notation::{parse_piece, Names};
+///
+/// let piece = parse_piece("(#17, ?, 180)", &Names::default()).unwrap();
+/// assert_eq!(piece.bytes(), [0x11, 3, 0x31, 0, 17, 0x30, 0x32, 0, 180]);
+/// ```
+pub fn parse_piece(text: &str, names: &Names) -> Result<Piece, Fault> {
+    let mut parser = Parser::new(text, names)?;
+    parser.skip();
+    let piece = piece(&mut parser)?;
+    parser.skip();
+    match parser.at_end() {
+        true => Ok(piece),
+        false => Err(parser.expected("one piece and no more")),
+    }
+}
+
+/// The pieces that a text spells, one a line, by these names and its own.
+///
+/// ```
+/// use voltunnis_workbench::notation::{parse_pieces, Names};
+///
+/// let (pieces, names) = parse_pieces("name silver = 17\n(silver)\n(?)\n", &Names::default()).unwrap();
+/// assert_eq!(pieces.len(), 2);
+/// assert_eq!(names.show(17), "silver");
+/// ```
+pub fn parse_pieces(text: &str, names: &Names) -> Result<(Vec<Piece>, Names), Fault> {
+    let mut parser = Parser::new(text, names)?;
+    let mut pieces = Vec::new();
+    loop {
+        parser.skip();
+        if parser.at_end() {
+            return Ok((pieces, parser.names));
+        }
+        pieces.push(piece(&mut parser)?);
+        parser.line_end()?;
+    }
+}
+
+/// One piece: its terms in parentheses.
+fn piece(parser: &mut Parser) -> Result<Piece, Fault> {
+    let start = parser.span();
+    if *parser.peek() != Token::Mark("(") {
+        return Err(parser.expected("a piece such as `(?, 180)`"));
+    }
+    let terms = parser.list(1, |parser| term(parser, 1))?;
+    Ok(Piece { at: start.to(parser.last()), terms })
+}
+
+/// One term.
+fn term(parser: &mut Parser, depth: usize) -> Result<Term, Fault> {
+    let start = parser.span();
+    let what = match parser.peek() {
+        Token::Mark("?") => {
+            parser.advance();
+            What::Unknown
+        }
+        Token::Number(_) => {
+            let number = parser.number("a number")?;
+            if *parser.peek() == Token::Mark("..") {
+                return Err(parser
+                    .expected("`,` or `)`")
+                    .help("a range stands in a sheet; a piece has one number"));
+            }
+            What::Number(number)
+        }
+        Token::Id(_) | Token::Word(_) => {
+            let id = parser.id("a term")?;
+            match parser.peek() {
+                Token::Mark("(") => {
+                    What::Compound(id, parser.list(depth + 1, |parser| term(parser, depth + 1))?)
+                }
+                _ => What::Symbol(id),
+            }
+        }
+        Token::Mark("_") | Token::Variable(_) => {
+            let fault = parser.expected("a term: `?`, a name or a number");
+            return Err(fault.help("`_` and variables stand in sheets; in a piece `?` is an unknown reading"));
+        }
+        _ => return Err(parser.expected("a term: `?`, a name or a number")),
+    };
+    Ok(Term { at: start.to(parser.last()), what })
+}

@@ -1,0 +1,100 @@
+//! The documents tell the truth: every command of the tutorial and of the README's section "At the
+//! workbench" is run and says what stands there, and every example of the notation is accepted.
+
+mod common;
+
+use common::Folder;
+use std::fs;
+use std::path::Path;
+use std::process::Command;
+use voltunnis_workbench::notation::{parse_graph, parse_pieces, parse_sheet};
+
+/// A block of a document: what stands after its fence, and its text.
+fn blocks(document: &str) -> Vec<(&str, &str)> {
+    let mut blocks = Vec::new();
+    let mut rest = document;
+    while let Some((_, after)) = rest.split_once("\n```") {
+        let (info, body) = after.split_once('\n').expect("a block");
+        let (text, later) = body.split_once("```\n").expect("a block's end");
+        blocks.push((info, text));
+        rest = later;
+    }
+    blocks
+}
+
+/// What a shell says when it runs a command with `vt` at hand.
+fn shell(folder: &Folder, line: &str) -> String {
+    let program = Path::new(env!("CARGO_BIN_EXE_vt")).parent().expect("a folder");
+    let path = format!("{}:{}", program.display(), std::env::var("PATH").unwrap_or_default());
+    let line = format!("{{ {line}\n}} 2>&1");
+    let output = Command::new("sh").args(["-c", &line]).current_dir(&folder.0).env("PATH", path).output();
+    String::from_utf8(output.expect("a shell").stdout).expect("text")
+}
+
+/// Runs the commands of a document's blocks and compares what they say; gives how many there were.
+#[track_caller]
+fn follow(folder: &Folder, document: &str) -> usize {
+    let mut count = 0;
+    for (info, text) in blocks(document) {
+        if let Some(name) = info.strip_prefix("text ") {
+            folder.write(name, text);
+        }
+        if info != "console" {
+            continue;
+        }
+        for part in format!("\n{text}").split("\n$ ").skip(1) {
+            let (line, said) = part.split_once('\n').unwrap_or((part, ""));
+            let said =
+                if said.is_empty() || said.ends_with('\n') { said.into() } else { format!("{said}\n") };
+            assert_eq!(shell(folder, line), said, "$ {line}");
+            count += 1;
+        }
+    }
+    count
+}
+
+#[test]
+fn the_tutorial_can_be_followed() {
+    let folder = Folder::new("tutorial");
+    let count = follow(&folder, include_str!("../../docs/TUTORIAL.md"));
+    assert!(count >= 15, "{count} commands");
+    assert_eq!(folder.read("coins.sheet"), include_bytes!("../examples/coins.sheet"));
+    assert!(folder.read("coins.svg").starts_with(b"<?xml") && folder.read("walk.svg").starts_with(b"<?xml"));
+}
+
+#[test]
+fn the_readmes_section_can_be_followed() {
+    let folder = Folder::new("readme");
+    let readme = include_str!("../../README.md");
+    let (_, section) = readme.split_once("\n## At the workbench\n").expect("the section");
+    let section = section.split("\n## ").next().expect("its text");
+    fs::create_dir_all(folder.0.join("workbench/examples")).expect("a folder");
+    folder.write("workbench/examples/example.sheet", common::EXAMPLE);
+    let count = follow(&folder, section);
+    assert!(count >= 4, "{count} commands");
+    assert!(section.contains("docs/pictures/example.svg"));
+}
+
+#[test]
+fn the_notations_examples_are_accepted() {
+    let mut names = Default::default();
+    for (info, text) in blocks(include_str!("../../docs/NOTATION.md")) {
+        match info {
+            "text example.sheet" => {
+                let written = parse_sheet(text).expect("a sheet");
+                assert!(voltunnis::check_sheet(&written.sheet.bytes()).is_ok());
+                names = written.names;
+            }
+            "text tray.pieces" => {
+                let (pieces, _) = parse_pieces(text, &names).expect("pieces");
+                assert!(pieces.iter().all(|piece| voltunnis::check_piece(&piece.bytes()).is_ok()));
+            }
+            "text example.graph" => {
+                let sheet = parse_sheet("sheet 2\n1: (X, X)\n2: (#1, #2)\n").expect("a sheet").sheet.bytes();
+                let graph = parse_graph(text, &names).expect("a graph").bytes();
+                assert_eq!(Ok(graph), voltunnis::graph(&sheet));
+            }
+            other => panic!("an unknown block {other}"),
+        }
+    }
+}

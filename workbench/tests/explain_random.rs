@@ -1,0 +1,66 @@
+//! Walks retraced from the bytes of graphs, built and another maker's, come to the library's answer or
+//! refusal, wait list and edges included; and the tests are those that the library counts.
+
+use voltunnis_generate::asked::Asked;
+use voltunnis_generate::bytes::to_hex;
+use voltunnis_generate::crowded::crowded;
+use voltunnis_generate::graphs::graph;
+use voltunnis_generate::pieces::piece;
+use voltunnis_generate::random::Random;
+use voltunnis_generate::sheets::sheet;
+use voltunnis_generate::stock::Stock;
+use voltunnis_generate::trees::{piece_bytes, SheetTree};
+use voltunnis_workbench::notation::{Graph, Piece, Sheet};
+use voltunnis_workbench::retrace::retrace;
+use voltunnis_workbench::sheet_tests::SheetTests;
+
+/// How often each answer's word was met, and the refusals 26 and 27.
+#[derive(Debug, Default)]
+struct Met {
+    words: [usize; 5],
+    refusals: [usize; 28],
+}
+
+/// Retraces the walks of some pieces over a graph that the library accepts.
+fn retraced(random: &mut Random, tree: &SheetTree, graph: &[u8], met: &mut Met) {
+    let sheet = tree.bytes();
+    let tests = SheetTests::of(&Sheet::read(&sheet).expect("a sheet"));
+    let nodes = Graph::read(graph).expect("a graph");
+    for _ in 0..8 {
+        let bytes = piece_bytes(&piece(random, tree, Stock::FULL));
+        let library = voltunnis::answer(&sheet, graph, &bytes).map_err(u8::from);
+        if library.is_err_and(|number| number < 26) {
+            continue;
+        }
+        let way = retrace(&tests, &nodes, &Piece::read(&bytes).expect("a piece"));
+        let what = || format!("sheet {} graph {} piece {}", to_hex(&sheet), to_hex(graph), to_hex(&bytes));
+        assert_eq!(way.answer, library, "here, library: {}", what());
+        match library {
+            Ok(answer) => met.words[answer.walk.word as usize] += 1,
+            Err(number) => met.refusals[usize::from(number)] += 1,
+        }
+    }
+}
+
+#[test]
+fn retraced_walks_come_to_the_librarys_answer() {
+    let mut random = Random::new(0x7761_6c6b);
+    let mut met = Met::default();
+    for _ in 0..4_000 {
+        let tree = if random.percent(5) { crowded(&mut random) } else { sheet(&mut random) };
+        let sheet = tree.bytes();
+        let Ok(size) = voltunnis::check_sheet(&sheet) else { continue };
+        let tests = SheetTests::of(&Sheet::read(&sheet).expect("a sheet"));
+        assert_eq!(tests.tests.len(), usize::from(size.tests), "{}", to_hex(&sheet));
+        if let Ok(built) = voltunnis::graph(&sheet) {
+            retraced(&mut random, &tree, &built, &mut met);
+        }
+        let other = graph(&mut random, &Asked::of(&tree), || None);
+        if voltunnis::check_graph(&sheet, &other).is_ok() {
+            retraced(&mut random, &tree, &other, &mut met);
+        }
+    }
+    println!("{met:?}");
+    assert!(met.words[1..].iter().all(|count| *count > 500), "{met:?}");
+    assert!(met.refusals[26] > 20 && met.refusals[27] > 20, "{met:?}");
+}

@@ -1,0 +1,124 @@
+//! Pictures: what they show, that Graphviz takes them without a word, and what happens without Graphviz.
+
+mod common;
+
+use common::{Folder, EXAMPLE};
+use std::io::Write;
+use std::process::{Command, Stdio};
+use voltunnis_generate::known;
+
+const GRAPHVIZ: &str = "Graphviz is not installed: apt-get install graphviz";
+
+/// Graphviz draws this text and has nothing to say about it; gives the picture.
+#[track_caller]
+fn drawn(dot: &[u8]) -> String {
+    let mut child = Command::new("dot")
+        .arg("-Tsvg")
+        .stdin(Stdio::piped())
+        .stdout(Stdio::piped())
+        .stderr(Stdio::piped())
+        .spawn()
+        .expect(GRAPHVIZ);
+    let mut input = child.stdin.take().expect("its input");
+    let text = dot.to_vec();
+    let feed = std::thread::spawn(move || input.write_all(&text));
+    let output = child.wait_with_output().expect("dot ends");
+    feed.join().expect("the thread ends").expect("dot reads all");
+    assert_eq!((output.status.code(), String::from_utf8_lossy(&output.stderr).as_ref()), (Some(0), ""));
+    String::from_utf8(output.stdout).expect("text")
+}
+
+/// The texts of a picture.
+fn texts(svg: &str) -> Vec<String> {
+    let lines = svg.lines().filter(|line| line.starts_with("<text"));
+    let text = |line: &str| Some(line.split_once('>')?.1.split_once("</text>")?.0.replace("&#45;", "-"));
+    lines.filter_map(text).map(|text| text.replace('\u{a0}', " ").trim().to_string()).collect()
+}
+
+#[test]
+fn the_example_is_drawn() {
+    let folder = Folder::new("picture");
+    assert_eq!(folder.says(&["draw", "example.sheet", "-o", "example.svg"]), "");
+    let svg = String::from_utf8(folder.read("example.svg")).expect("text");
+    let texts = texts(&svg);
+    let shown = |text: &str| texts.iter().filter(|known| *known == text).count();
+    for (text, times) in
+        [("argument 1", 1), ("argument 2", 2), ("argument 1 = argument 2", 1), ("execute 1", 1)]
+    {
+        assert_eq!(shown(text), times, "{text}");
+    }
+    for (text, times) in [("neither", 3), ("unknown", 3), ("one", 1), ("two", 2), ("no", 1), ("other", 1)] {
+        assert_eq!(shown(text), times, "{text}");
+    }
+    assert_eq!((shown("1: (X, X)"), shown("2: (one, two)"), shown("waits for readings")), (1, 1, 1));
+    assert_eq!(svg.matches("<g id=\"edge").count(), 11);
+    // The picture in the repository shows the same.
+    let kept = include_str!("../../docs/pictures/example.svg");
+    assert_eq!(self::texts(kept), texts, "draw docs/pictures/example.svg again");
+}
+
+#[test]
+fn pictures_have_the_format_that_their_name_says() {
+    let folder = Folder::new("formats");
+    folder.says(&["draw", "example.sheet", "-o", "example.png"]);
+    assert!(folder.read("example.png").starts_with(b"\x89PNG"));
+    folder.says(&["draw", "example.sheet", "-o", "example.pdf"]);
+    assert!(folder.read("example.pdf").starts_with(b"%PDF"));
+    folder.says(&["draw", "example.sheet", "-o", "example.dot"]);
+    assert_eq!(folder.read("example.dot"), folder.says(&["draw", "example.sheet"]).into_bytes());
+    let json = "{\n  \"file\": \"example.svg\",\n  \"nodes\": 7,\n  \"edges\": 11\n}\n";
+    assert_eq!(folder.says(&["draw", "--json", "example.sheet", "-o", "example.svg"]), json);
+}
+
+#[test]
+fn the_way_is_marked() {
+    let folder = Folder::new("marked");
+    assert_eq!(folder.says(&["explain", "example.sheet", "(?, one)", "-o", "walk.dot"]), "");
+    let dot = String::from_utf8(folder.read("walk.dot")).expect("text");
+    let marked: Vec<&str> =
+        dot.lines().filter(|line| line.contains("#d9480f") && line.contains("->")).collect();
+    assert_eq!(marked.len(), 2, "{marked:?}");
+    assert!(marked[0].starts_with("  n0 -> n3 [label=\" 1: unknown \"") && marked[1].contains("2: neither"));
+    assert!(texts(&drawn(dot.as_bytes())).contains(&"(?, one): execute 1".to_string()));
+}
+
+#[test]
+fn names_of_all_sorts_are_drawn() {
+    let folder = Folder::new("names");
+    let sheet =
+        EXAMPLE.replace("one", "münze_1").replace("1: (X, X)", "1: (X, -- a \"quoted\" <comment> & more\nX)");
+    folder.write("odd.sheet", sheet);
+    let svg = drawn(folder.says(&["draw", "odd.sheet"]).as_bytes());
+    assert!(texts(&svg).contains(&"münze_1".to_string()));
+}
+
+#[test]
+fn large_graphs_are_drawn() {
+    let folder = Folder::new("large");
+    folder.write("coins.bin", known::coins(32));
+    drawn(folder.says(&["draw", "coins.bin"]).as_bytes());
+    // 1,023 nodes and 400,448 bytes: the text for Graphviz is made.
+    folder.write("longest.bin", known::longest());
+    let dot = folder.says(&["draw", "longest.bin"]);
+    assert!(dot.matches("\n  n").count() > 1_023 && dot.contains("… "), "{} bytes", dot.len());
+    let said = folder.says(&["explain", "longest.bin", "(#1(5, ?), ?, 7, 8, 9, 1, 2, 3)"]);
+    assert!(said.contains("suspend after"), "{said}");
+}
+
+#[test]
+fn without_graphviz_the_dot_is_written() {
+    let folder = Folder::new("missing");
+    let ran = Command::new(env!("CARGO_BIN_EXE_vt"))
+        .args(["draw", "example.sheet", "-o", "example.svg"])
+        .current_dir(&folder.0)
+        .env("PATH", &folder.0)
+        .output()
+        .expect("vt runs");
+    let said = "vt: Graphviz is not installed, so example.dot was written instead of example.svg\n\
+                Install it (Debian: apt-get install graphviz) and run: dot -Tsvg example.dot -o example.svg\n";
+    assert_eq!((ran.status.code(), String::from_utf8_lossy(&ran.stderr).as_ref()), (Some(2), said));
+    assert!(folder.read("example.dot").starts_with(b"digraph decisions {"));
+    let message =
+        "vt: example.gif: expected a file that ends in .svg, .png, .pdf or .dot\nSee `vt draw --help`.\n";
+    folder.complains(&["draw", "example.sheet", "-o", "example.gif"], 2, message);
+}

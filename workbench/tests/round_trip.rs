@@ -1,0 +1,138 @@
+//! Bytes to text to bytes: the same bytes, for 100,000 accepted sheets, as many accepted pieces, and the
+//! graphs of some; and for what is refused, as long as its records can be read.
+
+use voltunnis_generate::asked::Asked;
+use voltunnis_generate::bytes::to_hex;
+use voltunnis_generate::crowded::crowded;
+use voltunnis_generate::damage::damaged;
+use voltunnis_generate::graphs::graph;
+use voltunnis_generate::known;
+use voltunnis_generate::pieces::piece;
+use voltunnis_generate::random::Random;
+use voltunnis_generate::sheets::sheet;
+use voltunnis_generate::stock::Stock;
+use voltunnis_generate::trees::piece_bytes;
+use voltunnis_workbench::notation::{
+    parse_graph, parse_piece, parse_sheet, print_graph, print_piece, print_sheet, Graph, Names, SheetText,
+};
+
+const ROUNDS: usize = 100_000;
+
+#[track_caller]
+fn sheet_again(bytes: &[u8]) {
+    let text = print_sheet(bytes).expect("a sheet that can be read");
+    let written = parse_sheet(&text).unwrap_or_else(|fault| panic!("{}", fault.show("printed", &text)));
+    assert_eq!(to_hex(&written.sheet.bytes()), to_hex(bytes), "{text}");
+}
+
+#[track_caller]
+fn piece_again(bytes: &[u8]) {
+    let text = print_piece(bytes).expect("a piece that can be read");
+    let parsed = parse_piece(&text, &Names::default());
+    let piece = parsed.unwrap_or_else(|fault| panic!("{}", fault.show("printed", &text)));
+    assert_eq!(to_hex(&piece.bytes()), to_hex(bytes), "{text}");
+}
+
+#[track_caller]
+fn graph_again(bytes: &[u8]) {
+    let text = print_graph(bytes).expect("a graph that can be read");
+    let parsed = parse_graph(&text, &Names::default());
+    let graph = parsed.unwrap_or_else(|fault| panic!("{}", fault.show("printed", &text)));
+    assert!(graph.bytes() == bytes, "{text}");
+}
+
+#[test]
+fn accepted_sheets_come_back_as_they_were() {
+    let mut random = Random::new(0x7368_6565);
+    let mut accepted = 0;
+    while accepted < ROUNDS {
+        let tree = if random.percent(5) { crowded(&mut random) } else { sheet(&mut random) };
+        let bytes = tree.bytes();
+        accepted += usize::from(voltunnis::check_sheet(&bytes).is_ok());
+        sheet_again(&bytes);
+    }
+}
+
+#[test]
+fn accepted_pieces_come_back_as_they_were() {
+    let mut random = Random::new(0x7069_6563);
+    let mut accepted = 0;
+    while accepted < ROUNDS {
+        let tree = sheet(&mut random);
+        for _ in 0..10 {
+            let bytes = piece_bytes(&piece(&mut random, &tree, Stock::FULL));
+            accepted += usize::from(voltunnis::check_piece(&bytes).is_ok());
+            piece_again(&bytes);
+        }
+    }
+}
+
+#[test]
+fn graphs_come_back_as_they_were() {
+    let mut random = Random::new(0x6772_6170);
+    let mut built = 0;
+    while built < 2_000 {
+        let bytes = sheet(&mut random).bytes();
+        if let Ok(graph) = voltunnis::graph(&bytes) {
+            graph_again(&graph);
+            built += 1;
+        }
+    }
+    for _ in 0..2_000 {
+        let asked = Asked::of(&sheet(&mut random));
+        // Another maker's, or a damaged one: if it can be read, it comes back.
+        let graph = graph(&mut random, &asked, || None);
+        if print_graph(&graph).is_ok() {
+            graph_again(&graph);
+        }
+    }
+    for sheet in [known::nodes_1024(), known::longest(), known::zeros_and_ones(), known::coins(32)] {
+        graph_again(&voltunnis::graph(&sheet).expect("a graph"));
+    }
+}
+
+/// Names that are words of the notation too are no trouble.
+#[test]
+fn odd_names_come_back_as_they_were() {
+    let words =
+        ["name", "sheet", "graph", "neither", "unknown", "no", "other", "fail", "argument", "place", "part"];
+    let declared: String =
+        words.iter().enumerate().map(|(at, word)| format!("name {word} = {at}\n")).collect();
+    let rules: String = words
+        .iter()
+        .enumerate()
+        .map(|(at, word)| format!("{}: ({word}, {word}({word}, X), X)\n", at + 1))
+        .collect();
+    let text = format!("sheet 3\n{declared}{rules}");
+    let SheetText { sheet, names } = parse_sheet(&text).expect("a sheet");
+    let printed = sheet.print(&names);
+    let again = parse_sheet(&printed).unwrap_or_else(|fault| panic!("{}", fault.show("printed", &printed)));
+    assert_eq!(again.sheet.bytes(), sheet.bytes(), "{printed}");
+    let graph = voltunnis::graph(&sheet.bytes()).expect("a graph");
+    let printed = Graph::read(&graph).expect("a graph").print(&names, |rule| Some(format!("rule {rule}")));
+    let again =
+        parse_graph(&printed, &names).unwrap_or_else(|fault| panic!("{}", fault.show("printed", &printed)));
+    assert!(again.bytes() == graph, "{printed}");
+}
+
+/// Damaged bytes are printed or not, but what is printed comes back.
+#[test]
+fn what_can_be_read_comes_back() {
+    let mut random = Random::new(0x6461_6d61);
+    let mut printed = 0;
+    for _ in 0..20_000 {
+        let tree = sheet(&mut random);
+        let bytes = damaged(&mut random, &tree.bytes());
+        if print_sheet(&bytes).is_ok() {
+            sheet_again(&bytes);
+            printed += 1;
+        }
+        let piece = piece_bytes(&piece(&mut random, &tree, Stock::FULL));
+        let bytes = damaged(&mut random, &piece);
+        if print_piece(&bytes).is_ok() {
+            piece_again(&bytes);
+            printed += 1;
+        }
+    }
+    assert!(printed > 2_000, "{printed} of the damaged ones could be read");
+}
