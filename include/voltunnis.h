@@ -2,8 +2,9 @@
  * Voltunnis: checks, answers and decision graphs for coin sorter rule sheets.
  *
  * Every function takes byte sequences, each as a pointer and a length, and returns one 64-bit
- * number. A pointer is never null, not even with length 0. A buffer that is lent to be written must
- * not overlap an input. No function keeps a pointer after it returned.
+ * number. A window is lent as a pointer to its cells. A pointer is never null, not even with length 0.
+ * A buffer that is lent to be written must not overlap an input. No function keeps a pointer after it
+ * returned.
  *
  * A result is packed from the lowest bit up: 8 bits for the refusal's number, 0 when accepted, then
  * the fields that stand beside each function. On a refusal all other bits are 0.
@@ -38,6 +39,8 @@
  *   each switch 26  fewer than 64 edges have been walked
  *   or pair     27  each place that it tests is in the piece, or below an unknown
  *   walked
+ *   an answer   36  commit or execute with rule 1 to 64, or suspend or fail with rule 0
+ *   fed
  *
  * Kinds are hexadecimal, all other numbers decimal.
  */
@@ -99,6 +102,24 @@ uint64_t vt_walk(const uint8_t *sheet, size_t sheet_len, const uint8_t *graph, s
  * refused. */
 uint64_t vt_wait(const uint8_t *sheet, size_t sheet_len, const uint8_t *graph, size_t graph_len,
                  const uint8_t *piece, size_t piece_len);
+
+/* A window has the counts of the last 1,000 answers that were fed to it, or of all if fewer were. It is so many uint16_t, which the
+ * caller lends; all zero is a fresh one. A feed and a question take the same time whatever was fed before. On memory that holds
+ * anything else the calls end and stay inside it. */
+#define VT_WINDOW 1070
+
+/* Makes a window fresh. Fields: none. */
+uint64_t vt_window_fresh(uint16_t window[VT_WINDOW]);
+
+/* Feeds an answer, its word and its rule: question 36. A refused answer leaves the window as it was. Fields: none. */
+uint64_t vt_window_feed(uint16_t window[VT_WINDOW], uint8_t word, uint8_t rule);
+
+/* The counts of the four words. The whole result is the counts, 16 bits each: commit (bits 0 to 15), execute (16 to 31), suspend
+ * (32 to 47), fail (48 to 63). */
+uint64_t vt_window_words(const uint16_t window[VT_WINDOW]);
+
+/* The commits of a rule, 0 where it is not 1 to 64. The whole result is the count. */
+uint64_t vt_window_commits(const uint16_t window[VT_WINDOW], uint8_t rule);
 
 #ifdef __cplusplus
 }

@@ -1,7 +1,5 @@
 //! Asks for the plain answers of document 01's example: `cargo run --example plain`.
 
-use voltunnis_tests::voltunnis;
-
 fn main() {
     // f(X, X) and f(1, 2), in symbols.
     let sheet = [0x10, 2, 2, 0x24, 0, 0x24, 0, 0x21, 0, 1, 0x21, 0, 2];
@@ -13,8 +11,8 @@ fn main() {
     ];
     for piece in pieces {
         match voltunnis::plain(&sheet, piece) {
-            Ok(answer) => println!("{} {}", answer.word.name(), answer.rule),
-            Err(refusal) => println!("refused {refusal}"),
+            Ok(answer) => println!("{} {}", answer.word, answer.rule),
+            Err(refusal) => println!("{refusal}"),
         }
     }
 }

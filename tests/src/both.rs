@@ -6,6 +6,7 @@
 use crate::bytes::to_hex;
 use crate::results::{Answer, Built, GraphSize, PieceSize, Plain, Refusal, SheetSize, Written};
 use crate::{reference, voltunnis};
+pub use voltunnis_generate::stream::lent;
 
 #[inline]
 pub fn check_sheet(sheet: &[u8]) -> Result<SheetSize, Refusal> {
@@ -50,22 +51,13 @@ pub fn check_graph(sheet: &[u8], graph: &[u8]) -> Result<GraphSize, Refusal> {
 /// How many bytes after a lent buffer are watched.
 const BEYOND: usize = 64;
 
-/// What stands in a lent buffer at this place: bytes by which a part that moved is seen.
-fn lent_byte(at: usize) -> u8 {
-    (at * 37 % 251) as u8
-}
-
-/// A buffer of this length as it is lent.
-pub fn lent(len: usize) -> Vec<u8> {
-    (0..len).map(lent_byte).collect()
-}
-
 /// Lends a call a buffer of this length; gives its result and the buffer. No byte beyond it changes.
 #[inline]
 fn lend<T>(len: usize, call: impl FnOnce(&mut [u8]) -> T) -> (T, Vec<u8>) {
     let mut bytes = lent(len + BEYOND);
     let result = call(&mut bytes[..len]);
-    assert!(bytes.drain(len..).eq((len..len + BEYOND).map(lent_byte)), "a byte beyond {len} changed");
+    assert!(bytes[len..] == lent(len + BEYOND)[len..], "a byte beyond {len} changed");
+    bytes.truncate(len);
     (result, bytes)
 }
 

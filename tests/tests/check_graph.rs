@@ -7,6 +7,7 @@ use voltunnis_tests::generate::damage::damaged;
 use voltunnis_tests::generate::graphs::graph;
 use voltunnis_tests::generate::random::Random;
 use voltunnis_tests::generate::sheets::sheet;
+use voltunnis_tests::reference::build::nodes;
 use voltunnis_tests::reference::nodes::{graph_bytes, Case, Node};
 use voltunnis_tests::reference::sheet::Sheet;
 use voltunnis_tests::results::GraphSize;
@@ -183,7 +184,7 @@ fn library_and_reference_agree_on_random_graphs() {
         let Ok(sheet) = Sheet::read(&sheet_bytes) else {
             continue;
         };
-        let graph = graph(&mut random, &sheet);
+        let graph = graph(&mut random, &sheet.asked(), || nodes(&sheet).ok());
         if random.percent(2) {
             sheet_bytes = damaged(&mut random, &sheet_bytes);
         }

@@ -27,7 +27,7 @@ fn graphs() -> Vec<Made> {
     let mut graphs = Vec::new();
     for bytes in sheets {
         let Ok(sheet) = Sheet::read(&bytes).map(Rc::new) else { continue };
-        let both = [nodes(&sheet).unwrap_or_default(), foreign(&mut random, &sheet)];
+        let both = [nodes(&sheet).unwrap_or_default(), foreign(&mut random, &sheet.asked())];
         for nodes in both.into_iter().filter(|nodes| (1..=40).contains(&nodes.len())) {
             graphs.push(Made { bytes: bytes.clone(), sheet: sheet.clone(), nodes });
         }

@@ -99,7 +99,7 @@ fn library_and_reference_agree_on_random_graphs() {
         let Ok(sheet) = Sheet::read(&sheet_bytes) else {
             continue;
         };
-        let graph = graph(&mut random, &sheet);
+        let graph = graph(&mut random, &sheet.asked(), || nodes(&sheet).ok());
         let len = match random.below(6) {
             0 => 0,
             1 => graph.len().saturating_sub(1),

@@ -135,7 +135,7 @@ fn a_piece_filled_in_further_keeps_the_promise() {
 fn any_graph(random: &mut Random, made: &Made) -> Option<Vec<u8>> {
     let nodes = match random.percent(50) {
         true => reference::build::nodes(&made.sheet).ok()?,
-        false => foreign(random, &made.sheet),
+        false => foreign(random, &made.sheet.asked()),
     };
     Some(made.graph(&nodes))
 }

@@ -192,7 +192,7 @@ fn library_and_reference_agree_on_random_walks() {
         let Ok(sheet) = Sheet::read(&tree.bytes()) else {
             continue;
         };
-        let graph = graph(&mut random, &sheet);
+        let graph = graph(&mut random, &sheet.asked(), || reference::build::nodes(&sheet).ok());
         for _ in 0..5 {
             seen.walk(&mut random, &tree, &graph);
         }

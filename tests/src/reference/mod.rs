@@ -8,15 +8,16 @@ pub mod cases;
 pub mod graph;
 pub mod keys;
 pub mod listing;
-pub mod nodes;
 pub mod piece;
 pub mod places;
 pub mod plain;
-pub mod records;
 pub mod sheet;
 pub mod truth;
 pub mod variables;
 pub mod walk;
+pub mod window;
+
+pub use voltunnis_generate::{nodes, records};
 
 use crate::results::{Answer, Built, GraphSize, PieceSize, Plain, Refusal, SheetSize, Written};
 use piece::Piece;
@@ -70,4 +71,11 @@ pub fn walk(sheet: &[u8], graph: &[u8], piece: &[u8]) -> Result<Answer, Refusal>
     }
     let nodes = graph::read(&sheet, graph)?;
     walk::walk(&sheet, &nodes, &piece)
+}
+
+/// The bytes of a sheet's graph, if the sheet is accepted and has one.
+pub fn own_graph(sheet: &[u8]) -> Option<Vec<u8>> {
+    let sheet = Sheet::read(sheet).ok()?;
+    let nodes = build::nodes(&sheet).ok()?;
+    Some(nodes::graph_bytes(sheet.arity, sheet.rules.len() as u8, &nodes))
 }

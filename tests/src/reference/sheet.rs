@@ -4,6 +4,7 @@ use super::places::{argument, child};
 use super::records::{PatternRecord, Reader};
 use super::variables::{add_wants, by_variable, pairs_of, Occurrence};
 use crate::results::Refusal;
+use voltunnis_generate::asked::Asked;
 
 /// The most tests that a sheet may have.
 pub const MOST_TESTS: usize = 64;
@@ -170,5 +171,12 @@ impl Sheet {
             return Err(11);
         }
         Ok(Sheet { arity, rules, tests })
+    }
+
+    /// What a graph generator has to know of the sheet.
+    pub fn asked(&self) -> Asked {
+        let Tests { places, pairs } = &self.tests;
+        let (places, pairs) = (places.clone(), pairs.clone());
+        Asked { arity: self.arity, rules: self.rules.len() as u8, places, pairs }
     }
 }

@@ -7,6 +7,7 @@ mod cases;
 mod graphs;
 mod listing;
 mod timing;
+mod window;
 
 use cases::Case;
 use timing::{against, Times};
@@ -48,4 +49,5 @@ fn main() {
     cases::all().iter().for_each(rows);
     cases::for_graphs().iter().for_each(graphs::rows);
     cases::for_graphs().iter().for_each(listing::rows);
+    window::rows();
 }

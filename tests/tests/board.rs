@@ -1,0 +1,191 @@
+//! What the library asks of a control board, as the README's section "On a board" says it: the size of its code, what it needs from
+//! outside, and the most stack that each call takes. The stack is measured by painting it before a call and looking, after the
+//! call, how far down the paint was changed.
+
+use std::fs::read_to_string;
+use std::hint::black_box;
+use std::path::{Path, PathBuf};
+use std::process::Command;
+use std::ptr::{read_volatile, write_volatile};
+use std::thread;
+use voltunnis_tests::generate::known;
+
+const PAINT: u8 = 0xa5;
+/// The stack that is painted, and how far below the caller's frame the paint begins: the painter's own frame lies between.
+const DEEPEST: usize = 256 * 1024;
+const NEAREST: usize = 512;
+
+fn repository() -> PathBuf {
+    Path::new(env!("CARGO_MANIFEST_DIR")).join("..")
+}
+
+fn output(program: &str, argument: &str) -> String {
+    let archive = repository().join("target/staticlib/libvoltunnis.a");
+    let output = Command::new(program).arg(argument).arg(archive).output().expect("the command starts");
+    assert!(output.status.success(), "{program}: {}", String::from_utf8_lossy(&output.stderr));
+    String::from_utf8(output.stdout).expect("text")
+}
+
+/// The number in the row of the README's section that begins with this cell.
+fn stated(cell: &str) -> usize {
+    let readme = read_to_string(repository().join("README.md")).expect("the README");
+    let section =
+        readme.split("## On a board").nth(1).expect("the section").split("\n## ").next().expect("its text");
+    let row = section
+        .lines()
+        .find(|line| line.starts_with(&format!("| {cell} |")))
+        .unwrap_or_else(|| panic!("a row {cell}"));
+    row.split('|').nth(2).expect("a figure").trim().replace(',', "").parse().expect("a number")
+}
+
+/// The figure that is stated is no less than what was measured, and no more than a quarter and 512 bytes above it.
+fn holds(cell: &str, measured: usize) {
+    let stated = stated(cell);
+    println!("{cell}: measured {measured}, stated {stated}");
+    assert!(measured <= stated, "{cell}: {measured} bytes, and the README says {stated}");
+    assert!(
+        stated <= measured + measured / 4 + 512,
+        "{cell}: only {measured} bytes, and the README says {stated}"
+    );
+}
+
+#[inline(never)]
+fn paint(top: usize) {
+    for address in (top - DEEPEST..top - NEAREST).rev() {
+        // SAFETY: the addresses lie in this thread's stack, below the frames in use; its size is set above DEEPEST.
+        unsafe { write_volatile(address as *mut u8, PAINT) };
+    }
+}
+
+#[inline(never)]
+fn lowest_changed(top: usize) -> usize {
+    // SAFETY: as above; each address was painted before.
+    (top - DEEPEST..top - NEAREST)
+        .find(|&a| unsafe { read_volatile(a as *const u8) } != PAINT)
+        .unwrap_or(top - NEAREST)
+}
+
+/// The stack, in bytes, that a call takes below its caller's frame.
+#[inline(never)]
+fn stack_of(call: impl Fn()) -> usize {
+    let here = 0u8;
+    let top = black_box(&here) as *const u8 as usize;
+    paint(top);
+    call();
+    top - lowest_changed(top)
+}
+
+/// The most stack that a call takes over some inputs, on a thread of its own.
+fn most(call: impl Fn(&[u8], &[u8], &[u8]) + Send + Sync + 'static) -> usize {
+    let inputs = inputs();
+    let measure = move || inputs.iter().map(|(s, g, p)| stack_of(|| call(s, g, p))).max().unwrap_or(0);
+    thread::Builder::new().stack_size(4 * DEEPEST).spawn(measure).expect("a thread").join().expect("a figure")
+}
+
+/// A term or pattern that has 4 arguments at each depth but the last: by the kinds of a compound and of what stands deepest.
+fn full(compound: u8, deepest: &[u8], depth: usize, to: &mut Vec<u8>) {
+    if depth == 4 {
+        return to.extend_from_slice(deepest);
+    }
+    to.extend_from_slice(&[compound, 0, 1, 4]);
+    (0..4).for_each(|_| full(compound, deepest, depth + 1, to));
+}
+
+/// Sheets, their graphs (empty where none is built) and pieces: of document 01, large ones, and ones of full depth.
+fn inputs() -> Vec<(Vec<u8>, Vec<u8>, Vec<u8>)> {
+    let mut deep_sheet = vec![0x10, 2, 2, 0x24, 0, 0x24, 0];
+    (0..2).for_each(|_| full(0x23, &[0x20], 1, &mut deep_sheet));
+    let mut deep_piece = vec![0x11, 2];
+    (0..2).for_each(|_| full(0x33, &[0x31, 0, 1], 1, &mut deep_piece));
+    let mut inputs = vec![(known::example(), deep_piece.clone()), (deep_sheet, deep_piece)];
+    inputs.extend(known::example_pieces().into_iter().map(|piece| (known::example(), piece)));
+    for sheet in [
+        known::coins(32),
+        known::nested_8(),
+        known::zeros_and_ones(),
+        known::nodes_1024(),
+        known::nodes_1027(),
+    ] {
+        let unknowns = [vec![0x11, sheet[1]], vec![0x30; sheet[1] as usize]].concat();
+        inputs.push((sheet, unknowns));
+    }
+    let with_graph = |(sheet, piece): (Vec<u8>, Vec<u8>)| {
+        let graph = voltunnis::graph(&sheet).unwrap_or_default();
+        (sheet, graph, piece)
+    };
+    inputs.into_iter().map(with_graph).collect()
+}
+
+#[test]
+fn the_stack_of_each_call_is_what_the_readme_says() {
+    holds(
+        "`vt_check_sheet`",
+        most(|s, _, _| {
+            let _ = black_box(voltunnis::check_sheet(s));
+        }),
+    );
+    holds(
+        "`vt_check_piece`",
+        most(|_, _, p| {
+            let _ = black_box(voltunnis::check_piece(p));
+        }),
+    );
+    holds(
+        "`vt_check_graph`",
+        most(|s, g, _| {
+            let _ = black_box(voltunnis::check_graph(s, g));
+        }),
+    );
+    holds(
+        "`vt_plain`",
+        most(|s, _, p| {
+            let _ = black_box(voltunnis::plain(s, p));
+        }),
+    );
+    holds(
+        "`vt_walk`, `vt_wait`",
+        most(|s, g, p| {
+            let _ = black_box(voltunnis::walk(s, g, p));
+        }),
+    );
+}
+
+#[test]
+fn the_stack_of_each_writer_is_what_the_readme_says() {
+    let buffers = || vec![0; 600_000];
+    let lent = std::sync::Mutex::new(buffers());
+    holds(
+        "`vt_build`",
+        most(move |s, _, _| {
+            let _ = black_box(voltunnis::build(s, &mut lent.lock().expect("one thread")));
+        }),
+    );
+    let lent = std::sync::Mutex::new(buffers());
+    holds(
+        "`vt_rewrite`",
+        most(move |s, g, _| {
+            let _ = black_box(voltunnis::rewrite(s, g, &mut lent.lock().expect("one thread")));
+        }),
+    );
+}
+
+#[test]
+fn the_code_is_as_large_as_the_readme_says() {
+    let table = output("size", "-t");
+    let totals: Vec<usize> = table
+        .lines()
+        .last()
+        .expect("totals")
+        .split_whitespace()
+        .map_while(|word| word.parse().ok())
+        .collect();
+    holds("code", totals[0]);
+    assert_eq!(&totals[1..3], [0, 0], "no static data");
+}
+
+#[test]
+fn nothing_is_needed_from_outside_but_memset() {
+    let table = output("nm", "-u");
+    let needed: Vec<&str> = table.lines().filter_map(|line| line.trim().strip_prefix("U ")).collect();
+    assert_eq!(needed, ["memset"]);
+}

@@ -1,0 +1,106 @@
+//! A call made smaller: from random calls that a question refuses to the smallest that it refuses.
+
+use voltunnis_tests::generate::calls::{Call, Name, Role};
+use voltunnis_tests::generate::shrink::smallest;
+use voltunnis_tests::generate::stream::Stream;
+use voltunnis_tests::reference::{self, own_graph};
+
+/// The refusal of a call, 0 if it is answered.
+fn refusal(call: &Call) -> u8 {
+    let of = |role| call.argument(role).unwrap_or_default();
+    let (sheet, piece, graph) = (of(Role::Sheet), of(Role::Piece), of(Role::Graph));
+    let mut buffer = of(Role::Buffer).to_vec();
+    let said = match call.name() {
+        Name::CheckSheet => reference::check_sheet(sheet).map(drop),
+        Name::CheckPiece => reference::check_piece(piece).map(drop),
+        Name::Plain => reference::plain(sheet, piece).map(drop),
+        Name::CheckGraph => reference::check_graph(sheet, graph).map(drop),
+        Name::Build => reference::build(sheet, &mut buffer).map(drop),
+        Name::Rewrite => reference::rewrite(sheet, graph, &mut buffer).map(drop),
+        Name::Walk => reference::walk(sheet, graph, piece).map(drop),
+    };
+    said.err().unwrap_or(0)
+}
+
+/// The smallest calls that each question refuses.
+const SMALLEST: [(u8, &[&str]); 25] = [
+    (1, &["check_sheet -"]),
+    (2, &["check_sheet 100000"]),
+    (3, &["check_sheet 100121"]),
+    (4, &["check_sheet 100101"]),
+    (5, &["check_sheet 10010123000001230000012300000123000000"]),
+    (6, &["check_sheet 10010123000000"]),
+    (7, &["check_sheet 1001012200010000"]),
+    (8, &["check_sheet 1001012410"]),
+    (9, &["check_sheet 100201250000000000250000010001", "check_sheet 100201250000010001250000000000"]),
+    (10, &["check_sheet 10010000"]),
+    (12, &["check_piece -"]),
+    (13, &["check_piece 1100"]),
+    (14, &["check_piece 1101"]),
+    (15, &["check_piece 110133000001330000013300000133000000"]),
+    (16, &["check_piece 110133000000"]),
+    (17, &["check_piece 11013000"]),
+    (19, &["build 100100 -"]),
+    (20, &["plain 100100 11023030", "plain 100200 110130"]),
+    (21, &["check_graph 100100 -"]),
+    (22, &["check_graph 100100 1201000001"]),
+    (23, &["check_graph 100100 12010000014200"]),
+    (24, &["check_graph 100101210000 1201010001430000020000000044000000004400000000"]),
+    (25, &["check_graph 100100 12010000014000"]),
+    (
+        26,
+        &[
+            "walk 100101210000 120101000143000001000000004400000000 110130",
+            "walk 10020124002400 1202010001470000005500000000 11023030",
+        ],
+    ),
+    (
+        27,
+        &[
+            "walk 10010123000001210000 120101000143000101000000004400000000 1101310000",
+            "walk 1002012400230000012400 1202010001470000005600000000 110230310000",
+            "walk 1002012300000124002400 1202010001470001005500000000 110231000030",
+            "walk 100201230000012400250000000000 120201000143000101000000004400000000 110231000030",
+        ],
+    ),
+];
+
+/// Calls of the stream that this question refuses.
+fn refused(number: u8) -> impl Iterator<Item = Call> {
+    Stream::new(u64::from(number), own_graph).filter(move |call| refusal(call) == number)
+}
+
+#[test]
+fn every_refusal_comes_down_to_its_smallest_call() {
+    for (number, wanted) in SMALLEST {
+        for call in refused(number).take(6) {
+            let small = smallest(&call, &own_graph, &mut |call| refusal(call) == number, 20_000);
+            assert!(wanted.contains(&small.to_string().as_str()), "{number}: {small} from {call}");
+        }
+    }
+}
+
+#[test]
+fn sheets_that_must_be_large_come_down_too() {
+    for (number, most) in [(11, 250), (18, 160)] {
+        for call in refused(number).take(6) {
+            let small = smallest(&call, &own_graph, &mut |call| refusal(call) == number, 20_000);
+            let length: usize = small.arguments().map(|(_, bytes)| bytes.len()).sum();
+            assert!(length <= most, "{number}: {length} bytes, {small} from {call}");
+        }
+    }
+}
+
+#[test]
+fn no_more_questions_are_asked_than_allowed() {
+    let call = refused(11).next().expect("a call");
+    for allowed in [0, 1, 50] {
+        let mut asked = 0;
+        let mut shows = |call: &Call| {
+            asked += 1;
+            refusal(call) == 11
+        };
+        let small = smallest(&call, &own_graph, &mut shows, allowed);
+        assert!(asked <= allowed && refusal(&small) == 11);
+    }
+}

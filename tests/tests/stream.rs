@@ -1,0 +1,84 @@
+//! The stream of calls: library and reference agree on every call, every refusal, word and kind of node is
+//! met whatever the seed, and what the generators count for themselves is what the reference counts.
+
+use std::collections::BTreeMap;
+use voltunnis_tests::both;
+use voltunnis_tests::generate::asked::Asked;
+use voltunnis_tests::generate::calls::{Call, Fault, Name, Role};
+use voltunnis_tests::generate::crowded::crowded;
+use voltunnis_tests::generate::random::Random;
+use voltunnis_tests::generate::sheets::sheet;
+use voltunnis_tests::generate::stream::{lent, Stream};
+use voltunnis_tests::reference::{own_graph, sheet::Sheet};
+
+/// What a call of both gives, in a word.
+fn outcome(call: &Call) -> String {
+    let of = |role| call.argument(role).unwrap_or_default();
+    let (sheet, piece, graph) = (of(Role::Sheet), of(Role::Piece), of(Role::Graph));
+    let buffer = of(Role::Buffer);
+    assert!(buffer == lent(buffer.len()), "a buffer as it is lent");
+    let said = match call.name() {
+        Name::CheckSheet => both::check_sheet(sheet).map(|_| "sheet".to_string()),
+        Name::CheckPiece => both::check_piece(piece).map(|_| "piece".to_string()),
+        Name::Plain => both::plain(sheet, piece).map(|plain| format!("plain {}", plain.word.name())),
+        Name::CheckGraph => both::check_graph(sheet, graph).map(|_| "graph".to_string()),
+        Name::Build => both::build(sheet, buffer.len()).0.map(|_| "built".to_string()),
+        Name::Rewrite => both::rewrite(sheet, graph, buffer.len()).0.map(|_| "rewritten".to_string()),
+        Name::Walk => both::walk(sheet, graph, piece).map(|answer| answer.walk.word.name().to_string()),
+    };
+    said.unwrap_or_else(|refusal| format!("refused {refusal}"))
+}
+
+#[test]
+fn every_refusal_and_every_word_is_met_whatever_the_seed() {
+    for seed in 1..=4 {
+        let mut counts = BTreeMap::new();
+        for call in Stream::new(seed, own_graph).take(10_000) {
+            *counts.entry(outcome(&call)).or_insert(0) += 1;
+        }
+        println!("seed {seed}: {counts:?}");
+        let words = ["commit", "execute", "suspend", "fail"];
+        let plain = words.map(|word| format!("plain {word}"));
+        let refusals = (1..=27).map(|number| format!("refused {number}"));
+        let accepted = ["sheet", "piece", "graph", "built", "rewritten"].map(String::from);
+        for wanted in refusals.chain(words.map(String::from)).chain(plain).chain(accepted) {
+            assert!(counts.contains_key(&wanted), "seed {seed}: {wanted} never");
+        }
+    }
+}
+
+#[test]
+fn a_seed_gives_the_same_calls_and_another_seed_others() {
+    let calls = |seed| Stream::new(seed, own_graph).take(500).collect::<Vec<Call>>();
+    assert!(calls(7) == calls(7));
+    assert!(calls(7) != calls(8));
+    assert!(calls(7)[..19] == calls(8)[..19], "document 01's example comes first");
+}
+
+#[test]
+fn calls_are_read_from_their_lines() {
+    for call in Stream::new(5, own_graph).take(2_000) {
+        assert_eq!(Call::read(&call.to_string()), Ok(call));
+    }
+    let fault = |line| Call::read(line).expect_err("no call").to_string();
+    assert_eq!(Call::read("tidy 10"), Err(Fault::Unknown("tidy".into())));
+    assert_eq!(fault("tidy 10"), "no call has the name \"tidy\"");
+    assert_eq!(fault(""), "no call has the name \"\"");
+    assert_eq!(fault("plain 10"), "plain takes 2 arguments, here are 1");
+    assert_eq!(fault("check_sheet 1"), "an odd number of hexadecimal digits");
+    assert_eq!(fault("check_sheet 1g"), "'g' is no hexadecimal digit");
+}
+
+#[test]
+fn what_sheets_ask_is_what_the_reference_reads() {
+    let mut random = Random::new(0x6173_6b65);
+    let mut accepted = 0;
+    for _ in 0..5_000 {
+        let tree = if random.percent(20) { crowded(&mut random) } else { sheet(&mut random) };
+        if let Ok(read) = Sheet::read(&tree.bytes()) {
+            assert_eq!(Asked::of(&tree), read.asked());
+            accepted += 1;
+        }
+    }
+    assert!(accepted > 2_000, "{accepted} sheets");
+}
