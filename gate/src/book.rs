@@ -4,12 +4,13 @@
 
 use crate::antt::{defining_lines, definitions, statement, words, Imports};
 use crate::layout::files_under;
-use crate::readme::{links, theorems};
+use crate::readme::{links, theorems, Theorem};
 use std::collections::BTreeSet;
 use std::fs::read_to_string;
 
 const BELIEVED: &str = "What must be believed";
 const PROMISES: &str = "Promises";
+const SENTENCES: &str = "Definitions and document 01's sentences";
 
 /// The faults of the book. Prints how many files and lines it has.
 pub fn faults(most: usize) -> Vec<String> {
@@ -18,6 +19,7 @@ pub fn faults(most: usize) -> Vec<String> {
     let mut todo = contract_files(&mut faults);
     todo.extend(promise_files(&readme, &mut faults));
     let book = closure(todo, &mut faults);
+    faults.extend(theorems(&readme, SENTENCES).into_iter().filter_map(|law| missing(&law)));
     let listed: BTreeSet<String> =
         links(&readme, BELIEVED).into_iter().filter(|file| file.ends_with(".antt")).collect();
     faults.extend(book.difference(&listed).map(|file| format!("{file}: believed, but not in README's list")));
@@ -54,7 +56,7 @@ fn contract_files(faults: &mut Vec<String>) -> Vec<String> {
     let mut named = Vec::new();
     let mut calls = 0;
     for file in
-        files_under("crates/voltunnis/src", "rt").into_iter().chain(files_under("crates/listing/src", "rt"))
+        files_under("crates/voltunnis/src", "rt").into_iter().chain(files_under("crates/output/src", "rt"))
     {
         let text = read_to_string(&file).unwrap_or_default();
         let imports = Imports::of(&text);
@@ -88,7 +90,7 @@ fn promise_files(readme: &str, faults: &mut Vec<String>) -> Vec<String> {
     for theorem in theorems(readme, PROMISES) {
         let text = read_to_string(&theorem.file).unwrap_or_default();
         let Some(said) = statement(&text, &theorem.name) else {
-            faults.push(format!("README names {}, which {} does not have", theorem.name, theorem.file));
+            faults.extend(missing(&theorem));
             continue;
         };
         let imports = Imports::of(&text);
@@ -105,6 +107,13 @@ fn promise_files(readme: &str, faults: &mut Vec<String>) -> Vec<String> {
         }
     }
     named
+}
+
+/// The fault of a theorem that its file does not have.
+fn missing(theorem: &Theorem) -> Option<String> {
+    let text = read_to_string(&theorem.file).unwrap_or_default();
+    let fault = || format!("README names {}, which {} does not have", theorem.name, theorem.file);
+    statement(&text, &theorem.name).is_none().then(fault)
 }
 
 /// The statement binds the name itself, as in `(sheet : Sheet)`.

@@ -5,7 +5,7 @@ use std::collections::BTreeSet;
 use std::fs::read_to_string;
 use std::path::Path;
 
-const PACKAGES: [&str; 6] = ["tests", "gate", "generate", "bindings/rust", "workbench", "conformance"];
+const PACKAGES: [&str; 5] = ["tests", "gate", "generate", "bindings/rust", "workbench"];
 
 /// The faults: each Rust file that is not compiled.
 pub fn faults() -> Vec<String> {

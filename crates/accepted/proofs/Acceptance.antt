@@ -8,9 +8,8 @@ use native.Mathlib.Omega.{arith}
 use lib.Dec.{leb}
 use lib.ListN.{length}
 use borrow.Author.Tests.{leb-true, le-leb}
-use Rattle.records.specs.Fields.{IsByte}
+use Rattle.records.specs.Fields.{AreBytes}
 use Rattle.records.specs.Reading.{Reading, took, refused, ask}
-use Rattle.basics.specs.Lists.{All}
 use Rattle.sheet.specs.Sheet.{Sheet}
 use Rattle.sheet.specs.ReadSheet.{readSheet}
 use Rattle.sheet.specs.WriteSheet.{sheetBytes}
@@ -35,7 +34,7 @@ tests-asked (refused q) e = let z : _≡_ {A = ℕ} 0 1 = cc in absurd (omega ar
 
 -- The theorem: both directions.
 pub sheet-accepted
-    : (s : List ℕ) → All IsByte s → (k : ℕ) (sheet : Sheet)
+    : (s : List ℕ) → AreBytes s → (k : ℕ) (sheet : Sheet)
     → (acceptSheet s ≡ took k sheet) ↔ (AcceptedSheet sheet × (sheetBytes sheet ≡ s) × (k ≡ length s))
 unfolding acceptSheet
 sheet-accepted s bytes k sheet = (forth, back)

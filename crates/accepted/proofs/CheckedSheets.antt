@@ -5,7 +5,7 @@ use mathlib.Core.List.{List, [], _∷_}
 use native.Mathlib.Omega.{arith}
 use lib.Dec.{leb}
 use lib.ListN.{length, drop}
-use Rattle.records.specs.Fields.{IsByte}
+use Rattle.records.specs.Fields.{AreBytes}
 use Rattle.records.specs.Reading.{Reading, took, refused}
 use Rattle.records.proofs.Questions.{ask-took}
 use Rattle.records.proofs.Rows.{row-size}
@@ -17,10 +17,11 @@ use Rattle.sheet.proofs.SheetReads.{sheet-is}
 use Rattle.sheet.proofs.ReadsSound.{sheet-sound}
 use Rattle.sheet_tests.specs.declared.SheetCheck.the-variants.{Accepted, Refused}
 use Rattle.sheet_tests.specs.SheetTests.{sheetTests}
-use Rattle.sheet_tests.specs.CheckSheet.{SheetValues, mostTests, askTests, acceptSheet, checkValues, sheetValues}
+use Rattle.sheet_tests.specs.CheckSheet.{SheetValues, mostTests, askTests, acceptSheet, sheetCheckValues, sheetValues}
 use Rattle.accepted.specs.views.AcceptedAs.{AcceptedAs}
 use Rattle.accepted.proofs.Named.{Named}
-use Rattle.accepted.proofs.Questions.{SheetQuestion, sheet-named}
+use Rattle.accepted.proofs.Questions.{sheet-named}
+use Rattle.accepted.specs.Questions.{SheetQuestion}
 
 -- An accepted sheet was read before question 11.
 pub accepted-read : (s : List ℕ) {k : ℕ} {sheet : Sheet} → acceptSheet s ≡ took k sheet → readSheet s ≡ took k sheet
@@ -33,11 +34,11 @@ accepted-read s {k} {sheet} e = go (readSheet s) refl e
 
 module _ (s : List ℕ) where
   -- A check that accepts says that the sheet is accepted,
-  pub check-accepts : (a n t : ℕ) → checkValues (Accepted a n t) ≡ sheetValues (acceptSheet s) → AcceptedAs s a n
+  pub check-accepts : (a n t : ℕ) → sheetCheckValues (Accepted a n t) ≡ sheetValues (acceptSheet s) → AcceptedAs s a n
   check-accepts a n t e = go (acceptSheet s) refl (sheet-named s) e
     where
       go
-          : (r : Reading Sheet) → acceptSheet s ≡ r → Named SheetQuestion r → checkValues (Accepted a n t) ≡ sheetValues r
+          : (r : Reading Sheet) → acceptSheet s ≡ r → Named SheetQuestion r → sheetCheckValues (Accepted a n t) ≡ sheetValues r
           → AcceptedAs s a n
       go (took k sheet) d h v =
           let is = sheet-is s (accepted-read s d) in
@@ -56,10 +57,10 @@ module _ (s : List ℕ) where
       go (refused q) d h v = absurd (omega (arith, h .0, ap (λ (x : SheetValues). x .refusal) v))
 
   -- and one that refuses that it is refused.
-  pub check-refuses : {q : ℕ} → checkValues (Refused q) ≡ sheetValues (acceptSheet s) → acceptSheet s ≡ refused q
+  pub check-refuses : {q : ℕ} → sheetCheckValues (Refused q) ≡ sheetValues (acceptSheet s) → acceptSheet s ≡ refused q
   check-refuses {q} e = go (acceptSheet s) refl e
     where
-      go : (r : Reading Sheet) → acceptSheet s ≡ r → checkValues (Refused q) ≡ sheetValues r → acceptSheet s ≡ refused q
+      go : (r : Reading Sheet) → acceptSheet s ≡ r → sheetCheckValues (Refused q) ≡ sheetValues r → acceptSheet s ≡ refused q
       go (took k sheet) d v =
           let is = sheet-is s (accepted-read s d) in
           absurd (omega (arith, is .header .someArgument, ap (λ (x : SheetValues). x .arity) v))
@@ -67,5 +68,5 @@ module _ (s : List ℕ) where
 
   -- The rules of an accepted sheet are accepted.
   pub accepted-rules
-      : {k : ℕ} {sheet : Sheet} → All IsByte s → acceptSheet s ≡ took k sheet → All (AcceptedRule (sheet .arity)) (sheet .rules)
+      : {k : ℕ} {sheet : Sheet} → AreBytes s → acceptSheet s ≡ took k sheet → All (AcceptedRule (sheet .arity)) (sheet .rules)
   accepted-rules bytes e = sheet-sound s bytes (accepted-read s e) .acceptedRules

@@ -1,13 +1,9 @@
 -- Which numbers a reading can be refused with.
-use Prim.Native.Nat.{ℕ, zero, suc, _≤_}
+use Prim.Native.Nat.{ℕ, zero, suc}
 use mathlib.Core.Bool.{Bool, true, false}
 use mathlib.Core.List.{List}
 use lib.ListN.{drop}
 use Rattle.records.specs.Reading.{Reading, took, refused, ask, after, andThen, readRow}
-
--- The number is one of those from the first to the last.
-abbrev pub Between : ℕ → ℕ → ℕ → Type 0
-Between first last q = (first ≤ q) × (q ≤ last)
 
 module _ (P : ℕ → Type 0) where
   -- A refusal has one of the numbers.

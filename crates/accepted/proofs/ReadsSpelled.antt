@@ -4,22 +4,22 @@ use mathlib.Core.Path.{_≡_, refl, sym, subst}
 use mathlib.Core.List.{List, [], _∷_, _++_}
 use native.Mathlib.Omega.{arith}
 use lib.ListN.{drop}
-use Rattle.records.specs.Fields.{IsByte}
+use Rattle.records.specs.Fields.{AreBytes}
 use Rattle.records.specs.Reading.{took}
 use Rattle.records.proofs.Spelling.{Spelled, spelled-join, row-spelled}
-use Rattle.basics.specs.Lists.{All}
 use Rattle.terms.specs.Pattern.{Pattern, Patterns, pnil, pcons}
 use Rattle.sheet.specs.declared.PatternRecord.the-variants.{Compound}
 use Rattle.sheet.specs.ReadSheet.{readPattern, readPatterns, readRule, readRules}
 use Rattle.sheet.specs.WriteSheet.{patternBytes, patternsBytes, rulesBytes}
-use Rattle.sheet.proofs.HeadBytes.{bytes-rest, recordSpelling, head-spelled}
+use Rattle.sheet.proofs.HeadBytes.{recordSpelling, head-spelled}
 use Rattle.sheet.proofs.Compounds.{row-count}
 use Rattle.sheet.proofs.PatternReads.{PatternIs, isAnything, isSymbol, isRange, isCompound, isVariable, isRanged, pattern-is}
 use Rattle.sheet.proofs.SheetReads.{rule-is}
+use Rattle.records.proofs.ByteLists.{bytes-drop}
 
 -- A pattern is spelled where the rows below it are.
 spelled-from
-    : (below : ℕ) (s : List ℕ) {k : ℕ} {p : Pattern} → All IsByte s
+    : (below : ℕ) (s : List ℕ) {k : ℕ} {p : Pattern} → AreBytes s
     → (1 ≤ below → (n b : ℕ) (ps : Patterns) → readPatterns (pred below) n (drop 4 s) ≡ took b ps
     → Spelled (patternsBytes ps) b (drop 4 s))
     → PatternIs below s k p → Spelled (patternBytes p) k s
@@ -37,42 +37,42 @@ spelled-from below s bytes rows (isRanged head range small) = record { begins = 
 -- A row of patterns is spelled where each is.
 row-bytes
     : (below : ℕ)
-    → ((s : List ℕ) (k : ℕ) (p : Pattern) → All IsByte s → readPattern below s ≡ took k p
+    → ((s : List ℕ) (k : ℕ) (p : Pattern) → AreBytes s → readPattern below s ≡ took k p
     → Spelled (patternBytes p) k s)
-    → (n : ℕ) (s : List ℕ) {k : ℕ} {ps : Patterns} → All IsByte s → readPatterns below n s ≡ took k ps
+    → (n : ℕ) (s : List ℕ) {k : ℕ} {ps : Patterns} → AreBytes s → readPatterns below n s ≡ took k ps
     → Spelled (patternsBytes ps) k s
 row-bytes below each n s bytes e =
-    row-spelled pnil pcons (readPattern below) (All IsByte) bytes-rest patternBytes patternsBytes refl (λ p ps. refl)
+    row-spelled pnil pcons (readPattern below) AreBytes bytes-drop patternBytes patternsBytes refl (λ p ps. refl)
     each
     n s bytes e
 
 -- A pattern that is read from bytes is spelled by those that it took.
 pub pattern-spelled
-    : (below : ℕ) (s : List ℕ) {k : ℕ} {p : Pattern} → All IsByte s → readPattern below s ≡ took k p
+    : (below : ℕ) (s : List ℕ) {k : ℕ} {p : Pattern} → AreBytes s → readPattern below s ≡ took k p
     → Spelled (patternBytes p) k s
 pattern-spelled zero s bytes e =
     spelled-from zero s bytes (λ deep n b ps read. absurd (omega arith)) (pattern-is zero s e)
 pattern-spelled (suc below) s bytes e =
     spelled-from (suc below) s bytes
     (λ deep n b ps read.
-    row-bytes below (λ s k p good read. pattern-spelled below s good read) n (drop 4 s) (bytes-rest 4 s bytes) read)
+    row-bytes below (λ s k p good read. pattern-spelled below s good read) n (drop 4 s) (bytes-drop 4 s bytes) read)
     (pattern-is (suc below) s e)
 
 -- So is a row of patterns.
 pub patterns-spelled
-    : (below n : ℕ) (s : List ℕ) {k : ℕ} {ps : Patterns} → All IsByte s → readPatterns below n s ≡ took k ps
+    : (below n : ℕ) (s : List ℕ) {k : ℕ} {ps : Patterns} → AreBytes s → readPatterns below n s ≡ took k ps
     → Spelled (patternsBytes ps) k s
 patterns-spelled below n s bytes e = row-bytes below (λ s k p good read. pattern-spelled below s good read) n s bytes e
 
 -- So is a rule, and a row of rules.
 pub rule-spelled
-    : (arity : ℕ) (s : List ℕ) {k : ℕ} {rule : Patterns} → All IsByte s → readRule arity s ≡ took k rule
+    : (arity : ℕ) (s : List ℕ) {k : ℕ} {rule : Patterns} → AreBytes s → readRule arity s ≡ took k rule
     → Spelled (patternsBytes rule) k s
 rule-spelled arity s bytes e = patterns-spelled 3 arity s bytes (rule-is arity s e .0)
 
 pub rules-spelled
-    : (arity n : ℕ) (s : List ℕ) {k : ℕ} {rules : List Patterns} → All IsByte s → readRules arity n s ≡ took k rules
+    : (arity n : ℕ) (s : List ℕ) {k : ℕ} {rules : List Patterns} → AreBytes s → readRules arity n s ≡ took k rules
     → Spelled (rulesBytes rules) k s
 rules-spelled arity n s bytes e =
-    row-spelled [] _∷_ (readRule arity) (All IsByte) bytes-rest patternsBytes rulesBytes refl (λ rule rules. refl)
+    row-spelled [] _∷_ (readRule arity) AreBytes bytes-drop patternsBytes rulesBytes refl (λ rule rules. refl)
     (λ s k rule good read. rule-spelled arity s good read) n s bytes e

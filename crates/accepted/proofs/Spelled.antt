@@ -7,24 +7,24 @@ use mathlib.Core.List.{List, [], _∷_, _++_, append-nil}
 use native.Mathlib.Omega.{arith}
 use lib.ListN.{length, drop, length-drop, drop-of-length-le}
 use borrow.Author.Tests.{le-leb, eq-eqb}
-use Rattle.records.specs.Fields.{IsByte}
+use Rattle.records.specs.Fields.{AreBytes}
 use Rattle.records.specs.Reading.{took, andThen}
 use Rattle.records.proofs.Rows.{row-size}
-use Rattle.basics.specs.Lists.{All}
 use Rattle.sheet.specs.Sheet.{Sheet, SoundSheet, mostRules}
 use Rattle.sheet.specs.ReadSheet.{readRule, readRules, readHeader, endSheet, readSheet}
 use Rattle.sheet.specs.WriteSheet.{rulesBytes, sheetBytes}
-use Rattle.sheet.proofs.HeadBytes.{bytes-rest, first-bytes}
+use Rattle.sheet.proofs.HeadBytes.{first-bytes}
 use Rattle.sheet.proofs.SheetReads.{sheet-is}
 use Rattle.sheet.proofs.ReadsSound.{sheet-sound}
 use Rattle.accepted.proofs.ReadsSpelled.{rules-spelled}
 use Rattle.sheet.proofs.SpelledReads.{rules-read}
+use Rattle.records.proofs.ByteLists.{bytes-drop}
 
 -- The first record of a sound sheet is read from its bytes.
 header-read
     : (sheet : Sheet) (rest : List ℕ) → SoundSheet sheet
     → readHeader (0x10 ∷ sheet .arity ∷ length (sheet .rules) ∷ rest)
-    ≡ took 3 (record { arity = sheet .arity; count = length (sheet .rules) })
+    ≡ took 3 (record { arity = sheet .arity; ruleCount = length (sheet .rules) })
 unfolding readHeader
 header-read sheet rest sound =
     simp (
@@ -47,18 +47,18 @@ sheet-read sheet sound =
     let end : length rest ≡ length s - 3 = omega arith in
     let all : 3 + length rest ≡ length s = omega arith in
     ap (λ x. andThen x (λ a head. endSheet (head .arity) (length s - a)
-    (readRules (head .arity) (head .count) (drop a s))))
+    (readRules (head .arity) (head .ruleCount) (drop a s))))
     (header-read sheet rest sound)
     ∙ ap (endSheet (sheet .arity) (length s - 3)) read
     ∙ simp (eq-eqb (length rest) (length s - 3) end) (ap (λ (k : ℕ). took k sheet) all)
 
 -- A sheet that is read from bytes is spelled by them.
 pub sheet-written
-    : (s : List ℕ) {k : ℕ} {sheet : Sheet} → All IsByte s → readSheet s ≡ took k sheet → sheetBytes sheet ≡ s
+    : (s : List ℕ) {k : ℕ} {sheet : Sheet} → AreBytes s → readSheet s ≡ took k sheet → sheetBytes sheet ≡ s
 sheet-written s {k} {sheet} bytes e =
     let is = sheet-is s e in
     let rest = drop 3 s in
-    let rules = rules-spelled (sheet .arity) (is .count) rest (bytes-rest 3 s bytes) (is .rulesRead) in
+    let rules = rules-spelled (sheet .arity) (is .count) rest (bytes-drop 3 s bytes) (is .rulesRead) in
     let count =
     row-size [] _∷_ (readRule (sheet .arity)) length refl (λ rule rules. refl) (is .count) rest (is .rulesRead) in
     let none-left : drop (length s - 3) rest ≡ [] =
@@ -70,7 +70,7 @@ sheet-written s {k} {sheet} bytes e =
 
 -- The theorem: both directions.
 pub sheet-spelled
-    : (s : List ℕ) → All IsByte s → (k : ℕ) (sheet : Sheet)
+    : (s : List ℕ) → AreBytes s → (k : ℕ) (sheet : Sheet)
     → (readSheet s ≡ took k sheet) ↔ (SoundSheet sheet × (sheetBytes sheet ≡ s) × (k ≡ length s))
 sheet-spelled s bytes k sheet = (
   λ e. (sheet-sound s bytes e, sheet-written s bytes e, sheet-is s e .allBytes),

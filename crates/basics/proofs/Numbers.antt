@@ -1,9 +1,11 @@
 -- Laws of numbers and their tests.
-use Prim.Native.Nat.{ℕ, _≤_, _<_}
-use mathlib.Core.Path.{_≡_, sym, _∙_}
+use Prim.Native.Nat.{ℕ, suc, _+_, _-_, _*_, _≤_, _<_}
+use mathlib.Core.Path.{_≡_, sym, ap, _∙_}
 use mathlib.Core.Bool.{Bool, true, false, not}
 use mathlib.Core.Logic.{_⊎_, inl, inr, by-cases}
 use native.Mathlib.Decide.{ℕ-discrete}
+use native.Mathlib.Nat.{suc-mul, add-comm}
+use native.Mathlib.Omega.{arith}
 use lib.Dec.{T, leb, eqb, leb→le, nleb→lt, eqb-refl}
 use borrow.Author.Tests.{eq-eqb, ne-eqb}
 
@@ -25,3 +27,9 @@ le-or-lt m n = go (leb m n) (leb→le m n) (nleb→lt m n)
 -- Equal numbers pass the test.
 pub eq-true : (a b : ℕ) → a ≡ b → T (eqb a b)
 eq-true a b e = rw e (eqb-refl b)
+
+-- A row of n things of one size takes the size of its first and that of the others.
+pub row-room : (n size : ℕ) → (n ≡ 0 → ⊥) → n * size ≡ size + (n - 1) * size
+row-room n size some =
+    let counted : n ≡ suc (n - 1) = omega arith in
+    ap (λ (k : ℕ). k * size) counted ∙ suc-mul (n - 1) size ∙ add-comm ((n - 1) * size) size

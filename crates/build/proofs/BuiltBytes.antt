@@ -1,5 +1,5 @@
 -- What a build that is not refused wrote: the graph of an accepted sheet.
-use Prim.Native.Nat.{ℕ, _≤_}
+use Prim.Native.Nat.{ℕ}
 use mathlib.Core.Path.{_≡_, refl, ap, _∙_}
 use mathlib.Core.Bool.{Bool, true, false}
 use mathlib.Core.List.{List}
@@ -13,23 +13,11 @@ use Rattle.sheet.specs.Sheet.{Sheet}
 use Rattle.sheet_tests.specs.CheckSheet.{acceptSheet}
 use Rattle.decision.specs.Node.{Node}
 use Rattle.decision.specs.Graph.{graphOf}
-use Rattle.decision.specs.GraphBytes.{graphBytes}
 use Rattle.accepted.proofs.Named.{Named}
-use Rattle.accepted.proofs.Questions.{SheetQuestion, sheet-named}
+use Rattle.accepted.proofs.Questions.{sheet-named}
 use Rattle.build.specs.BuildOutcome.{writtenIf, graphWritten, sheetBuilt, buildOutcome}
-
--- The bytes of a sheet's graph.
-abbrev pub bytesOf : Sheet → List (Node ℕ) → List ℕ
-bytesOf sheet nodes = graphBytes (sheet .arity) (length (sheet .rules)) nodes
-
--- An accepted sheet whose graph is built, and its graph.
-pub record Building (s buffer : List ℕ) : Type 0 where
-  pub sheet : Sheet
-  pub taken : ℕ
-  pub accepted : acceptSheet s ≡ took taken sheet
-  pub nodes : List (Node ℕ)
-  pub graph : graphOf (sheet .rules) ≡ some nodes
-  pub fits : length (bytesOf sheet nodes) ≤ length buffer
+use Rattle.build.specs.Building.{bytesOf, Building}
+use Rattle.accepted.specs.Questions.{SheetQuestion}
 
 module _ (s buffer : List ℕ) where
   -- Where a graph is built so much is handed back and written,

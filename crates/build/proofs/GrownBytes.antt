@@ -16,7 +16,7 @@ use Rattle.decision.specs.Node.{Node}
 use Rattle.decision.specs.Graph.{graphOf, lowestFirst}
 use Rattle.decision.specs.GraphBytes.{nodesBytes, graphBytes}
 use Rattle.decision.specs.AcceptedGraph.{AcceptedNode}
-use Rattle.decision.proofs.BuiltGraph.{built-graph-accepted}
+use Rattle.decision.proofs.built.BuiltGraph.{built-graph-accepted}
 use Rattle.graph.proofs.SpelledNodes.{NodeFields}
 use Rattle.graph.proofs.TestedPlaces.{tests-near}
 use Rattle.graph.proofs.AcceptedNodes.{accepted-asked}

@@ -24,7 +24,7 @@ use Rattle.decision.specs.Graph.{graphOf}
 use Rattle.edges.specs.views.Compiled.{Compiled}
 use Rattle.build.specs.declared.Built.the-variants.{Refused}
 use Rattle.build.specs.BuildOutcome.{graphWritten, sheetBuilt, buildOutcome, leftBy}
-use Rattle.build.specs.views.Tabled.{Kept, Tabled}
+use Rattle.build.specs.views.Tabled.{SheetHeld, Tabled}
 
 -- What compiling promises of the tables that it fills.
 abbrev Compiles : ℕ → ℕ → List ℕ → List ℕ → List ℕ → ℕ → List ℕ → List ℕ → List ℕ → List ℕ → ℕ → Type 0
@@ -36,8 +36,8 @@ Compiles arity count s words codes pairs rows low high places placeTests =
 pub pairs-within : (codes : List ℕ) (places pairs : ℕ) → length codes ≡ 65 → places + pairs ≤ 64 → pairs ≤ length codes
 pairs-within codes places pairs all few = omega arith
 
-module _ (s words codes : List ℕ) (arity count pairs : ℕ) (sheet : Sheet) (k : Kept s words codes arity count pairs sheet) where
-  accepted-rules : All (AcceptedRule arity) (sheet .rules)
+module _ (s words codes : List ℕ) (arity count pairs : ℕ) (sheet : Sheet) (k : SheetHeld s words codes arity count pairs sheet) where
+  pub accepted-rules : All (AcceptedRule arity) (sheet .rules)
   accepted-rules =
       subst (λ (n : ℕ). All (AcceptedRule n) (sheet .rules)) (k .known .arityIs) (k .known .accepted .sound .acceptedRules)
 
@@ -72,7 +72,7 @@ outcome-refused s buffer e = sym (ap (λ (r : Reading Sheet). sheetBuilt r buffe
 
 module _ (s words codes : List ℕ) (arity count pairs : ℕ) (found : AcceptedTests s words codes arity count pairs) where
   -- Where it is accepted its rules follow its first 3 bytes,
-  pub sheet-kept : {t : List ℕ} → t ≡ drop 3 s → All IsByte s → Kept t words codes arity count pairs (found .read .sheet)
+  pub sheet-kept : {t : List ℕ} → t ≡ drop 3 s → All IsByte s → SheetHeld t words codes arity count pairs (found .read .sheet)
   sheet-kept part bytes =
       let read = found .read in
       record {

@@ -16,7 +16,7 @@ use Rattle.decision.specs.GraphBytes.{graphBytes}
 use Rattle.build.specs.declared.Built.{Built}
 use Rattle.build.specs.declared.Built.the-variants.{Written, Refused}
 
--- "A build gives nodes and bytes written"; "every other result field is then 0" beside a refusal's number.
+-- "When accepted, .. a build nodes and bytes written"; "Every other result field is then 0" beside a refusal's number.
 pub record BuildValues : Type 0 where
   pub refusal : ℕ
   pub nodes : ℕ
@@ -31,7 +31,7 @@ pub record BuildOutcome : Type 0 where
 abbrev pub notBuilt : ℕ → List ℕ → BuildOutcome
 notBuilt q buffer = record { values = record { refusal = q; nodes = 0; bytes = 0 }; buffer = buffer }
 
--- "19 Does it fit the lent buffer?" "A graph shorter than its buffer leaves the bytes after it."
+-- "19 Does it fit the lent buffer?" "A graph shorter than its buffer leaves the bytes after it"
 abbrev pub writtenIf : Bool → ℕ → List ℕ → List ℕ → BuildOutcome
 writtenIf true nodes bytes buffer =
     record { values = record { refusal = 0; nodes = nodes; bytes = length bytes }; buffer = splice buffer 0 bytes }

@@ -12,7 +12,7 @@ ghost use Rattle.sheet.specs.Sheet.{Sheet};
 ghost use Rattle.sheet_tests.specs.views.TestedPlaces.{placesIn};
 ghost use Rattle.decision.specs.Graph.{graphOf};
 ghost use Rattle.build.specs.BuildOutcome.{graphWritten, buildOutcome, leftBy};
-ghost use Rattle.build.specs.views.Tabled.{Kept, Tabled};
+ghost use Rattle.build.specs.views.Tabled.{SheetHeld, Tabled};
 
 // The graph of the sheet whose tables these are: questions 18 and 19.
 fn build_tables(
@@ -27,8 +27,12 @@ fn build_tables(
     places: usize,
     buf: &mut [u8],
 ) -> Built
-    requires { ⌜ ((sheet : Sheet) × Tabled arity rules tests (now rows) (now low) (now high) (now place) (now pairs) places sheet) ⌝ }
-    ensures { λ r. ⌜ ((sheet : Sheet) → Tabled arity rules tests (now (rows .entry)) (now (low .entry)) (now (high .entry)) (now (place .entry)) (now (pairs .entry)) places sheet → leftBy r (now (buf .exit)) ≡ graphWritten arity rules (graphOf (sheet .rules)) (now (buf .entry))) ⌝ }
+    requires { ⌜ ((sheet : Sheet)
+        × Tabled arity rules tests (now rows) (now low) (now high) (now place) (now pairs) places sheet) ⌝ }
+    ensures { λ r. ⌜ ((sheet : Sheet)
+        → Tabled arity rules tests (now (rows .entry)) (now (low .entry)) (now (high .entry)) (now (place .entry))
+        (now (pairs .entry)) places sheet
+        → leftBy r (now (buf .exit)) ≡ graphWritten arity rules (graphOf (sheet .rules)) (now (buf .entry))) ⌝ }
 {
     let mut lives = [0u64; 1024];
     let mut pendings = [0u64; 1024];
@@ -79,8 +83,10 @@ fn build_rules(
     buf: &mut [u8],
 ) -> Built
     requires { ⌜ (length (now words) ≡ 11) × (length (now codes) ≡ 65) × (length (placesIn (now words)) + pairs ≤ 64) ⌝ }
-    requires { ⌜ ((sheet : Sheet) × Kept (now s) (now words) (now codes) arity rules pairs sheet) ⌝ }
-    ensures { λ r. ⌜ ((sheet : Sheet) → Kept (now (s .entry)) (now (words .entry)) (now (codes .entry)) arity rules pairs sheet → leftBy r (now (buf .exit)) ≡ graphWritten arity rules (graphOf (sheet .rules)) (now (buf .entry))) ⌝ }
+    requires { ⌜ ((sheet : Sheet) × SheetHeld (now s) (now words) (now codes) arity rules pairs sheet) ⌝ }
+    ensures { λ r. ⌜ ((sheet : Sheet)
+        → SheetHeld (now (s .entry)) (now (words .entry)) (now (codes .entry)) arity rules pairs sheet
+        → leftBy r (now (buf .exit)) ≡ graphWritten arity rules (graphOf (sheet .rules)) (now (buf .entry))) ⌝ }
 {
     let mut places = [0u16; 64];
     let mut rows = [0u64; 64];

@@ -18,7 +18,7 @@ use Rattle.terms.proofs.PreorderTests.{testPlace, all-tests-ascend}
 use Rattle.sheet_tests.specs.SheetTests.{place, sheetTests}
 use Rattle.sheet_tests.specs.views.KeptPairs.{codePair}
 use Rattle.decision.specs.Rules.{testAt, wantAt}
-use Rattle.decision.proofs.TestsOfRules.{want-test}
+use Rattle.decision.proofs.rules.TestsOfRules.{want-test}
 use Rattle.compiled.specs.views.RuleTables.{storeAll}
 use Rattle.compiled.proofs.TestNumbers.{number-place}
 use Rattle.compiled.proofs.NotesRight.{rule-wants}

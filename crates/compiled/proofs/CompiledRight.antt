@@ -10,24 +10,20 @@ use lib.ListN.{length, getD, take, replicate, length-replicate, getD-replicate, 
 use lib.Seq.{getD-take}
 use borrow.Author.Tests.{lt-ltb, le-ltb}
 use Rattle.basics.specs.Lists.{All, Mem}
-use Rattle.terms.specs.Pattern.{Patterns, pnil, countPatterns}
-use Rattle.terms.specs.RuleTests.{Want, aSymbol, aNumber, aCompound, PlaceTest, PairTest, placeTests, pairTests, patternsRange}
+use Rattle.terms.specs.Pattern.{Patterns, pnil}
+use Rattle.terms.specs.RuleTests.{Want, aSymbol, aNumber, aCompound, placeTests}
 use Rattle.terms.specs.Answer.{ruleAt}
 use Rattle.terms.specs.Accepted.{AcceptedRule}
-use Rattle.basics.proofs.ListLaws.{all-join, all-at, all-map, all-from}
-use Rattle.terms.proofs.TermPlaces.{extent, extent-le}
-use Rattle.terms.proofs.Ascending.{ascends-below}
-use Rattle.terms.proofs.PreorderTests.{testPlace, all-tests-ascend}
+use Rattle.basics.proofs.ListLaws.{all-at, all-map, all-from}
 use Rattle.sheet.specs.views.Noted.{ruleNotes}
-use Rattle.sheet_tests.specs.SheetTests.{Test, place, pair, ruleTests, allTests, sheetTests}
+use Rattle.sheet_tests.specs.SheetTests.{Test, place, sheetTests}
 use Rattle.sheet_tests.specs.views.KeptPairs.{codePair}
-use Rattle.sheet_tests.proofs.TestOrder.{ascending-mem}
 use Rattle.decision.specs.Rules.{testAt, hasTest, wantAt, testsWhere}
-use Rattle.decision.proofs.Runs as runs
+use Rattle.decision.proofs.cases.Runs as runs
 use Rattle.basics.proofs.Clash.{clash}
-use Rattle.basics.proofs.Filters.{mem-left, mem-map, all-mapped, mapped-always}
-use Rattle.decision.proofs.TestsOfRules.{want-test}
-use Rattle.decision.proofs.SoundWants.{SoundTest, rule-tests-sound}
+use Rattle.basics.proofs.Filters.{mem-left, mem-map}
+use Rattle.decision.proofs.rules.TestsOfRules.{want-test}
+use Rattle.decision.proofs.rules.SoundWants.{SoundTest, rule-tests-sound, rule-accepted}
 use Rattle.edges.specs.views.Codes.{SoundWant, wantLow, wantHigh}
 use Rattle.edges.specs.views.Compiled.{isPlace, RowTable, CodeTable, PlaceTable, Compiled}
 use Rattle.compiled.specs.views.Numbers.{numberAll, Small}
@@ -39,30 +35,7 @@ use Rattle.compiled.proofs.RowRight.{row-right}
 use Rattle.compiled.proofs.TablesRight.{row-at, row-beyond, low-stored, high-stored}
 use Rattle.compiled.proofs.CodesRight.{code-right}
 use Rattle.basics.proofs.Positions.{mem-at}
-
--- A tested place is one of the 680.
-abbrev Near : Test → Type 0
-Near (place n) = n < 680
-Near (pair p q) = Unit
-
-rule-near : (arity : ℕ) (rule : Patterns) → arity ≤ 8 → AcceptedRule arity rule → All Near (ruleTests rule)
-rule-near arity rule few a =
-    let end = 0 + extent (countPatterns rule) 4 in
-    let within : extent (countPatterns rule) 4 ≤ 680 = extent-le (countPatterns rule) 8 4 (omega (arith, a .arguments)) in
-    let up = all-tests-ascend (patternsRange rule) rule 4 0 (a .sound) in
-    let places = ascends-below testPlace 0 end (placeTests rule) up in
-    let placeOf : PlaceTest → Test = λ x. place (x .place) in
-    let pairOf : PairTest → Test = λ x. pair (x .first) (x .second) in
-    all-join Near (map placeOf (placeTests rule)) (map pairOf (pairTests rule))
-    (all-mapped Near placeOf (placeTests rule)
-    (all-map (λ (x : PlaceTest). x .place < end) (λ (x : PlaceTest). x .place < 680) (λ x h. omega arith) (placeTests rule)
-    places))
-    (mapped-always Near pairOf (λ x. tt) (pairTests rule))
-
-all-near : (arity : ℕ) (rules : List Patterns) → arity ≤ 8 → All (AcceptedRule arity) rules → All Near (allTests rules)
-all-near arity [] few a = tt
-all-near arity (rule ∷ rules) few a =
-    all-join Near (ruleTests rule) (allTests rules) (rule-near arity rule few (a .0)) (all-near arity rules few (a .1))
+use Rattle.decision.proofs.rules.NearTests.{Near, rules-near}
 
 -- What is sound for runs is so for codes.
 want-sound : (w : Want) → runs.SoundWant w → SoundWant w
@@ -87,10 +60,7 @@ new-small places few = number-small places 0 (replicate 680 0) (λ p. omega (ari
 
 module _ (arity : ℕ) (rules : List Patterns) (few : arity ≤ 8) (accepted : All (AcceptedRule arity) rules) where
   near : (t : Test) → Mem t (sheetTests rules) → Near t
-  near t m = all-at Near (ascending-mem (allTests rules) m) (all-near arity rules few accepted)
-
-  rule-accepted : (i : ℕ) → i < length rules → AcceptedRule arity (ruleAt rules (suc i))
-  rule-accepted i h = all-at (AcceptedRule arity) (mem-at pnil rules i h) accepted
+  near = rules-near arity rules few accepted
 
   -- What a rule wants is sound; beyond the rules nothing is wanted.
   wants-sound : (i n : ℕ) (w : Want) → wantAt rules i n ≡ some w → SoundWant w
@@ -98,7 +68,7 @@ module _ (arity : ℕ) (rules : List Patterns) (few : arity ≤ 8) (accepted : A
       let rule = ruleAt rules (suc i) in
       by-cases (decLt i (length rules))
       (λ (h : i < length rules).
-      want-sound w (all-at SoundTest (want-test (placeTests rule) n w e) (rule-tests-sound rule (rule-accepted i h))))
+      want-sound w (all-at SoundTest (want-test (placeTests rule) n w e) (rule-tests-sound rule (rule-accepted arity rules accepted i h))))
       (λ (h : i < length rules → ⊥).
       let empty : rule ≡ pnil = List·getD-eq-default rules pnil (omega arith) in
       let d : wantAt (pnil ∷ []) 0 n ≡ some w = sym (ap (λ (r : Patterns). wantAt (r ∷ []) 0 n) empty) ∙ e in
@@ -130,7 +100,7 @@ module _ (arity : ℕ) (rules : List Patterns) (few : arity ≤ 8) (accepted : A
     pub rule-row
         : (i : ℕ) → i < length rules
         → notesRow numbers (length listed) codes (ruleNotes (ruleAt rules (suc i))) ≡ testsWhere rules (hasTest rules i)
-    rule-row i h = row-right rules listed codes tests numbers numbered i h (rule-accepted i h) few-tests
+    rule-row i h = row-right rules listed codes tests numbers numbered i h (rule-accepted arity rules accepted i h) few-tests
 
     module _ (places kept : List ℕ) (pairs : ℕ) (spots : take (length listed) places ≡ listed)
         (pairsKept : codes ≡ take pairs kept) where
@@ -180,11 +150,11 @@ module _ (arity : ℕ) (rules : List Patterns) (few : arity ≤ 8) (accepted : A
       code-table = record {
         sound = wants-sound;
         lowest = λ i t n w h l e wants.
-            code-right rules listed codes tests numbers numbered i h (rule-accepted i h) wantLow (length listed) codes (t₀ .low)
+            code-right rules listed codes tests numbers numbered i h (rule-accepted arity rules accepted i h) wantLow (length listed) codes (t₀ .low)
             (tabled .low) t n w l e wants (omega (arith, sized .allLow, few-tests))
             (low-stored numbers (length listed) codes rules t₀ i (64 * i + t) h (omega (arith, few-tests)));
         highest = λ i t n w h l e wants.
-            code-right rules listed codes tests numbers numbered i h (rule-accepted i h) wantHigh (length listed) codes (t₀ .high)
+            code-right rules listed codes tests numbers numbered i h (rule-accepted arity rules accepted i h) wantHigh (length listed) codes (t₀ .high)
             (tabled .high) t n w l e wants (omega (arith, sized .allHigh, few-tests))
             (high-stored numbers (length listed) codes rules t₀ i (64 * i + t) h (omega (arith, few-tests)));
       }

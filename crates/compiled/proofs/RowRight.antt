@@ -27,8 +27,8 @@ use Rattle.sheet_tests.specs.views.KeptPairs.{codePair, pairCode}
 use Rattle.sheet_tests.specs.views.NoteTests.{pairCodes}
 use Rattle.decision.specs.Rules.{sameTest, testAt, hasTest, testsWhere}
 use Rattle.basics.proofs.Filters.{mem-left, mem-right, mem-map}
-use Rattle.decision.proofs.TestsOfRules.{same-test, test-same, mem-has}
-use Rattle.decision.proofs.TestNumbers.{test-number}
+use Rattle.decision.proofs.rules.TestsOfRules.{same-test, test-same, mem-has}
+use Rattle.decision.proofs.rules.TestNumbers.{test-number}
 use Rattle.compiled.specs.views.Numbers.{pairNumber}
 use Rattle.compiled.specs.views.Row.{withTest, withTests, placeNumbers, pairNumbers, rowOf}
 use Rattle.compiled.specs.views.RuleTables.{notesRow}

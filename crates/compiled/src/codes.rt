@@ -65,9 +65,14 @@ pub fn rule_codes(
     low: &mut [u32; 4096],
     high: &mut [u32; 4096],
 )
-    requires { ⌜ (n ≤ 680) × (length (now notes) ≡ 680) × All Placed (notesIn (now notes) n) × Small (now numbers) × (i < 64) × (length (now low) ≡ 4096) × (length (now high) ≡ 4096) ⌝ }
-    ensures { λ _. ⌜ now (low .exit) ≡ storeAll wantLow (now (numbers .entry)) i (notesTests (ranges .low) (ranges .high) (notesIn (now (notes .entry)) n)) (now (low .entry)) ⌝ }
-    ensures { λ _. ⌜ now (high .exit) ≡ storeAll wantHigh (now (numbers .entry)) i (notesTests (ranges .low) (ranges .high) (notesIn (now (notes .entry)) n)) (now (high .entry)) ⌝ }
+    requires { ⌜ (n ≤ 680) × (length (now notes) ≡ 680) × All Placed (notesIn (now notes) n) × Small (now numbers) × (i < 64)
+        × (length (now low) ≡ 4096) × (length (now high) ≡ 4096) ⌝ }
+    ensures { λ _. ⌜ now (low .exit)
+        ≡ storeAll wantLow (now (numbers .entry)) i
+        (notesTests (ranges .low) (ranges .high) (notesIn (now (notes .entry)) n)) (now (low .entry)) ⌝ }
+    ensures { λ _. ⌜ now (high .exit)
+        ≡ storeAll wantHigh (now (numbers .entry)) i
+        (notesTests (ranges .low) (ranges .high) (notesIn (now (notes .entry)) n)) (now (high .entry)) ⌝ }
 {
     let mut k: usize = 0;
     while k < n {

@@ -23,7 +23,8 @@ pub enum Wanted {
 // Lists the members of a word, counted from a base, behind those that are listed, and answers how many there are now.
 fn list_word(word: u64, base: usize, places: &mut [u16; 64], count: usize) -> usize
     requires { ⌜ (base ≤ 640) × (count + length (members 64 word) ≤ 64) × (length (now places) ≡ 64) ⌝ }
-    ensures { λ r. ⌜ take r (now (places .exit)) ≡ take count (now (places .entry)) ++ map (λ (j : ℕ). base + j) (members 64 word) ⌝ }
+    ensures { λ r. ⌜ take r (now (places .exit))
+        ≡ take count (now (places .entry)) ++ map (λ (j : ℕ). base + j) (members 64 word) ⌝ }
     ensures { λ r. ⌜ (r ≡ count + length (members 64 word)) × (length (now (places .exit)) ≡ 64) ⌝ }
 {
     let mut left = word;

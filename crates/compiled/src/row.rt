@@ -28,7 +28,8 @@ fn with_test(row: u64, t: usize) -> u64
 // The place tests of a rule.
 fn places_row(notes: &[u64; 680], n: usize, ranges: Ranges, numbers: &[u8; 680]) -> u64
     requires { ⌜ (n ≤ 680) × (length (now notes) ≡ 680) × All Placed (notesIn (now notes) n) × Small (now numbers) ⌝ }
-    ensures { λ r. ⌜ r ≡ withTests (placeNumbers (now (numbers .entry)) (notesTests (ranges .low) (ranges .high) (notesIn (now (notes .entry)) n))) 0 ⌝ }
+    ensures { λ r. ⌜ r ≡ withTests (placeNumbers (now (numbers .entry))
+        (notesTests (ranges .low) (ranges .high) (notesIn (now (notes .entry)) n))) 0 ⌝ }
 {
     let mut row: u64 = 0;
     let mut i: usize = 0;
@@ -55,8 +56,10 @@ fn pairs_with(
     count: usize,
     row: u64,
 ) -> u64
-    requires { ⌜ (from ≤ n) × (n ≤ 680) × (place < 680) × (length (now notes) ≡ 680) × All Placed (notesIn (now notes) n) × (pairs ≤ 64) × (count ≤ 64) × (length (now codes) ≡ 65) ⌝ }
-    ensures { λ r. ⌜ r ≡ withTests (pairNumbers count (take pairs (now (codes .entry))) (codesWith place v (drop from (notesIn (now (notes .entry)) n)))) row ⌝ }
+    requires { ⌜ (from ≤ n) × (n ≤ 680) × (place < 680) × (length (now notes) ≡ 680) × All Placed (notesIn (now notes) n)
+        × (pairs ≤ 64) × (count ≤ 64) × (length (now codes) ≡ 65) ⌝ }
+    ensures { λ r. ⌜ r ≡ withTests (pairNumbers count (take pairs (now (codes .entry)))
+        (codesWith place v (drop from (notesIn (now (notes .entry)) n)))) row ⌝ }
 {
     let mut all = row;
     let mut i = from;
@@ -80,8 +83,10 @@ fn pairs_row(
     count: usize,
     row: u64,
 ) -> u64
-    requires { ⌜ (n ≤ 680) × (length (now notes) ≡ 680) × All Placed (notesIn (now notes) n) × (pairs ≤ 64) × (count ≤ 64) × (length (now codes) ≡ 65) ⌝ }
-    ensures { λ r. ⌜ r ≡ withTests (pairNumbers count (take pairs (now (codes .entry))) (notesCodes (notesIn (now (notes .entry)) n))) row ⌝ }
+    requires { ⌜ (n ≤ 680) × (length (now notes) ≡ 680) × All Placed (notesIn (now notes) n) × (pairs ≤ 64) × (count ≤ 64)
+        × (length (now codes) ≡ 65) ⌝ }
+    ensures { λ r. ⌜ r ≡ withTests (pairNumbers count (take pairs (now (codes .entry)))
+        (notesCodes (notesIn (now (notes .entry)) n))) row ⌝ }
 {
     let mut all = row;
     let mut i: usize = 0;
@@ -107,8 +112,10 @@ pub fn rule_row(
     pairs: usize,
     count: usize,
 ) -> u64
-    requires { ⌜ (n ≤ 680) × (length (now notes) ≡ 680) × All Placed (notesIn (now notes) n) × Small (now numbers) × (pairs ≤ 64) × (count ≤ 64) × (length (now codes) ≡ 65) ⌝ }
-    ensures { λ r. ⌜ r ≡ rowOf (now (numbers .entry)) count (take pairs (now (codes .entry))) (ranges .low) (ranges .high) (notesIn (now (notes .entry)) n) ⌝ }
+    requires { ⌜ (n ≤ 680) × (length (now notes) ≡ 680) × All Placed (notesIn (now notes) n) × Small (now numbers)
+        × (pairs ≤ 64) × (count ≤ 64) × (length (now codes) ≡ 65) ⌝ }
+    ensures { λ r. ⌜ r ≡ rowOf (now (numbers .entry)) count (take pairs (now (codes .entry))) (ranges .low) (ranges .high)
+        (notesIn (now (notes .entry)) n) ⌝ }
 {
     let places = places_row(notes, n, ranges, numbers);
     pairs_row(notes, n, codes, pairs, count, places)

@@ -35,8 +35,12 @@ fn table_rule(
     low: &mut [u32; 4096],
     high: &mut [u32; 4096],
 )
-    requires { ⌜ (n ≤ 680) × (length (now notes) ≡ 680) × All Placed (notesIn (now notes) n) × Small (now numbers) × (pairs ≤ 64) × (count ≤ 64) × (length (now codes) ≡ 65) × (i < 64) × (length (now rows) ≡ 64) × (length (now low) ≡ 4096) × (length (now high) ≡ 4096) ⌝ }
-    ensures { λ _. ⌜ tables (now (rows .exit)) (now (low .exit)) (now (high .exit)) ≡ ruleTables (now (numbers .entry)) count (take pairs (now (codes .entry))) i (notesIn (now (notes .entry)) n) (tables (now (rows .entry)) (now (low .entry)) (now (high .entry))) ⌝ }
+    requires { ⌜ (n ≤ 680) × (length (now notes) ≡ 680) × All Placed (notesIn (now notes) n) × Small (now numbers) × (pairs ≤ 64)
+        × (count ≤ 64) × (length (now codes) ≡ 65) × (i < 64) × (length (now rows) ≡ 64) × (length (now low) ≡ 4096)
+        × (length (now high) ≡ 4096) ⌝ }
+    ensures { λ _. ⌜ tables (now (rows .exit)) (now (low .exit)) (now (high .exit))
+        ≡ ruleTables (now (numbers .entry)) count (take pairs (now (codes .entry))) i (notesIn (now (notes .entry)) n)
+        (tables (now (rows .entry)) (now (low .entry)) (now (high .entry))) ⌝ }
 {
     let ranges = sheet::variable_ranges(notes, n);
     rows[i] = rule_row(notes, n, ranges, numbers, codes, pairs, count);
@@ -56,8 +60,13 @@ fn table_rules(
     low: &mut [u32; 4096],
     high: &mut [u32; 4096],
 )
-    requires { ⌜ (arity ≤ 8) × (rules ≤ 32) × Small (now numbers) × (pairs ≤ 64) × (count ≤ 64) × (length (now codes) ≡ 65) × (length (now rows) ≡ 64) × (length (now low) ≡ 4096) × (length (now high) ≡ 4096) ⌝ }
-    ensures { λ _. ⌜ ((bytes : ℕ) (all : List Patterns) → readRules arity rules (now (s .entry)) ≡ took bytes all → tables (now (rows .exit)) (now (low .exit)) (now (high .exit)) ≡ allTables (now (numbers .entry)) count (take pairs (now (codes .entry))) 0 all (tables (now (rows .entry)) (now (low .entry)) (now (high .entry)))) ⌝ }
+    requires { ⌜ (arity ≤ 8) × (rules ≤ 32) × Small (now numbers) × (pairs ≤ 64) × (count ≤ 64) × (length (now codes) ≡ 65)
+        × (length (now rows) ≡ 64) × (length (now low) ≡ 4096) × (length (now high) ≡ 4096) ⌝ }
+    requires { ⌜ ((bytes : ℕ) × ((all : List Patterns) × (readRules arity rules (now s) ≡ took bytes all))) ⌝ }
+    ensures { λ _. ⌜ ((bytes : ℕ) (all : List Patterns) → readRules arity rules (now (s .entry)) ≡ took bytes all
+        → tables (now (rows .exit)) (now (low .exit)) (now (high .exit))
+        ≡ allTables (now (numbers .entry)) count (take pairs (now (codes .entry))) 0 all
+        (tables (now (rows .entry)) (now (low .entry)) (now (high .entry)))) ⌝ }
 {
     let mut notes = [0u64; 680];
     let mut at: usize = 0;
@@ -89,9 +98,18 @@ pub fn compile_rules(
     low: &mut [u32; 4096],
     high: &mut [u32; 4096],
 ) -> usize
-    requires { ⌜ (arity ≤ 8) × (rules ≤ 32) × (length (now words) ≡ 11) × (length (now codes) ≡ 65) × (length (placesIn (now words)) + pairs ≤ 64) × (length (now places) ≡ 64) × (now rows ≡ replicate 64 0) × (length (now low) ≡ 4096) × (length (now high) ≡ 4096) ⌝ }
-    ensures { λ r. ⌜ ((bytes : ℕ) (all : List Patterns) → readRules arity rules (now (s .entry)) ≡ took bytes all → All (AcceptedRule arity) all → sheetTests all ≡ map place (placesIn (now (words .entry))) ++ map codePair (take pairs (now (codes .entry))) → Compiled all (now (rows .exit)) (now (low .exit)) (now (high .exit)) (now (places .exit)) (now (codes .entry)) r) ⌝ }
-    ensures { λ r. ⌜ (r ≡ length (placesIn (now (words .entry)))) × (take r (now (places .exit)) ≡ placesIn (now (words .entry))) ⌝ }
+    requires { ⌜ (arity ≤ 8) × (rules ≤ 32) × (length (now words) ≡ 11) × (length (now codes) ≡ 65)
+        × (length (placesIn (now words)) + pairs ≤ 64) × (length (now places) ≡ 64) × (now rows ≡ replicate 64 0)
+        × (length (now low) ≡ 4096) × (length (now high) ≡ 4096) ⌝ }
+    requires { ⌜ ((bytes : ℕ) × ((all : List Patterns) × (readRules arity rules (now s) ≡ took bytes all)
+        × All (AcceptedRule arity) all
+        × (sheetTests all ≡ map place (placesIn (now words)) ++ map codePair (take pairs (now codes))))) ⌝ }
+    ensures { λ r. ⌜ ((bytes : ℕ) (all : List Patterns) → readRules arity rules (now (s .entry)) ≡ took bytes all
+        → All (AcceptedRule arity) all
+        → sheetTests all ≡ map place (placesIn (now (words .entry))) ++ map codePair (take pairs (now (codes .entry)))
+        → Compiled all (now (rows .exit)) (now (low .exit)) (now (high .exit)) (now (places .exit)) (now (codes .entry)) r) ⌝ }
+    ensures { λ r. ⌜ (r ≡ length (placesIn (now (words .entry))))
+        × (take r (now (places .exit)) ≡ placesIn (now (words .entry))) ⌝ }
 {
     let count = list_places(words, places);
     let mut numbers = [0u8; 680];

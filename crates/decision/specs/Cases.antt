@@ -8,7 +8,7 @@ use Rattle.basics.specs.Order.{insertBy, pairBefore}
 use Rattle.terms.specs.Term.{Term, count, unknown, symbol, number, compound}
 use Rattle.terms.specs.RuleTests.{Want, aSymbol, aNumber, aCompound}
 
--- "44 symbol (id), 45 compound (id, arity), 46 numbers (low, high)".
+-- "44 symbol (wide id, ..), 45 compound (wide id, arity, ..), 46 numbers (wide low, wide high, ..)".
 pub data Case : Type 0 where
   symbolCase : ℕ → Case
   compoundCase : ℕ → ℕ → Case

@@ -11,7 +11,8 @@ pub record CaseEdge (A : Type 0) : Type 0 where
   pub case : Case
   pub target : A
 
--- "40 fail, 41 suspend, 42 execute (rule, from 1), 43 switch (place, cases, neither, unknown), 47 pair (p, q, no, other)".
+-- "40 fail, 41 suspend, no bodies. 42 execute (rule, from 1)": a leaf; a switch with its place, cases, neither and unknown; a pair
+-- with its places, no and other.
 -- Edges lead to an A: to a vertex while the graph is laid out, to a node's number in the graph.
 pub data Node (A : Type 0) : Type 0 where
   end : Leaf → Node A

@@ -2,10 +2,11 @@
 use Prim.Native.Nat.{ℕ, zero, suc}
 use mathlib.Core.List.{List, [], _∷_}
 use lib.ListN.{getD}
+use Rattle.records.specs.Reading.{Reading, took, refused, mapReading}
 use Rattle.terms.specs.Term.{Terms, unknown, symbol, number, compound}
 use Rattle.terms.specs.Lookup.{Found, lacking, found, termAt}
 use Rattle.terms.specs.Outcome.{Outcome, holds, notKnown, contradicted, compare}
-use Rattle.decision.specs.Key.{Leaf, fail}
+use Rattle.decision.specs.Key.{Leaf, failNode}
 use Rattle.decision.specs.Node.{Node, CaseEdge, end, switch, pairNode, follow}
 
 -- What happens at a node: the walk ends at a leaf, goes on to a node, or "27 Is each place it tests in the piece, or below an
@@ -22,7 +23,7 @@ switchStep cs neither unknownEdge (found (symbol a)) = goTo (follow cs neither (
 switchStep cs neither unknownEdge (found (number a)) = goTo (follow cs neither (number a))
 switchStep cs neither unknownEdge (found (compound a ts)) = goTo (follow cs neither (compound a ts))
 
--- "No (they differ)"; other where they are equal or it is not known.
+-- By no where they differ, by other where they are equal or it is not known.
 abbrev pub byComparison : {A : Type 0} → A → A → Outcome → Step A
 byComparison differ other holds = goTo other
 byComparison differ other notKnown = goTo other
@@ -38,37 +39,46 @@ stepAt piece (end l) = stop l
 stepAt piece (switch n cs x y) = switchStep cs x y (termAt piece n)
 stepAt piece (pairNode p q x y) = pairStep x y (termAt piece p) (termAt piece q)
 
--- The nodes walked, from the first to the leaf at its end, or the number of the question that got a no on the way.
-pub data Path : Type 0 where
-  ends : List ℕ → Leaf → Path
-  refusedAt : ℕ → Path
+-- The nodes walked, from the first to the last, and the leaf that the last is.
+pub record Way : Type 0 where
+  pub walked : List ℕ
+  pub last : Leaf
+
+-- A way to a leaf, or the number of the question that got a no: a reading that takes no bytes.
+abbrev pub Path : Type 0
+Path = Reading Way
+
+abbrev pub ends : List ℕ → Leaf → Path
+ends walked l = took 0 (record { walked = walked; last = l })
 
 abbrev pub through : ℕ → Path → Path
-through n (ends ns l) = ends (n ∷ ns) l
-through n (refusedAt q) = refusedAt q
+through n p = mapReading (λ (w : Way). record { walked = n ∷ w .walked; last = w .last }) p
+
+-- "26 Have fewer than 64 edges been walked?" is asked first at a switch or pair, never at a leaf.
+abbrev pub lastStep : ℕ → Step ℕ → Path
+lastStep n (stop l) = ends (n ∷ []) l
+lastStep n (goTo m) = refused 26
+lastStep n noWay = refused 26
+
+abbrev pub nextStep : (ℕ → Path) → ℕ → Step ℕ → Path
+nextStep on n (stop l) = ends (n ∷ []) l
+nextStep on n (goTo m) = through n (on m)
+nextStep on n noWay = refused 27
+
+-- The path that these steps take from node n on, where so many edges may still be walked.
+abbrev pub pathBy : (ℕ → Step ℕ) → ℕ → ℕ → Path
+pathBy step zero n = lastStep n (step n)
+pathBy step (suc more) n = nextStep (pathBy step more) n (step n)
+
+abbrev pub nodeAt : List (Node ℕ) → ℕ → Node ℕ
+nodeAt nodes n = getD nodes n (end failNode)
+
+abbrev pub mostEdges : ℕ
+mostEdges = 64
 
 module _ (nodes : List (Node ℕ)) (piece : Terms) where
-  abbrev pub nodeAt : ℕ → Node ℕ
-  nodeAt n = getD nodes n (end fail)
-
-  -- "26 Have fewer than 64 edges been walked?" is asked first at a switch or pair, never at a leaf.
-  abbrev pub lastStep : ℕ → Step ℕ → Path
-  lastStep n (stop l) = ends (n ∷ []) l
-  lastStep n (goTo m) = refusedAt 26
-  lastStep n noWay = refusedAt 26
-
-  abbrev pub nextStep : (ℕ → Path) → ℕ → Step ℕ → Path
-  nextStep on n (stop l) = ends (n ∷ []) l
-  nextStep on n (goTo m) = through n (on m)
-  nextStep on n noWay = refusedAt 27
-
-  -- The path from node n on, where so many edges may still be walked.
   abbrev pub pathFrom : ℕ → ℕ → Path
-  pathFrom zero n = lastStep n (stepAt piece (nodeAt n))
-  pathFrom (suc more) n = nextStep (λ m. pathFrom more m) n (stepAt piece (nodeAt n))
-
-  abbrev pub mostEdges : ℕ
-  mostEdges = 64
+  pathFrom = pathBy (λ n. stepAt piece (nodeAt nodes n))
 
   abbrev pub path : Path
   path = pathFrom mostEdges 0

@@ -4,6 +4,7 @@ use mathlib.Core.Bool.{Bool, true, false, _&&_, not}
 use mathlib.Core.List.{List}
 use mathlib.Core.Option.{Option, some, none}
 use lib.ListN.{length}
+use Rattle.records.specs.Reading.{Reading, mapReading}
 use Rattle.terms.specs.Term.{Terms, unknown, symbol, number, compound}
 use Rattle.terms.specs.Pattern.{Patterns}
 use Rattle.terms.specs.RuleTests.{Want}
@@ -13,20 +14,17 @@ use Rattle.terms.specs.Answer.{Answer, ruleAt, onlyRule}
 use Rattle.terms.specs.Answer as answers
 use Rattle.sheet_tests.specs.SheetTests.{Test, place, pair, sheetTests}
 use Rattle.decision.specs.Rules.{sameTest, testAt, hasTest, wantAt, testsWhere}
-use Rattle.decision.specs.Key.{Leaf, fail, suspend, execute}
+use Rattle.decision.specs.Key.{Leaf, failNode, suspendNode, executeNode}
 use Rattle.decision.specs.Node.{Node, end, switch, pairNode}
-use Rattle.decision.specs.Path.{Path, ends, refusedAt, nodeAt, path}
+use Rattle.decision.specs.Path.{Way, Path, nodeAt, path}
 use Rattle.basics.specs.Lists.{anyBelow, anyOf}
 
--- "An answer .. with the rule, edges walked, and a wait list: a set of tests, test t being bit t of 64."
+-- "An answer is commit, execute, suspend or fail, with the rule .., edges walked, and a wait list: a set of tests, test t being
+-- bit t of 64."
 pub record Walk : Type 0 where
   pub answer : Answer
   pub edges : ℕ
   pub waits : ℕ
-
-pub data Reply : Type 0 where
-  answered : Walk → Reply
-  refused : ℕ → Reply
 
 abbrev pub isNotKnown : Outcome → Bool
 isNotKnown holds = false
@@ -51,55 +49,56 @@ asksTest t (end l) = false
 asksTest t (switch n cs x y) = sameTest t (place n)
 asksTest t (pairNode p q x y) = sameTest t (pair p q)
 
+-- "A walk meets the tests that its nodes ask."
+abbrev pub isMet : List Patterns → List (Node ℕ) → List ℕ → ℕ → Bool
+isMet rules nodes walked t = anyOf (λ (n : ℕ). asksTest (testAt rules t) (nodeAt nodes n)) walked
+
+-- "For suspend it holds the tests met not known on the walk, for execute those of rule i not known, else none."
+abbrev pub executeWaits : List Patterns → Terms → ℕ → Outcome → ℕ
+executeWaits rules piece i holds = 0
+executeWaits rules piece i notKnown =
+    testsWhere rules (λ t. hasTest rules (pred i) t && testNotKnown piece (testAt rules t))
+executeWaits rules piece i contradicted = 0
+
 module _ (rules : List Patterns) (nodes : List (Node ℕ)) (piece : Terms) where
-  -- "A walk meets the tests that its nodes ask."
-  abbrev pub isMet : List ℕ → ℕ → Bool
-  isMet walked t = anyOf (λ (n : ℕ). asksTest (testAt rules t) (nodeAt nodes piece n)) walked
-
-  -- "For suspend it holds the tests met not known on the walk, for execute those of rule i not known, else none."
   abbrev pub suspendWaits : List ℕ → ℕ
-  suspendWaits walked = testsWhere rules (λ t. isMet walked t && testNotKnown piece (testAt rules t))
-
-  abbrev pub executeWaits : ℕ → Outcome → ℕ
-  executeWaits i holds = 0
-  executeWaits i notKnown = testsWhere rules (λ t. hasTest rules (pred i) t && testNotKnown piece (testAt rules t))
-  executeWaits i contradicted = 0
+  suspendWaits walked = testsWhere rules (λ t. isMet rules nodes walked t && testNotKnown piece (testAt rules t))
 
   -- "At execute i all tests of rule i are made: one contradicted gives fail, all holding gives commit i, else execute i."
   abbrev pub atLeaf : List ℕ → Leaf → Walk
-  atLeaf walked fail = record { answer = answers.fail; edges = pred (length walked); waits = 0 }
-  atLeaf walked suspend = record { answer = answers.suspend; edges = pred (length walked); waits = suspendWaits walked }
-  atLeaf walked (execute i) =
+  atLeaf walked failNode = record { answer = answers.fail; edges = pred (length walked); waits = 0 }
+  atLeaf walked suspendNode = record { answer = answers.suspend; edges = pred (length walked); waits = suspendWaits walked }
+  atLeaf walked (executeNode i) =
       record {
         answer = onlyRule i (ruleOutcome (ruleAt rules i) piece);
         edges = pred (length walked);
-        waits = executeWaits i (ruleOutcome (ruleAt rules i) piece);
+        waits = executeWaits rules piece i (ruleOutcome (ruleAt rules i) piece);
       }
 
-  abbrev pub atEnd : Path → Reply
-  atEnd (ends walked l) = answered (atLeaf walked l)
-  atEnd (refusedAt q) = refused q
+  abbrev pub atEnd : Path → Reading Walk
+  atEnd p = mapReading (λ (w : Way). atLeaf (w .walked) (w .last)) p
 
-  abbrev pub walk : Reply
+  -- What the walk answers, or the number of the question that got a no.
+  abbrev pub walk : Reading Walk
   walk = atEnd (path nodes piece)
 
-  -- The outcome for rule i of a test that it has.
-  abbrev pub wantOutcome : Option Want → Found → Outcome
-  wantOutcome none x = holds
-  wantOutcome (some w) x = atPlace (fits w) x
+-- The outcome for rule i of a test that it has.
+abbrev pub wantOutcome : Option Want → Found → Outcome
+wantOutcome none x = holds
+wantOutcome (some w) x = atPlace (fits w) x
 
-  abbrev pub testOutcome : ℕ → Test → Outcome
-  testOutcome i (place n) = wantOutcome (wantAt rules i n) (termAt piece n)
-  testOutcome i (pair p q) = atPlaces (termAt piece p) (termAt piece q)
+abbrev pub testOutcome : List Patterns → Terms → ℕ → Test → Outcome
+testOutcome rules piece i (place n) = wantOutcome (wantAt rules i n) (termAt piece n)
+testOutcome rules piece i (pair p q) = atPlaces (termAt piece p) (termAt piece q)
 
-  -- "On it a rule is live until a test of it met there is contradicted."
-  abbrev pub isContradicted : Outcome → Bool
-  isContradicted holds = false
-  isContradicted notKnown = false
-  isContradicted contradicted = true
+abbrev pub isContradicted : Outcome → Bool
+isContradicted holds = false
+isContradicted notKnown = false
+isContradicted contradicted = true
 
-  abbrev pub liveOn : List ℕ → ℕ → Bool
-  liveOn walked i =
-      not
-      (anyBelow (length (sheetTests rules))
-      (λ t. isMet walked t && hasTest rules i t && isContradicted (testOutcome i (testAt rules t))))
+-- "On it a rule is live until a test of it met there is contradicted."
+abbrev pub liveOn : List Patterns → List (Node ℕ) → Terms → List ℕ → ℕ → Bool
+liveOn rules nodes piece walked i =
+    not
+    (anyBelow (length (sheetTests rules))
+    (λ t. isMet rules nodes walked t && hasTest rules i t && isContradicted (testOutcome rules piece i (testAt rules t))))

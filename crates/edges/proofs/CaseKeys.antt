@@ -19,12 +19,12 @@ use Rattle.sheet_tests.specs.SheetTests.{place}
 use Rattle.decision.specs.Rules.{testAt, wantAt, rulesWhere}
 use Rattle.decision.specs.Key.{Key}
 use Rattle.decision.specs.Cases.{Case, isWanted, casesOf}
-use Rattle.decision.specs.Edges.{keeps, liveWants, leadsTo, butTest, byCase}
+use Rattle.decision.specs.Edges.{caseKeeps, liveWants, leadsTo, butTest, byCase}
 use Rattle.decision.specs.AcceptedGraph.{CaseFields}
 use Rattle.basics.proofs.Filters.{mem-map}
-use Rattle.decision.proofs.Intervals.{both-le}
-use Rattle.decision.proofs.RangeRuns.{covers, rangeRuns, covers-contains, run-between}
-use Rattle.decision.proofs.CasesAccepted.{cases-fields}
+use Rattle.decision.proofs.cases.Intervals.{both-le}
+use Rattle.decision.proofs.cases.RangeRuns.{covers, rangeRuns, covers-contains, run-between}
+use Rattle.decision.proofs.cases.CasesAccepted.{cases-fields}
 use Rattle.edges.specs.views.Codes.{wantLow, wantHigh, caseLow, SoundWant}
 use Rattle.edges.specs.views.Compiled.{CodeTable, Asked}
 use Rattle.edges.specs.views.Tables.{those, lacks, stays}
@@ -95,30 +95,30 @@ module _ (rules : List Patterns) (rows low high : List ℕ) (key : Key) (t n : �
     -- A live rule stays at the first code of a case where the case keeps it.
     stays-is
         : (i : ℕ) → i < length rules → has (key .live) i ≡ true
-        → stays rows low high t (caseLow c) i ≡ keeps c (wantAt rules i n)
+        → stays rows low high t (caseLow c) i ≡ caseKeeps c (wantAt rules i n)
     stays-is i l y = stays-by i (caseLow c) l ∙ go (wantAt rules i n) refl
       where
-        go : (x : Option Want) → wantAt rules i n ≡ x → staysBy (caseLow c) x ≡ keeps c x
+        go : (x : Option Want) → wantAt rules i n ≡ x → staysBy (caseLow c) x ≡ caseKeeps c x
         go none e = refl
         go (some w) e = wanted-holds (liveWants rules (key .live) n) live-sound c w m (live-wants i w y e)
 
     -- The live rules that stay are those that the case keeps.
     pub kept-is
         : those (key .live) (stays rows low high t (caseLow c))
-        ≡ rulesWhere rules (λ i. has (key .live) i && keeps c (wantAt rules i n))
+        ≡ rulesWhere rules (λ i. has (key .live) i && caseKeeps c (wantAt rules i n))
     kept-is =
-        those-where (length rules) (key .live) (stays rows low high t (caseLow c)) (λ i. keeps c (wantAt rules i n))
+        those-where (length rules) (key .live) (stays rows low high t (caseLow c)) (λ i. caseKeeps c (wantAt rules i n))
         (omega (arith, asked .table .fewRules)) (asked .within) stays-is
 
     -- The set of rules that is left fits the sheet.
     pub kept-fits : those (key .live) (stays rows low high t (caseLow c)) < 2 ^ length rules
-    kept-fits = rw kept-is (maskOf-lt (length rules) (λ i. has (key .live) i && keeps c (wantAt rules i n)))
+    kept-fits = rw kept-is (maskOf-lt (length rules) (λ i. has (key .live) i && caseKeeps c (wantAt rules i n)))
 
-    -- "A case drops the rules that want something else."
+    -- "A case drops the rules that want something else"
     pub case-is
         : {left : ℕ} → left ≡ maskOf 64 (λ j. has (key .pending) j && not (eqb t j))
         → leadsTo rules (those (key .live) (stays rows low high t (caseLow c))) (has left) ≡ byCase rules key t n c
     case-is {left} e =
         ap (λ (x : ℕ). leadsTo rules x (has left)) kept-is
-        ∙ leads-same rules (rulesWhere rules (λ i. has (key .live) i && keeps c (wantAt rules i n))) (has left)
-        (butTest rules key t) (but-left rules rows key t asked e)
+        ∙ leads-same rules (rulesWhere rules (λ i. has (key .live) i && caseKeeps c (wantAt rules i n))) (has left)
+        (butTest key t) (but-left rules rows key t asked e)

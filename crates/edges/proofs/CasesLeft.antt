@@ -1,6 +1,6 @@
 -- Where a loop over the cuts of a switch stands that looks for its first case from a code on.
 use Prim.Native.Nat.{ℕ, pred, _+_, _-_, _<_}
-use mathlib.Core.Path.{_≡_, sym, ap, _∙_}
+use mathlib.Core.Path.{_≡_, sym, ap, subst, _∙_}
 use mathlib.Core.Bool.{Bool, true, false, not, cond}
 use mathlib.Core.List.{List, _∷_}
 use native.Mathlib.Omega.{arith}
@@ -13,11 +13,12 @@ use Rattle.decision.specs.Rules.{testAt}
 use Rattle.decision.specs.Key.{Key}
 use Rattle.decision.specs.Cases.{casesOf}
 use Rattle.decision.specs.Edges.{liveWants}
+use Rattle.edges.specs.declared.cases.NextCase.{NextCase}
 use Rattle.edges.specs.declared.cases.NextCase.the-variants.{Run, Nothing}
 use Rattle.edges.specs.views.Codes.{cutCodes}
 use Rattle.edges.specs.views.Compiled.{CodeTable, Asked}
 use Rattle.edges.specs.views.Tables.{noCut, firstFrom, those, lacks, stays}
-use Rattle.edges.specs.views.FirstCase.{firstCase}
+use Rattle.edges.specs.views.FirstCase.{firstCase, OfRun}
 use Rattle.edges.proofs.CaseKeys.{live-sound}
 use Rattle.edges.proofs.CutLists.{codes-ascend, cuts-below}
 use Rattle.edges.proofs.CutRuns.{cutsFrom, firstRun, some-cut, no-cut, next-cuts}
@@ -103,3 +104,7 @@ module _ (rules : List Patterns) (rows low high : List ℕ) (t live n : ℕ) (as
           rest = two false
               (ap not (eq-eqb (those live (stays rows low high t x)) (those live (lacks rows t)) (sym p ∙ d ∙ q)));
         }
+
+-- What holds of the case that there is holds of the run that it is.
+pub of-run : (P : ℕ → ℕ → Type 0) {c : NextCase} {x y : ℕ} → c ≡ Run x y → OfRun c P → P x y
+of-run P e h = subst (λ (z : NextCase). OfRun z P) e h

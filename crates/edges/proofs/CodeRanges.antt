@@ -14,9 +14,9 @@ use Rattle.basics.proofs.Sorted.{pair-before}
 use Rattle.edges.specs.views.Codes.{symbolCode, compoundCode, numberCode}
 use Rattle.decision.specs.Cases.{Case, symbolCase, compoundCase, numbersCase, isWanted}
 use Rattle.decision.specs.AcceptedGraph.{CaseBefore, CaseFields}
-use Rattle.decision.proofs.Intervals.{both-le, EndsBefore}
-use Rattle.decision.proofs.RangeRuns.{rangeCuts, covers}
-use Rattle.decision.proofs.Runs as runs
+use Rattle.decision.proofs.cases.Intervals.{both-le, EndsBefore}
+use Rattle.decision.proofs.cases.RangeRuns.{rangeCuts, covers}
+use Rattle.decision.proofs.cases.Runs as runs
 use Rattle.edges.specs.views.Codes.{wantLow, wantHigh, caseLow, caseHigh, SoundWant, cutCodes}
 use Rattle.basics.proofs.Numbers.{eq-true}
 

@@ -18,14 +18,14 @@ use Rattle.decision.specs.Cases.{Case, symbolCase, compoundCase, numbersCase, t
 use Rattle.decision.specs.AcceptedGraph.{CaseBefore, CaseFields}
 use Rattle.basics.proofs.Filters.{mem-map, all-mapped, filter-mem, any-mem}
 use Rattle.basics.proofs.Ascent.{ascending-map}
-use Rattle.decision.proofs.Intervals.{both-le, Contains, EndsBefore, Uncut, between, Between, in-one-only}
-use Rattle.decision.proofs.Insertion.{symbol-wanted, functor-wanted}
-use Rattle.decision.proofs.RangeRuns as ranges
-use Rattle.decision.proofs.RangeRuns.{rangeCuts, CutBy, covers, isCovered, rangeRuns, wanted-cut, run-between}
-use Rattle.decision.proofs.WantedRanges.{numberRuns, wantedRanges, wanted-range, case-run, runs-all}
-use Rattle.decision.proofs.Runs.{cut-wanted, run-ends, run-wanted, in-run, accepts-range}
-use Rattle.decision.proofs.CaseList.{compoundOf, cases-all, symbol-listed, compound-listed, run-listed}
-use Rattle.decision.proofs.CasesAccepted.{cases-ascend, cases-fields}
+use Rattle.decision.proofs.cases.Intervals.{both-le, Contains, EndsBefore, Uncut, between, Between, in-one-only}
+use Rattle.decision.proofs.cases.Insertion.{symbol-wanted, functor-wanted}
+use Rattle.decision.proofs.cases.RangeRuns as ranges
+use Rattle.decision.proofs.cases.RangeRuns.{rangeCuts, CutBy, covers, isCovered, rangeRuns, wanted-cut, run-between}
+use Rattle.decision.proofs.cases.WantedRanges.{numberRuns, wantedRanges, wanted-range, case-run, runs-all}
+use Rattle.decision.proofs.cases.Runs.{cut-wanted, run-ends, run-wanted, in-run, accepts-range}
+use Rattle.decision.proofs.cases.CaseList.{compoundOf, cases-all, symbol-listed, compound-listed, run-listed}
+use Rattle.decision.proofs.cases.CasesAccepted.{cases-ascend, cases-fields}
 use Rattle.edges.specs.views.Codes.{wantLow, wantHigh, caseLow, caseHigh, SoundWant}
 use Rattle.edges.proofs.CodeRanges.{wantRange, caseRange, sound-want, case-before}
 use Rattle.basics.proofs.Numbers.{le-or-lt}

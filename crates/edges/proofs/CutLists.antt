@@ -23,8 +23,8 @@ use Rattle.decision.specs.Rules.{testAt, wantAt}
 use Rattle.decision.specs.Key.{Key}
 use Rattle.decision.specs.Edges.{liveWants}
 use Rattle.basics.proofs.Filters.{mem-map, all-mapped}
-use Rattle.decision.proofs.RangeRuns as ranges
-use Rattle.decision.proofs.RangeRuns.{CutBy, wanted-cut}
+use Rattle.decision.proofs.cases.RangeRuns as ranges
+use Rattle.decision.proofs.cases.RangeRuns.{CutBy, wanted-cut}
 use Rattle.edges.specs.views.Codes.{SoundWant, cutCodes}
 use Rattle.edges.specs.views.Compiled.{CodeTable, Asked}
 use Rattle.edges.specs.views.Tables.{noCut, firstFrom}

@@ -11,7 +11,7 @@ use Rattle.terms.specs.RuleTests.{Range}
 use Rattle.basics.proofs.ListLaws.{all-map}
 use Rattle.basics.proofs.Sorted.{AscendingBy}
 use Rattle.decision.specs.Cases.{Case}
-use Rattle.decision.proofs.Intervals.{between}
+use Rattle.decision.proofs.cases.Intervals.{between}
 use Rattle.edges.specs.declared.cases.NextCase.{NextCase}
 use Rattle.edges.specs.declared.cases.NextCase.the-variants.{Run, Nothing}
 use Rattle.edges.specs.views.Codes.{caseLow, caseHigh}

@@ -25,7 +25,7 @@ module _ (rules : List Patterns) (rows : List ℕ) (key : Key) (t : ℕ) (asked 
   -- What is left without t is what the edge leaves.
   pub but-left
       : {left : ℕ} → left ≡ maskOf 64 (λ j. has (key .pending) j && not (eqb t j)) → (u : ℕ)
-      → u < length (sheetTests rules) → has left u ≡ butTest rules key t u
+      → u < length (sheetTests rules) → has left u ≡ butTest key t u
   but-left e u l =
       has-is 64 (λ j. has (key .pending) j && not (eqb t j)) e u (omega (arith, asked .table .fewTests))
       ∙ ap (λ (b : Bool). has (key .pending) u && not b) (eqb-swap t u)
@@ -45,16 +45,16 @@ module _ (rules : List Patterns) (rows : List ℕ) (key : Key) (t : ℕ) (asked 
       rw without-is (maskOf-lt (length rules) (λ i. has (key .live) i && not (hasTest rules i t)))
 
   module _ {left : ℕ} (e : left ≡ maskOf 64 (λ j. has (key .pending) j && not (eqb t j))) where
-    -- "Neither drops every rule with a test there", and no the rules that have the pair.
+    -- "neither drops every rule with a test there", and no the rules that have the pair.
     pub none-is : leadsTo rules (those (key .live) (lacks rows t)) (has left) ≡ byNone rules key t
     none-is =
         ap (λ (x : ℕ). leadsTo rules x (has left)) without-is
         ∙ leads-same rules (rulesWhere rules (λ i. has (key .live) i && not (hasTest rules i t))) (has left)
-        (butTest rules key t) (but-left e)
+        (butTest key t) (but-left e)
 
-    -- "Other drops none."
+    -- Other drops no rule.
     pub other-is : leadsTo rules (key .live) (has left) ≡ byOther rules key t
-    other-is = leads-same rules (key .live) (has left) (butTest rules key t) (but-left e)
+    other-is = leads-same rules (key .live) (has left) (butTest key t) (but-left e)
 
 -- What is in one set and not in its part where p holds is what is in it where p does not hold.
 minus-part : (a p : Bool) → a && not (a && p) ≡ a && not p
@@ -80,7 +80,7 @@ module _ (rules : List Patterns) (places pairs : List ℕ) (count : ℕ) (table 
           sym (below-pair places pairs count p u (sym (table .split u l) ∙ ap isPlace e))
           ∙ (λ i. atOrBelow p (first i) || atOrBelow p (second i))
 
-  -- "Unknown settles the place, all place tests below it and all pairs with a place at or below it."
+  -- "Unknown drops no rule and settles the place, all place tests below it and all pairs with a place at or below it."
   pub unknown-is
       : (key : Key) (p : ℕ) {left : ℕ}
       → left ≡ maskOf 64 (λ j. has (key .pending) j && not (has (those (key .pending) (isBelow places pairs count p)) j))

@@ -1,48 +1,36 @@
 -- Which vertex a key is, read off the table of rows.
 use Prim.Native.Nat.{ℕ, _^_, _≤_, _<_}
 use mathlib.Core.Path.{_≡_, refl, sym, ap, _∙_}
-use mathlib.Core.Bool.{Bool, true, false, _&&_, not, and-false, and-comm, false≢true, cond}
+use mathlib.Core.Bool.{Bool, true, false, _&&_, not, and-false, and-comm, cond}
 use mathlib.Core.List.{List, [], _∷_}
 use mathlib.Core.Logic.{by-cases}
 use native.Mathlib.Decide.{decLt}
 use native.Mathlib.Nat.{lt-of-lt-of-le}
 use native.Mathlib.Omega.{arith}
-use lib.Dec.{eqb, ltb}
+use lib.Dec.{ltb}
 use lib.Bits.{bitAnd}
-use lib.Count.{ones, trailingZeros}
+use lib.Count.{ones}
 use lib.ListN.{length, getD}
-use lib.Pow.{pow-mono, pow-lt}
-use borrow.Author.Tests.{eq-eqb, ne-eqb, lt-ltb}
+use lib.Pow.{pow-mono}
+use borrow.Author.Tests.{lt-ltb}
 use Rattle.masks.specs.Mask.{has, maskOf, members}
-use Rattle.masks.proofs.Membership.{has-empty, has-singleton, has-and, has-above}
+use Rattle.masks.proofs.Membership.{has-empty, has-and, has-above}
 use Rattle.masks.proofs.Extensionality.{ext, maskOf-lt, has-maskOf, has-is, maskOf-same}
 use Rattle.basics.proofs.AnyBelow.{any-none}
 use Rattle.masks.proofs.Operations.{and-fits}
 use Rattle.masks.proofs.Members.{members-none, members-one, members-two}
-use Rattle.masks.proofs.Answers.{sole-one, one-only, one-lt}
+use Rattle.masks.proofs.OneMember.{one-power}
 use Rattle.terms.specs.Pattern.{Patterns}
 use Rattle.sheet_tests.specs.SheetTests.{sheetTests}
 use Rattle.decision.specs.Rules.{hasTest}
-use Rattle.decision.specs.Key.{Key, Vertex, leaf, asking, suspend, twoOrMore, isHeld, keyOf, settled, vertexWith, vertexOf}
+use Rattle.decision.specs.Key.{Key, Vertex, leaf, asking, suspendNode, twoOrMore, isHeld, keyOf, settled, vertexWith, vertexOf}
 use Rattle.decision.specs.Edges.{leadsTo}
 use Rattle.edges.specs.views.VertexKey.{vertexKey}
 use Rattle.edges.specs.views.Compiled.{RowTable}
 use Rattle.edges.specs.views.Tables.{isClear, those}
 use Rattle.edges.proofs.Widths.{any-within, members-within, those-where}
 use Rattle.basics.specs.Lists.{anyBelow}
-use Rattle.basics.proofs.Booleans.{by-test}
 use Rattle.masks.specs.views.Rows.{inRows}
-
--- A set with one member, which `trailing_zeros` gives, is that power of 2.
-pub one-power : (w m : ℕ) → m < 2 ^ w → ones m ≡ 1 → m ≡ 2 ^ trailingZeros w m
-one-power w m h e =
-    let i = trailingZeros w m in
-    let only = one-only w m h i (sole-one w m h e) in
-    let alone : (j : ℕ) → has m j ≡ eqb i j =
-    λ j. by-test (has m j) (λ y. y ∙ sym (eq-eqb i j (sym (only .alone j y))))
-    (λ y.
-    y ∙ sym (ne-eqb i j (λ (s : i ≡ j). false≢true (sym y ∙ ap (has m) (sym s) ∙ only .inside)))) in
-    ext w m (2 ^ i) h (pow-lt (one-lt w m h i (sole-one w m h e))) (λ j l. alone j ∙ sym (has-singleton i j))
 
 -- A list has two things or more where it is longer than 1.
 two-longer : (l : List ℕ) → twoOrMore l ≡ ltb 1 (length l)
@@ -140,7 +128,7 @@ module _ (rules : List Patterns) (rows : List ℕ) (table : RowTable rules rows)
     module _ (some : live ≡ 0 → ⊥) (more : ones live ≡ 1 → ⊥) {pending clear : ℕ} (p : pending ≡ key .pending)
         (s : clear ≡ those live (isClear rows pending)) where
       abbrev chosen : Bool → Vertex
-      chosen b = cond b (leaf suspend) (asking key)
+      chosen b = cond b (leaf suspendNode) (asking key)
 
       two : (b : Bool) → ltb 1 (length (members 64 clear)) ≡ b → leadsTo rules live (has left) ≡ chosen b
       two b e =
@@ -159,7 +147,7 @@ module _ (rules : List Patterns) (rows : List ℕ) (table : RowTable rules rows)
           → vertexKey (leadsTo rules live (has left)) ≡ record { live = 0; pending = 1 }
       lead-suspend e = ap vertexKey (two true e)
 
-      -- "Otherwise it asks."
+      -- "Otherwise it asks the lowest pending test."
       pub lead-asks
           : ltb 1 (length (members 64 clear)) ≡ false
           → vertexKey (leadsTo rules live (has left)) ≡ record { live = live; pending = pending }

@@ -13,4 +13,4 @@ pub mod CutLists
 pub mod CutRuns
 pub mod OpenRuns
 pub mod CasesLeft
-pub mod CasesInOrder
+pub mod TestKinds

@@ -23,9 +23,9 @@ use Rattle.decision.specs.Key.{Key}
 use Rattle.decision.specs.Cases.{casesOf}
 use Rattle.decision.specs.Edges.{liveWants}
 use Rattle.basics.proofs.Filters.{mem-map, all-mapped, any-mem, mem-any}
-use Rattle.decision.proofs.Intervals.{both-le, Contains, between, Between, between-cuts}
-use Rattle.decision.proofs.RangeRuns as ranges
-use Rattle.decision.proofs.RangeRuns.{rangeCuts, covers, isCovered, covers-contains}
+use Rattle.decision.proofs.cases.Intervals.{both-le, Contains, between, Between, between-cuts}
+use Rattle.decision.proofs.cases.RangeRuns as ranges
+use Rattle.decision.proofs.cases.RangeRuns.{rangeCuts, covers, isCovered, covers-contains}
 use Rattle.edges.specs.views.Codes.{wantLow, wantHigh, cutCodes}
 use Rattle.edges.specs.views.Compiled.{CodeTable, Asked}
 use Rattle.edges.specs.views.Tables.{those, lacks, stays}

@@ -11,7 +11,7 @@ use Rattle.masks.specs.Mask.{has, members}
 use Rattle.masks.proofs.Membership.{has-singleton, has-pos}
 use Rattle.masks.proofs.Members.{of-members}
 use Rattle.terms.specs.Pattern.{Patterns}
-use Rattle.decision.specs.Key.{Key, Leaf, Vertex, leaf, asking, fail, suspend, execute, twoOrMore, settled, vertexWith, vertexOf}
+use Rattle.decision.specs.Key.{Key, Leaf, Vertex, leaf, asking, failNode, suspendNode, executeNode, twoOrMore, settled, vertexWith, vertexOf}
 use Rattle.edges.specs.declared.Key as code
 use Rattle.edges.specs.views.VertexKey.{vertexKey}
 use Rattle.masks.proofs.Listed.{consIf, listFrom}
@@ -26,9 +26,9 @@ pub record TwoLive (live : ℕ) : Type 0 where
 
 -- What is so of a vertex that is one of a key: rules are numbered from 1, and a node that asks has two live rules.
 abbrev pub Occurs : Vertex → Type 0
-Occurs (leaf fail) = Unit
-Occurs (leaf suspend) = Unit
-Occurs (leaf (execute i)) = 0 < i
+Occurs (leaf failNode) = Unit
+Occurs (leaf suspendNode) = Unit
+Occurs (leaf (executeNode i)) = 0 < i
 Occurs (asking key) = TwoLive (key .live)
 
 -- The numbers of a list from i on are at least i,
@@ -76,7 +76,7 @@ vertex-occurs rules key = go (members (length rules) (key .live)) refl
         (members-two-live (length rules) (key .live) x y l e)
       where
         pick : (b : Bool) → TwoLive (key .live)
-            → Occurs (cond b (leaf suspend) (asking key))
+            → Occurs (cond b (leaf suspendNode) (asking key))
         pick true t = tt
         pick false t = t
 
@@ -105,25 +105,25 @@ pending-of e = ap (λ (x : code.Key). x .pending) e
 
 -- A node that asks has not the key of a leaf.
 asks-apart : (l : Leaf) (key : Key) → TwoLive (key .live) → vertexKey (leaf l) ≡ vertexKey (asking key) → ⊥
-asks-apart fail key t e = none-not-two (rw (live-of e) t)
-asks-apart suspend key t e = none-not-two (rw (live-of e) t)
-asks-apart (execute i) key t e = one-not-two (pred i) (rw (live-of e) t)
+asks-apart failNode key t e = none-not-two (rw (live-of e) t)
+asks-apart suspendNode key t e = none-not-two (rw (live-of e) t)
+asks-apart (executeNode i) key t e = one-not-two (pred i) (rw (live-of e) t)
 
 -- Fail and suspend have not the key of an execute.
 none-power : (i : ℕ) → 0 ≡ 2 ^ i → ⊥
 none-power i e = omega (arith, pow-pos i)
 
 same-leaf : (l m : Leaf) → Occurs (leaf l) → Occurs (leaf m) → vertexKey (leaf l) ≡ vertexKey (leaf m) → l ≡ m
-same-leaf fail fail o q e = refl
-same-leaf fail suspend o q e = let z : _≡_ {A = ℕ} 0 1 = pending-of e in absurd (omega arith)
-same-leaf fail (execute j) o q e = absurd (none-power (pred j) (live-of e))
-same-leaf suspend fail o q e = let z : _≡_ {A = ℕ} 1 0 = pending-of e in absurd (omega arith)
-same-leaf suspend suspend o q e = refl
-same-leaf suspend (execute j) o q e = absurd (none-power (pred j) (live-of e))
-same-leaf (execute i) fail o q e = absurd (none-power (pred i) (sym (live-of e)))
-same-leaf (execute i) suspend o q e = absurd (none-power (pred i) (sym (live-of e)))
-same-leaf (execute i) (execute j) o q e =
-    let same : i ≡ j = omega (arith, same-power (pred i) (pred j) (live-of e)) in ap execute same
+same-leaf failNode failNode o q e = refl
+same-leaf failNode suspendNode o q e = let z : _≡_ {A = ℕ} 0 1 = pending-of e in absurd (omega arith)
+same-leaf failNode (executeNode j) o q e = absurd (none-power (pred j) (live-of e))
+same-leaf suspendNode failNode o q e = let z : _≡_ {A = ℕ} 1 0 = pending-of e in absurd (omega arith)
+same-leaf suspendNode suspendNode o q e = refl
+same-leaf suspendNode (executeNode j) o q e = absurd (none-power (pred j) (live-of e))
+same-leaf (executeNode i) failNode o q e = absurd (none-power (pred i) (sym (live-of e)))
+same-leaf (executeNode i) suspendNode o q e = absurd (none-power (pred i) (sym (live-of e)))
+same-leaf (executeNode i) (executeNode j) o q e =
+    let same : i ≡ j = omega (arith, same-power (pred i) (pred j) (live-of e)) in ap executeNode same
 
 -- Vertices that occur and have the same key are the same.
 pub same-vertex : (v w : Vertex) → Occurs v → Occurs w → vertexKey v ≡ vertexKey w → v ≡ w

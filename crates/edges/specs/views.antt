@@ -4,3 +4,4 @@ pub mod Codes
 pub mod Compiled
 pub mod Tables
 pub mod FirstCase
+pub mod Switches

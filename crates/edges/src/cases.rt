@@ -5,15 +5,12 @@ use crate::keys::lead;
 ghost use mathlib.Core.Path.{_≡_};
 ghost use mathlib.Core.List.{List};
 ghost use Prim.Native.Nat.{ℕ, _+_, _≤_, _<_};
-ghost use Rattle.basics.specs.Lists.{Mem};
 ghost use Rattle.terms.specs.Pattern.{Patterns};
-ghost use Rattle.sheet_tests.specs.SheetTests.{place};
-ghost use Rattle.decision.specs.Rules.{testAt};
 ghost use Rattle.decision.specs.Cases.{Case, casesOf};
 ghost use Rattle.decision.specs.Edges.{liveWants, byCase};
 ghost use Rattle.edges.specs.views.VertexKey.{vertexKey, keyIn};
-ghost use Rattle.edges.specs.views.Codes.{caseLow, cutCodes};
-ghost use Rattle.edges.specs.views.Compiled.{CodeTable, Asked};
+ghost use Rattle.edges.specs.views.Codes.{cutCodes};
+ghost use Rattle.edges.specs.views.Switches.{Switches, AtCase};
 ghost use Rattle.edges.specs.views.FirstCase.{firstCase, OfRun};
 ghost use Rattle.edges.specs.views.Tables.{those, lacks, stays, noCut, firstFrom, nearerOf};
 
@@ -62,7 +59,9 @@ fn stays_at(
 // pending.
 pub fn by_case(key: Key, t: usize, kept: u64, rows: &[u64; 64]) -> Key
     requires { ⌜ t < 64 ⌝ }
-    ensures { λ r. ⌜ ((rules : List Patterns) (low high : List ℕ) → Asked rules (now (rows .entry)) (key .live) t → CodeTable rules low high → (n : ℕ) (c : Case) → testAt rules t ≡ place n → Mem c (casesOf (liveWants rules (key .live) n)) → kept ≡ those (key .live) (stays (now (rows .entry)) low high t (caseLow c)) → r ≡ vertexKey (byCase rules (keyIn key) t n c)) ⌝ }
+    requires { ⌜ ((rules : List Patterns) × ((n : ℕ) × ((c : Case) × AtCase (now rows) (key .live) t kept rules n c))) ⌝ }
+    ensures { λ r. ⌜ ((rules : List Patterns) (n : ℕ) (c : Case) → AtCase (now (rows .entry)) (key .live) t kept rules n c
+        → r ≡ vertexKey (byCase rules (keyIn key) t n c)) ⌝ }
 {
     let left = masks::remove(key.pending, t);
     lead(kept, left, rows)
@@ -104,8 +103,11 @@ pub fn next_cut(
     high: &[u32; 4096],
 ) -> u32
     requires { ⌜ t < 64 ⌝ }
+    requires { ⌜ ((rules : List Patterns) × ((n : ℕ) × Switches (now rows) (now low) (now high) live t rules n)) ⌝ }
     ensures { λ r. ⌜ (r ≤ noCut) × (r < noCut → from ≤ r) ⌝ }
-    ensures { λ r. ⌜ ((rules : List Patterns) → Asked rules (now (rows .entry)) live t → CodeTable rules (now (low .entry)) (now (high .entry)) → (n : ℕ) → testAt rules t ≡ place n → r ≡ firstFrom from (cutCodes (liveWants rules live n))) ⌝ }
+    ensures { λ r. ⌜ ((rules : List Patterns) (n : ℕ)
+        → Switches (now (rows .entry)) (now (low .entry)) (now (high .entry)) live t rules n
+        → r ≡ firstFrom from (cutCodes (liveWants rules live n))) ⌝ }
 {
     let mut best: u32 = 0x400_0000;
     let mut to_come = live;
@@ -130,10 +132,13 @@ fn read_cut(
     high: &[u32; 4096],
 ) -> Standing
     requires { ⌜ (t < 64) × (code < noCut) ⌝ }
+    requires { ⌜ ((rules : List Patterns) × ((n : ℕ) × Switches (now rows) (now low) (now high) live t rules n)) ⌝ }
     ensures { λ r. ⌜ r .kept ≡ those live (stays (now (rows .entry)) (now (low .entry)) (now (high .entry)) t code) ⌝ }
     ensures { λ r. ⌜ r .free ≡ those live (lacks (now (rows .entry)) t) ⌝ }
     ensures { λ r. ⌜ (r .next ≤ noCut) × (r .next < noCut → code + 1 ≤ r .next) ⌝ }
-    ensures { λ r. ⌜ ((rules : List Patterns) → Asked rules (now (rows .entry)) live t → CodeTable rules (now (low .entry)) (now (high .entry)) → (n : ℕ) → testAt rules t ≡ place n → r .next ≡ firstFrom (code + 1) (cutCodes (liveWants rules live n))) ⌝ }
+    ensures { λ r. ⌜ ((rules : List Patterns) (n : ℕ)
+        → Switches (now (rows .entry)) (now (low .entry)) (now (high .entry)) live t rules n
+        → r .next ≡ firstFrom (code + 1) (cutCodes (liveWants rules live n))) ⌝ }
 {
     let mut kept: u64 = 0;
     let mut free: u64 = 0;
@@ -170,9 +175,17 @@ pub fn next_case(
     high: &[u32; 4096],
 ) -> Step
     requires { ⌜ (t < 64) × (cut ≤ noCut) ⌝ }
-    ensures { λ r. ⌜ ((rules : List Patterns) → Asked rules (now (rows .entry)) live t → CodeTable rules (now (low .entry)) (now (high .entry)) → (n : ℕ) → testAt rules t ≡ place n → (from : ℕ) → cut ≡ firstFrom from (cutCodes (liveWants rules live n)) → r .case ≡ firstCase from (casesOf (liveWants rules live n))) ⌝ }
-    ensures { λ r. ⌜ OfRun (r .case) (λ (x y : ℕ). (cut ≤ x) × (x ≤ y) × (y < noCut) × (r .kept ≡ those live (stays (now (rows .entry)) (now (low .entry)) (now (high .entry)) t x))) ⌝ }
-    ensures { λ r. ⌜ ((rules : List Patterns) → Asked rules (now (rows .entry)) live t → CodeTable rules (now (low .entry)) (now (high .entry)) → (n : ℕ) → testAt rules t ≡ place n → OfRun (r .case) (λ (x y : ℕ). y + 1 ≡ firstFrom (x + 1) (cutCodes (liveWants rules live n)))) ⌝ }
+    requires { ⌜ ((rules : List Patterns) × ((n : ℕ) × Switches (now rows) (now low) (now high) live t rules n
+        × ((from : ℕ) × (cut ≡ firstFrom from (cutCodes (liveWants rules live n)))))) ⌝ }
+    ensures { λ r. ⌜ ((rules : List Patterns) (n : ℕ)
+        → Switches (now (rows .entry)) (now (low .entry)) (now (high .entry)) live t rules n
+        → (from : ℕ) → cut ≡ firstFrom from (cutCodes (liveWants rules live n))
+        → r .case ≡ firstCase from (casesOf (liveWants rules live n))) ⌝ }
+    ensures { λ r. ⌜ OfRun (r .case) (λ (x y : ℕ). (cut ≤ x) × (x ≤ y) × (y < noCut)
+        × (r .kept ≡ those live (stays (now (rows .entry)) (now (low .entry)) (now (high .entry)) t x))) ⌝ }
+    ensures { λ r. ⌜ ((rules : List Patterns) (n : ℕ)
+        → Switches (now (rows .entry)) (now (low .entry)) (now (high .entry)) live t rules n
+        → OfRun (r .case) (λ (x y : ℕ). y + 1 ≡ firstFrom (x + 1) (cutCodes (liveWants rules live n)))) ⌝ }
 {
     let mut x = cut;
     while x < 0x400_0000 {

@@ -32,7 +32,9 @@ fn settled(live: u64, pending: u64, rows: &[u64; 64]) -> u64
 // The key of the node with these live rules, where these tests are left. Not suspend where one rule alone is settled,
 // nor tests that only rules not live have.
 pub fn lead(live: u64, left: u64, rows: &[u64; 64]) -> Key
-    ensures { λ r. ⌜ ((rules : List Patterns) → RowTable rules (now (rows .entry)) → live < 2 ^ length rules → r ≡ vertexKey (leadsTo rules live (has left))) ⌝ }
+    requires { ⌜ ((rules : List Patterns) × RowTable rules (now rows) × (live < 2 ^ length rules)) ⌝ }
+    ensures { λ r. ⌜ ((rules : List Patterns) → RowTable rules (now (rows .entry)) → live < 2 ^ length rules
+        → r ≡ vertexKey (leadsTo rules live (has left))) ⌝ }
 {
     if live == 0 {
         return Key {
@@ -80,7 +82,9 @@ pub fn without(t: usize, live: u64, rows: &[u64; 64]) -> u64
 // pending, nor without the rules that want nothing there.
 pub fn by_none(key: Key, t: usize, rows: &[u64; 64]) -> Key
     requires { ⌜ t < 64 ⌝ }
-    ensures { λ r. ⌜ ((rules : List Patterns) → Asked rules (now (rows .entry)) (key .live) t → r ≡ vertexKey (byNone rules (keyIn key) t)) ⌝ }
+    requires { ⌜ ((rules : List Patterns) × Asked rules (now rows) (key .live) t) ⌝ }
+    ensures { λ r. ⌜ ((rules : List Patterns) → Asked rules (now (rows .entry)) (key .live) t
+        → r ≡ vertexKey (byNone rules (keyIn key) t)) ⌝ }
 {
     let live = without(t, key.live, rows);
     let left = masks::remove(key.pending, t);
@@ -90,7 +94,9 @@ pub fn by_none(key: Key, t: usize, rows: &[u64; 64]) -> Key
 // The key behind a pair's other: no rule is dropped. Not with the pair still pending, nor without a rule that has it.
 pub fn by_other(key: Key, t: usize, rows: &[u64; 64]) -> Key
     requires { ⌜ t < 64 ⌝ }
-    ensures { λ r. ⌜ ((rules : List Patterns) → Asked rules (now (rows .entry)) (key .live) t → r ≡ vertexKey (byOther rules (keyIn key) t)) ⌝ }
+    requires { ⌜ ((rules : List Patterns) × Asked rules (now rows) (key .live) t) ⌝ }
+    ensures { λ r. ⌜ ((rules : List Patterns) → Asked rules (now (rows .entry)) (key .live) t
+        → r ≡ vertexKey (byOther rules (keyIn key) t)) ⌝ }
 {
     let left = masks::remove(key.pending, t);
     lead(key.live, left, rows)
@@ -153,7 +159,11 @@ pub fn by_unknown(
     count: usize,
 ) -> Key
     requires { ⌜ p < 680 ⌝ }
-    ensures { λ r. ⌜ ((rules : List Patterns) → RowTable rules (now (rows .entry)) → PlaceTable rules (now (place .entry)) (now (pairs .entry)) count → key .live < 2 ^ length rules → r ≡ vertexKey (byUnknown rules (keyIn key) p)) ⌝ }
+    requires { ⌜ ((rules : List Patterns) × RowTable rules (now rows) × PlaceTable rules (now place) (now pairs) count
+        × (key .live < 2 ^ length rules)) ⌝ }
+    ensures { λ r. ⌜ ((rules : List Patterns) → RowTable rules (now (rows .entry))
+        → PlaceTable rules (now (place .entry)) (now (pairs .entry)) count → key .live < 2 ^ length rules
+        → r ≡ vertexKey (byUnknown rules (keyIn key) p)) ⌝ }
 {
     let tests = key.pending;
     let left = masks::minus(tests, below(p, tests, place, pairs, count));

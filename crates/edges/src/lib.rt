@@ -2,7 +2,7 @@
 pub mod cases; // the cases of a switch
 pub mod keys; // the keys behind the edges
 
-// "A node's key is its live rules and its pending tests."
+// "A node's key is its live rules and its pending tests"
 pub struct Key {
     pub live: u64,
     pub pending: u64,

@@ -1,7 +1,6 @@
 -- The node that asks a test of the sheet: a switch or a pair, as the tables tell.
 use Prim.Native.Nat.{ℕ, _+_, _-_, _*_, _/_, _%_, _≤_, _<_}
-use mathlib.Core.Path.{_≡_, refl, sym, ap, subst, _∙_}
-use mathlib.Core.Bool.{true, false}
+use mathlib.Core.Path.{_≡_, sym, ap, subst, _∙_}
 use mathlib.Core.List.{List, _∷_, _++_}
 use native.Mathlib.Omega.{arith}
 use lib.ListN.{length, getD}
@@ -15,27 +14,18 @@ use Rattle.decision.specs.Key.{Key, Vertex}
 use Rattle.decision.specs.Node.{CaseEdge, mapNode}
 use Rattle.decision.specs.Edges.{byNone, byUnknown, byOther, askNode}
 use Rattle.decision.specs.GraphBytes.{casesBytes, nodeBytes}
-use Rattle.basics.proofs.Clash.{clash}
 use Rattle.edges.specs.declared.Key as code
-use Rattle.edges.specs.views.Compiled.{isPlace, Compiled, Asked}
+use Rattle.edges.specs.views.Compiled.{Compiled, Asked}
 use Rattle.edges.specs.views.VertexKey.{vertexKey, keyIn}
+use Rattle.edges.proofs.TestKinds.{place-test, pair-test}
 use Rattle.graph.specs.declared.NodeRecord.the-variants.{Switch, Pair}
 use Rattle.graph.specs.views.WriteNode.{nodeRecordBytes}
-use Rattle.keys.specs.views.KeysMet.{numberOf}
+use Rattle.keys.specs.views.KeysMet.{keyNumber}
 use Rattle.keys.specs.views.KeyGraph.{nameOf}
-use Rattle.keys.specs.views.Switching.{Switches}
 use Rattle.emit.specs.views.Laid.{switchEdges, askBytes}
 use Rattle.emit.specs.views.Written.{Room, Wrote}
 use Rattle.emit.proofs.WritingOn.{both-wrote}
-
--- A test is a place or a pair.
-place-test : (x : Test) → isPlace x ≡ true → (n : ℕ) × (x ≡ place n)
-place-test (place n) e = (n, refl)
-place-test (pair p q) e = clash (cc)
-
-pair-test : (x : Test) → isPlace x ≡ false → (p : ℕ) × (q : ℕ) × (x ≡ pair p q)
-pair-test (place n) e = clash (cc)
-pair-test (pair p q) e = (p, q, refl)
+use Rattle.edges.specs.views.Switches.{Switches}
 
 module _ {rules : List Patterns} {rows low high places pairs : List ℕ} {placeTests live t : ℕ}
     (compiled : Compiled rules rows low high places pairs placeTests) (asked : Asked rules rows live t) where
@@ -70,13 +60,13 @@ module _ {rules : List Patterns} {rows low high places pairs : List ℕ} {placeT
   pair-asked h =
       let spots = compiled .spots in
       let r = pair-test (testAt rules t) (spots .split t (asked .test) ∙ le-ltb t placeTests h) in
-      record { first = r .0; second = r .1; test = r .2; stored = spots .pairOf t (r .0) (r .1) (asked .test) (r .2) }
+      record { first = r .0; second = r .1 .0; test = r .1 .1; stored = spots .pairOf t (r .0) (r .1 .0) (asked .test) (r .1 .1) }
 
 module _ (rules : List Patterns) (keys : List Key) (key : Key) (t : ℕ) where
   -- The number of a vertex, where its key is found.
-  same-number : (v : Vertex) (behind : code.Key) (node : ℕ) → behind ≡ vertexKey v → node ≡ numberOf keys (keyIn behind)
-      → node ≡ numberOf keys (nameOf v)
-  same-number v behind node e f = f ∙ ap (λ (k : code.Key). numberOf keys (keyIn k)) e
+  same-number : (v : Vertex) (behind : code.Key) (node : ℕ) → behind ≡ vertexKey v → node ≡ keyNumber keys (keyIn behind)
+      → node ≡ keyNumber keys (nameOf v)
+  same-number v behind node e f = f ∙ ap (λ (k : code.Key). keyNumber keys (keyIn k)) e
 
   module _ (n : ℕ) (test : testAt rules t ≡ place n) where
     abbrev cases : List (CaseEdge ℕ)
@@ -86,10 +76,10 @@ module _ (rules : List Patterns) (keys : List Key) (key : Key) (t : ℕ) where
     ends p count x y = 0x43 ∷ wideThen p (count ∷ wideThen x (wideThen y (casesBytes cases)))
 
     asks-switch
-        : ends n (length cases) (numberOf keys (nameOf (byNone rules key t))) (numberOf keys (nameOf (byUnknown rules key n)))
+        : ends n (length cases) (keyNumber keys (nameOf (byNone rules key t))) (keyNumber keys (nameOf (byUnknown rules key n)))
         ≡ askBytes rules keys key t
     asks-switch =
-        sym (ap (λ (x : Test). nodeBytes (mapNode (λ (v : Vertex). numberOf keys (nameOf v)) (askNode rules key t x))) test)
+        sym (ap (λ (x : Test). nodeBytes (mapNode (λ (v : Vertex). keyNumber keys (nameOf v)) (askNode rules key t x))) test)
 
     -- Behind a switch's record there is room for its cases, where there is for the node.
     pub switch-room : (buf : List ℕ) (at : ℕ) → Room buf at (askBytes rules keys key t) → Room buf (at + 8) (casesBytes cases)
@@ -97,7 +87,7 @@ module _ (rules : List Patterns) (keys : List Key) (key : Key) (t : ℕ) where
 
     module _ (p count x y : ℕ) (none unread : code.Key) (is-place : p ≡ n) (counted : count ≡ length cases)
         (by-none : none ≡ vertexKey (byNone rules key t)) (by-unknown : unread ≡ vertexKey (byUnknown rules key n))
-        (neither : x ≡ numberOf keys (keyIn none)) (unknown : y ≡ numberOf keys (keyIn unread)) where
+        (neither : x ≡ keyNumber keys (keyIn none)) (unknown : y ≡ keyNumber keys (keyIn unread)) where
       -- A switch is its record and its cases.
       switch-bytes : nodeRecordBytes (Switch p count x y) ++ casesBytes cases ≡ askBytes rules keys key t
       switch-bytes =
@@ -116,10 +106,10 @@ module _ (rules : List Patterns) (keys : List Key) (key : Key) (t : ℕ) where
 
   module _ (p q : ℕ) (test : testAt rules t ≡ pair p q) where
     asks-pair
-        : nodeRecordBytes (Pair p q (numberOf keys (nameOf (byNone rules key t))) (numberOf keys (nameOf (byOther rules key t))))
+        : nodeRecordBytes (Pair p q (keyNumber keys (nameOf (byNone rules key t))) (keyNumber keys (nameOf (byOther rules key t))))
         ≡ askBytes rules keys key t
     asks-pair =
-        sym (ap (λ (x : Test). nodeBytes (mapNode (λ (v : Vertex). numberOf keys (nameOf v)) (askNode rules key t x))) test)
+        sym (ap (λ (x : Test). nodeBytes (mapNode (λ (v : Vertex). keyNumber keys (nameOf v)) (askNode rules key t x))) test)
 
     -- There is room for a pair's record, where there is for the node.
     pub pair-room : (buf : List ℕ) (at : ℕ) → Room buf at (askBytes rules keys key t) → at + 9 ≤ length buf
@@ -129,7 +119,7 @@ module _ (rules : List Patterns) (keys : List Key) (key : Key) (t : ℕ) where
     pub pair-wrote
         : (number x y : ℕ) (none rest : code.Key) → (q < 0x1_0000) × (number ≡ p * 0x1_0000 + q)
         → none ≡ vertexKey (byNone rules key t) → rest ≡ vertexKey (byOther rules key t)
-        → x ≡ numberOf keys (keyIn none) → y ≡ numberOf keys (keyIn rest) → (before : List ℕ) (at : ℕ) {behind : ℕ} {buf : List ℕ}
+        → x ≡ keyNumber keys (keyIn none) → y ≡ keyNumber keys (keyIn rest) → (before : List ℕ) (at : ℕ) {behind : ℕ} {buf : List ℕ}
         → Wrote before at (nodeRecordBytes (Pair (number / 0x1_0000) (number % 0x1_0000) x y)) behind buf
         → Wrote before at (askBytes rules keys key t) behind buf
     pair-wrote number x y none rest stored by-none by-other differ other before at {behind} {buf} w =

@@ -13,8 +13,8 @@ use Rattle.decision.specs.Node.{CaseEdge, mapCase}
 use Rattle.decision.specs.Edges.{liveWants, byCase}
 use Rattle.decision.specs.AcceptedGraph.{CaseFields}
 use Rattle.decision.specs.GraphBytes.{caseBytes, casesBytes}
-use Rattle.decision.proofs.CasesAccepted.{cases-few}
-use Rattle.decision.proofs.LiveWants.{wants-few}
+use Rattle.decision.proofs.cases.CasesAccepted.{cases-few}
+use Rattle.decision.proofs.rules.LiveWants.{wants-few}
 use Rattle.edges.specs.declared.Key as code
 use Rattle.edges.specs.declared.cases.NextCase.the-variants.{Run, Nothing}
 use Rattle.edges.specs.views.Codes.{caseLow, caseHigh}
@@ -22,14 +22,15 @@ use Rattle.edges.specs.views.FirstCase.{firstCase}
 use Rattle.edges.specs.views.VertexKey.{vertexKey, keyIn}
 use Rattle.graph.specs.declared.CaseRecord.{CaseRecord}
 use Rattle.graph.specs.views.WriteNode.{caseRecordBytes}
-use Rattle.keys.specs.views.KeysMet.{numberOf}
+use Rattle.keys.specs.views.KeysMet.{keyNumber}
 use Rattle.keys.specs.views.KeyGraph.{nameOf}
-use Rattle.keys.specs.views.Switching.{Switches, casesFrom}
+use Rattle.keys.specs.views.Switching.{casesFrom}
 use Rattle.keys.proofs.CasesInTurn.{Sound, NextIs, next-none, from-zero}
 use Rattle.keys.proofs.SwitchMet.{cases-sound, the-next}
 use Rattle.emit.specs.views.Laid.{switchEdges}
 use Rattle.emit.specs.views.Written.{Room, Wrote}
 use Rattle.emit.proofs.WritingOn.{Left, left-start, left-end, left-room, left-next}
+use Rattle.edges.specs.views.Switches.{Switches}
 
 module _ (rules : List Patterns) (keys : List Key) (key : Key) (t n : ℕ) where
   abbrev cases : List Case
@@ -38,7 +39,7 @@ module _ (rules : List Patterns) (keys : List Key) (key : Key) (t n : ℕ) where
   -- Cases, with the numbers of the nodes that they lead to,
   abbrev edgesOf : List Case → List (CaseEdge ℕ)
   edgesOf cs =
-      map (mapCase (λ (v : Vertex). numberOf keys (nameOf v)))
+      map (mapCase (λ (v : Vertex). keyNumber keys (nameOf v)))
       (map (λ (c : Case). record { case = c; target = byCase rules key t n c }) cs)
 
   -- and all of the switch.
@@ -65,7 +66,7 @@ module _ (rules : List Patterns) (keys : List Key) (key : Key) (t n : ℕ) where
     few =
         omega (
           arith,
-          length-map (map leads cases) (mapCase (λ (v : Vertex). numberOf keys (nameOf v))),
+          length-map (map leads cases) (mapCase (λ (v : Vertex). keyNumber keys (nameOf v))),
           length-map cases leads,
           cases-few (liveWants rules (key .live) n),
           wants-few rules (key .live) n,
@@ -98,7 +99,7 @@ module _ (rules : List Patterns) (keys : List Key) (key : Key) (t n : ℕ) where
 
         module _ {node : ℕ} {behind : code.Key} (r : CaseRecord)
             (leads : (c : Case) → Mem c cases → x ≡ caseLow c → behind ≡ vertexKey (byCase rules key t n c))
-            (number : node ≡ numberOf keys (keyIn behind))
+            (number : node ≡ keyNumber keys (keyIn behind))
             (spells : (c : Case) → CaseFields c → x ≡ caseLow c → y ≡ caseHigh c → caseRecordBytes r ≡ caseBytes c node) where
           -- The record is that of the next case.
           next-bytes
@@ -106,9 +107,9 @@ module _ (rules : List Patterns) (keys : List Key) (key : Key) (t n : ℕ) where
           next-bytes =
               let c : Case = next .it in
               let fields : CaseFields c = all-at Sound (next .listed) (cases-sound rules key t n switches) .0 in
-              let same : node ≡ numberOf keys (nameOf (byCase rules key t n c)) =
-              number ∙ ap (λ (k : code.Key). numberOf keys (keyIn k)) (leads c (next .listed) (next .low)) in
-              let bytes : caseRecordBytes r ≡ caseBytes c (numberOf keys (nameOf (byCase rules key t n c))) =
+              let same : node ≡ keyNumber keys (nameOf (byCase rules key t n c)) =
+              number ∙ ap (λ (k : code.Key). keyNumber keys (keyIn k)) (leads c (next .listed) (next .low)) in
+              let bytes : caseRecordBytes r ≡ caseBytes c (keyNumber keys (nameOf (byCase rules key t n c))) =
               spells c fields (next .low) (next .high) ∙ ap (caseBytes c) same in
               ap (λ (l : List Case). casesBytes (edgesOf l)) (next .rest)
               ∙ ap (λ (l : List ℕ). l ++ casesBytes (edgesOf (casesFrom (x + 1) cases))) (sym bytes)

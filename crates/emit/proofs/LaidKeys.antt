@@ -13,7 +13,7 @@ use Rattle.decision.specs.Key.{Key}
 use Rattle.decision.specs.Node.{Node}
 use Rattle.decision.specs.Graph.{graphOf}
 use Rattle.decision.specs.GraphBytes.{graphBytes}
-use Rattle.decision.proofs.BreadthFirst.{some-none}
+use Rattle.decision.proofs.exploring.BreadthFirst.{some-none}
 use Rattle.edges.specs.views.Compiled.{Compiled}
 use Rattle.keys.specs.views.KeysMet.{keysIn}
 use Rattle.keys.specs.views.KeyGraph.{keyedNodes}

@@ -1,2 +1,2 @@
--- The definitions that the contracts of `lay` cite.
+-- The definitions that the contracts of `emit` cite.
 pub mod views

@@ -19,15 +19,17 @@ ghost use Rattle.decision.specs.GraphBytes.{caseBytes, casesBytes};
 ghost use Rattle.edges.specs.views.Codes.{caseLow, caseHigh};
 ghost use Rattle.edges.specs.views.VertexKey.{keyIn};
 ghost use Rattle.graph.specs.views.WriteNode.{caseRecordBytes};
-ghost use Rattle.keys.specs.views.KeysMet.{keysIn, numberOf, Sized, Once};
-ghost use Rattle.keys.specs.views.Switching.{Switches};
+ghost use Rattle.keys.specs.views.KeysMet.{keysIn, keyNumber, Sized, Once};
+ghost use Rattle.edges.specs.views.Switches.{Switches};
 ghost use Rattle.emit.specs.views.Laid.{switchEdges};
 ghost use Rattle.emit.specs.views.Written.{Room, Wrote};
 
 // The record of the case whose codes run from one to another. Not the record of a symbol that has a compound's id, nor one of
 // numbers that ends at its low.
 pub fn case_record(first: u32, last: u32, node: u16) -> CaseRecord
-    ensures { λ r. ⌜ ((c : Case) → CaseFields c → first ≡ caseLow c → last ≡ caseHigh c → caseRecordBytes r ≡ caseBytes c node) ⌝ }
+    requires { ⌜ ((c : Case) × CaseFields c × (first ≡ caseLow c) × (last ≡ caseHigh c)) ⌝ }
+    ensures { λ r. ⌜ ((c : Case) → CaseFields c → first ≡ caseLow c → last ≡ caseHigh c
+        → caseRecordBytes r ≡ caseBytes c node) ⌝ }
 {
     if first < 0x200_0000 {
         return CaseRecord::Symbol((first % 0x1_0000) as u16, node);
@@ -47,7 +49,7 @@ pub fn node_of(
     count: usize,
 ) -> u16
     requires { ⌜ (count ≤ 1024) × Sized (now lives) (now pendings) × Once (keysIn (now lives) (now pendings) count) ⌝ }
-    ensures { λ r. ⌜ r ≡ numberOf (keysIn (now (lives .entry)) (now (pendings .entry)) count) (keyIn key) ⌝ }
+    ensures { λ r. ⌜ r ≡ keyNumber (keysIn (now (lives .entry)) (now (pendings .entry)) count) (keyIn key) ⌝ }
 {
     number_of(lives, pendings, hints, count, key.live, key.pending) as u16
 }
@@ -68,8 +70,13 @@ pub fn put_cases(
     count: usize,
 ) -> CasesEnd
     requires { ⌜ (count ≤ 1024) × Sized (now lives) (now pendings) × (t < 64) × Once (keysIn (now lives) (now pendings) count) ⌝ }
-    requires { ⌜ ((rules : List Patterns) × ((n : ℕ) × Switches (now rows) (now low) (now high) (key .live) t rules n × Room (now buf) start (casesBytes (switchEdges rules (keysIn (now lives) (now pendings) count) (keyIn key) t n)))) ⌝ }
-    ensures { λ r. ⌜ ((rules : List Patterns) (n : ℕ) → Switches (now (rows .entry)) (now (low .entry)) (now (high .entry)) (key .live) t rules n → Room (now (buf .entry)) start (casesBytes (switchEdges rules (keysIn (now (lives .entry)) (now (pendings .entry)) count) (keyIn key) t n)) → Wrote (now (buf .entry)) start (casesBytes (switchEdges rules (keysIn (now (lives .entry)) (now (pendings .entry)) count) (keyIn key) t n)) (r .at) (now (buf .exit)) × (r .count ≡ length (switchEdges rules (keysIn (now (lives .entry)) (now (pendings .entry)) count) (keyIn key) t n))) ⌝ }
+    requires { ⌜ ((rules : List Patterns) × ((n : ℕ) × Switches (now rows) (now low) (now high) (key .live) t rules n
+        × Room (now buf) start (casesBytes (switchEdges rules (keysIn (now lives) (now pendings) count) (keyIn key) t n)))) ⌝ }
+    ensures { λ r. ⌜ ((rules : List Patterns) (n : ℕ)
+        → Switches (now (rows .entry)) (now (low .entry)) (now (high .entry)) (key .live) t rules n
+        → let edges = switchEdges rules (keysIn (now (lives .entry)) (now (pendings .entry)) count) (keyIn key) t n in
+        Room (now (buf .entry)) start (casesBytes edges)
+        → Wrote (now (buf .entry)) start (casesBytes edges) (r .at) (now (buf .exit)) × (r .count ≡ length edges)) ⌝ }
 {
     let mut at = start;
     let mut cases: u8 = 0;

@@ -37,8 +37,14 @@ fn put_pair(
     hints: &mut [u16; 1024],
     count: usize,
 ) -> usize
-    requires { ⌜ (count ≤ 1024) × Sized (now lives) (now pendings) × (t < 64) × (at + 9 ≤ length (now buf)) × Once (keysIn (now lives) (now pendings) count) ⌝ }
-    ensures { λ r. ⌜ ((rules : List Patterns) (p q : ℕ) → Asked rules (now (rows .entry)) (key .live) t → testAt rules t ≡ pair p q → (q < 0x1_0000) × (code ≡ p * 0x1_0000 + q) → Wrote (now (buf .entry)) at (askBytes rules (keysIn (now (lives .entry)) (now (pendings .entry)) count) (keyIn key) t) r (now (buf .exit))) ⌝ }
+    requires { ⌜ (count ≤ 1024) × Sized (now lives) (now pendings) × (t < 64) × (at + 9 ≤ length (now buf))
+        × Once (keysIn (now lives) (now pendings) count) ⌝ }
+    requires { ⌜ ((rules : List Patterns) × ((p : ℕ) × ((q : ℕ) × Asked rules (now rows) (key .live) t
+        × (testAt rules t ≡ pair p q) × (q < 0x1_0000) × (code ≡ p * 0x1_0000 + q)))) ⌝ }
+    ensures { λ r. ⌜ ((rules : List Patterns) (p q : ℕ) → Asked rules (now (rows .entry)) (key .live) t
+        → testAt rules t ≡ pair p q → (q < 0x1_0000) × (code ≡ p * 0x1_0000 + q)
+        → Wrote (now (buf .entry)) at
+        (askBytes rules (keysIn (now (lives .entry)) (now (pendings .entry)) count) (keyIn key) t) r (now (buf .exit))) ⌝ }
 {
     let none = by_none(key, t, rows);
     let differ = node_of(none, lives, pendings, hints, count);
@@ -68,9 +74,16 @@ fn put_asked(
     hints: &mut [u16; 1024],
     count: usize,
 ) -> usize
-    requires { ⌜ (count ≤ 1024) × Sized (now lives) (now pendings) × (t < 64) × Once (keysIn (now lives) (now pendings) count) ⌝ }
-    requires { ⌜ ((rules : List Patterns) × Compiled rules (now rows) (now low) (now high) (now place) (now pairs) places × Asked rules (now rows) (key .live) t × Room (now buf) at (askBytes rules (keysIn (now lives) (now pendings) count) (keyIn key) t)) ⌝ }
-    ensures { λ r. ⌜ ((rules : List Patterns) → Compiled rules (now (rows .entry)) (now (low .entry)) (now (high .entry)) (now (place .entry)) (now (pairs .entry)) places → Asked rules (now (rows .entry)) (key .live) t → Room (now (buf .entry)) at (askBytes rules (keysIn (now (lives .entry)) (now (pendings .entry)) count) (keyIn key) t) → Wrote (now (buf .entry)) at (askBytes rules (keysIn (now (lives .entry)) (now (pendings .entry)) count) (keyIn key) t) r (now (buf .exit))) ⌝ }
+    requires { ⌜ (count ≤ 1024) × Sized (now lives) (now pendings) × (t < 64)
+        × Once (keysIn (now lives) (now pendings) count) ⌝ }
+    requires { ⌜ ((rules : List Patterns) × Compiled rules (now rows) (now low) (now high) (now place) (now pairs) places
+        × Asked rules (now rows) (key .live) t
+        × Room (now buf) at (askBytes rules (keysIn (now lives) (now pendings) count) (keyIn key) t)) ⌝ }
+    ensures { λ r. ⌜ ((rules : List Patterns)
+        → Compiled rules (now (rows .entry)) (now (low .entry)) (now (high .entry)) (now (place .entry)) (now (pairs .entry)) places
+        → Asked rules (now (rows .entry)) (key .live) t
+        → let bytes = askBytes rules (keysIn (now (lives .entry)) (now (pendings .entry)) count) (keyIn key) t in
+        Room (now (buf .entry)) at bytes → Wrote (now (buf .entry)) at bytes r (now (buf .exit))) ⌝ }
 {
     if places <= t {
         let code = pairs[t - places];
@@ -119,8 +132,14 @@ pub fn put_one(
     count: usize,
 ) -> usize
     requires { ⌜ (count ≤ 1024) × Sized (now lives) (now pendings) × Once (keysIn (now lives) (now pendings) count) ⌝ }
-    requires { ⌜ ((rules : List Patterns) × Compiled rules (now rows) (now low) (now high) (now place) (now pairs) places × Fits rules (keyIn key) × Room (now buf) at (keyBytes rules (keysIn (now lives) (now pendings) count) (keyIn key))) ⌝ }
-    ensures { λ r. ⌜ ((rules : List Patterns) → Compiled rules (now (rows .entry)) (now (low .entry)) (now (high .entry)) (now (place .entry)) (now (pairs .entry)) places → Fits rules (keyIn key) → Room (now (buf .entry)) at (keyBytes rules (keysIn (now (lives .entry)) (now (pendings .entry)) count) (keyIn key)) → Wrote (now (buf .entry)) at (keyBytes rules (keysIn (now (lives .entry)) (now (pendings .entry)) count) (keyIn key)) r (now (buf .exit))) ⌝ }
+    requires { ⌜ ((rules : List Patterns) × Compiled rules (now rows) (now low) (now high) (now place) (now pairs) places
+        × Fits rules (keyIn key)
+        × Room (now buf) at (keyBytes rules (keysIn (now lives) (now pendings) count) (keyIn key))) ⌝ }
+    ensures { λ r. ⌜ ((rules : List Patterns)
+        → Compiled rules (now (rows .entry)) (now (low .entry)) (now (high .entry)) (now (place .entry)) (now (pairs .entry)) places
+        → Fits rules (keyIn key)
+        → let bytes = keyBytes rules (keysIn (now (lives .entry)) (now (pendings .entry)) count) (keyIn key) in
+        Room (now (buf .entry)) at bytes → Wrote (now (buf .entry)) at bytes r (now (buf .exit))) ⌝ }
 {
     let kind = kind_of(key);
     match kind {

@@ -58,8 +58,15 @@ pub fn put_nodes(
     count: usize,
 ) -> usize
     requires { ⌜ (count ≤ 1024) × Sized (now lives) (now pendings) × Once (keysIn (now lives) (now pendings) count) ⌝ }
-    requires { ⌜ ((rules : List Patterns) × Laid rules (now rows) (now low) (now high) (now place) (now pairs) places (keysIn (now lives) (now pendings) count) × Room (now buf) start (keysBytes rules (keysIn (now lives) (now pendings) count))) ⌝ }
-    ensures { λ r. ⌜ ((rules : List Patterns) → Laid rules (now (rows .entry)) (now (low .entry)) (now (high .entry)) (now (place .entry)) (now (pairs .entry)) places (keysIn (now (lives .entry)) (now (pendings .entry)) count) → Room (now (buf .entry)) start (keysBytes rules (keysIn (now (lives .entry)) (now (pendings .entry)) count)) → Wrote (now (buf .entry)) start (keysBytes rules (keysIn (now (lives .entry)) (now (pendings .entry)) count)) r (now (buf .exit))) ⌝ }
+    requires { ⌜ ((rules : List Patterns)
+        × Laid rules (now rows) (now low) (now high) (now place) (now pairs) places (keysIn (now lives) (now pendings) count)
+        × Room (now buf) start (keysBytes rules (keysIn (now lives) (now pendings) count))) ⌝ }
+    ensures { λ r. ⌜ (let keys = keysIn (now (lives .entry)) (now (pendings .entry)) count in
+        (rules : List Patterns)
+        → Laid rules (now (rows .entry)) (now (low .entry)) (now (high .entry)) (now (place .entry)) (now (pairs .entry)) places
+        keys
+        → Room (now (buf .entry)) start (keysBytes rules keys)
+        → Wrote (now (buf .entry)) start (keysBytes rules keys) r (now (buf .exit))) ⌝ }
 {
     let mut at = start;
     let mut i: usize = 0;
@@ -102,8 +109,14 @@ pub fn put_graph(
     count: usize,
 ) -> usize
     requires { ⌜ (count ≤ 1024) × Sized (now lives) (now pendings) × Once (keysIn (now lives) (now pendings) count) ⌝ }
-    requires { ⌜ ((ps : List Patterns) × Laid ps (now rows) (now low) (now high) (now place) (now pairs) places (keysIn (now lives) (now pendings) count) × Room (now buf) 0 (graphBytes arity rules (keyedNodes ps (keysIn (now lives) (now pendings) count)))) ⌝ }
-    ensures { λ r. ⌜ ((ps : List Patterns) → Laid ps (now (rows .entry)) (now (low .entry)) (now (high .entry)) (now (place .entry)) (now (pairs .entry)) places (keysIn (now (lives .entry)) (now (pendings .entry)) count) → Room (now (buf .entry)) 0 (graphBytes arity rules (keyedNodes ps (keysIn (now (lives .entry)) (now (pendings .entry)) count))) → Wrote (now (buf .entry)) 0 (graphBytes arity rules (keyedNodes ps (keysIn (now (lives .entry)) (now (pendings .entry)) count))) r (now (buf .exit))) ⌝ }
+    requires { ⌜ ((ps : List Patterns)
+        × Laid ps (now rows) (now low) (now high) (now place) (now pairs) places (keysIn (now lives) (now pendings) count)
+        × Room (now buf) 0 (graphBytes arity rules (keyedNodes ps (keysIn (now lives) (now pendings) count)))) ⌝ }
+    ensures { λ r. ⌜ (let keys = keysIn (now (lives .entry)) (now (pendings .entry)) count in
+        (ps : List Patterns)
+        → Laid ps (now (rows .entry)) (now (low .entry)) (now (high .entry)) (now (place .entry)) (now (pairs .entry)) places keys
+        → Room (now (buf .entry)) 0 (graphBytes arity rules (keyedNodes ps keys))
+        → Wrote (now (buf .entry)) 0 (graphBytes arity rules (keyedNodes ps keys)) r (now (buf .exit))) ⌝ }
 {
     let mut hints = [0u16; 1024];
     let at = put_header(buf, arity, rules, count as u16);

@@ -11,18 +11,18 @@ use Rattle.basics.specs.Lists.{All, Mem}
 use Rattle.terms.specs.Pattern.{Patterns}
 use Rattle.basics.proofs.Booleans.{both-true, true-both}
 use Rattle.sheet_tests.specs.SheetTests.{Test, place, pair, sheetTests}
-use Rattle.decision.specs.Key.{fail, suspend, execute}
+use Rattle.decision.specs.Key.{failNode, suspendNode, executeNode}
 use Rattle.decision.specs.Node.{Node, CaseEdge, end, switch, pairNode}
 use Rattle.decision.specs.Graph.{mostNodes}
 use Rattle.decision.specs.GraphBytes.{nodeBytes}
 use Rattle.decision.specs.AcceptedGraph.{CaseFields, AcceptedNode}
-use Rattle.graph.specs.ReadGraph.{isTest, allInside, inRange, inOrder, readNode}
-use Rattle.graph.specs.views.Rewriting.{readRecord}
+use Rattle.graph.specs.ReadGraph.{isSheetTest, allInside, inRange, inOrder, readNode, readRecord}
 use Rattle.graph.proofs.Spelling.{Begins, Reads, Spelled}
 use Rattle.graph.proofs.SpelledCases.{EdgeFields}
 use Rattle.graph.proofs.SpelledNodes.{NodeFields, node-spelled}
 use Rattle.graph.proofs.CaseOrder.{ascend-true, true-ascend}
-use Rattle.graph.proofs.TestedPlaces.{Near, test-mem, mem-test}
+use Rattle.graph.proofs.TestedPlaces.{test-mem, mem-test}
+use Rattle.decision.proofs.rules.NearTests.{Near}
 
 abbrev Inside : ℕ → CaseEdge ℕ → Type 0
 Inside nodes c = c .target < nodes
@@ -54,21 +54,21 @@ module _ (rules : List Patterns) (nodes : ℕ) where
   -- What questions 22 to 24 ask of a node.
   pub record Asked (node : Node ℕ) : Type 0 where
     pub fields : NodeFields node
-    pub range : T (inRange (isTest rules) (length rules) nodes node)
+    pub range : T (inRange (isSheetTest rules) (length rules) nodes node)
     pub order : T (inOrder node)
 
   -- A node of which they got no no is accepted.
   pub asked-accepted : (node : Node ℕ) → Asked node → AcceptedNode rules nodes node
-  asked-accepted (end fail) a = tt
-  asked-accepted (end suspend) a = tt
-  asked-accepted (end (execute i)) a =
+  asked-accepted (end failNode) a = tt
+  asked-accepted (end suspendNode) a = tt
+  asked-accepted (end (executeNode i)) a =
       let both = both-true (leb 1 i) (leb i (length rules)) (a .range) in
       (leb→le 1 i (both .0), leb→le i (length rules) (both .1))
   asked-accepted (switch n cs x y) a =
       let f = a .fields in
-      let b = both-true (isTest rules (place n) && ltb x nodes && ltb y nodes) (allInside nodes cs) (a .range) in
-      let c = both-true (isTest rules (place n) && ltb x nodes) (ltb y nodes) (b .0) in
-      let d = both-true (isTest rules (place n)) (ltb x nodes) (c .0) in
+      let b = both-true (isSheetTest rules (place n) && ltb x nodes && ltb y nodes) (allInside nodes cs) (a .range) in
+      let c = both-true (isSheetTest rules (place n) && ltb x nodes) (ltb y nodes) (b .0) in
+      let d = both-true (isSheetTest rules (place n)) (ltb x nodes) (c .0) in
       let up = ascend-true cs (a .order) in
       record {
         tested = test-mem rules (place n) (d .0);
@@ -82,23 +82,23 @@ module _ (rules : List Patterns) (nodes : ℕ) where
         ascend = up .1;
       }
   asked-accepted (pairNode p q x y) a =
-      let b = both-true (isTest rules (pair p q) && ltb x nodes) (ltb y nodes) (a .range) in
-      let c = both-true (isTest rules (pair p q)) (ltb x nodes) (b .0) in
+      let b = both-true (isSheetTest rules (pair p q) && ltb x nodes) (ltb y nodes) (a .range) in
+      let c = both-true (isSheetTest rules (pair p q)) (ltb x nodes) (b .0) in
       (test-mem rules (pair p q) (c .0), ltb→lt x nodes (c .1), ltb→lt y nodes (b .1))
 
   module _ (near : (t : Test) → Mem t (sheetTests rules) → Near t) (few : nodes ≤ mostNodes) where
     -- They get no no of an accepted node.
     pub accepted-asked : (node : Node ℕ) → AcceptedNode rules nodes node → Asked node
-    accepted-asked (end fail) a = record { fields = tt; range = tt; order = tt }
-    accepted-asked (end suspend) a = record { fields = tt; range = tt; order = tt }
-    accepted-asked (end (execute i)) a =
+    accepted-asked (end failNode) a = record { fields = tt; range = tt; order = tt }
+    accepted-asked (end suspendNode) a = record { fields = tt; range = tt; order = tt }
+    accepted-asked (end (executeNode i)) a =
         record {
           fields = tt;
           range = true-both (leb 1 i) (leb i (length rules)) (le→leb 1 i (a .0)) (le→leb i (length rules) (a .1));
           order = tt;
         }
     accepted-asked (switch n cs x y) a =
-        let test = isTest rules (place n) in
+        let test = isSheetTest rules (place n) in
         let tested = mem-test rules (place n) (a .tested) in
         let x-inside = lt→ltb x nodes (a .neitherInside) in
         let y-inside = lt→ltb y nodes (a .unknownInside) in
@@ -118,7 +118,7 @@ module _ (rules : List Patterns) (nodes : ℕ) where
           order = true-ascend cs (a .ordered) (a .ascend);
         }
     accepted-asked (pairNode p q x y) a =
-        let test = isTest rules (pair p q) in
+        let test = isSheetTest rules (pair p q) in
         let places = near (pair p q) (a .0) in
         record {
           fields = (omega (arith, places .0), omega (arith, places .1), omega (arith, a .1), omega (arith, a .2));
@@ -129,8 +129,8 @@ module _ (rules : List Patterns) (nodes : ℕ) where
         }
 
     -- What the questions are asked of.
-    passes : (node : Node ℕ) (a : ℕ) → Asked node → ask 23 (inRange (isTest rules) (length rules) nodes node) (ask 24 (inOrder node) (took a node)) ≡ took a node
-    passes node a asked = both (inRange (isTest rules) (length rules) nodes node) (inOrder node) (asked .range) (asked .order)
+    passes : (node : Node ℕ) (a : ℕ) → Asked node → ask 23 (inRange (isSheetTest rules) (length rules) nodes node) (ask 24 (inOrder node) (took a node)) ≡ took a node
+    passes node a asked = both (inRange (isSheetTest rules) (length rules) nodes node) (inOrder node) (asked .range) (asked .order)
       where
         both : (b c : Bool) → T b → T c → ask 23 b (ask 24 c (took a node)) ≡ took a node
         both true true h k = refl
@@ -140,9 +140,9 @@ module _ (rules : List Patterns) (nodes : ℕ) where
     accepted-told
         : (s : List ℕ) (r : Reading (Node ℕ)) → Reads nodeBytes NodeFields s r
         → Reads nodeBytes (AcceptedNode rules nodes) s
-        (andThen r (λ a node. ask 23 (inRange (isTest rules) (length rules) nodes node) (ask 24 (inOrder node) (took a node))))
+        (andThen r (λ a node. ask 23 (inRange (isSheetTest rules) (length rules) nodes node) (ask 24 (inOrder node) (took a node))))
     accepted-told s (took a node) b =
-        both (inRange (isTest rules) (length rules) nodes node) (inOrder node)
+        both (inRange (isSheetTest rules) (length rules) nodes node) (inOrder node)
         (λ h k. record {
           good = asked-accepted node (record { fields = b .good; range = h; order = k });
           size = b .size;
@@ -160,7 +160,7 @@ module _ (rules : List Patterns) (nodes : ℕ) where
     accepted-told s (refused q) b = tt
 
     -- An accepted node is read as it is written.
-    pub accepted-spelled : Spelled nodeBytes (AcceptedNode rules nodes) (readNode (isTest rules) (length rules) nodes)
+    pub accepted-spelled : Spelled nodeBytes (AcceptedNode rules nodes) (readNode (isSheetTest rules) (length rules) nodes)
     accepted-spelled =
         record {
           brought = λ node rest a.

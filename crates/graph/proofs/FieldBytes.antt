@@ -1,5 +1,5 @@
 -- The bytes of a record's fields: where fields are read, their bytes stand.
-use Prim.Native.Nat.{ℕ, zero, suc, _+_, _<_, _≤_}
+use Prim.Native.Nat.{ℕ, suc, _+_, _<_, _≤_}
 use mathlib.Core.Path.{_≡_, sym, ap, ap₂, _∙_}
 use mathlib.Core.List.{List, [], _∷_}
 use native.Mathlib.Omega.{arith}
@@ -10,23 +10,7 @@ use Rattle.records.specs.Fields.{IsByte, wideAt, wideThen}
 use Rattle.records.proofs.WideFields.{high-of, low-of}
 use Rattle.basics.specs.Lists.{All}
 use Rattle.terms.specs.Term.{Wide}
-
--- Each byte is one; so is 0, which stands for those that are lacking.
-pub byte-at : (s : List ℕ) (i : ℕ) → All IsByte s → IsByte (getD s i 0)
-byte-at [] i h = omega arith
-byte-at (b ∷ s) zero h = h .0
-byte-at (b ∷ s) (suc i) h = byte-at s i (h .1)
-
--- Bytes one by one are bytes all together.
-pub bytes-all : (s : List ℕ) → ((i : ℕ) → IsByte (getD s i 0)) → All IsByte s
-bytes-all [] h = tt
-bytes-all (b ∷ s) h = (h 0, bytes-all s (λ i. h (suc i)))
-
--- Some of the bytes are bytes.
-pub bytes-drop : (n : ℕ) (s : List ℕ) → All IsByte s → All IsByte (drop n s)
-bytes-drop zero s h = h
-bytes-drop (suc n) [] h = tt
-bytes-drop (suc n) (b ∷ s) h = bytes-drop n s (h .1)
+use Rattle.records.proofs.ByteLists.{byte-at}
 
 -- A byte that is not 0 is there.
 pub kind-there : (s : List ℕ) {k : ℕ} → getD s 0 0 ≡ k → 1 ≤ k → 1 ≤ length s

@@ -1,5 +1,6 @@
 -- The laws of graphs' bytes, for the proofs of this crate and of those that use it.
 pub mod FieldBytes
+pub mod ByKinds
 pub mod Spelling
 pub mod SpelledCases
 pub mod SpelledNodes

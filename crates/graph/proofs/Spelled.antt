@@ -2,7 +2,7 @@
 -- same nodes, and what is read from accepted bytes and written again is the same bytes.
 use Prim.Native.Nat.{ℕ, suc, _+_, _-_, _≤_}
 use mathlib.Core.Path.{_≡_, refl, sym, ap, subst, _∙_}
-use mathlib.Core.Bool.{_&&_}
+use mathlib.Core.Bool.{Bool, _&&_}
 use mathlib.Core.Logic.{_↔_}
 use mathlib.Core.List.{List, [], _∷_, _++_, append-nil}
 use native.Mathlib.Omega.{arith}
@@ -10,7 +10,7 @@ use borrow.Author.Tests.{le-leb, eq-eqb}
 use lib.Dec.{leb, eqb, eqb→eq, leb→le}
 use lib.ListN.{length, getD, drop, length-drop, drop-of-length-le}
 use Rattle.records.specs.Fields.{IsByte, wideAt, wideThen}
-use Rattle.records.specs.Reading.{Reading, took, refused}
+use Rattle.records.specs.Reading.{Reading, took, refused, ask}
 use Rattle.records.proofs.Questions.{ask-took}
 use Rattle.records.proofs.WideFields.{wide-of}
 use Rattle.basics.specs.Lists.{All}
@@ -20,11 +20,13 @@ use Rattle.decision.specs.Node.{Node}
 use Rattle.decision.specs.Graph.{mostNodes}
 use Rattle.decision.specs.GraphBytes.{nodeBytes, nodesBytes, graphBytes}
 use Rattle.decision.specs.AcceptedGraph.{AcceptedNode, AcceptedGraph}
-use Rattle.graph.specs.ReadGraph.{isTest, readNode, readNodes, endGraph, readBy, readGraph}
-use Rattle.graph.proofs.FieldBytes.{bytes-drop, byte-then, kind-then, wide-then}
+use Rattle.graph.specs.ReadGraph.{isSheetTest, readNode, readNodes, endGraph, readBy, readGraph}
+use Rattle.graph.proofs.FieldBytes.{byte-then, kind-then, wide-then}
+use Rattle.graph.proofs.ByKinds.{header-by-kind}
 use Rattle.graph.proofs.Spelling.{Spelled, GoodRow, row-spelled, begins-read}
 use Rattle.graph.proofs.TestedPlaces.{tests-near}
 use Rattle.graph.proofs.AcceptedNodes.{accepted-spelled}
+use Rattle.records.proofs.ByteLists.{bytes-drop}
 
 -- The k bytes s spell the nodes, which are accepted for the sheet.
 pub record SpelledGraph (sheet : Sheet) (s : List ℕ) (k : ℕ) (nodes : List (Node ℕ)) : Type 0 where
@@ -39,9 +41,9 @@ module _ (sheet : Sheet) (sound : SoundSheet sheet) where
 
   nodes-spelled
       : (count : ℕ) → count ≤ mostNodes
-      → Spelled nodesBytes (GoodRow (Good count) count) (readNodes (isTest (sheet .rules)) (length (sheet .rules)) count)
+      → Spelled nodesBytes (GoodRow (Good count) count) (readNodes (isSheetTest (sheet .rules)) (length (sheet .rules)) count)
   nodes-spelled count few =
-      row-spelled nodeBytes (Good count) (readNode (isTest (sheet .rules)) (length (sheet .rules)) count)
+      row-spelled nodeBytes (Good count) (readNode (isSheetTest (sheet .rules)) (length (sheet .rules)) count)
       (accepted-spelled (sheet .rules) count (tests-near sheet sound) few) nodesBytes refl (λ n ns. refl) count
 
   -- Reading what was written brings back the same nodes.
@@ -55,6 +57,7 @@ module _ (sheet : Sheet) (sound : SoundSheet sheet) where
       let count = length nodes in
       let read = nodes-spelled count (a .fewNodes) .brought nodes [] (refl, a .acceptedNodes) in
       rw (
+        header-by-kind (sheet .arity) (length (sheet .rules)) s,
         le-leb 5 (length s) (omega arith),
         eq-eqb (sheet .arity) (sheet .arity) refl,
         eq-eqb (length (sheet .rules)) (length (sheet .rules)) refl,
@@ -87,14 +90,18 @@ module _ (sheet : Sheet) (sound : SoundSheet sheet) where
   unfolding readBy
   graph-read s h {k} {nodes} e =
       let count = wideAt s 3 in
-      let rows = readNodes (isTest (sheet .rules)) (length (sheet .rules)) count (drop 5 s) in
+      let rows = readNodes (isSheetTest (sheet .rules)) (length (sheet .rules)) count (drop 5 s) in
       let f1 = leb 5 (length s) in
       let f2 = eqb (getD s 0 0) 0x12 in
       let f3 = eqb (getD s 1 0) (sheet .arity) in
       let f4 = eqb (getD s 2 0) (length (sheet .rules)) in
       let f5 = leb 1 count in
       let f6 = leb count mostNodes in
-      let (header, body) = ask-took 21 (f1 && f2 && f3 && f4 && f5 && f6) (endGraph (length s - 5) rows) e in
+      let same-header = header-by-kind (sheet .arity) (length (sheet .rules)) s in
+      let (header, body) =
+      ask-took 21 (f1 && f2 && f3 && f4 && f5 && f6) (endGraph (length s - 5) rows)
+      (ap (λ (b : Bool). ask 21 b (endGraph (length s - 5) rows)) (sym same-header) ∙ e)
+      in
       let (b5, t6) = both-true (f1 && f2 && f3 && f4 && f5) f6 header in
       let (b4, t5) = both-true (f1 && f2 && f3 && f4) f5 b5 in
       let (b3, t4) = both-true (f1 && f2 && f3) f4 b4 in

@@ -1,6 +1,6 @@
 -- The records of cases are read as they are written, one and in rows of any number.
 use Prim.Native.Nat.{ℕ}
-use mathlib.Core.Path.{_≡_, refl}
+use mathlib.Core.Path.{_≡_, refl, sym, subst, _∙_}
 use mathlib.Core.Bool.{Bool, true, false, cond}
 use mathlib.Core.List.{List, _++_}
 use native.Mathlib.Omega.{arith}
@@ -8,7 +8,7 @@ use borrow.Author.Tests.{le-leb, ne-eqb}
 use lib.Dec.{T, leb, eqb, eqb→eq, leb→le}
 use lib.ListN.{length, getD}
 use Rattle.records.specs.Fields.{IsByte, wideAt}
-use Rattle.records.specs.Reading.{Reading, took}
+use Rattle.records.specs.Reading.{took}
 use Rattle.records.proofs.WideFields.{wide-of}
 use Rattle.basics.specs.Lists.{All}
 use Rattle.terms.specs.Term.{Wide}
@@ -20,10 +20,12 @@ use Rattle.graph.specs.declared.CaseRecord.{CaseRecord}
 use Rattle.graph.specs.declared.CaseRecord.the-variants.{Symbol, Compound, Numbers}
 use Rattle.graph.specs.declared.CaseHead.{CaseHead}
 use Rattle.graph.specs.declared.CaseHead.the-variants.{Whole}
-use Rattle.graph.specs.NodeRecord.{wholeCase, caseHead}
-use Rattle.graph.specs.ReadGraph.{onCase, readCases, edge}
+use Rattle.graph.specs.views.NodeRecord.{wholeCase, caseHead, onCase}
+use Rattle.graph.specs.ReadGraph.{readCases, edge, readCase}
+use Rattle.graph.proofs.ByKinds.{case-by-kind}
 use Rattle.graph.proofs.Spelling.{Reads, Spelled, GoodRow, row-spelled}
-use Rattle.graph.proofs.FieldBytes.{byte-at, wide-at, byte-then, kind-then, wide-then}
+use Rattle.graph.proofs.FieldBytes.{wide-at, byte-then, kind-then, wide-then}
+use Rattle.records.proofs.ByteLists.{byte-at}
 
 -- What holds of a record where its kind is told, and of the others, holds of the head.
 pub kind-holds
@@ -38,12 +40,9 @@ edgeBytes c = caseBytes (c .case) (c .target)
 abbrev pub EdgeFields : CaseEdge ℕ → Type 0
 EdgeFields c = CaseFields (c .case) × Wide (c .target)
 
-abbrev pub readCase : List ℕ → Reading (CaseEdge ℕ)
-readCase s = onCase (caseHead s)
-
 case-brought
     : (c : Case) (n : ℕ) (rest : List ℕ) → CaseFields c → Wide n
-    → readCase (caseBytes c n ++ rest) ≡ took (length (caseBytes c n)) (edge c n)
+    → onCase (caseHead (caseBytes c n ++ rest)) ≡ took (length (caseBytes c n)) (edge c n)
 case-brought (symbolCase a) n rest h k =
     let s = caseBytes (symbolCase a) n ++ rest in
     rw (ne-eqb (length s) 0 (λ e. omega arith), le-leb 5 (length s) (omega arith), wide-of a h, wide-of n k)
@@ -107,7 +106,10 @@ module _ (s : List ℕ) (h : All IsByte s) where
 -- A case is read as it is written.
 pub case-spelled : Spelled edgeBytes EdgeFields readCase
 case-spelled =
-    record { brought = λ c rest h. case-brought (c .case) (c .target) rest (h .0) (h .1); read = case-told }
+    record {
+      brought = λ c rest h. case-by-kind (edgeBytes c ++ rest) ∙ case-brought (c .case) (c .target) rest (h .0) (h .1);
+      read = λ s h. subst (Reads edgeBytes EdgeFields s) (sym (case-by-kind s)) (case-told s h);
+    }
 
 -- Cases in a row are read as they are written, whatever their number.
 pub cases-spelled : (n : ℕ) → Spelled casesBytes (GoodRow EdgeFields n) (readCases n)

@@ -1,6 +1,6 @@
 -- The records of nodes, with their cases, are read as they are written (question 22).
 use Prim.Native.Nat.{ℕ, _+_, _≤_}
-use mathlib.Core.Path.{_≡_, refl, sym, ap, _∙_}
+use mathlib.Core.Path.{_≡_, refl, sym, ap, subst, _∙_}
 use mathlib.Core.Bool.{Bool, true, false}
 use mathlib.Core.List.{List, _∷_, _++_}
 use native.Mathlib.Omega.{arith}
@@ -13,7 +13,7 @@ use Rattle.records.specs.Reading.{Reading, took, refused, ask, after}
 use Rattle.records.proofs.WideFields.{wide-of}
 use Rattle.basics.specs.Lists.{All}
 use Rattle.terms.specs.Term.{Wide}
-use Rattle.decision.specs.Key.{fail, suspend, execute}
+use Rattle.decision.specs.Key.{failNode, suspendNode, executeNode}
 use Rattle.decision.specs.Node.{Node, CaseEdge, end, switch, pairNode}
 use Rattle.decision.specs.GraphBytes.{casesBytes, nodeBytes}
 use Rattle.graph.specs.declared.Leaf.the-variants.{Execute}
@@ -21,12 +21,13 @@ use Rattle.graph.specs.declared.NodeRecord.{NodeRecord}
 use Rattle.graph.specs.declared.NodeRecord.the-variants.{End, Switch, Pair}
 use Rattle.graph.specs.declared.NodeHead.{NodeHead}
 use Rattle.graph.specs.declared.NodeHead.the-variants.{Whole}
-use Rattle.graph.specs.NodeRecord.{wholeNode, nodeHead}
-use Rattle.graph.specs.ReadGraph.{onNode, readCases}
-use Rattle.graph.specs.views.Rewriting.{readRecord}
+use Rattle.graph.specs.views.NodeRecord.{wholeNode, nodeHead, onNode}
+use Rattle.graph.specs.ReadGraph.{readCases, readRecord}
+use Rattle.graph.proofs.ByKinds.{node-by-kind}
 use Rattle.graph.proofs.Spelling.{Reads, Spelled, GoodRow, begins-read}
-use Rattle.graph.proofs.FieldBytes.{bytes-drop, byte-at, wide-at, byte-then, kind-then, wide-then}
+use Rattle.graph.proofs.FieldBytes.{wide-at, byte-then, kind-then, wide-then}
 use Rattle.graph.proofs.SpelledCases.{kind-holds, EdgeFields, cases-spelled}
+use Rattle.records.proofs.ByteLists.{byte-at, bytes-drop}
 
 -- What the fields of a node's record can hold, its cases' too: 1 to 255 of them.
 abbrev pub NodeFields : Node ℕ → Type 0
@@ -36,11 +37,12 @@ NodeFields (switch n cs x y) =
 NodeFields (pairNode p q x y) = Wide p × Wide q × Wide x × Wide y
 
 node-brought
-    : (node : Node ℕ) (rest : List ℕ) → NodeFields node → readRecord (nodeBytes node ++ rest) ≡ took (length (nodeBytes node)) node
-node-brought (end fail) rest h = rw (ne-eqb (length (0x40 ∷ rest)) 0 (λ e. omega arith))
-node-brought (end suspend) rest h = rw (ne-eqb (length (0x41 ∷ rest)) 0 (λ e. omega arith))
-node-brought (end (execute i)) rest h =
-    let s = nodeBytes (end (execute i)) ++ rest in
+    : (node : Node ℕ) (rest : List ℕ) → NodeFields node
+    → onNode (nodeBytes node ++ rest) (nodeHead (nodeBytes node ++ rest)) ≡ took (length (nodeBytes node)) node
+node-brought (end failNode) rest h = rw (ne-eqb (length (0x40 ∷ rest)) 0 (λ e. omega arith))
+node-brought (end suspendNode) rest h = rw (ne-eqb (length (0x41 ∷ rest)) 0 (λ e. omega arith))
+node-brought (end (executeNode i)) rest h =
+    let s = nodeBytes (end (executeNode i)) ++ rest in
     rw (ne-eqb (length s) 0 (λ e. omega arith), le-leb 2 (length s) (omega arith))
 node-brought (switch n cs x y) rest h =
     let s = nodeBytes (switch n cs x y) ++ rest in
@@ -145,4 +147,8 @@ module _ (s : List ℕ) (h : All IsByte s) where
 
 -- A node is read as it is written.
 pub node-spelled : Spelled nodeBytes NodeFields readRecord
-node-spelled = record { brought = node-brought; read = node-told }
+node-spelled =
+    record {
+      brought = λ n rest h. node-by-kind (nodeBytes n ++ rest) ∙ node-brought n rest h;
+      read = λ s h. subst (Reads nodeBytes NodeFields s) (sym (node-by-kind s)) (node-told s h);
+    }

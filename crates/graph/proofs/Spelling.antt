@@ -9,7 +9,7 @@ use Rattle.records.specs.Fields.{IsByte}
 use Rattle.records.specs.Reading.{Reading, took, refused, after, andThen, readRow}
 use Rattle.records.proofs.Rows.{row-split}
 use Rattle.basics.specs.Lists.{All}
-use Rattle.graph.proofs.FieldBytes.{bytes-drop}
+use Rattle.records.proofs.ByteLists.{bytes-drop}
 
 module _ {A : Type 0} (bytes : A → List ℕ) (Good : A → Type 0) where
   -- s begins with the a bytes of the good thing x.

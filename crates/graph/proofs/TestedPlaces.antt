@@ -1,67 +1,26 @@
 -- The places of a sheet's tests: a sheet of at most 8 arguments tests places below 680, so each fits a wide field.
-use Prim.Native.Nat.{ℕ, _+_, _≤_, _<_}
 use mathlib.Core.Path.{sym, subst}
-use mathlib.Core.List.{List, [], _∷_, map}
-use native.Mathlib.Omega.{arith}
+use mathlib.Core.List.{List}
 use lib.Dec.{T}
-use Rattle.basics.specs.Lists.{All, Mem}
-use Rattle.terms.specs.Pattern.{Patterns, countPatterns}
-use Rattle.terms.specs.RuleTests.{PlaceTest, PairTest, Occurrence, placeTests, pairTests, ruleVariables, patternsRange}
-use Rattle.terms.specs.Accepted.{AcceptedRule}
-use Rattle.basics.proofs.ListLaws.{all-join, all-at, all-map}
-use Rattle.terms.proofs.TermPlaces.{extent, extent-le}
-use Rattle.terms.proofs.Ascending.{ascends-below}
-use Rattle.terms.proofs.PreorderTests.{testPlace, all-tests-ascend}
-use Rattle.terms.proofs.PairTests.{variablePlace, all-variables-ascend, pairs-each}
-use Rattle.sheet_tests.specs.SheetTests.{Test, place, pair, ruleTests, allTests, sheetTests}
-use Rattle.sheet_tests.proofs.TestOrder.{ascending-mem}
+use Rattle.basics.specs.Lists.{Mem}
+use Rattle.terms.specs.Pattern.{Patterns}
+use Rattle.sheet_tests.specs.SheetTests.{Test, sheetTests}
 use Rattle.sheet.specs.Sheet.{Sheet, SoundSheet}
 use Rattle.decision.specs.Rules.{sameTest}
 use Rattle.basics.proofs.Filters.{any-mem, mem-any}
-use Rattle.decision.proofs.TestsOfRules.{same-test, test-same}
-use Rattle.graph.specs.ReadGraph.{isTest}
+use Rattle.decision.proofs.rules.TestsOfRules.{same-test, test-same}
+use Rattle.graph.specs.ReadGraph.{isSheetTest}
+use Rattle.decision.proofs.rules.NearTests.{Near, rules-near}
 
 -- "Its place or pair among the sheet's tests": the test is passed exactly by the sheet's tests.
-pub test-mem : (rules : List Patterns) (t : Test) → T (isTest rules t) → Mem t (sheetTests rules)
+pub test-mem : (rules : List Patterns) (t : Test) → T (isSheetTest rules t) → Mem t (sheetTests rules)
 test-mem rules t h =
     let (u, m, e) = any-mem (sameTest t) (sheetTests rules) h in
     subst (λ (v : Test). Mem v (sheetTests rules)) (sym (same-test t u e)) m
 
-pub mem-test : (rules : List Patterns) (t : Test) → Mem t (sheetTests rules) → T (isTest rules t)
+pub mem-test : (rules : List Patterns) (t : Test) → Mem t (sheetTests rules) → T (isSheetTest rules t)
 mem-test rules t m = mem-any (sameTest t) m (test-same t)
-
--- A test of places below 680.
-abbrev pub Near : Test → Type 0
-Near (place n) = n < 680
-Near (pair p q) = (p < 680) × (q < 680)
-
-all-mapped : {A : Type 0} (Q : Test → Type 0) (f : A → Test) (xs : List A) → All (λ (x : A). Q (f x)) xs → All Q (map f xs)
-all-mapped Q f [] h = tt
-all-mapped Q f (x ∷ xs) h = (h .0, all-mapped Q f xs (h .1))
-
-rule-near : (arity : ℕ) (rule : Patterns) → arity ≤ 8 → AcceptedRule arity rule → All Near (ruleTests rule)
-rule-near arity rule few a =
-    let end = 0 + extent (countPatterns rule) 4 in
-    let inside : extent (countPatterns rule) 4 ≤ 680 = extent-le (countPatterns rule) 8 4 (omega (arith, a .arguments)) in
-    let places = ascends-below testPlace 0 end (placeTests rule) (all-tests-ascend (patternsRange rule) rule 4 0 (a .sound)) in
-    let up = all-variables-ascend rule 4 0 (a .sound) in
-    let variables = ascends-below variablePlace 0 end (ruleVariables rule) up in
-    let pairs = pairs-each (λ (o : Occurrence). o .place < end) BothNear (λ o x before one p q. (omega arith, omega arith)) 0 end (ruleVariables rule) up variables in
-    all-join Near (map (λ (x : PlaceTest). place (x .place)) (placeTests rule)) (map (λ (x : PairTest). pair (x .first) (x .second)) (pairTests rule))
-    (all-mapped Near (λ (x : PlaceTest). place (x .place)) (placeTests rule)
-    (all-map (λ (x : PlaceTest). x .place < end) (λ (x : PlaceTest). x .place < 680) (λ x h. omega arith) (placeTests rule) places))
-    (all-mapped Near (λ (x : PairTest). pair (x .first) (x .second)) (pairTests rule) pairs)
-  where
-    BothNear : PairTest → Type 0
-    BothNear x = (x .first < 680) × (x .second < 680)
-
-all-near : (arity : ℕ) (rules : List Patterns) → arity ≤ 8 → All (AcceptedRule arity) rules → All Near (allTests rules)
-all-near arity [] few a = tt
-all-near arity (rule ∷ rules) few a =
-    all-join Near (ruleTests rule) (allTests rules) (rule-near arity rule few (a .0)) (all-near arity rules few (a .1))
 
 -- The tests of an accepted sheet are of places below 680.
 pub tests-near : (sheet : Sheet) → SoundSheet sheet → (t : Test) → Mem t (sheetTests (sheet .rules)) → Near t
-tests-near sheet sound t m =
-    all-at Near (ascending-mem (allTests (sheet .rules)) m)
-    (all-near (sheet .arity) (sheet .rules) (sound .fewArguments) (sound .acceptedRules))
+tests-near sheet sound t m = rules-near (sheet .arity) (sheet .rules) (sound .fewArguments) (sound .acceptedRules) t m

@@ -1,4 +1,3 @@
 -- How the records of nodes are read and written.
-pub mod NodeRecord
 pub mod ReadGraph
 pub mod views

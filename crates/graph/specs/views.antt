@@ -1,3 +1,4 @@
 -- How the code keeps things.
 pub mod WriteNode
 pub mod Rewriting
+pub mod NodeRecord

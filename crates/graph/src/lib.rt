@@ -3,7 +3,9 @@ pub mod record; // the record that the input begins with
 pub mod write; // records into a lent buffer
 
 pub use record::case_head;
+pub use record::case_refusal;
 pub use record::node_head;
+pub use record::node_refusal;
 pub use write::put_case;
 pub use write::put_node;
 

@@ -5,7 +5,8 @@ use crate::Leaf;
 use crate::NodeHead;
 use crate::NodeRecord;
 ghost use mathlib.Core.Path.{_≡_};
-ghost use Rattle.graph.specs.NodeRecord.{nodeHead, executeHead, switchHead, pairHead, caseHead, symbolHead, compoundHead, numbersHead};
+ghost use Rattle.graph.specs.views.NodeRecord.{nodeHead, executeHead, switchHead, pairHead, nodeRefusal};
+ghost use Rattle.graph.specs.views.NodeRecord.{caseHead, symbolHead, compoundHead, numbersHead, caseRefusal};
 
 // An execute that the input begins with.
 fn execute_head(s: &[u8]) -> NodeHead
@@ -117,5 +118,25 @@ pub fn case_head(s: &[u8]) -> CaseHead
         0x45 => compound_head(s),
         0x46 => numbers_head(s),
         0..=0x43 | 0x47..=255 => CaseHead::Refused(22),
+    }
+}
+
+// The number of the question that a node's head got a no from, 0 for a whole record.
+pub fn node_refusal(head: NodeHead) -> u8
+    ensures { λ r. ⌜ r ≡ nodeRefusal head ⌝ }
+{
+    match head {
+        NodeHead::Whole(_) => 0,
+        NodeHead::Refused(question) => question,
+    }
+}
+
+// The number of the question that a case's head got a no from, 0 for a whole record.
+pub fn case_refusal(head: CaseHead) -> u8
+    ensures { λ r. ⌜ r ≡ caseRefusal head ⌝ }
+{
+    match head {
+        CaseHead::Whole(_) => 0,
+        CaseHead::Refused(question) => question,
     }
 }

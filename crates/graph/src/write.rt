@@ -9,13 +9,14 @@ ghost use Rattle.records.specs.Writing.{splice};
 ghost use Rattle.decision.specs.GraphBytes.{leafBytes};
 ghost use Rattle.graph.specs.declared.NodeRecord.the-variants.{Switch, Pair};
 ghost use Rattle.graph.specs.declared.CaseRecord.the-variants.{Symbol, Compound, Numbers};
-ghost use Rattle.graph.specs.ReadGraph.{leafOf};
+ghost use Rattle.graph.specs.views.NodeRecord.{leafOf};
 ghost use Rattle.graph.specs.views.WriteNode.{nodeRecordBytes, caseRecordBytes};
 
 // A leaf's record, and the position behind it.
 fn put_leaf(buf: &mut [u8], at: usize, leaf: Leaf) -> usize
     requires { ⌜ at + length (leafBytes (leafOf leaf)) ≤ length (now buf) ⌝ }
-    ensures { λ r. ⌜ (r ≡ at + length (leafBytes (leafOf leaf))) × (now (buf .exit) ≡ splice (now (buf .entry)) at (leafBytes (leafOf leaf))) ⌝ }
+    ensures { λ r. ⌜ (r ≡ at + length (leafBytes (leafOf leaf)))
+        × (now (buf .exit) ≡ splice (now (buf .entry)) at (leafBytes (leafOf leaf))) ⌝ }
 {
     match leaf {
         Leaf::Fail => records::put(buf, at, &[0x40]),
@@ -27,7 +28,8 @@ fn put_leaf(buf: &mut [u8], at: usize, leaf: Leaf) -> usize
 // A switch's record, without its cases, and the position behind it.
 fn put_switch(buf: &mut [u8], at: usize, n: u16, count: u8, neither: u16, unknown: u16) -> usize
     requires { ⌜ at + length (nodeRecordBytes (Switch n count neither unknown)) ≤ length (now buf) ⌝ }
-    ensures { λ r. ⌜ (r ≡ at + length (nodeRecordBytes (Switch n count neither unknown))) × (now (buf .exit) ≡ splice (now (buf .entry)) at (nodeRecordBytes (Switch n count neither unknown))) ⌝ }
+    ensures { λ r. ⌜ (r ≡ at + length (nodeRecordBytes (Switch n count neither unknown)))
+        × (now (buf .exit) ≡ splice (now (buf .entry)) at (nodeRecordBytes (Switch n count neither unknown))) ⌝ }
 {
     records::put(
         buf,
@@ -48,7 +50,8 @@ fn put_switch(buf: &mut [u8], at: usize, n: u16, count: u8, neither: u16, unknow
 // A pair's record, and the position behind it.
 fn put_pair(buf: &mut [u8], at: usize, p: u16, q: u16, differ: u16, other: u16) -> usize
     requires { ⌜ at + length (nodeRecordBytes (Pair p q differ other)) ≤ length (now buf) ⌝ }
-    ensures { λ r. ⌜ (r ≡ at + length (nodeRecordBytes (Pair p q differ other))) × (now (buf .exit) ≡ splice (now (buf .entry)) at (nodeRecordBytes (Pair p q differ other))) ⌝ }
+    ensures { λ r. ⌜ (r ≡ at + length (nodeRecordBytes (Pair p q differ other)))
+        × (now (buf .exit) ≡ splice (now (buf .entry)) at (nodeRecordBytes (Pair p q differ other))) ⌝ }
 {
     records::put(
         buf,
@@ -71,7 +74,8 @@ fn put_pair(buf: &mut [u8], at: usize, p: u16, q: u16, differ: u16, other: u16) 
 // sets the byte after the record, is none.
 pub fn put_node(buf: &mut [u8], at: usize, node: NodeRecord) -> usize
     requires { ⌜ at + length (nodeRecordBytes node) ≤ length (now buf) ⌝ }
-    ensures { λ r. ⌜ (r ≡ at + length (nodeRecordBytes node)) × (now (buf .exit) ≡ splice (now (buf .entry)) at (nodeRecordBytes node)) ⌝ }
+    ensures { λ r. ⌜ (r ≡ at + length (nodeRecordBytes node))
+        × (now (buf .exit) ≡ splice (now (buf .entry)) at (nodeRecordBytes node)) ⌝ }
 {
     match node {
         NodeRecord::End(leaf) => put_leaf(buf, at, leaf),
@@ -90,7 +94,8 @@ pub fn put_node(buf: &mut [u8], at: usize, node: NodeRecord) -> usize
 // A symbol case's record, and the position behind it.
 fn put_symbol(buf: &mut [u8], at: usize, a: u16, node: u16) -> usize
     requires { ⌜ at + length (caseRecordBytes (Symbol a node)) ≤ length (now buf) ⌝ }
-    ensures { λ r. ⌜ (r ≡ at + length (caseRecordBytes (Symbol a node))) × (now (buf .exit) ≡ splice (now (buf .entry)) at (caseRecordBytes (Symbol a node))) ⌝ }
+    ensures { λ r. ⌜ (r ≡ at + length (caseRecordBytes (Symbol a node)))
+        × (now (buf .exit) ≡ splice (now (buf .entry)) at (caseRecordBytes (Symbol a node))) ⌝ }
 {
     records::put(
         buf,
@@ -108,7 +113,8 @@ fn put_symbol(buf: &mut [u8], at: usize, a: u16, node: u16) -> usize
 // A compound case's record, and the position behind it.
 fn put_compound(buf: &mut [u8], at: usize, a: u16, arity: u8, node: u16) -> usize
     requires { ⌜ at + length (caseRecordBytes (Compound a arity node)) ≤ length (now buf) ⌝ }
-    ensures { λ r. ⌜ (r ≡ at + length (caseRecordBytes (Compound a arity node))) × (now (buf .exit) ≡ splice (now (buf .entry)) at (caseRecordBytes (Compound a arity node))) ⌝ }
+    ensures { λ r. ⌜ (r ≡ at + length (caseRecordBytes (Compound a arity node)))
+        × (now (buf .exit) ≡ splice (now (buf .entry)) at (caseRecordBytes (Compound a arity node))) ⌝ }
 {
     records::put(
         buf,
@@ -127,7 +133,8 @@ fn put_compound(buf: &mut [u8], at: usize, a: u16, arity: u8, node: u16) -> usiz
 // The record of a case of numbers, and the position behind it.
 fn put_numbers(buf: &mut [u8], at: usize, low: u16, high: u16, node: u16) -> usize
     requires { ⌜ at + length (caseRecordBytes (Numbers low high node)) ≤ length (now buf) ⌝ }
-    ensures { λ r. ⌜ (r ≡ at + length (caseRecordBytes (Numbers low high node))) × (now (buf .exit) ≡ splice (now (buf .entry)) at (caseRecordBytes (Numbers low high node))) ⌝ }
+    ensures { λ r. ⌜ (r ≡ at + length (caseRecordBytes (Numbers low high node)))
+        × (now (buf .exit) ≡ splice (now (buf .entry)) at (caseRecordBytes (Numbers low high node))) ⌝ }
 {
     records::put(
         buf,
@@ -147,7 +154,8 @@ fn put_numbers(buf: &mut [u8], at: usize, low: u16, high: u16, node: u16) -> usi
 // A case's record, and the position behind it. A writer that puts a high before its low, or the node first, is none.
 pub fn put_case(buf: &mut [u8], at: usize, c: CaseRecord) -> usize
     requires { ⌜ at + length (caseRecordBytes c) ≤ length (now buf) ⌝ }
-    ensures { λ r. ⌜ (r ≡ at + length (caseRecordBytes c)) × (now (buf .exit) ≡ splice (now (buf .entry)) at (caseRecordBytes c)) ⌝ }
+    ensures { λ r. ⌜ (r ≡ at + length (caseRecordBytes c))
+        × (now (buf .exit) ≡ splice (now (buf .entry)) at (caseRecordBytes c)) ⌝ }
 {
     match c {
         CaseRecord::Symbol(a, node) => put_symbol(buf, at, a, node),

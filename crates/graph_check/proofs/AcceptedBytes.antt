@@ -13,8 +13,8 @@ use Rattle.sheet.specs.Sheet.{Sheet, SoundSheet}
 use Rattle.decision.specs.Node.{Node}
 use Rattle.decision.specs.GraphBytes.{nodeBytes, nodesBytes, graphBytes}
 use Rattle.decision.specs.AcceptedGraph.{AcceptedNode}
-use Rattle.graph.specs.ReadGraph.{readGraph}
-use Rattle.graph.specs.views.Rewriting.{readRecord, readRecords}
+use Rattle.graph.specs.ReadGraph.{readGraph, readRecord}
+use Rattle.graph.specs.views.Rewriting.{readRecords}
 use Rattle.graph.proofs.Spelling.{row-spelled}
 use Rattle.graph.proofs.SpelledNodes.{NodeFields, node-spelled}
 use Rattle.graph.proofs.TestedPlaces.{tests-near}

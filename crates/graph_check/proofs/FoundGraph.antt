@@ -7,7 +7,7 @@ use Rattle.records.specs.Reading.{refused, mapReading}
 use Rattle.records.proofs.Rows.{took-view, refused-view}
 use Rattle.sheet.specs.Sheet.{Sheet}
 use Rattle.accepted.specs.views.AcceptedAs.{AcceptedTests}
-use Rattle.graph.specs.ReadGraph.{isTest, readBy, readGraph}
+use Rattle.graph.specs.ReadGraph.{isSheetTest, readBy, readGraph}
 use Rattle.node_check.specs.views.CheckNode.{keptTest}
 use Rattle.graph_check.specs.declared.GraphCheck.{GraphCheck}
 use Rattle.graph_check.specs.declared.GraphCheck.the-variants.{Accepted, Refused}
@@ -27,7 +27,7 @@ module _
         e
         ∙ ap (mapReading graphIndex)
         (kept-reading (sheet .rules) words codes pairs (t .tests) arity rules g
-        ∙ (λ i. readBy (isTest (sheet .rules)) (sym (t .read .arityIs) i) (sym (t .countIs) i) g))
+        ∙ (λ i. readBy (isSheetTest (sheet .rules)) (sym (t .read .arityIs) i) (sym (t .countIs) i) g))
 
     -- Where the index was made the graph is accepted,
     pub index-accepts : {count : ℕ} → r ≡ Accepted count → AcceptedGraphAs sheet g starts count

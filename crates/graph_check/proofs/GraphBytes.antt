@@ -19,21 +19,14 @@ use Rattle.decision.specs.Node.{Node}
 use Rattle.decision.specs.Graph.{lowestFirst, graphOf}
 use Rattle.decision.specs.GraphBytes.{graphBytes}
 use Rattle.decision.specs.AcceptedGraph.{AcceptedGraph}
-use Rattle.decision.proofs.BuiltGraph.{built-graph-accepted}
+use Rattle.decision.proofs.built.BuiltGraph.{built-graph-accepted}
 use Rattle.graph.specs.ReadGraph.{readGraph}
 use Rattle.graph.proofs.Spelled.{graph-brought, graph-read}
 use Rattle.graph_check.specs.CheckGraph.{GraphValues, graphReading, graphValues}
 use Rattle.graph_check.specs.Rewritten.{rewritten}
 use Rattle.graph_check.proofs.Headers.{HeaderOf, sheet-refuses, graph-refuses}
 use Rattle.graph_check.proofs.WrittenAgain.{rewrite-refused, rewrite-large, rewrite-fits}
-
--- The bytes s are those of an accepted sheet, and g those of nodes that are accepted for it.
-pub record WrittenGraph (s g : List ℕ) (nodes : List (Node ℕ)) : Type 0 where
-  pub sheet : Sheet
-  pub acceptedSheet : AcceptedSheet sheet
-  pub sheetSpelled : sheetBytes sheet ≡ s
-  pub acceptedGraph : AcceptedGraph (sheet .rules) nodes
-  pub graphSpelled : graphBytes (sheet .arity) (length (sheet .rules)) nodes ≡ g
+use Rattle.graph_check.specs.WrittenGraph.{WrittenGraph}
 
 module _ (sheet : Sheet) (accepted : AcceptedSheet sheet) where
   abbrev written : List (Node ℕ) → List ℕ

@@ -10,10 +10,11 @@ use Rattle.sheet_tests.specs.CheckSheet.{acceptSheet}
 use Rattle.decision.specs.Node.{Node}
 use Rattle.graph.specs.ReadGraph.{readGraph}
 use Rattle.graph_check.specs.declared.GraphHeader.the-variants.{Of, Refused}
-use Rattle.graph_check.specs.CheckGraph.{GraphValues, Fields, fieldsOf, fieldsReading, fieldsRead, graphReading, graphValues}
+use Rattle.graph_check.specs.CheckGraph.{GraphValues, graphReading, graphValues}
+use Rattle.graph_check.specs.views.Header.{HeaderFields, fieldsOf, fieldsReading, fieldsRead}
 
 -- The values of the check, off the header's fields.
-abbrev pub fieldsValues : Reading Fields → GraphValues
+abbrev pub fieldsValues : Reading HeaderFields → GraphValues
 fieldsValues (took k fields) = record { refusal = 0; nodes = fields .nodes }
 fieldsValues (refused q) = record { refusal = q; nodes = 0 }
 
@@ -59,16 +60,16 @@ module _ (s g : List ℕ) where
           → fieldsRead (length g) (Of a r n) ≡ mapReading (fieldsOf sheet) x → HeaderOf a r n
       inner k sheet d (took b nodes) f h =
           let size : length g ≡ b = cc in
-          let same : _≡_ {A = Fields} (record { arity = a; rules = r; nodes = n }) (fieldsOf sheet nodes) = cc in
+          let same : _≡_ {A = HeaderFields} (record { arity = a; rules = r; nodes = n }) (fieldsOf sheet nodes) = cc in
           record {
             bytes = k;
             sheet = sheet;
             accepted = d;
             nodes = nodes;
             read = f ∙ ap (λ (m : ℕ). took m nodes) (sym size);
-            arityIs = sym (ap (λ (x : Fields). x .arity) same);
-            rulesIs = sym (ap (λ (x : Fields). x .rules) same);
-            nodesIs = sym (ap (λ (x : Fields). x .nodes) same);
+            arityIs = sym (ap (λ (x : HeaderFields). x .arity) same);
+            rulesIs = sym (ap (λ (x : HeaderFields). x .rules) same);
+            nodesIs = sym (ap (λ (x : HeaderFields). x .nodes) same);
           }
       inner k sheet d (refused q) f h = let z : _≡_ {A = ℕ} 0 1 = cc in absurd (omega arith)
 

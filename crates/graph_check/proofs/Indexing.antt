@@ -20,6 +20,7 @@ use Rattle.graph.specs.ReadGraph.{readNodes, endGraph, hasHeader, readBy}
 use Rattle.node_check.specs.views.CheckNode.{startsFrom}
 use Rattle.graph_check.specs.declared.GraphCheck.the-variants.{Accepted, Refused}
 use Rattle.graph_check.specs.views.GraphIndex.{countIf, GraphIndex, graphIndex}
+use Rattle.graph.proofs.ByKinds.{header-by-kind}
 
 -- There are as many starts as nodes.
 starts-count : (at : ℕ) (ns : List (Node ℕ)) → length (startsFrom at ns) ≡ length ns
@@ -46,7 +47,7 @@ header-known arity rules g e =
     let f4 = eqb (getD g 2 0) rules in
     let f5 = leb 1 (wideAt g 3) in
     let f6 = leb (wideAt g 3) mostNodes in
-    let (b5, t6) = both-true (f1 && f2 && f3 && f4 && f5) f6 (subst T (sym e) tt) in
+    let (b5, t6) = both-true (f1 && f2 && f3 && f4 && f5) f6 (subst T (sym e ∙ header-by-kind arity rules g) tt) in
     let (b4, t5) = both-true (f1 && f2 && f3 && f4) f5 b5 in
     let (b3, t4) = both-true (f1 && f2 && f3) f4 b4 in
     let (b2, t3) = both-true (f1 && f2) f3 b3 in
@@ -67,7 +68,8 @@ count-told arity rules g whole nodes e b1 b2 b3 b4 e1 e2 e3 e4 =
     ∙ ap (λ (b : Bool). b && leb nodes mostNodes)
     (e3 ∙ ap (λ (b : Bool). b && leb 1 nodes) (e2 ∙ ap (λ (b : Bool). b && f4) e1))
     ∙ (λ i. f2 && f3 && f4 && leb 1 (e i) && leb (e i) mostNodes)
-    ∙ ap (λ (b : Bool). b && f2 && f3 && f4 && leb 1 (wideAt g 3) && leb (wideAt g 3) mostNodes) (sym (le-leb 5 (length g) whole)) in
+    ∙ ap (λ (b : Bool). b && f2 && f3 && f4 && leb 1 (wideAt g 3) && leb (wideAt g 3) mostNodes) (sym (le-leb 5 (length g) whole))
+    ∙ sym (header-by-kind arity rules g) in
     λ i. countIf (same i) (e i)
 
 module _ (test : Test → Bool) (arity rules : ℕ) (g : List ℕ) where

@@ -16,7 +16,7 @@ use Rattle.sheet_tests.specs.views.KeptPairs.{codePair}
 use Rattle.sheet_tests.specs.views.TestsRead.{keptTests}
 use Rattle.decision.specs.Rules.{sameTest}
 use Rattle.basics.proofs.Filters.{mem-filter, filter-mem, mem-any, any-mem}
-use Rattle.graph.specs.ReadGraph.{isTest, readBy}
+use Rattle.graph.specs.ReadGraph.{isSheetTest, readBy}
 use Rattle.node_check.specs.views.CheckNode.{isPair, keptTest}
 use Rattle.node_check.proofs.KeptTests.{place-lacking}
 use Rattle.basics.proofs.Booleans.{same-truth}
@@ -57,7 +57,7 @@ place-listed words n = same-truth (hasPlace words n) (anyOf (eqb n) (placesIn wo
 module _ (rules : List Patterns) (words codes : List ℕ) (count : ℕ)
     (kept : sheetTests rules ≡ keptTests words codes count) where
   -- What is kept is a test exactly when it is one of the sheet's.
-  pub kept-test : (t : Test) → keptTest words codes count t ≡ isTest rules t
+  pub kept-test : (t : Test) → keptTest words codes count t ≡ isSheetTest rules t
   kept-test (place n) =
       place-listed words n
       ∙ sym (place-any (placesIn words) (take count codes) n)
@@ -67,5 +67,5 @@ module _ (rules : List Patterns) (words codes : List ℕ) (count : ℕ)
 
   -- So a graph is read by what was kept as it is read by the sheet's tests.
   pub kept-reading
-      : (arity n : ℕ) (g : List ℕ) → readBy (keptTest words codes count) arity n g ≡ readBy (isTest rules) arity n g
+      : (arity n : ℕ) (g : List ℕ) → readBy (keptTest words codes count) arity n g ≡ readBy (isSheetTest rules) arity n g
   kept-reading arity n g = λ i. readBy (λ t. kept-test t i) arity n g

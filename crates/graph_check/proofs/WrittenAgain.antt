@@ -19,10 +19,10 @@ use Rattle.graph.specs.ReadGraph.{readGraph}
 use Rattle.graph.specs.views.Rewriting.{IsTook, readOr, readRecords}
 use Rattle.graph_check.specs.declared.GraphHeader.the-variants.{Refused}
 use Rattle.graph_check.specs.declared.Rewrote.the-variants as rewrote
-use Rattle.graph_check.specs.CheckGraph.{fieldsOf, fieldsReading, fieldsRead}
-use Rattle.graph_check.specs.Rewritten.{askFits, resultOf, rewritten, leftBy, headerBytes}
+use Rattle.graph_check.specs.Rewritten.{askFits, resultOf, rewritten, leftBy}
 use Rattle.graph_check.proofs.Headers.{HeaderOf}
 use Rattle.graph_check.proofs.AcceptedBytes as accepted
+use Rattle.graph_check.specs.views.Header.{fieldsOf, fieldsReading, fieldsRead, headerBytes}
 
 -- A graph that was refused before question 19.
 module _ (s g buffer : List ℕ) where

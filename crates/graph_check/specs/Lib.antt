@@ -2,3 +2,4 @@
 pub mod CheckGraph
 pub mod Rewritten
 pub mod views
+pub mod WrittenGraph

@@ -1,9 +1,8 @@
 -- What writing read nodes again answers, and what it leaves in the lent buffer (document 01, "Questions at the counter").
 use Prim.Native.Nat.{ℕ}
-use mathlib.Core.List.{List, [], _∷_}
+use mathlib.Core.List.{List}
 use lib.Dec.{leb}
 use lib.ListN.{length}
-use Rattle.records.specs.Fields.{wideThen}
 use Rattle.records.specs.Reading.{Reading, took, refused, ask, andThen, mapReading}
 use Rattle.records.specs.Writing.{splice}
 use Rattle.sheet_tests.specs.CheckSheet.{acceptSheet}
@@ -39,7 +38,3 @@ rewritten s g buffer = resultOf buffer (andThen (bytesReading s g) (λ _ bytes. 
 abbrev pub leftBy : Rewrote → List ℕ → Result
 leftBy (Written n) buffer = record { refusal = 0; bytes = n; buffer = buffer }
 leftBy (Refused q) buffer = record { refusal = q; bytes = 0; buffer = buffer }
-
--- "12 (arity, number of rules, wide node count)".
-abbrev pub headerBytes : ℕ → ℕ → ℕ → List ℕ
-headerBytes arity rules nodes = 0x12 ∷ arity ∷ rules ∷ wideThen nodes []

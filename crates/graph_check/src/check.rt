@@ -5,7 +5,8 @@ use crate::index::index_graph;
 use sheet_tests::TestsRead;
 ghost use mathlib.Core.Path.{_≡_};
 ghost use lib.ListN.{length};
-ghost use Rattle.graph_check.specs.CheckGraph.{graphReading, checkValues, graphValues, fieldsReading, fieldsRead};
+ghost use Rattle.graph_check.specs.CheckGraph.{graphReading, graphCheckValues, graphValues};
+ghost use Rattle.graph_check.specs.views.Header.{fieldsReading, fieldsRead};
 
 // The fields of an accepted graph's first record: the sheet's arity and rule count, and the number of nodes. Not fields of a
 // graph that a later question refuses, nor the arity where the rule count stands.
@@ -30,7 +31,7 @@ pub fn graph_header(sheet: &[u8], graph: &[u8]) -> GraphHeader
 
 // Checks a graph for a sheet. Not a graph accepted for a sheet that is refused, nor one more node than it has.
 pub fn check_graph(sheet: &[u8], graph: &[u8]) -> GraphCheck
-    ensures { λ r. ⌜ checkValues r ≡ graphValues (graphReading (now (sheet .entry)) (now (graph .entry))) ⌝ }
+    ensures { λ r. ⌜ graphCheckValues r ≡ graphValues (graphReading (now (sheet .entry)) (now (graph .entry))) ⌝ }
 {
     let header = graph_header(sheet, graph);
     match header {

@@ -42,7 +42,9 @@ pub fn index_graph(
     starts: &mut [u32; 1024],
 ) -> GraphCheck
     requires { ⌜ (length (now words) ≡ 11) × (pairs ≤ 65) × (length (now codes) ≡ 65) × (length (now starts) ≡ 1024) ⌝ }
-    ensures { λ r. ⌜ indexed (length (now (g .entry))) (now (starts .exit)) r ≡ mapReading graphIndex (readBy (keptTest (now (words .entry)) (now (codes .entry)) pairs) arity rules (now (g .entry))) ⌝ }
+    ensures { λ r. ⌜ indexed (length (now (g .entry))) (now (starts .exit)) r
+        ≡ mapReading graphIndex
+        (readBy (keptTest (now (words .entry)) (now (codes .entry)) pairs) arity rules (now (g .entry))) ⌝ }
     ensures { λ _. ⌜ length (now (starts .exit)) ≡ 1024 ⌝ }
 {
     let counted = node_count(g, arity, rules);

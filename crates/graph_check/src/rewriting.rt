@@ -9,12 +9,18 @@ ghost use lib.ListN.{length, drop};
 ghost use Rattle.records.specs.Writing.{splice};
 ghost use Rattle.decision.specs.GraphBytes.{nodesBytes};
 ghost use Rattle.graph.specs.views.Rewriting.{IsTook, readOr, readRecords};
-ghost use Rattle.graph_check.specs.Rewritten.{headerBytes, leftBy, rewritten};
+ghost use Rattle.graph_check.specs.Rewritten.{leftBy, rewritten};
+ghost use Rattle.graph_check.specs.views.Header.{headerBytes};
 
 // The header and the nodes of a graph at the front of a buffer that has room for them, and the position behind them.
 fn write_graph(g: &[u8], buffer: &mut [u8], arity: u8, rules: u8, nodes: u16) -> usize
     requires { ⌜ (5 ≤ length (now g)) × (length (now g) ≤ length (now buffer)) × IsTook (readRecords nodes (drop 5 (now g))) ⌝ }
-    ensures { λ r. ⌜ (r ≡ length (headerBytes arity rules nodes ++ nodesBytes (readOr [] (readRecords nodes (drop 5 (now (g .entry))))))) × (now (buffer .exit) ≡ splice (now (buffer .entry)) 0 (headerBytes arity rules nodes ++ nodesBytes (readOr [] (readRecords nodes (drop 5 (now (g .entry))))))) ⌝ }
+    ensures { λ r. ⌜ (r
+        ≡ length (headerBytes arity rules nodes
+        ++ nodesBytes (readOr [] (readRecords nodes (drop 5 (now (g .entry)))))))
+        × (now (buffer .exit)
+        ≡ splice (now (buffer .entry)) 0 (headerBytes arity rules nodes
+        ++ nodesBytes (readOr [] (readRecords nodes (drop 5 (now (g .entry))))))) ⌝ }
 {
     let at = records::put(
         buffer,

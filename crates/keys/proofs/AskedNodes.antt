@@ -1,42 +1,32 @@
 -- The node of a key by its kind: a leaf, a switch where the test that it asks is a place, else a pair.
 use Prim.Native.Nat.{ℕ, _≤_, _<_}
 use mathlib.Core.Path.{_≡_, refl, sym, ap, subst, _∙_}
-use mathlib.Core.Bool.{true, false, true≢false}
 use mathlib.Core.List.{List}
 use native.Mathlib.Omega.{arith}
 use lib.ListN.{length, getD}
 use borrow.Author.Tests.{lt-ltb, le-ltb}
 use Rattle.terms.specs.Pattern.{Patterns}
-use Rattle.sheet_tests.specs.SheetTests.{Test, place, pair, sheetTests}
+use Rattle.sheet_tests.specs.SheetTests.{pair, sheetTests}
 use Rattle.decision.specs.Rules.{testAt}
 use Rattle.decision.specs.Key.{Key, Vertex}
 use Rattle.decision.specs.Node.{Node}
 use Rattle.decision.specs.Edges.{askNode}
 use Rattle.decision.specs.GraphBytes.{leafBytes}
 use Rattle.graph.specs.declared.Leaf.{Leaf}
-use Rattle.graph.specs.ReadGraph.{leafOf}
-use Rattle.edges.specs.views.Compiled.{isPlace, Compiled, Asked}
+use Rattle.graph.specs.views.NodeRecord.{leafOf}
+use Rattle.edges.specs.views.Compiled.{Compiled, Asked}
+use Rattle.edges.proofs.TestKinds.{place-test, pair-test}
 use Rattle.keys.specs.declared.Kind.{Kind}
 use Rattle.keys.specs.declared.Kind.the-variants.{End, Ask}
 use Rattle.keys.specs.views.KeysMet.{keysIn}
 use Rattle.keys.specs.views.KeyGraph.{nodeBy}
 use Rattle.keys.specs.views.NodeKind.{Fits, kindNode, Below}
-use Rattle.keys.specs.views.Switching.{Switches}
 use Rattle.keys.specs.views.Expanding.{EdgesMet}
+use Rattle.edges.specs.views.Switches.{Switches}
 
 -- The test that is asked is below what all are.
 pub asked-below : {most t : ℕ} {kind : Kind} → kind ≡ Ask t → Below most kind → t < most
 asked-below {most = most} e below = subst (Below most) e below
-
--- A test that is a place has a number,
-a-place : (test : Test) → isPlace test ≡ true → (n : ℕ) × (test ≡ place n)
-a-place (place n) e = (n, refl)
-a-place (pair p q) e = absurd (true≢false (sym e))
-
--- and one that is none is a pair.
-a-pair : (test : Test) → isPlace test ≡ false → (p : ℕ) × ((q : ℕ) × (test ≡ pair p q))
-a-pair (place n) e = absurd (true≢false e)
-a-pair (pair p q) e = (p, (q, refl))
 
 module _ (rules : List Patterns) (key : Key) where
   -- What is behind the edges of a key's node is behind those of a node that it is.
@@ -76,7 +66,7 @@ module _ (rules : List Patterns) (key : Key) where
     pub switch-known
         : t < count → (n : ℕ) × Switches rows low high (key .live) t rules n × (getD places t 0 ≡ n) × (getD places t 0 < 680)
     switch-known h =
-        let r = a-place (testAt rules t) (tables .spots .split t test ∙ lt-ltb t count h) in
+        let r = place-test (testAt rules t) (tables .spots .split t test ∙ lt-ltb t count h) in
         let read = tables .spots .placeOf t (r .0) test (r .1) in (
           r .0,
           record { asked = is-asked; codes = tables .wants; test = r .1 },
@@ -86,4 +76,4 @@ module _ (rules : List Patterns) (key : Key) where
 
     -- and another by a pair.
     pub pair-known : count ≤ t → (p : ℕ) × ((q : ℕ) × (testAt rules t ≡ pair p q))
-    pair-known h = a-pair (testAt rules t) (tables .spots .split t test ∙ le-ltb t count h)
+    pair-known h = pair-test (testAt rules t) (tables .spots .split t test ∙ le-ltb t count h)

@@ -15,7 +15,7 @@ use Rattle.terms.specs.RuleTests.{Want}
 use Rattle.decision.specs.Cases.{Case, symbolCase, compoundCase, numbersCase, casesOf}
 use Rattle.decision.specs.GraphBytes.{caseBytes}
 use Rattle.decision.specs.AcceptedGraph.{CaseBefore, LowAtMostHigh, CaseFields}
-use Rattle.decision.proofs.CasesAccepted.{cases-ordered, cases-fields}
+use Rattle.decision.proofs.cases.CasesAccepted.{cases-ordered, cases-fields}
 use Rattle.edges.specs.declared.cases.NextCase.the-variants.{Run, Nothing}
 use Rattle.edges.specs.views.Codes.{caseLow, caseHigh, SoundWant}
 use Rattle.edges.specs.views.FirstCase.{firstCase}

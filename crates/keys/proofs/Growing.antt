@@ -8,7 +8,7 @@ use native.Mathlib.Omega.{arith}
 use lib.Dec.{T}
 use lib.ListN.{length, getD, drop, length-drop, drop-of-length-le}
 use Rattle.decision.specs.Graph.{newOnes, explore}
-use Rattle.decision.proofs.ExploreSteps.{explore-none}
+use Rattle.decision.proofs.exploring.ExploreSteps.{explore-none}
 
 -- What is behind a position begins with what stands there.
 drop-next : {A : Type 0} (d : A) (xs : List A) (k : ℕ) → k < length xs → drop k xs ≡ getD xs k d ∷ drop (k + 1) xs
@@ -32,10 +32,10 @@ module _ {A : Type 0} (same : A → A → Bool) (next : A → List A) (most : �
   -- Where the edges of the next thing are met one thing less is left to look at,
   pub left-turn
       : (d : A) (k : ℕ) (met : List A) → k < length met → k < most
-      → leftFrom k met ≡ leftFrom (k + 1) (met ++ newOnes same next met (next (getD met k d)))
+      → leftFrom k met ≡ leftFrom (k + 1) (met ++ newOnes same met (next (getD met k d)))
   left-turn d k met h room =
       let x : A = getD met k d in
-      let new : List A = newOnes same next met (next x) in
+      let new : List A = newOnes same met (next x) in
       let e : most - k ≡ suc (most - (k + 1)) = omega arith in
       (λ i. explore same next (e i) met (drop-next d met k h i))
       ∙ ap (λ (queue : List A). explore same next (most - (k + 1)) (met ++ new) queue)

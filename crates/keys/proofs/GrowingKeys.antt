@@ -13,9 +13,9 @@ use Rattle.basics.proofs.ListLaws.{all-at}
 use Rattle.decision.specs.Key.{Key, Vertex, asking, sameKey}
 use Rattle.decision.specs.Graph.{newOnes, mostNodes}
 use Rattle.decision.specs.GraphBytes.{nodeBytes, nodesBytes}
-use Rattle.decision.proofs.SameVertex.{same-vertex, vertex-same}
+use Rattle.decision.proofs.keys.SameVertex.{vertex-same, same-key}
 use Rattle.edges.specs.views.Compiled.{RowTable}
-use Rattle.keys.specs.views.KeysMet.{keyWith, keyAt, keysIn, numberOf, meetAll, Sized}
+use Rattle.keys.specs.views.KeysMet.{keyWith, keyAt, keysIn, keyNumber, meetAll, Sized}
 use Rattle.keys.specs.views.KeyGraph.{nameOf, nodeBy, nextKeys, keyedNode}
 use Rattle.keys.specs.views.NodeKind.{Fits}
 use Rattle.keys.specs.views.Expanding.{recordLength, EdgesMet}
@@ -26,10 +26,6 @@ use Rattle.keys.proofs.Growing.{leftFrom, left-turn, left-done, left-ma
 use Rattle.keys.proofs.Measures.{length-anywhere}
 use Rattle.keys.proofs.NamedKeys.{Named, named-fits, next-named, root-named, meets-all}
 use Rattle.basics.proofs.Positions.{mem-at}
-
--- Keys that are the same are equal.
-pub key-sound : (x y : Key) → T (sameKey x y) → x ≡ y
-key-sound x y h = let e : asking x ≡ asking y = same-vertex (asking x) (asking y) h in cc
 
 pub key-same : (x : Key) → T (sameKey x x)
 key-same x = vertex-same (asking x)
@@ -54,7 +50,7 @@ module _ (rules : List Patterns) where
   records-bytes all (k ∷ ks) =
       omega (
         arith,
-        length-anywhere (λ (v : Vertex). numberOf all (nameOf v)) (nodeBy rules k),
+        length-anywhere (λ (v : Vertex). keyNumber all (nameOf v)) (nodeBy rules k),
         length-append (nodeBytes (keyedNode rules all k)) (nodesBytes (map (keyedNode rules all) ks)),
         records-bytes all ks,
       )
@@ -84,7 +80,7 @@ module _ (rules : List Patterns) where
       → Growing (meetAll keys (nextKeys rules (getD keys k d))) (k + 1) (bytes + recordLength (nodeBy rules (getD keys k d)))
   growing-turn few d keys k bytes state h room =
       let key : Key = getD keys k d in
-      let new : List Key = newOnes sameKey (nextKeys rules) keys (nextKeys rules key) in
+      let new : List Key = newOnes sameKey keys (nextKeys rules key) in
       let met : meetAll keys (nextKeys rules key) ≡ keys ++ new = meet-all (nextKeys rules) keys (nextKeys rules key) in
       let first : take (k + 1) (meetAll keys (nextKeys rules key)) ≡ take k keys ++ key ∷ [] =
       ap (take (k + 1)) met ∙ take-append-le (k + 1) keys new (omega arith) ∙ ap (λ (n : ℕ). take n keys) (add-one k)
@@ -153,7 +149,7 @@ module _ (rules : List Patterns) where
       pub grown-many : {lives″ pendings″ : List ℕ} → 1024 < more → Grown rules 1025 0 lives″ pendings″
       grown-many b =
           let none-left =
-          left-many sameKey (nextKeys rules) mostNodes key-sound key-same (k + 1)
+          left-many sameKey (nextKeys rules) mostNodes same-key key-same (k + 1)
           (meetAll keys (nextKeys rules (keyAt lives pendings k))) (omega arith) (met .met .beyond b) in
           record {
             within = λ f. absurd (let z : ⊥ = omega arith in z);

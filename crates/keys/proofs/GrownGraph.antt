@@ -12,16 +12,17 @@ use Rattle.basics.proofs.ListLaws.{all-map, all-from, mem-none}
 use Rattle.decision.specs.Key.{Key, sameKey}
 use Rattle.decision.specs.Graph.{mostNodes, graphOf}
 use Rattle.decision.specs.GraphBytes.{graphBytes}
-use Rattle.decision.proofs.BreadthFirst.{explore-closed}
-use Rattle.decision.proofs.MetOnce.{Distinct, explore-distinct, number-right}
-use Rattle.keys.specs.views.KeysMet.{keysIn, numberOf, Once}
+use Rattle.decision.proofs.exploring.BreadthFirst.{explore-closed}
+use Rattle.decision.proofs.exploring.MetOnce.{Distinct, explore-distinct, number-right}
+use Rattle.keys.specs.views.KeysMet.{keysIn, keyNumber, Once}
 use Rattle.keys.specs.views.KeyGraph.{nextKeys, keyedNode, keyedNodes}
 use Rattle.keys.specs.views.NodeKind.{Fits}
 use Rattle.keys.specs.views.Grown.{rootName, Grown}
 use Rattle.keys.proofs.Searching.{keys-length}
 use Rattle.keys.proofs.KeyedNodes.{keyed-graph, no-graph}
 use Rattle.keys.proofs.NamedKeys.{Named, named-fits, all-named}
-use Rattle.keys.proofs.GrowingKeys.{key-sound, key-same}
+use Rattle.keys.proofs.GrowingKeys.{key-same}
+use Rattle.decision.proofs.keys.SameVertex.{same-key}
 
 -- Keys that are distinct stand once each.
 once-each : (keys : List Key) → Distinct keys → Once keys
@@ -64,26 +65,26 @@ module _ (rules : List Patterns) (few : length rules ≤ 64) (lives pendings : L
     pub keys-once : Once keys
     keys-once =
         once-each keys
-        (explore-distinct sameKey (nextKeys rules) key-sound key-same mostNodes (rootName rules ∷ []) (rootName rules ∷ []) keys
+        (explore-distinct sameKey (nextKeys rules) same-key key-same mostNodes (rootName rules ∷ []) (rootName rules ∷ []) keys
         (λ m. mem-none m, tt) (grown .within small))
 
     -- and each key behind its edges is among the keys met, at a number below their count.
-    pub edges-met : All (λ (key : Key). All (λ (next : Key). numberOf keys next < count) (nextKeys rules key)) keys
+    pub edges-met : All (λ (key : Key). All (λ (next : Key). keyNumber keys next < count) (nextKeys rules key)) keys
     edges-met =
-        all-from (λ (key : Key). All (λ (next : Key). numberOf keys next < count) (nextKeys rules key)) keys
+        all-from (λ (key : Key). All (λ (next : Key). keyNumber keys next < count) (nextKeys rules key)) keys
         (λ key m.
-        all-from (λ (next : Key). numberOf keys next < count) (nextKeys rules key)
+        all-from (λ (next : Key). keyNumber keys next < count) (nextKeys rules key)
         (λ next led. number-below next (met key m next led)))
       where
         met : (key : Key) → Mem key keys → (next : Key) → Mem next (nextKeys rules key) → Mem next keys
         met =
-            explore-closed sameKey (nextKeys rules) key-sound key-same mostNodes (rootName rules ∷ []) (rootName rules ∷ []) keys
+            explore-closed sameKey (nextKeys rules) same-key key-same mostNodes (rootName rules ∷ []) (rootName rules ∷ []) keys
             (λ x m. inl m) (grown .within small)
 
-        number-below : (key : Key) → Mem key keys → numberOf keys key < count
+        number-below : (key : Key) → Mem key keys → keyNumber keys key < count
         number-below key m =
             omega (
               arith,
-              number-right sameKey (λ (x : Key). []) key-sound key-same key key keys m .0,
+              number-right sameKey (λ (x : Key). []) same-key key-same key key keys m .0,
               keys-length lives pendings count,
             )

@@ -1,7 +1,7 @@
 -- The graph by keys is the graph: where all keys are met, their nodes are the nodes of the vertices.
 use Prim.Native.Nat.{ℕ, zero, suc, _≤_}
 use mathlib.Core.Path.{_≡_, refl, sym, ap, subst, _∙_}
-use mathlib.Core.Bool.{Bool, cond}
+use mathlib.Core.Bool.{Bool}
 use mathlib.Core.List.{List, [], _∷_, _++_, map}
 use mathlib.Core.Option.{Option, some, none}
 use lib.Dec.{T}
@@ -13,22 +13,14 @@ use Rattle.decision.specs.Key.{Key, Vertex, rootKey, vertexOf, sameKey, sameVer
 use Rattle.decision.specs.Node.{Node, CaseEdge, end, switch, pairNode, edges, mapCase, mapNode}
 use Rattle.decision.specs.Edges.{nodeOf}
 use Rattle.decision.specs.Graph.{newOnes, explore, numberIn, mostNodes, nextVertices, vertices, numbered, numberedIf, lowestFirst, graphOf}
-use Rattle.decision.proofs.BreadthFirst.{some-none, new-from}
-use Rattle.decision.proofs.ExploreMap.{named, number-named}
-use Rattle.decision.proofs.SameVertex.{same-vertex, vertex-same}
-use Rattle.keys.specs.views.KeysMet.{numberOf}
+use Rattle.decision.proofs.exploring.BreadthFirst.{some-none, new-from}
+use Rattle.decision.proofs.exploring.ExploreMap.{named, number-named}
+use Rattle.decision.proofs.keys.SameVertex.{same-vertex, vertex-same}
+use Rattle.keys.specs.views.KeysMet.{keyNumber}
 use Rattle.keys.specs.views.KeyGraph.{nameOf, nextKeys, keyedNode, keyedNodes}
 use Rattle.keys.specs.views.Grown.{graphKeys}
 use Rattle.keys.proofs.Names.{named-vertex, told-apart}
 use Rattle.keys.proofs.Occurring.{Occurs, edges-occur, root-occurs, keys-explored}
-
--- A number among things does not turn on their edges.
-number-any
-    : {A : Type 0} (same : A → A → Bool) (f g : A → List A) (xs : List A) (x : A) → numberIn same f xs x ≡ numberIn same g xs x
-number-any same f g [] x = refl
-number-any same f g (y ∷ xs) x =
-    let rest = number-any same f g xs x in
-    λ i. cond (same x y) 0 (suc (rest i))
 
 -- Cases that lead to the same numbers are the same,
 cases-same
@@ -58,7 +50,7 @@ all-explored same next sound reflexive Q stays zero met [] all m q e = let k : m
 all-explored same next sound reflexive Q stays zero met (x ∷ queue) all m q e = some-none e
 all-explored same next sound reflexive Q stays (suc more) met [] all m q e = let k : met ≡ all = cc in subst (All Q) k m
 all-explored {A} same next sound reflexive Q stays (suc more) met (x ∷ queue) all m q e =
-    let new : List A = newOnes same next met (next x) in
+    let new : List A = newOnes same met (next x) in
     let fresh : All Q new =
     all-from Q new (λ y k. all-at Q (new-from same next sound reflexive met (next x) y k) (stays x (q .0))) in
     all-explored same next sound reflexive Q stays more (met ++ new) (queue ++ new) all (all-join Q met new m fresh)
@@ -90,22 +82,21 @@ module _ (rules : List Patterns) (few : length rules ≤ 64) where
     -- A key's number is that of its vertex.
     key-number
         : (w : Vertex) → Occurs rules w
-        → numberIn sameVertex (nextVertices rules order) vs w ≡ numberOf (map nameOf vs) (nameOf w)
+        → numberIn sameVertex vs w ≡ keyNumber (map nameOf vs) (nameOf w)
     key-number w o =
         sym (number-named sameVertex (nextVertices rules order) sameKey (nextKeys rules) nameOf (Occurs rules)
         (λ u v p q. told-apart rules few u v (p .0) (q .0))
         (λ v p. ap (λ (u : Vertex). map nameOf (nextVertices rules order u)) (named-vertex rules few v (p .0)))
         (edges-occur rules) vs w occur o)
-        ∙ number-any sameKey (nextKeys rules) (λ (k : Key). []) (map nameOf vs) (nameOf w)
 
     -- The node of a vertex is that of its key.
     key-node
         : (v : Vertex) → Occurs rules v
-        → mapNode (numberIn sameVertex (nextVertices rules order) vs) (nodeOf rules order v)
+        → mapNode (numberIn sameVertex vs) (nodeOf rules order v)
         ≡ keyedNode rules (map nameOf vs) (nameOf v)
     key-node v o =
-        let f : Vertex → ℕ = numberIn sameVertex (nextVertices rules order) vs in
-        let g : Vertex → ℕ = λ w. numberOf (map nameOf vs) (nameOf w) in
+        let f : Vertex → ℕ = numberIn sameVertex vs in
+        let g : Vertex → ℕ = λ w. keyNumber (map nameOf vs) (nameOf w) in
         nodes-same f g (nodeOf rules order v)
         (all-map (Occurs rules) (λ (w : Vertex). f w ≡ g w) key-number (nextVertices rules order v) (edges-occur rules v o))
         ∙ ap (λ (u : Vertex). mapNode g (nodeOf rules order u)) (sym (named-vertex rules few v (o .0)))
@@ -113,10 +104,10 @@ module _ (rules : List Patterns) (few : length rules ≤ 64) where
     -- The nodes of the vertices are those of their keys.
     nodes-keyed : numbered rules order vs ≡ keyedNodes rules (map nameOf vs)
     nodes-keyed =
-        map-twice (λ (v : Vertex). mapNode (numberIn sameVertex (nextVertices rules order) vs) (nodeOf rules order v))
+        map-twice (λ (v : Vertex). mapNode (numberIn sameVertex vs) (nodeOf rules order v))
         (keyedNode rules (map nameOf vs)) nameOf vs
         (all-map (Occurs rules)
-        (λ (v : Vertex). mapNode (numberIn sameVertex (nextVertices rules order) vs) (nodeOf rules order v)
+        (λ (v : Vertex). mapNode (numberIn sameVertex vs) (nodeOf rules order v)
         ≡ keyedNode rules (map nameOf vs) (nameOf v)) key-node vs occur)
 
   -- All keys that are met breadth first from the root's.

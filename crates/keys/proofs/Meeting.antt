@@ -8,11 +8,12 @@ use lib.Dec.{T}
 use lib.ListN.{length, set, length-set, length-append}
 use Rattle.decision.specs.Key.{Key, sameKey}
 use Rattle.decision.specs.Graph.{newOnes}
-use Rattle.decision.proofs.ExploreSteps.{meet-one}
+use Rattle.decision.proofs.exploring.ExploreSteps.{meet-one}
 use Rattle.basics.proofs.Filters.{mem-any}
-use Rattle.keys.specs.views.KeysMet.{keyWith, keysIn, numberOf, isAt, meet, meetAll, Sized, Met}
+use Rattle.keys.specs.views.KeysMet.{keyWith, keysIn, keyNumber, isAt, meet, meetAll, Sized, Met}
 use Rattle.keys.proofs.Searching.{met-before, not-met-before, keys-length, keys-added, at-member}
 use Rattle.basics.specs.Lists.{anyOf}
+use Rattle.basics.proofs.Booleans.{true-is}
 
 -- Where a key is among those met, nothing is added,
 pub meet-old : (keys : List Key) (key : Key) → anyOf (sameKey key) keys ≡ true → meet keys key ≡ keys
@@ -24,7 +25,7 @@ meet-new keys key e = ap (λ (t : Bool). cond t keys (keys ++ key ∷ [])) e
 
 module _ (lives pendings : List ℕ) (count live pending number : ℕ) (sizeOfLives : length lives ≡ 1024)
     (sizeOfPendings : length pendings ≡ 1024) (few : count ≤ 1024)
-    (found : number ≡ numberOf (keysIn lives pendings count) (keyWith live pending)) where
+    (found : number ≡ keyNumber (keysIn lives pendings count) (keyWith live pending)) where
   abbrev keys : List Key
   keys = keysIn lives pendings count
 
@@ -73,13 +74,9 @@ meets-hinted lives pendings count live pending i few e =
     let at = at-member lives pendings count key i e in
     let found : T (anyOf (sameKey key) keys) = mem-any (sameKey key) (at .2) (subst T (sym (at .1)) tt) in
     record {
-      within = λ f. sym (meet-old keys key (holds (anyOf (sameKey key) keys) found));
+      within = λ f. sym (meet-old keys key (true-is (anyOf (sameKey key) keys) found));
       beyond = λ b. absurd (let z : ⊥ = omega arith in z);
     }
-  where
-    holds : (b : Bool) → T b → b ≡ true
-    holds true h = refl
-    holds false h = absurd h
 
 -- One key more of the two arrays is met in them, which stay as they are, or one key more is stored.
 pub sized-set : (lives pendings : List ℕ) (count live pending : ℕ) → Sized lives pendings
@@ -90,7 +87,7 @@ sized-set lives pendings count live pending s = (
 )
 
 -- Keys are met one after another as they are when looked at one after another.
-pub meet-all : (next : Key → List Key) (keys ks : List Key) → meetAll keys ks ≡ keys ++ newOnes sameKey next keys ks
+pub meet-all : (next : Key → List Key) (keys ks : List Key) → meetAll keys ks ≡ keys ++ newOnes sameKey keys ks
 meet-all next keys [] = sym (append-nil keys)
 meet-all next keys (k ∷ ks) = meet-all next (meet keys k) ks ∙ sym (meet-one sameKey next keys k ks)
 
@@ -98,7 +95,7 @@ meet-all next keys (k ∷ ks) = meet-all next (meet keys k) ks ∙ sym (meet-one
 pub meet-longer : (keys ks : List Key) → length keys ≤ length (meetAll keys ks)
 meet-longer keys ks =
     let none : Key → List Key = λ k. [] in
-    omega (arith, ap length (meet-all none keys ks), length-append keys (newOnes sameKey none keys ks))
+    omega (arith, ap length (meet-all none keys ks), length-append keys (newOnes sameKey keys ks))
 
 -- Some keys, then some others, are met as the joined list is.
 pub meet-join : (keys ks ls : List Key) → meetAll keys (ks ++ ls) ≡ meetAll (meetAll keys ks) ls

@@ -11,9 +11,9 @@ use Rattle.terms.specs.Pattern.{Patterns}
 use Rattle.basics.proofs.Booleans.{cond-holds}
 use Rattle.basics.proofs.ListLaws.{all-join}
 use Rattle.sheet_tests.specs.SheetTests.{sheetTests}
-use Rattle.decision.specs.Key.{Key, Vertex, leaf, asking, fail, suspend, execute, isHeld, rootKey, vertexOf, sameKey}
+use Rattle.decision.specs.Key.{Key, Vertex, leaf, asking, failNode, suspendNode, executeNode, isHeld, rootKey, vertexOf, sameKey}
 use Rattle.decision.specs.Graph.{nextVertices, lowestFirst}
-use Rattle.decision.proofs.EdgeKeys.{led-means}
+use Rattle.decision.proofs.keys.EdgeKeys.{led-means}
 use Rattle.keys.specs.views.KeysMet.{meet, meetAll}
 use Rattle.keys.specs.views.KeyGraph.{nameOf, nextKeys}
 use Rattle.keys.specs.views.NodeKind.{Fits}
@@ -24,10 +24,10 @@ use Rattle.keys.proofs.Occurring.{Occurs, asking-fits, edges-occur, roo
 module _ (rules : List Patterns) where
   -- The live rules and pending tests of a vertex that occurs are the sheet's.
   occurs-fits : (v : Vertex) → Occurs rules v → Fits rules (nameOf v)
-  occurs-fits (leaf fail) o = record { lives = pow-pos (length rules); pends = λ n. absurd (n refl) }
-  occurs-fits (leaf suspend) o = record { lives = pow-pos (length rules); pends = λ n. absurd (n refl) }
-  occurs-fits (leaf (execute zero)) o = absurd (led-means rules (o .0))
-  occurs-fits (leaf (execute (suc i))) o = record {
+  occurs-fits (leaf failNode) o = record { lives = pow-pos (length rules); pends = λ n. absurd (n refl) }
+  occurs-fits (leaf suspendNode) o = record { lives = pow-pos (length rules); pends = λ n. absurd (n refl) }
+  occurs-fits (leaf (executeNode zero)) o = absurd (led-means rules (o .0))
+  occurs-fits (leaf (executeNode (suc i))) o = record {
     lives = pow-lt (led-means rules (o .0) .0);
     pends = λ n. pow-pos (length (sheetTests rules));
   }

@@ -1,43 +1,22 @@
 -- Vertices and their keys: a vertex that occurs is read off its key, so keys tell vertices apart.
-use Prim.Native.Nat.{ℕ, zero, suc, _^_, _≤_, _<_}
+use Prim.Native.Nat.{ℕ, zero, suc, _≤_}
 use mathlib.Core.Path.{_≡_, refl, sym, ap, subst, _∙_}
 use mathlib.Core.Bool.{Bool, true, false}
 use mathlib.Core.List.{List, [], _∷_}
 use native.Mathlib.Omega.{arith}
-use lib.Dec.{T, eqb→eq}
+use lib.Dec.{T}
 use lib.ListN.{length}
-use lib.Pow.{pow-lt}
-use borrow.Author.Tests.{eq-eqb}
 use Rattle.masks.specs.Mask.{has, members}
-use Rattle.masks.specs.views.Answers.{soleOf}
-use Rattle.masks.specs.declared.Sole.the-variants.{One}
-use Rattle.masks.proofs.Membership.{has-singleton}
 use Rattle.masks.proofs.Members.{members-none}
-use Rattle.masks.proofs.Answers.{only-one}
+use Rattle.masks.proofs.OneMember.{members-singleton}
 use Rattle.terms.specs.Pattern.{Patterns}
-use Rattle.decision.specs.Key.{Key, Vertex, leaf, asking, fail, suspend, execute, twoOrMore, sameKey, sameVertex}
-use Rattle.decision.proofs.Sets.{Two, members-two}
-use Rattle.decision.proofs.Vertices.{Live}
-use Rattle.decision.proofs.SameVertex.{same-vertex, vertex-same}
-use Rattle.decision.proofs.EdgeKeys.{LedTo, ledKey, led-means}
+use Rattle.decision.specs.Key.{Key, Vertex, leaf, asking, failNode, suspendNode, executeNode, twoOrMore, sameKey, sameVertex}
+use Rattle.decision.proofs.keys.Sets.{Two, members-two}
+use Rattle.decision.proofs.keys.Vertices.{Live}
+use Rattle.decision.proofs.keys.SameVertex.{same-vertex, vertex-same}
+use Rattle.decision.proofs.keys.EdgeKeys.{LedTo, ledKey, led-means}
 use Rattle.keys.specs.views.KeyGraph.{nameOf, vertexBy, vertexIn}
-use Rattle.basics.proofs.Booleans.{true-is, is-true}
-
--- What the only member of a list is.
-sole-list : (l : List ℕ) (i : ℕ) → soleOf l ≡ One i → l ≡ i ∷ []
-unfolding soleOf
-sole-list [] i e = let z : _≡_ {A = ℕ} 0 1 = cc in absurd (let y : ⊥ = omega arith in y)
-sole-list (j ∷ []) i e = let d : j ≡ i = cc in ap (λ (k : ℕ). k ∷ []) d
-sole-list (j ∷ (k ∷ l)) i e = let z : _≡_ {A = ℕ} 0 1 = cc in absurd (let y : ⊥ = omega arith in y)
-
--- A set of one number has that member alone.
-pub members-singleton : (i : ℕ) → i < 64 → members 64 (2 ^ i) ≡ i ∷ []
-members-singleton i h =
-    sole-list (members 64 (2 ^ i)) i
-    (only-one 64 (2 ^ i) (pow-lt h) i (record {
-      inside = has-singleton i i ∙ eq-eqb i i refl;
-      alone = λ j e. sym (eqb→eq i j (is-true (sym (has-singleton i j) ∙ e)));
-    }))
+use Rattle.basics.proofs.Booleans.{true-is}
 
 -- A key with two live rules or more asks.
 pub asks-by : (l : List ℕ) (key : Key) → T (twoOrMore l) → vertexBy l key ≡ asking key
@@ -48,12 +27,12 @@ asks-by (i ∷ (j ∷ l)) key h = refl
 module _ (rules : List Patterns) (few : length rules ≤ 64) where
   -- A vertex that an edge leads to is the vertex that has its key.
   pub named-vertex : (v : Vertex) → LedTo rules v → vertexIn (nameOf v) ≡ v
-  named-vertex (leaf fail) led = ap (λ (l : List ℕ). vertexBy l (nameOf (leaf fail))) (members-none 64 0 refl)
-  named-vertex (leaf suspend) led = ap (λ (l : List ℕ). vertexBy l (nameOf (leaf suspend))) (members-none 64 0 refl)
-  named-vertex (leaf (execute zero)) led = absurd (led-means rules led)
-  named-vertex (leaf (execute (suc i))) led =
+  named-vertex (leaf failNode) led = ap (λ (l : List ℕ). vertexBy l (nameOf (leaf failNode))) (members-none 64 0 refl)
+  named-vertex (leaf suspendNode) led = ap (λ (l : List ℕ). vertexBy l (nameOf (leaf suspendNode))) (members-none 64 0 refl)
+  named-vertex (leaf (executeNode zero)) led = absurd (led-means rules led)
+  named-vertex (leaf (executeNode (suc i))) led =
       let means = led-means rules led in
-      ap (λ (l : List ℕ). vertexBy l (nameOf (leaf (execute (suc i))))) (members-singleton i (omega (arith, means .0)))
+      ap (λ (l : List ℕ). vertexBy l (nameOf (leaf (executeNode (suc i))))) (members-singleton 64 i (omega (arith, means .0)))
   named-vertex (asking key) led =
       let means = led-means rules led in
       let two : Two (length rules) (Live (ledKey rules led)) = means .1 in

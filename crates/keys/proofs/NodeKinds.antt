@@ -18,7 +18,7 @@ use Rattle.basics.specs.Lists.{countFrom}
 use Rattle.terms.specs.Pattern.{Patterns}
 use Rattle.sheet_tests.specs.SheetTests.{sheetTests}
 use Rattle.decision.specs.Rules.{testAt}
-use Rattle.decision.specs.Key.{Key, Vertex, fail, suspend, execute}
+use Rattle.decision.specs.Key.{Key, Vertex, failNode, suspendNode, executeNode}
 use Rattle.decision.specs.Node.{Node, end}
 use Rattle.decision.specs.Edges.{firstIn, askNode, askFirst, nodeOf}
 use Rattle.decision.specs.Graph.{lowestFirst}
@@ -50,23 +50,23 @@ module _ (rules : List Patterns) (key : Key) where
   nodeWith l = nodeOf rules order (vertexBy l key)
 
   -- A key without live rules is fail where no test is pending,
-  pub kind-fail : key .live ≡ 0 → key .pending ≡ 0 → nodeBy rules key ≡ end fail
+  pub kind-fail : key .live ≡ 0 → key .pending ≡ 0 → nodeBy rules key ≡ end failNode
   kind-fail e d =
       ap nodeWith (members-none 64 (key .live) e)
-      ∙ ap (λ (b : Bool). end (cond b fail suspend)) (eq-eqb (key .pending) 0 d)
+      ∙ ap (λ (b : Bool). end (cond b failNode suspendNode)) (eq-eqb (key .pending) 0 d)
 
   -- and else suspend.
-  pub kind-suspend : key .live ≡ 0 → (key .pending ≡ 0 → ⊥) → nodeBy rules key ≡ end suspend
+  pub kind-suspend : key .live ≡ 0 → (key .pending ≡ 0 → ⊥) → nodeBy rules key ≡ end suspendNode
   kind-suspend e d =
       ap nodeWith (members-none 64 (key .live) e)
-      ∙ ap (λ (b : Bool). end (cond b fail suspend)) (ne-eqb (key .pending) 0 d)
+      ∙ ap (λ (b : Bool). end (cond b failNode suspendNode)) (ne-eqb (key .pending) 0 d)
 
   -- A key with one live rule is execute.
   pub kind-execute
-      : key .live < 2 ^ 64 → ones (key .live) ≡ 1 → nodeBy rules key ≡ end (execute (trailingZeros 64 (key .live) + 1))
+      : key .live < 2 ^ 64 → ones (key .live) ≡ 1 → nodeBy rules key ≡ end (executeNode (trailingZeros 64 (key .live) + 1))
   kind-execute h e =
       let next : suc (trailingZeros 64 (key .live)) ≡ trailingZeros 64 (key .live) + 1 = omega arith in
-      ap nodeWith (members-one 64 (key .live) h e) ∙ ap (λ (i : ℕ). end (execute i)) next
+      ap nodeWith (members-one 64 (key .live) h e) ∙ ap (λ (i : ℕ). end (executeNode i)) next
 
   -- The lowest pending test is a test of the sheet where all are.
   pub asks-below
@@ -83,7 +83,7 @@ module _ (rules : List Patterns) (key : Key) where
         ap nodeWith (r .3)
 
     -- A key with more that has no pending test is suspend,
-    pub kind-settled : key .pending ≡ 0 → nodeBy rules key ≡ end suspend
+    pub kind-settled : key .pending ≡ 0 → nodeBy rules key ≡ end suspendNode
     kind-settled e =
         asks ∙ ap (λ (set : ℕ). askFirst rules key (firstIn set order)) e ∙ ap (askFirst rules key) (first-none order)
 

@@ -15,11 +15,11 @@ use Rattle.decision.specs.Rules.{testAt, hasTest, wantAt, rulesWhere}
 use Rattle.decision.specs.Key.{Key, Vertex, leaf, asking, rootKey, vertexOf, sameKey, sameVertex}
 use Rattle.decision.specs.Cases.{Case, casesOf}
 use Rattle.decision.specs.Node.{CaseEdge, edges}
-use Rattle.decision.specs.Edges.{firstIn, settledByUnknown, keeps, liveWants, butTest}
+use Rattle.decision.specs.Edges.{firstIn, settledByUnknown, caseKeeps, liveWants, butTest}
 use Rattle.decision.specs.Edges.{byCase, byNone, byUnknown, byOther, askNode, askFirst}
 use Rattle.decision.specs.Graph.{nextVertices, lowestFirst, explore, vertices, mostNodes}
-use Rattle.decision.proofs.EdgeKeys.{LedTo, led-means}
-use Rattle.decision.proofs.ExploreMap.{named, explore-named}
+use Rattle.decision.proofs.keys.EdgeKeys.{LedTo, led-means}
+use Rattle.decision.proofs.exploring.ExploreMap.{named, explore-named}
 use Rattle.keys.specs.views.KeyGraph.{nameOf, nextKeys}
 use Rattle.keys.proofs.Names.{named-vertex, told-apart}
 
@@ -38,14 +38,14 @@ module _ (rules : List Patterns) where
   -- So it is by a case,
   case-occurs : (key : Key) (t n : ℕ) (c : Case) → Occurs (byCase rules key t n c)
   case-occurs key t n c =
-      let live : ℕ = rulesWhere rules (λ i. has (key .live) i && keeps c (wantAt rules i n)) in
-      (record { live = live; isLeft = butTest rules key t; is = refl }, maskOf-lt (length rules) (λ i. has (key .live) i && keeps c (wantAt rules i n)))
+      let live : ℕ = rulesWhere rules (λ i. has (key .live) i && caseKeeps c (wantAt rules i n)) in
+      (record { live = live; isLeft = butTest key t; is = refl }, maskOf-lt (length rules) (λ i. has (key .live) i && caseKeeps c (wantAt rules i n)))
 
   -- by neither, or a pair's no,
   none-occurs : (key : Key) (t : ℕ) → Occurs (byNone rules key t)
   none-occurs key t =
       let live : ℕ = rulesWhere rules (λ i. has (key .live) i && not (hasTest rules i t)) in
-      (record { live = live; isLeft = butTest rules key t; is = refl }, maskOf-lt (length rules) (λ i. has (key .live) i && not (hasTest rules i t)))
+      (record { live = live; isLeft = butTest key t; is = refl }, maskOf-lt (length rules) (λ i. has (key .live) i && not (hasTest rules i t)))
 
   -- by unknown,
   unknown-occurs : (key : Key) → key .live < 2 ^ length rules → (n : ℕ) → Occurs (byUnknown rules key n)
@@ -60,7 +60,7 @@ module _ (rules : List Patterns) where
 
   -- and by a pair's other.
   other-occurs : (key : Key) → key .live < 2 ^ length rules → (t : ℕ) → Occurs (byOther rules key t)
-  other-occurs key fits t = (record { live = key .live; isLeft = butTest rules key t; is = refl }, fits)
+  other-occurs key fits t = (record { live = key .live; isLeft = butTest key t; is = refl }, fits)
 
   abbrev edgesTo : Key → ℕ → ℕ → List Case → List (CaseEdge Vertex)
   edgesTo key t n cs = map (λ (c : Case). record { case = c; target = byCase rules key t n c }) cs

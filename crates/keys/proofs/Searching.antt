@@ -11,7 +11,7 @@ use lib.Seq.{getD-set-same, getD-set-other}
 use borrow.Author.Tests.{eq-eqb, ne-eqb, lt-ltb, le-ltb, ltb-true}
 use Rattle.basics.specs.Lists.{Mem, countFrom, anyOf}
 use Rattle.decision.specs.Key.{Key, sameKey}
-use Rattle.keys.specs.views.KeysMet.{keyWith, keyAt, keysIn, numberOf, isAt}
+use Rattle.keys.specs.views.KeysMet.{keyWith, keyAt, keysIn, keyNumber, isAt}
 use Rattle.basics.proofs.Booleans.{and-both}
 use Rattle.basics.proofs.Positions.{mem-at}
 use Rattle.basics.proofs.Counting.{count-length}
@@ -42,7 +42,7 @@ same-key a b x y d e = λ i. eq-eqb a x (sym d) i && eq-eqb b y (sym e) i
 module _ (lives pendings : List ℕ) (live pending : ℕ) where
   -- The number of the key among the n keys from i on.
   abbrev pub numberFrom : ℕ → ℕ → ℕ
-  numberFrom i n = numberOf (map (keyAt lives pendings) (countFrom i n)) (keyWith live pending)
+  numberFrom i n = keyNumber (map (keyAt lives pendings) (countFrom i n)) (keyWith live pending)
 
   one-more : (i n : ℕ) → i < n → n - i ≡ suc (n - (i + 1))
   one-more i n h = omega arith
@@ -97,33 +97,33 @@ module _ (lives pendings : List ℕ) (live pending : ℕ) where
   at-here i n h d e = sym (λ j. lt-ltb i n h j && same-key live pending (getD lives i 0) (getD pendings i 0) d e j)
 
 -- A key whose number is below the count is met,
-pub met-before : (keys : List Key) (key : Key) → numberOf keys key < length keys → anyOf (sameKey key) keys ≡ true
+pub met-before : (keys : List Key) (key : Key) → keyNumber keys key < length keys → anyOf (sameKey key) keys ≡ true
 met-before [] key h = absurd (let z : ⊥ = omega arith in z)
 met-before (k ∷ keys) key h = go (sameKey key k) (met-before keys key) h
   where
     go
-        : (t : Bool) → (numberOf keys key < length keys → anyOf (sameKey key) keys ≡ true)
-        → cond t 0 (suc (numberOf keys key)) < suc (length keys) → t || anyOf (sameKey key) keys ≡ true
+        : (t : Bool) → (keyNumber keys key < length keys → anyOf (sameKey key) keys ≡ true)
+        → cond t 0 (suc (keyNumber keys key)) < suc (length keys) → t || anyOf (sameKey key) keys ≡ true
     go true f h = refl
     go false f h = f (omega arith)
 
 -- one whose number is not is new.
-pub not-met-before : (keys : List Key) (key : Key) → length keys ≤ numberOf keys key → anyOf (sameKey key) keys ≡ false
+pub not-met-before : (keys : List Key) (key : Key) → length keys ≤ keyNumber keys key → anyOf (sameKey key) keys ≡ false
 not-met-before [] key h = refl
 not-met-before (k ∷ keys) key h = go (sameKey key k) (not-met-before keys key) h
   where
     go
-        : (t : Bool) → (length keys ≤ numberOf keys key → anyOf (sameKey key) keys ≡ false)
-        → suc (length keys) ≤ cond t 0 (suc (numberOf keys key)) → t || anyOf (sameKey key) keys ≡ false
+        : (t : Bool) → (length keys ≤ keyNumber keys key → anyOf (sameKey key) keys ≡ false)
+        → suc (length keys) ≤ cond t 0 (suc (keyNumber keys key)) → t || anyOf (sameKey key) keys ≡ false
     go true f h = absurd (let z : ⊥ = omega arith in z)
     go false f h = f (omega arith)
 
 -- A key's number is at most the number of keys.
-number-most : (keys : List Key) (key : Key) → numberOf keys key ≤ length keys
+number-most : (keys : List Key) (key : Key) → keyNumber keys key ≤ length keys
 number-most [] key = omega arith
 number-most (k ∷ keys) key = go (sameKey key k) (number-most keys key)
   where
-    go : (b : Bool) → numberOf keys key ≤ length keys → cond b 0 (suc (numberOf keys key)) ≤ suc (length keys)
+    go : (b : Bool) → keyNumber keys key ≤ length keys → cond b 0 (suc (keyNumber keys key)) ≤ suc (length keys)
     go true h = omega arith
     go false h = omega arith
 
@@ -133,7 +133,7 @@ keys-length lives pendings count = length-map (countFrom 0 count) (keyAt lives p
 
 -- So it fits a wide field.
 pub number-few
-    : (lives pendings : List ℕ) (count : ℕ) (key : Key) → count ≤ 1024 → numberOf (keysIn lives pendings count) key ≤ 1024
+    : (lives pendings : List ℕ) (count : ℕ) (key : Key) → count ≤ 1024 → keyNumber (keysIn lives pendings count) key ≤ 1024
 number-few lives pendings count key h =
     omega (arith, number-most (keysIn lives pendings count) key, keys-length lives pendings count)
 

@@ -11,7 +11,7 @@ use Rattle.decision.specs.Key.{Key}
 use Rattle.decision.specs.Cases.{Case, casesOf}
 use Rattle.decision.specs.Edges.{liveWants, byCase}
 use Rattle.decision.specs.GraphBytes.{caseBytes}
-use Rattle.decision.proofs.CasesAccepted.{cases-ascend}
+use Rattle.decision.proofs.cases.CasesAccepted.{cases-ascend}
 use Rattle.edges.specs.declared.Key as code
 use Rattle.edges.specs.declared.cases.NextCase.the-variants.{Run, Nothing}
 use Rattle.edges.specs.views.Codes.{caseLow}
@@ -20,9 +20,10 @@ use Rattle.edges.specs.views.VertexKey.{vertexKey, keyIn}
 use Rattle.edges.proofs.CaseKeys.{live-sound}
 use Rattle.keys.specs.views.KeysMet.{keysIn, meet, meetAll, Met}
 use Rattle.keys.specs.views.KeyGraph.{nameOf}
-use Rattle.keys.specs.views.Switching.{Switches, switchCases, caseKeys, casesLength, lengthAt}
+use Rattle.keys.specs.views.Switching.{switchCases, caseKeys, casesLength, lengthAt}
 use Rattle.keys.proofs.Meeting.{meet-longer}
 use Rattle.keys.proofs.CasesInTurn.{Sound, NextIs, length-at, next-run, next-none, wanted-sound}
+use Rattle.edges.specs.views.Switches.{Switches}
 
 module _ (rules : List Patterns) (key : Key) (t n : ℕ) where
   -- The cases from a code on are still to come, where the keys met at the start are given.

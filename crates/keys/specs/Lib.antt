@@ -1,2 +1,2 @@
--- The definitions that the contracts of `build` cite.
+-- The definitions that the contracts of `keys` cite.
 pub mod views

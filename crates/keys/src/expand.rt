@@ -19,13 +19,13 @@ ghost use Rattle.sheet_tests.specs.SheetTests.{pair};
 ghost use Rattle.decision.specs.Rules.{testAt};
 ghost use Rattle.decision.specs.Edges.{byUnknown, askNode};
 ghost use Rattle.decision.specs.GraphBytes.{leafBytes};
-ghost use Rattle.graph.specs.ReadGraph.{leafOf};
+ghost use Rattle.graph.specs.views.NodeRecord.{leafOf};
 ghost use Rattle.edges.specs.views.VertexKey.{vertexKey, keyIn};
 ghost use Rattle.edges.specs.views.Compiled.{Asked, Compiled};
 ghost use Rattle.keys.specs.views.KeysMet.{keyAt, keysIn, Sized};
 ghost use Rattle.keys.specs.views.KeyGraph.{nodeBy};
 ghost use Rattle.keys.specs.views.NodeKind.{Fits};
-ghost use Rattle.keys.specs.views.Switching.{Switches};
+ghost use Rattle.edges.specs.views.Switches.{Switches};
 ghost use Rattle.keys.specs.views.Expanding.{EdgesMet};
 
 // The length of a leaf's record.
@@ -53,8 +53,13 @@ fn expand_switch(
     high: &[u32; 4096],
 ) -> Expanded
     requires { ⌜ (start ≤ 1024) × Sized (now lives) (now pendings) × (t < 64) ⌝ }
-    requires { ⌜ ((rules : List Patterns) × ((n : ℕ) × Switches (now rows) (now low) (now high) (key .live) t rules n)) ⌝ }
-    ensures { λ r. ⌜ ((rules : List Patterns) (n : ℕ) → Switches (now (rows .entry)) (now (low .entry)) (now (high .entry)) (key .live) t rules n → unknown ≡ vertexKey (byUnknown rules (keyIn key) n) → EdgesMet (askNode rules (keyIn key) t (testAt rules t)) (keysIn (now (lives .entry)) (now (pendings .entry)) start) (r .count) (r .bytes) (now (lives .exit)) (now (pendings .exit))) ⌝ }
+    requires { ⌜ ((rules : List Patterns) × ((n : ℕ) × Switches (now rows) (now low) (now high) (key .live) t rules n
+        × (unknown ≡ vertexKey (byUnknown rules (keyIn key) n)))) ⌝ }
+    ensures { λ r. ⌜ ((rules : List Patterns) (n : ℕ)
+        → Switches (now (rows .entry)) (now (low .entry)) (now (high .entry)) (key .live) t rules n
+        → unknown ≡ vertexKey (byUnknown rules (keyIn key) n)
+        → EdgesMet (askNode rules (keyIn key) t (testAt rules t)) (keysIn (now (lives .entry)) (now (pendings .entry)) start)
+        (r .count) (r .bytes) (now (lives .exit)) (now (pendings .exit))) ⌝ }
     ensures { λ r. ⌜ (r .count ≤ 1025) × (r .bytes ≤ 0x2000_0008) × Sized (now (lives .exit)) (now (pendings .exit)) ⌝ }
 {
     let met = meet_cases(lives, pendings, hints, start, key, t, rows, low, high);
@@ -80,7 +85,12 @@ fn expand_pair(
     rows: &[u64; 64],
 ) -> Expanded
     requires { ⌜ (start ≤ 1024) × Sized (now lives) (now pendings) × (t < 64) ⌝ }
-    ensures { λ r. ⌜ ((rules : List Patterns) (p q : ℕ) → Asked rules (now (rows .entry)) (key .live) t → testAt rules t ≡ pair p q → EdgesMet (askNode rules (keyIn key) t (testAt rules t)) (keysIn (now (lives .entry)) (now (pendings .entry)) start) (r .count) (r .bytes) (now (lives .exit)) (now (pendings .exit))) ⌝ }
+    requires { ⌜ ((rules : List Patterns) × ((p : ℕ) × ((q : ℕ) × Asked rules (now rows) (key .live) t
+        × (testAt rules t ≡ pair p q)))) ⌝ }
+    ensures { λ r. ⌜ ((rules : List Patterns) (p q : ℕ) → Asked rules (now (rows .entry)) (key .live) t
+        → testAt rules t ≡ pair p q
+        → EdgesMet (askNode rules (keyIn key) t (testAt rules t)) (keysIn (now (lives .entry)) (now (pendings .entry)) start)
+        (r .count) (r .bytes) (now (lives .exit)) (now (pendings .exit))) ⌝ }
     ensures { λ r. ⌜ (r .count ≤ 1025) × (r .bytes ≤ 9) × Sized (now (lives .exit)) (now (pendings .exit)) ⌝ }
 {
     let differ = by_none(key, t, rows);
@@ -108,8 +118,14 @@ pub fn expand(
     n: usize,
 ) -> Expanded
     requires { ⌜ (count ≤ 1024) × Sized (now lives) (now pendings) × (k < count) ⌝ }
-    requires { ⌜ ((rules : List Patterns) × Compiled rules (now rows) (now low) (now high) (now place) (now pairs) n × Fits rules (keyAt (now lives) (now pendings) k)) ⌝ }
-    ensures { λ r. ⌜ ((rules : List Patterns) → Compiled rules (now (rows .entry)) (now (low .entry)) (now (high .entry)) (now (place .entry)) (now (pairs .entry)) n → Fits rules (keyAt (now (lives .entry)) (now (pendings .entry)) k) → EdgesMet (nodeBy rules (keyAt (now (lives .entry)) (now (pendings .entry)) k)) (keysIn (now (lives .entry)) (now (pendings .entry)) count) (r .count) (r .bytes) (now (lives .exit)) (now (pendings .exit))) ⌝ }
+    requires { ⌜ ((rules : List Patterns) × Compiled rules (now rows) (now low) (now high) (now place) (now pairs) n
+        × Fits rules (keyAt (now lives) (now pendings) k)) ⌝ }
+    ensures { λ r. ⌜ ((rules : List Patterns)
+        → Compiled rules (now (rows .entry)) (now (low .entry)) (now (high .entry)) (now (place .entry)) (now (pairs .entry)) n
+        → Fits rules (keyAt (now (lives .entry)) (now (pendings .entry)) k)
+        → EdgesMet (nodeBy rules (keyAt (now (lives .entry)) (now (pendings .entry)) k))
+        (keysIn (now (lives .entry)) (now (pendings .entry)) count)
+        (r .count) (r .bytes) (now (lives .exit)) (now (pendings .exit))) ⌝ }
     ensures { λ r. ⌜ (r .count ≤ 1025) × (r .bytes ≤ 0x2000_0008) × Sized (now (lives .exit)) (now (pendings .exit)) ⌝ }
 {
     let key = Key {

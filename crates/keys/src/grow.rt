@@ -1,4 +1,4 @@
-// All keys of a graph: the keys behind the edges of nodes are met in the order of the edges, from the root on. "A switch's edges
+// All keys of a graph: the keys behind the edges of nodes are met in the order of the edges, from the root on: "a switch's edges
 // are taken as cases, neither, unknown, a pair's as no, other."
 use crate::Expanded;
 use crate::expand::expand;
@@ -18,7 +18,8 @@ ghost use Rattle.edges.specs.views.VertexKey.{keyIn};
 ghost use Rattle.sheet_tests.specs.SheetTests.{sheetTests};
 ghost use Rattle.edges.specs.views.Compiled.{RowTable, Compiled};
 ghost use Rattle.keys.specs.views.KeysMet.{keysIn, meetAll, Sized, Met};
-ghost use Rattle.keys.specs.views.Switching.{Switches, switchCases, caseKeys, casesLength, lengthAt};
+ghost use Rattle.edges.specs.views.Switches.{Switches};
+ghost use Rattle.keys.specs.views.Switching.{switchCases, caseKeys, casesLength, lengthAt};
 ghost use Rattle.keys.specs.views.Grown.{rootName, Grown};
 
 // The length of the record of the case that begins at a code.
@@ -49,7 +50,11 @@ pub fn meet_cases(
 ) -> Expanded
     requires { ⌜ (start ≤ 1024) × Sized (now lives) (now pendings) × (t < 64) ⌝ }
     requires { ⌜ ((rules : List Patterns) × ((n : ℕ) × Switches (now rows) (now low) (now high) (key .live) t rules n)) ⌝ }
-    ensures { λ r. ⌜ ((rules : List Patterns) (n : ℕ) → Switches (now (rows .entry)) (now (low .entry)) (now (high .entry)) (key .live) t rules n → Met (r .count) (now (lives .exit)) (now (pendings .exit)) (meetAll (keysIn (now (lives .entry)) (now (pendings .entry)) start) (caseKeys rules (keyIn key) t n 0)) × (r .count ≤ 1024 → r .bytes ≡ casesLength (switchCases rules (keyIn key) t n 0))) ⌝ }
+    ensures { λ r. ⌜ ((rules : List Patterns) (n : ℕ)
+        → Switches (now (rows .entry)) (now (low .entry)) (now (high .entry)) (key .live) t rules n
+        → Met (r .count) (now (lives .exit)) (now (pendings .exit))
+        (meetAll (keysIn (now (lives .entry)) (now (pendings .entry)) start) (caseKeys rules (keyIn key) t n 0))
+        × (r .count ≤ 1024 → r .bytes ≡ casesLength (switchCases rules (keyIn key) t n 0))) ⌝ }
     ensures { λ r. ⌜ (r .count ≤ 1025) × (r .bytes ≤ 0x2000_0000) × Sized (now (lives .exit)) (now (pendings .exit)) ⌝ }
 {
     let mut count = start;
@@ -78,7 +83,10 @@ pub fn meet_cases(
 // The key of the root: "The root has all of both." Not with a rule that the sheet has not, nor of a node that asks where two
 // rules have no test.
 pub fn root_key(rows: &[u64; 64], rules: usize, tests: usize) -> Key
-    ensures { λ r. ⌜ ((sheet : List Patterns) → RowTable sheet (now (rows .entry)) → length sheet ≡ rules → length (sheetTests sheet) ≡ tests → keyIn r ≡ rootName sheet) ⌝ }
+    requires { ⌜ ((sheet : List Patterns) × RowTable sheet (now rows) × (length sheet ≡ rules)
+        × (length (sheetTests sheet) ≡ tests)) ⌝ }
+    ensures { λ r. ⌜ ((sheet : List Patterns) → RowTable sheet (now (rows .entry)) → length sheet ≡ rules
+        → length (sheetTests sheet) ≡ tests → keyIn r ≡ rootName sheet) ⌝ }
 {
     lead(masks::full(rules), masks::full(tests), rows)
 }
@@ -98,8 +106,12 @@ pub fn grow(
     n: usize,
 ) -> Expanded
     requires { ⌜ Sized (now lives) (now pendings) ⌝ }
-    requires { ⌜ ((rules : List Patterns) × Compiled rules (now rows) (now low) (now high) (now place) (now pairs) n × (keyIn root ≡ rootName rules)) ⌝ }
-    ensures { λ r. ⌜ ((rules : List Patterns) → Compiled rules (now (rows .entry)) (now (low .entry)) (now (high .entry)) (now (place .entry)) (now (pairs .entry)) n → keyIn root ≡ rootName rules → Grown rules (r .count) (r .bytes) (now (lives .exit)) (now (pendings .exit))) ⌝ }
+    requires { ⌜ ((rules : List Patterns) × Compiled rules (now rows) (now low) (now high) (now place) (now pairs) n
+        × (keyIn root ≡ rootName rules)) ⌝ }
+    ensures { λ r. ⌜ ((rules : List Patterns)
+        → Compiled rules (now (rows .entry)) (now (low .entry)) (now (high .entry)) (now (place .entry)) (now (pairs .entry)) n
+        → keyIn root ≡ rootName rules
+        → Grown rules (r .count) (r .bytes) (now (lives .exit)) (now (pendings .exit))) ⌝ }
     ensures { λ r. ⌜ (r .count ≤ 1025) × (r .bytes ≤ 0x100_0000_0000) × Sized (now (lives .exit)) (now (pendings .exit)) ⌝ }
 {
     let mut hints = [0u16; 1024];

@@ -5,7 +5,7 @@ ghost use mathlib.Core.Path.{_≡_};
 ghost use Prim.Native.Nat.{_≤_, _<_};
 ghost use mathlib.Core.List.{[], _∷_};
 ghost use Rattle.edges.specs.views.VertexKey.{keyIn};
-ghost use Rattle.keys.specs.views.KeysMet.{keyWith, keysIn, numberOf, isAt, meet, meetAll, Sized, Once, Met};
+ghost use Rattle.keys.specs.views.KeysMet.{keyWith, keysIn, keyNumber, isAt, meet, meetAll, Sized, Once, Met};
 
 // The number of the node that has a key, or the count where none has. Not the number of a node that has only the same live
 // rules, nor of a key that stands behind the count.
@@ -17,7 +17,7 @@ pub fn find(
     pending: u64,
 ) -> usize
     requires { ⌜ (count ≤ 1024) × Sized (now lives) (now pendings) ⌝ }
-    ensures { λ r. ⌜ r ≡ numberOf (keysIn (now (lives .entry)) (now (pendings .entry)) count) (keyWith live pending) ⌝ }
+    ensures { λ r. ⌜ r ≡ keyNumber (keysIn (now (lives .entry)) (now (pendings .entry)) count) (keyWith live pending) ⌝ }
 {
     let mut i: usize = 0;
     let number = 'search: loop {
@@ -83,7 +83,7 @@ pub fn number_of(
     pending: u64,
 ) -> usize
     requires { ⌜ (count ≤ 1024) × Sized (now lives) (now pendings) × Once (keysIn (now lives) (now pendings) count) ⌝ }
-    ensures { λ r. ⌜ r ≡ numberOf (keysIn (now (lives .entry)) (now (pendings .entry)) count) (keyWith live pending) ⌝ }
+    ensures { λ r. ⌜ r ≡ keyNumber (keysIn (now (lives .entry)) (now (pendings .entry)) count) (keyWith live pending) ⌝ }
 {
     let place = hint_place(live, pending);
     let hint = wide(hints[place]);
@@ -105,7 +105,8 @@ pub fn meet(
     pending: u64,
 ) -> usize
     requires { ⌜ (count ≤ 1024) × Sized (now lives) (now pendings) ⌝ }
-    ensures { λ r. ⌜ Met r (now (lives .exit)) (now (pendings .exit)) (meet (keysIn (now (lives .entry)) (now (pendings .entry)) count) (keyWith live pending)) ⌝ }
+    ensures { λ r. ⌜ Met r (now (lives .exit)) (now (pendings .exit))
+        (meet (keysIn (now (lives .entry)) (now (pendings .entry)) count) (keyWith live pending)) ⌝ }
     ensures { λ r. ⌜ (r ≤ 1025) × Sized (now (lives .exit)) (now (pendings .exit)) ⌝ }
 {
     let place = hint_place(live, pending);
@@ -135,7 +136,8 @@ pub fn meet_two(
     second: Key,
 ) -> usize
     requires { ⌜ (count ≤ 1024) × Sized (now lives) (now pendings) ⌝ }
-    ensures { λ r. ⌜ Met r (now (lives .exit)) (now (pendings .exit)) (meetAll (keysIn (now (lives .entry)) (now (pendings .entry)) count) (keyIn first ∷ (keyIn second ∷ []))) ⌝ }
+    ensures { λ r. ⌜ Met r (now (lives .exit)) (now (pendings .exit))
+        (meetAll (keysIn (now (lives .entry)) (now (pendings .entry)) count) (keyIn first ∷ (keyIn second ∷ []))) ⌝ }
     ensures { λ r. ⌜ (r ≤ 1025) × Sized (now (lives .exit)) (now (pendings .exit)) ⌝ }
 {
     let more = meet(lives, pendings, hints, count, first.live, first.pending);

@@ -14,7 +14,9 @@ ghost use Rattle.keys.specs.views.NodeKind.{Fits, kindNode, Below};
 // The leaf that a key is, or the test that its node asks: the lowest pending one. Not the highest, nor execute where two rules
 // are live.
 pub fn kind_of(key: Key) -> Kind
-    ensures { λ r. ⌜ ((rules : List Patterns) → Fits rules (keyIn key) → (nodeBy rules (keyIn key) ≡ kindNode rules (keyIn key) r) × Below (length (sheetTests rules)) r) ⌝ }
+    requires { ⌜ ((rules : List Patterns) × Fits rules (keyIn key)) ⌝ }
+    ensures { λ r. ⌜ ((rules : List Patterns) → Fits rules (keyIn key)
+        → (nodeBy rules (keyIn key) ≡ kindNode rules (keyIn key) r) × Below (length (sheetTests rules)) r) ⌝ }
     ensures { λ r. ⌜ Below 64 r ⌝ }
 {
     if key.live == 0 {

@@ -4,6 +4,3 @@ pub mod Wrote
 pub mod LineParts
 pub mod LineSizes
 pub mod ExampleLines
-pub mod LeastPiece
-pub mod PieceLines
-pub mod Progress

@@ -1,3 +1,2 @@
--- The lines of the listing, and its whole output.
+-- The lines of the listing.
 pub mod Lines
-pub mod Listing

@@ -45,11 +45,11 @@ abbrev pub line : List ℕ → List (List ℕ) → List ℕ
 line first [] = first ++ (0x0a ∷ [])
 line first (next ∷ fields) = first ++ (0x20 ∷ line next fields)
 
--- "A line with the word sheet, arity, rules, tests, nodes".
+-- "a line with the word sheet, arity, rules, tests, nodes"
 abbrev pub sheetLine : ℕ → ℕ → ℕ → ℕ → List ℕ
 sheetLine arity rules tests nodes = line sheetWord (decimal arity ∷ decimal rules ∷ decimal tests ∷ decimal nodes ∷ [])
 
--- "For each piece a line with its number from 1, answer, rule, edges, wait list in 16 lower-case hexadecimal digits."
+-- "for each piece a line with its number from 1, answer, rule, edges, wait list in 16 lower-case hexadecimal digits"
 abbrev pub pieceLine : ℕ → Answer → ℕ → ℕ → List ℕ
 pieceLine number answer edges waits =
     line (decimal number) (answerWord answer ∷ decimal (ruleOf answer) ∷ decimal edges ∷ hex16 waits ∷ [])

@@ -7,7 +7,8 @@ ghost use lib.ListN.{length};
 ghost use Rattle.records.specs.Writing.{splice};
 ghost use Rattle.plain.specs.Plain.{answerOf};
 ghost use Rattle.terms.specs.Answer.{ruleOf};
-ghost use Rattle.lines.specs.Lines.{digit as digitOf, hexDigits, hex16, decimal, answerWord, sheetLine, pieceLine, refusedLine};
+ghost use Rattle.lines.specs.Lines.{digit as digitOf, hexDigits, hex16, decimal, answerWord};
+ghost use Rattle.lines.specs.Lines.{sheetLine, pieceLine, refusedLine};
 
 // The character of a digit.
 fn digit(d: u64) -> u8
@@ -32,7 +33,8 @@ fn put_decimal(buf: &mut [u8], at: usize, n: u64) -> usize
 // The last so many hexadecimal digits of a number, and the position behind them.
 fn put_hex(buf: &mut [u8], at: usize, count: usize, x: u64) -> usize
     requires { ⌜ at + length (hexDigits count x) ≤ length (now buf) ⌝ }
-    ensures { λ r. ⌜ (r ≡ at + length (hexDigits count x)) × (now (buf .exit) ≡ splice (now (buf .entry)) at (hexDigits count x)) ⌝ }
+    ensures { λ r. ⌜ (r ≡ at + length (hexDigits count x))
+        × (now (buf .exit) ≡ splice (now (buf .entry)) at (hexDigits count x)) ⌝ }
 {
     if count == 0 {
         return at;
@@ -44,7 +46,8 @@ fn put_hex(buf: &mut [u8], at: usize, count: usize, x: u64) -> usize
 // A number and the byte after it, and the position behind both.
 fn put_number(buf: &mut [u8], at: usize, n: u64, after: u8) -> usize
     requires { ⌜ at + length (decimal n ++ (after ∷ [])) ≤ length (now buf) ⌝ }
-    ensures { λ r. ⌜ (r ≡ at + length (decimal n ++ (after ∷ []))) × (now (buf .exit) ≡ splice (now (buf .entry)) at (decimal n ++ (after ∷ []))) ⌝ }
+    ensures { λ r. ⌜ (r ≡ at + length (decimal n ++ (after ∷ [])))
+        × (now (buf .exit) ≡ splice (now (buf .entry)) at (decimal n ++ (after ∷ []))) ⌝ }
 {
     let end = put_decimal(buf, at, n);
     records::put(buf, end, &[after])
@@ -53,7 +56,8 @@ fn put_number(buf: &mut [u8], at: usize, n: u64, after: u8) -> usize
 // The word of an answer and a space, and the position behind both.
 fn put_word(buf: &mut [u8], at: usize, answer: Answer) -> usize
     requires { ⌜ at + length (answerWord (answerOf answer) ++ (0x20 ∷ [])) ≤ length (now buf) ⌝ }
-    ensures { λ r. ⌜ (r ≡ at + length (answerWord (answerOf answer) ++ (0x20 ∷ []))) × (now (buf .exit) ≡ splice (now (buf .entry)) at (answerWord (answerOf answer) ++ (0x20 ∷ []))) ⌝ }
+    ensures { λ r. ⌜ (r ≡ at + length (answerWord (answerOf answer) ++ (0x20 ∷ [])))
+        × (now (buf .exit) ≡ splice (now (buf .entry)) at (answerWord (answerOf answer) ++ (0x20 ∷ []))) ⌝ }
 {
     match answer {
         Answer::Commit(_) => records::put(buf, at, b"commit "),
@@ -78,7 +82,8 @@ fn rule_of(answer: Answer) -> u8
 // The 16 hexadecimal digits of a wait list and a line feed, and the position behind both.
 fn put_waits(buf: &mut [u8], at: usize, waits: u64) -> usize
     requires { ⌜ at + length (hex16 waits ++ (0x0a ∷ [])) ≤ length (now buf) ⌝ }
-    ensures { λ r. ⌜ (r ≡ at + length (hex16 waits ++ (0x0a ∷ []))) × (now (buf .exit) ≡ splice (now (buf .entry)) at (hex16 waits ++ (0x0a ∷ []))) ⌝ }
+    ensures { λ r. ⌜ (r ≡ at + length (hex16 waits ++ (0x0a ∷ [])))
+        × (now (buf .exit) ≡ splice (now (buf .entry)) at (hex16 waits ++ (0x0a ∷ []))) ⌝ }
 {
     let end = put_hex(buf, at, 16, waits);
     records::put(buf, end, b"\n")
@@ -95,7 +100,8 @@ pub fn put_sheet_line(
     nodes: u16,
 ) -> usize
     requires { ⌜ at + 24 ≤ length (now buf) ⌝ }
-    ensures { λ r. ⌜ (r ≡ at + length (sheetLine arity rules tests nodes)) × (now (buf .exit) ≡ splice (now (buf .entry)) at (sheetLine arity rules tests nodes)) ⌝ }
+    ensures { λ r. ⌜ (r ≡ at + length (sheetLine arity rules tests nodes))
+        × (now (buf .exit) ≡ splice (now (buf .entry)) at (sheetLine arity rules tests nodes)) ⌝ }
     ensures { λ r. ⌜ r ≤ at + 24 ⌝ }
 {
     let word = records::put(buf, at, b"sheet ");
@@ -116,7 +122,8 @@ pub fn put_piece_line(
     waits: u64,
 ) -> usize
     requires { ⌜ at + 44 ≤ length (now buf) ⌝ }
-    ensures { λ r. ⌜ (r ≡ at + length (pieceLine number (answerOf answer) edges waits)) × (now (buf .exit) ≡ splice (now (buf .entry)) at (pieceLine number (answerOf answer) edges waits)) ⌝ }
+    ensures { λ r. ⌜ (r ≡ at + length (pieceLine number (answerOf answer) edges waits))
+        × (now (buf .exit) ≡ splice (now (buf .entry)) at (pieceLine number (answerOf answer) edges waits)) ⌝ }
     ensures { λ r. ⌜ r ≤ at + 44 ⌝ }
 {
     let rule = rule_of(answer);
@@ -131,7 +138,8 @@ pub fn put_piece_line(
 // after it.
 pub fn put_refused(buf: &mut [u8], at: usize, question: u8) -> usize
     requires { ⌜ at + 12 ≤ length (now buf) ⌝ }
-    ensures { λ r. ⌜ (r ≡ at + length (refusedLine question)) × (now (buf .exit) ≡ splice (now (buf .entry)) at (refusedLine question)) ⌝ }
+    ensures { λ r. ⌜ (r ≡ at + length (refusedLine question))
+        × (now (buf .exit) ≡ splice (now (buf .entry)) at (refusedLine question)) ⌝ }
     ensures { λ r. ⌜ r ≤ at + 12 ⌝ }
 {
     let word = records::put(buf, at, b"refused ");

@@ -1,3 +1,2 @@
 -- How the code keeps things.
-pub mod Answers
 pub mod Rows

@@ -19,13 +19,14 @@ use Rattle.graph.specs.declared.CaseRecord.{CaseRecord}
 use Rattle.graph.specs.declared.CaseRecord.the-variants.{Symbol, Compound, Numbers}
 use Rattle.graph.specs.declared.CaseHead.{CaseHead}
 use Rattle.graph.specs.declared.CaseHead.the-variants.{Whole, Refused}
-use Rattle.graph.specs.NodeRecord.{wholeCase, caseHead}
-use Rattle.graph.specs.ReadGraph.{onCase, readCases, edge, allInside}
+use Rattle.graph.specs.views.NodeRecord.{wholeCase, caseHead}
+use Rattle.graph.specs.ReadGraph.{readCases, edge, allInside, readCase}
 use Rattle.node_check.specs.views.CaseCodes.{firstCode, lastCode, rangeOf, CasesFound, casesFound}
 use Rattle.graph.proofs.Spelling.{Reads, GoodRow}
 use Rattle.graph.proofs.SpelledCases.{kind-holds, EdgeFields, cases-spelled}
 use Rattle.graph.proofs.AcceptedNodes.{fields-of}
 use Rattle.node_check.proofs.CodeOrder.{ascendAfter, ascend-codes, and-assoc}
+use Rattle.graph.proofs.ByKinds.{case-read-by}
 
 -- What the head of a case says of its bytes: they are there, or question 22 got a no.
 abbrev pub HeadFits : List ℕ → CaseHead → Type 0
@@ -51,8 +52,8 @@ pub case-fits : (s : List ℕ) {c : CaseRecord} → caseHead s ≡ Whole c → r
 case-fits s e = subst (HeadFits s) e (head-fits s)
 
 -- A case that is not whole is refused by question 22.
-pub case-refused : (s : List ℕ) {q : ℕ} → caseHead s ≡ Refused q → onCase (caseHead s) ≡ refused 22
-case-refused s {q} e = ap onCase e ∙ ap refused (sym (subst (HeadFits s) e (head-fits s)))
+pub case-refused : (s : List ℕ) {q : ℕ} → caseHead s ≡ Refused q → readCase s ≡ refused 22
+case-refused s {q} e = case-read-by s e ∙ ap refused (sym (subst (HeadFits s) e (head-fits s)))
 
 module _ (nodes : ℕ) where
   -- What all cases give where at bytes were read before, the last code was last, and this was found of them.
@@ -101,14 +102,14 @@ module _ (nodes : ℕ) where
     some-left e = omega arith
 
     read-next
-        : (a : ℕ) (c : CaseEdge ℕ) → onCase (caseHead (drop at s)) ≡ took a c
+        : (a : ℕ) (c : CaseEdge ℕ) → readCase (drop at s) ≡ took a c
         → Going
         (resume (at + a) (lastCode (c .case)) (inside && ltb (c .target) nodes)
         (ascend && (ltb last (firstCode (c .case)) && leb (firstCode (c .case)) (lastCode (c .case))))
         (readCases (count - (i + 1)) (drop (at + a) s)))
     read-next a c e =
         let fewer : count - i - 1 ≡ count - (i + 1) = omega arith in
-        ap (resume at last inside ascend) (row-next [] _∷_ (λ (b : List ℕ). onCase (caseHead b)) (count - i) (drop at s) some-left e)
+        ap (resume at last inside ascend) (row-next [] _∷_ readCase (count - i) (drop at s) some-left e)
         ∙ resume-next at last inside ascend a c (readCases (count - i - 1) (drop a (drop at s)))
         ∙ (λ j.
         resume (at + a) (lastCode (c .case)) (inside && ltb (c .target) nodes)
@@ -122,15 +123,16 @@ module _ (nodes : ℕ) where
         (resume (at + rangeOf c .bytes) (rangeOf c .last) (inside && ltb (rangeOf c .node) nodes)
         (ascend && (ltb last (rangeOf c .first) && leb (rangeOf c .first) (rangeOf c .last)))
         (readCases (count - (i + 1)) (drop (at + rangeOf c .bytes) s)))
-    pass-next (Symbol a n) e = read-next 5 (edge (symbolCase a) n) (ap onCase e)
-    pass-next (Compound a k n) e = read-next 6 (edge (compoundCase a k) n) (ap onCase e)
-    pass-next (Numbers l h n) e = read-next 7 (edge (numbersCase l h) n) (ap onCase e)
+    pass-next (Symbol a n) e = read-next 5 (edge (symbolCase a) n) (case-read-by (drop at s) e)
+    pass-next (Compound a k n) e = read-next 6 (edge (compoundCase a k) n) (case-read-by (drop at s) e)
+    pass-next (Numbers l h n) e = read-next 7 (edge (numbersCase l h) n) (case-read-by (drop at s) e)
 
     -- At a case that is not whole the pass is refused.
-    pub pass-refused : {q : ℕ} → caseHead (drop at s) ≡ Refused q → Going (refused 22)
-    pass-refused e =
+    pub pass-refused : {q r : ℕ} → caseHead (drop at s) ≡ Refused q → r ≡ q → Going (refused r)
+    pass-refused e d =
         ap (resume at last inside ascend)
-        (row-refused [] _∷_ (λ (b : List ℕ). onCase (caseHead b)) (count - i) (drop at s) some-left (case-refused (drop at s) e))
+        (row-refused [] _∷_ readCase (count - i) (drop at s) some-left (case-read-by (drop at s) e))
+        ∙ ap refused (sym d)
 
   -- After the last case all was found.
   pub pass-ends
@@ -139,7 +141,7 @@ module _ (nodes : ℕ) where
   pass-ends count s i at last inside ascend h =
       let none : at + 0 ≡ at = omega arith in
       ap (resume at last inside ascend)
-      (row-none [] _∷_ (λ (b : List ℕ). onCase (caseHead b)) (count - i) (drop at s) (omega arith))
+      (row-none [] _∷_ readCase (count - i) (drop at s) (omega arith))
       ∙ (λ j. took (none j) (record { inside = and-true inside j; ascend = and-true ascend j }))
     where
       and-true : (b : Bool) → b && true ≡ b

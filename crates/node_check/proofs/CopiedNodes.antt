@@ -11,21 +11,22 @@ use Rattle.records.specs.Reading.{Reading, took, refused, ask, after}
 use Rattle.records.specs.Writing.{splice}
 use Rattle.records.proofs.Writing.{splice-more}
 use Rattle.basics.specs.Lists.{All}
-use Rattle.decision.specs.Key.{fail}
+use Rattle.decision.specs.Key.{failNode}
 use Rattle.decision.specs.Node.{Node, CaseEdge, end, switch}
 use Rattle.decision.specs.GraphBytes.{casesBytes, nodeBytes}
 use Rattle.graph.specs.declared.Leaf.{Leaf}
 use Rattle.graph.specs.declared.Leaf.the-variants.{Fail, Suspend, Execute}
 use Rattle.graph.specs.declared.NodeRecord.the-variants.{End, Switch, Pair}
 use Rattle.graph.specs.declared.NodeHead.the-variants.{Whole, Refused}
-use Rattle.graph.specs.NodeRecord.{nodeHead}
-use Rattle.graph.specs.ReadGraph.{onNode, readCases}
+use Rattle.graph.specs.views.NodeRecord.{nodeHead}
+use Rattle.graph.specs.ReadGraph.{readCases, readRecord}
 use Rattle.graph.specs.views.WriteNode.{nodeRecordBytes}
-use Rattle.graph.specs.views.Rewriting.{IsTook, readOr, readRecord}
-use Rattle.graph.proofs.FieldBytes.{bytes-drop}
+use Rattle.graph.specs.views.Rewriting.{IsTook, readOr}
+use Rattle.records.proofs.ByteLists.{bytes-drop}
 use Rattle.graph.proofs.Spelling.{GoodRow, begins-read}
 use Rattle.graph.proofs.SpelledCases.{EdgeFields, cases-spelled}
 use Rattle.node_check.proofs.NodeHeads.{node-refused}
+use Rattle.graph.proofs.ByKinds.{node-read-by}
 
 -- Two records one behind the other are one record of the bytes of both.
 pub both-written
@@ -42,8 +43,8 @@ both-written before start first second fits e f g k joined = (
 )
 
 -- The bytes of the node that s begins with.
-abbrev pub nodeAt : List ℕ → List ℕ
-nodeAt s = nodeBytes (readOr (end fail) (readRecord s))
+abbrev pub writtenNode : List ℕ → List ℕ
+writtenNode s = nodeBytes (readOr (end failNode) (readRecord s))
 
 module _ (s : List ℕ) where
   -- A node that is there to be read is not refused.
@@ -51,13 +52,13 @@ module _ (s : List ℕ) where
   node-there there e = subst IsTook (node-refused s e) there
 
   -- A leaf and a pair are their records.
-  pub leaf-bytes : (l : Leaf) → nodeHead s ≡ Whole (End l) → nodeRecordBytes (End l) ≡ nodeAt s
-  leaf-bytes Fail e = sym (ap (λ h. nodeBytes (readOr (end fail) (onNode s h))) e)
-  leaf-bytes Suspend e = sym (ap (λ h. nodeBytes (readOr (end fail) (onNode s h))) e)
-  leaf-bytes (Execute i) e = sym (ap (λ h. nodeBytes (readOr (end fail) (onNode s h))) e)
+  pub leaf-bytes : (l : Leaf) → nodeHead s ≡ Whole (End l) → nodeRecordBytes (End l) ≡ writtenNode s
+  leaf-bytes Fail e = sym (ap (λ r. nodeBytes (readOr (end failNode) r)) (node-read-by s e))
+  leaf-bytes Suspend e = sym (ap (λ r. nodeBytes (readOr (end failNode) r)) (node-read-by s e))
+  leaf-bytes (Execute i) e = sym (ap (λ r. nodeBytes (readOr (end failNode) r)) (node-read-by s e))
 
-  pub pair-bytes : {p q x y : ℕ} → nodeHead s ≡ Whole (Pair p q x y) → nodeRecordBytes (Pair p q x y) ≡ nodeAt s
-  pair-bytes e = sym (ap (λ h. nodeBytes (readOr (end fail) (onNode s h))) e)
+  pub pair-bytes : {p q x y : ℕ} → nodeHead s ≡ Whole (Pair p q x y) → nodeRecordBytes (Pair p q x y) ≡ writtenNode s
+  pair-bytes e = sym (ap (λ r. nodeBytes (readOr (end failNode) r)) (node-read-by s e))
 
   -- A switch is its record and its cases, which are there to be read.
   module _ {n count x y : ℕ} (e : nodeHead s ≡ Whole (Switch n count x y)) (there : IsTook (readRecord s)) where
@@ -70,18 +71,18 @@ module _ (s : List ℕ) where
     asked false r h = absurd h
 
     pub cases-there : IsTook (readCases count (drop 8 s))
-    cases-there = asked (leb 1 count) (readCases count (drop 8 s)) (subst (λ h. IsTook (onNode s h)) e there)
+    cases-there = asked (leb 1 count) (readCases count (drop 8 s)) (subst IsTook (node-read-by s e) there)
 
     pub switch-bytes
-        : All IsByte s → nodeRecordBytes (Switch n count x y) ++ casesBytes (readOr [] (readCases count (drop 8 s))) ≡ nodeAt s
+        : All IsByte s → nodeRecordBytes (Switch n count x y) ++ casesBytes (readOr [] (readCases count (drop 8 s))) ≡ writtenNode s
     switch-bytes h =
         sym
-        (ap (λ k. nodeBytes (readOr (end fail) (onNode s k))) e
-        ∙ go (leb 1 count) (readCases count (drop 8 s)) refl (subst (λ k. IsTook (onNode s k)) e there))
+        (ap (λ r. nodeBytes (readOr (end failNode) r)) (node-read-by s e)
+        ∙ go (leb 1 count) (readCases count (drop 8 s)) refl (subst IsTook (node-read-by s e) there))
       where
         go
             : (b : Bool) (r : Reading (List (CaseEdge ℕ))) → readCases count (drop 8 s) ≡ r → IsTook (ask 22 b (Cases r))
-            → nodeBytes (readOr (end fail) (ask 22 b (Cases r))) ≡ nodeRecordBytes (Switch n count x y) ++ casesBytes (readOr [] r)
+            → nodeBytes (readOr (end failNode) (ask 22 b (Cases r))) ≡ nodeRecordBytes (Switch n count x y) ++ casesBytes (readOr [] r)
         go true (took a cs) f t =
             let row = begins-read casesBytes (GoodRow EdgeFields count) (cases-spelled count) (drop 8 s) (bytes-drop 8 s h) f in
             ap (λ (k : ℕ). 0x43 ∷ wideThen n (k ∷ wideThen x (wideThen y (casesBytes cs)))) (row .good .0)

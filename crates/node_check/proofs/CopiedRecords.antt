@@ -1,6 +1,6 @@
 -- The records that are copied: what the reader told and what the writer wrote are the same case, or the same node.
 use Prim.Native.Nat.{ℕ}
-use mathlib.Core.Path.{_≡_, refl, ap}
+use mathlib.Core.Path.{_≡_, refl}
 use mathlib.Core.List.{List}
 use Rattle.records.specs.Reading.{took}
 use Rattle.decision.specs.Cases.{symbolCase, compoundCase, numbersCase}
@@ -8,11 +8,12 @@ use Rattle.decision.specs.Node.{CaseEdge}
 use Rattle.graph.specs.declared.CaseRecord.{CaseRecord}
 use Rattle.graph.specs.declared.CaseRecord.the-variants.{Symbol, Compound, Numbers}
 use Rattle.graph.specs.declared.CaseHead.the-variants.{Whole}
-use Rattle.graph.specs.NodeRecord.{caseHead}
-use Rattle.graph.specs.ReadGraph.{onCase, edge}
+use Rattle.graph.specs.views.NodeRecord.{caseHead}
+use Rattle.graph.specs.ReadGraph.{edge, readCase}
 use Rattle.node_check.specs.views.CaseCodes.{rangeOf}
 use Rattle.graph.specs.views.WriteNode.{caseRecordBytes}
 use Rattle.graph.proofs.SpelledCases.{edgeBytes}
+use Rattle.graph.proofs.ByKinds.{case-read-by}
 
 -- The case of a record, with where it leads.
 abbrev pub edgeOf : CaseRecord → CaseEdge ℕ
@@ -21,10 +22,10 @@ edgeOf (Compound a k n) = edge (compoundCase a k) n
 edgeOf (Numbers l h n) = edge (numbersCase l h) n
 
 -- It is read from the record,
-pub edge-read : (s : List ℕ) (c : CaseRecord) → caseHead s ≡ Whole c → onCase (caseHead s) ≡ took (rangeOf c .bytes) (edgeOf c)
-edge-read s (Symbol a n) e = ap onCase e
-edge-read s (Compound a k n) e = ap onCase e
-edge-read s (Numbers l h n) e = ap onCase e
+pub edge-read : (s : List ℕ) (c : CaseRecord) → caseHead s ≡ Whole c → readCase s ≡ took (rangeOf c .bytes) (edgeOf c)
+edge-read s (Symbol a n) e = case-read-by s e
+edge-read s (Compound a k n) e = case-read-by s e
+edge-read s (Numbers l h n) e = case-read-by s e
 
 -- and its bytes are the record's.
 pub edge-bytes : (c : CaseRecord) → edgeBytes (edgeOf c) ≡ caseRecordBytes c

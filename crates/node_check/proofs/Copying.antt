@@ -13,8 +13,8 @@ use Rattle.records.proofs.Rows.{row-none, row-next, row-refused}
 use Rattle.records.proofs.Writing.{splice-none, splice-more, splice-length}
 use Rattle.basics.specs.Lists.{All}
 use Rattle.graph.specs.views.Rewriting.{IsTook, readOr}
-use Rattle.graph.proofs.FieldBytes.{bytes-drop}
 use Rattle.graph.proofs.Spelling.{Spelled, begins-read, begins-length}
+use Rattle.records.proofs.ByteLists.{bytes-drop}
 
 -- What was read behind something else.
 pub after-took : {A B : Type 0} (a : ℕ) (f : A → B) (r : Reading A) → IsTook (after a f r) → IsTook r

@@ -1,12 +1,12 @@
 -- The sheet's tests as they are kept: no place stands past the last word, and pairs are looked for one after another.
 use Prim.Native.Nat.{ℕ, suc, _+_, _-_, _*_, _/_, _%_, _≤_, _<_}
-use mathlib.Core.Path.{_≡_, refl, sym, ap, subst, _∙_}
+use mathlib.Core.Path.{_≡_, refl, sym, ap, _∙_}
 use mathlib.Core.Bool.{Bool, true, false, _||_}
 use mathlib.Core.List.{List}
 use native.Mathlib.Omega.{arith}
 use native.Mathlib.Numerals.{add-one}
 use borrow.Author.Tests.{eq-eqb, ne-eqb}
-use lib.Dec.{T, eqb, eqb→eq, eqb-refl}
+use lib.Dec.{eqb, eqb→eq}
 use lib.ListN.{length, getD, take, drop, List·getD-eq-default}
 use lib.Seq.{drop-cons}
 use Rattle.masks.specs.Mask.{has}
@@ -15,6 +15,7 @@ use Rattle.basics.proofs.Booleans.{both-true, true-both, same-truth}
 use Rattle.sheet_tests.specs.views.TestedPlaces.{hasPlace}
 use Rattle.node_check.specs.views.CheckNode.{isPair}
 use Rattle.basics.specs.Lists.{anyOf}
+use Rattle.basics.proofs.Numbers.{eq-true}
 
 -- A place whose word is lacking is not in the set.
 pub place-lacking : (words : List ℕ) (n : ℕ) → length words ≤ n / 64 → false ≡ hasPlace words n
@@ -31,9 +32,6 @@ code-same p q small code c e =
     (λ t.
     let both = both-true (eqb p (c / 0x1_0000)) (eqb q (c % 0x1_0000)) t in
     eq-true code c (omega (arith, eqb→eq p (c / 0x1_0000) (both .0), eqb→eq q (c % 0x1_0000) (both .1))))
-  where
-    eq-true : (m n : ℕ) → m ≡ n → T (eqb m n)
-    eq-true m n e = subst (λ (k : ℕ). T (eqb m k)) e (eqb-refl m)
 
 -- The search for a pair among the first count codes, from i on.
 module _ (codes : List ℕ) (count p q i : ℕ) where

@@ -17,13 +17,13 @@ use Rattle.graph.specs.declared.NodeRecord.the-variants.{End, Switch, Pair}
 use Rattle.graph.specs.declared.NodeHead.{NodeHead}
 use Rattle.graph.specs.declared.NodeHead.the-variants as head
 use Rattle.node_check.specs.declared.NodeCheck.the-variants.{Refused}
-use Rattle.graph.specs.NodeRecord.{wholeNode, nodeHead}
-use Rattle.graph.specs.ReadGraph.{onNode, inRange, inOrder, askNode, readNode}
+use Rattle.graph.specs.views.NodeRecord.{wholeNode, nodeHead, onNode}
+use Rattle.graph.specs.ReadGraph.{inRange, inOrder, askRangeAndOrder, readNode, readRecord}
 use Rattle.graph.specs.views.WriteNode.{nodeRecordBytes}
 use Rattle.node_check.specs.views.CheckNode.{checked, leafCheck}
-use Rattle.graph.specs.views.Rewriting.{readRecord}
 use Rattle.graph.proofs.FieldBytes.{kind-there}
 use Rattle.graph.proofs.SpelledCases.{kind-holds}
+use Rattle.graph.proofs.ByKinds.{node-read-by}
 
 -- Its bytes are there, or question 22 got a no.
 abbrev NodeFits : List ℕ → NodeHead → Type 0
@@ -52,21 +52,21 @@ node-fits s e = subst (NodeFits s) e (head-fits s)
 
 -- A record that is not whole is refused by question 22.
 pub node-refused : (s : List ℕ) {q : ℕ} → nodeHead s ≡ head.Refused q → readRecord s ≡ refused 22
-node-refused s {q} e = ap (onNode s) e ∙ ap refused (sym (subst (NodeFits s) e (head-fits s)))
+node-refused s {q} e = node-read-by s e ∙ ap refused (sym (subst (NodeFits s) e (head-fits s)))
 
 module _ (test : Test → Bool) (rules nodes : ℕ) (s : List ℕ) where
   -- A refused record is a refused node.
-  pub refused-asked : {q : ℕ} → nodeHead s ≡ head.Refused q → Refused 22 ≡ checked (readNode test rules nodes s)
-  refused-asked e = sym (ap (λ r. checked (askNode test rules nodes r)) (node-refused s e))
+  pub refused-asked : {q r : ℕ} → nodeHead s ≡ head.Refused q → r ≡ q → Refused r ≡ checked (readNode test rules nodes s)
+  refused-asked e d = ap Refused d ∙ sym (ap (λ x. checked (askRangeAndOrder test rules nodes x)) (node-read-by s e))
 
   -- A leaf is checked without the tests.
-  leaf-same : (l : Leaf) → leafCheck rules l ≡ checked (askNode test rules nodes (onNode s (head.Whole (End l))))
+  leaf-same : (l : Leaf) → leafCheck rules l ≡ checked (askRangeAndOrder test rules nodes (onNode s (head.Whole (End l))))
   leaf-same Fail = refl
   leaf-same Suspend = refl
   leaf-same (Execute i) = refl
 
   pub leaf-asked : {l : Leaf} → nodeHead s ≡ head.Whole (End l) → leafCheck rules l ≡ checked (readNode test rules nodes s)
-  leaf-asked {l} e = leaf-same l ∙ ap (λ h. checked (askNode test rules nodes (onNode s h))) (sym e)
+  leaf-asked {l} e = leaf-same l ∙ ap (λ r. checked (askRangeAndOrder test rules nodes r)) (sym (node-read-by s e))
 
   -- A pair is right where its test is one and its nodes are in range.
   pub pair-asked
@@ -75,7 +75,7 @@ module _ (test : Test → Bool) (rules nodes : ℕ) (s : List ℕ) where
       → checked {A = Unit} (ask 23 b (took 9 tt)) ≡ checked (readNode test rules nodes s)
   pair-asked {p} {q} {x} {y} {known} {b} e f g =
       sym
-      (ap (λ h. checked (askNode test rules nodes (onNode s h))) e
+      (ap (λ r. checked (askRangeAndOrder test rules nodes r)) (node-read-by s e)
       ∙ ap (λ (k : Bool). checked (ask 23 k (took 9 (pairNode p q x y)))) (sym f ∙ g) ∙ any b)
     where
       any : (k : Bool) → checked (ask 23 k (took 9 (pairNode p q x y))) ≡ checked {A = Unit} (ask 23 k (took 9 tt))
@@ -83,7 +83,7 @@ module _ (test : Test → Bool) (rules nodes : ℕ) (s : List ℕ) where
       any false = refl
 
   -- What was accepted was read.
-  asked-read : (r : Reading (Node ℕ)) {a : ℕ} {node : Node ℕ} → askNode test rules nodes r ≡ took a node → r ≡ took a node
+  asked-read : (r : Reading (Node ℕ)) {a : ℕ} {node : Node ℕ} → askRangeAndOrder test rules nodes r ≡ took a node → r ≡ took a node
   asked-read (took b n) e = go (inRange test rules nodes n) (inOrder n) e
     where
       go : {a : ℕ} {node : Node ℕ} (x y : Bool) → ask 23 x (ask 24 y (took b n)) ≡ took a node → took b n ≡ took a node

@@ -14,16 +14,16 @@ use Rattle.records.proofs.Rows.{row-none, row-refused, row-next}
 use Rattle.basics.specs.Lists.{All}
 use Rattle.sheet_tests.specs.SheetTests.{Test}
 use Rattle.decision.specs.Node.{Node, CaseEdge, end, switch, pairNode}
-use Rattle.decision.specs.Key.{fail, suspend, execute}
+use Rattle.decision.specs.Key.{failNode, suspendNode, executeNode}
 use Rattle.decision.specs.GraphBytes.{caseBytes, casesBytes, nodeBytes}
 use Rattle.decision.specs.Cases.{Case, symbolCase, compoundCase, numbersCase}
 use Rattle.node_check.specs.declared.NodeCheck.the-variants.{Used, Refused}
 use Rattle.graph.specs.ReadGraph.{readNode, readNodes}
 use Rattle.node_check.specs.views.CheckNode.{checked, startsFrom}
-use Rattle.graph.proofs.FieldBytes.{bytes-drop}
 use Rattle.graph.proofs.Spelling.{Begins, begins-read, begins-length}
 use Rattle.graph.proofs.SpelledNodes.{NodeFields, node-spelled}
 use Rattle.node_check.proofs.NodeHeads.{node-read}
+use Rattle.records.proofs.ByteLists.{bytes-drop}
 
 -- What was read where the check used so many bytes, and that it was refused where the check was.
 pub checked-took : {A : Type 0} (r : Reading A) {a : ℕ} → Used a ≡ checked r → (x : A) × (r ≡ took a x)
@@ -46,9 +46,9 @@ cases-size (c ∷ cs) = one (c .case) (c .target) (cases-size cs)
 
 -- A node has few bytes.
 pub node-size : (node : Node ℕ) → NodeFields node → length (nodeBytes node) ≤ 1793
-node-size (end fail) h = omega arith
-node-size (end suspend) h = omega arith
-node-size (end (execute i)) h = omega arith
+node-size (end failNode) h = omega arith
+node-size (end suspendNode) h = omega arith
+node-size (end (executeNode i)) h = omega arith
 node-size (switch n cs x y) h = omega (arith, cases-size cs, h .4)
 node-size (pairNode p q x y) h = omega arith
 

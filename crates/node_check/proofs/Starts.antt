@@ -9,8 +9,8 @@ use Rattle.records.specs.Reading.{took}
 use Rattle.decision.specs.Node.{Node}
 use Rattle.decision.specs.GraphBytes.{nodeBytes, nodesBytes}
 use Rattle.node_check.specs.views.CheckNode.{startsFrom}
-use Rattle.graph.specs.views.Rewriting.{readRecord}
 use Rattle.graph.proofs.SpelledNodes.{NodeFields, node-spelled}
+use Rattle.graph.specs.ReadGraph.{readRecord}
 
 module _ (s : List ℕ) where
   -- Where the bytes of the nodes stand at a position, those of node k and the later ones stand at start k.

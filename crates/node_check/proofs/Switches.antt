@@ -20,11 +20,12 @@ use Rattle.node_check.specs.declared.NodeCheck.the-variants.{Used, Refus
 use Rattle.graph.specs.declared.CaseHead.{CaseHead}
 use Rattle.graph.specs.declared.CaseHead.the-variants as head
 use Rattle.graph.specs.declared.CaseRecord.the-variants.{Symbol, Compound, Numbers}
-use Rattle.graph.specs.NodeRecord.{caseHead}
-use Rattle.graph.specs.ReadGraph.{onCase, onNode, readCases, allInside, casesAscend, askNode}
+use Rattle.graph.specs.views.NodeRecord.{caseHead, onCase, onNode}
+use Rattle.graph.specs.ReadGraph.{readCases, allInside, casesAscend, askRangeAndOrder, readCase}
 use Rattle.node_check.specs.views.CaseCodes.{CasesFound, casesFound, checkedCases}
 use Rattle.node_check.specs.views.CheckNode.{checked, switchCheck}
 use Rattle.node_check.proofs.CasesPass.{HeadFits, head-fits}
+use Rattle.graph.proofs.ByKinds.{case-by-kind}
 
 -- What is known of the reading of n cases: a case has at most 7 bytes, and question 22 alone refuses.
 abbrev CasesTold : {A : Type 0} → ℕ → Reading A → Type 0
@@ -40,7 +41,9 @@ case-told s (head.Refused q) f = f
 cases-told : (n : ℕ) (s : List ℕ) → CasesTold n (readCases n s)
 unfolding readRow
 cases-told zero s = omega arith
-cases-told (suc n) s = first (onCase (caseHead s)) (case-told s (caseHead s) (head-fits s)) (λ a. cases-told n (drop a s))
+cases-told (suc n) s =
+    first (readCase s) (subst (CasesTold 1) (sym (case-by-kind s)) (case-told s (caseHead s) (head-fits s)))
+    (λ a. cases-told n (drop a s))
   where
     behind
         : (a : ℕ) (c : CaseEdge ℕ) (r : Reading (List (CaseEdge ℕ))) → a ≤ 7 → CasesTold n r
@@ -79,10 +82,10 @@ module _ (known : Bool) (count nodes : ℕ) (s : List ℕ) where
         ∙ ap (λ (x : Reading (List (CaseEdge ℕ))). checked (asking x)) h
 
     -- Cases that are not whole.
-    pub switch-refused : {q : ℕ} → r ≡ cases.Refused q → Refused 22 ≡ switchCheck known count nodes s
-    switch-refused {q} h =
+    pub switch-refused : {q n : ℕ} → r ≡ cases.Refused q → n ≡ q → Refused n ≡ switchCheck known count nodes s
+    switch-refused {q} h d =
         let read = refused-view (casesFound nodes) (readCases count s) (ap checkedCases (sym h) ∙ e) in
-        ap Refused (subst (CasesTold count) read (cases-told count s)) ∙ sym (after-cases read)
+        ap Refused d ∙ sym (after-cases read)
 
     module _ {a : ℕ} {inside ascend : Bool} (h : r ≡ cases.Used a inside ascend) where
       -- Cases have few bytes.
@@ -114,13 +117,13 @@ module _ (known : Bool) (count nodes : ℕ) (s : List ℕ) where
 pub switch-asked
     : (test : Test → Bool) (rules nodes : ℕ) (s : List ℕ) (n count x y : ℕ) {known : Bool}
     → known ≡ (test (place n) && ltb x nodes && ltb y nodes)
-    → switchCheck known count nodes (drop 8 s) ≡ checked (askNode test rules nodes (onNode s (Whole (Switch n count x y))))
+    → switchCheck known count nodes (drop 8 s) ≡ checked (askRangeAndOrder test rules nodes (onNode s (Whole (Switch n count x y))))
 switch-asked test rules nodes s n count x y {known} e = go (leb 1 count) (readCases count (drop 8 s))
   where
     go
         : (b : Bool) (r : Reading (List (CaseEdge ℕ)))
         → checked (ask 22 b (andThen r (λ a cs. ask 23 (known && allInside nodes cs) (ask 24 (casesAscend cs) (took (8 + a) cs)))))
-        ≡ checked (askNode test rules nodes (ask 22 b (after 8 (λ cs. switch n cs x y) r)))
+        ≡ checked (askRangeAndOrder test rules nodes (ask 22 b (after 8 (λ cs. switch n cs x y) r)))
     go true (took a cs) =
         asked-any cs (known && allInside nodes cs) (casesAscend cs) (8 + a)
         ∙ ap (λ (k : Bool). checked {A = Unit} (ask 23 (k && allInside nodes cs) (ask 24 (casesAscend cs) (took (8 + a) tt)))) e

@@ -4,11 +4,12 @@ use crate::CasesCheck;
 use graph::CaseHead;
 use graph::CaseRecord;
 use graph::case_head;
+use graph::case_refusal;
 ghost use mathlib.Core.Path.{_≡_};
 ghost use mathlib.Core.Bool.{_&&_};
 ghost use Rattle.records.specs.Reading.{mapReading};
 ghost use Rattle.graph.specs.ReadGraph.{readCases};
-ghost use Rattle.node_check.specs.views.CaseCodes.{rangeOf, casesFound, checkedCases};
+ghost use Rattle.node_check.specs.views.CaseCodes.{rangeOf, casesFound, checkedCases, casesRefusal};
 
 // The range of a case.
 pub fn case_range(c: CaseRecord) -> CaseRange
@@ -61,7 +62,7 @@ pub fn check_cases(s: &[u8], count: u8, nodes: u16) -> CasesCheck
     while i < count {
         let head = case_head(&s[at..]);
         let CaseHead::Whole(c) = head else {
-            return CasesCheck::Refused(22);
+            return CasesCheck::Refused(case_refusal(head));
         };
         let range = case_range(c);
         inside = both(inside, range.node < nodes);
@@ -71,4 +72,14 @@ pub fn check_cases(s: &[u8], count: u8, nodes: u16) -> CasesCheck
         i += 1;
     }
     CasesCheck::Used(at, inside, ascend)
+}
+
+// The number of the question that cases got a no from, 0 where they are whole.
+pub fn cases_refusal(cases: CasesCheck) -> u8
+    ensures { λ r. ⌜ r ≡ casesRefusal cases ⌝ }
+{
+    match cases {
+        CasesCheck::Used(_, _, _) => 0,
+        CasesCheck::Refused(question) => question,
+    }
 }

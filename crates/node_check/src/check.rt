@@ -2,6 +2,7 @@
 use crate::CasesCheck;
 use crate::NodeCheck;
 use crate::cases::both;
+use crate::cases::cases_refusal;
 use crate::cases::check_cases;
 use crate::kept::has_pair;
 use crate::kept::has_place;
@@ -9,6 +10,7 @@ use graph::Leaf;
 use graph::NodeHead;
 use graph::NodeRecord;
 use graph::node_head;
+use graph::node_refusal;
 ghost use Prim.Native.Nat.{_≤_};
 ghost use mathlib.Core.Path.{_≡_};
 ghost use lib.ListN.{length, drop};
@@ -42,7 +44,7 @@ fn check_switch(s: &[u8], known: bool, count: u8, nodes: u16) -> NodeCheck
     }
     let cases = check_cases(s, count, nodes);
     let CasesCheck::Used(bytes, inside, ascend) = cases else {
-        return NodeCheck::Refused(22);
+        return NodeCheck::Refused(cases_refusal(cases));
     };
     if !both(known, inside) {
         return NodeCheck::Refused(23);
@@ -63,11 +65,13 @@ fn check_node(
     nodes: u16,
 ) -> NodeCheck
     requires { ⌜ (length (now words) ≡ 11) × (count ≤ 65) × (length (now codes) ≡ 65) ⌝ }
-    ensures { λ r. ⌜ r ≡ checked (readNode (keptTest (now (words .entry)) (now (codes .entry)) count) rules nodes (now (s .entry))) ⌝ }
+    ensures { λ r. ⌜ r
+        ≡ checked (readNode (keptTest (now (words .entry)) (now (codes .entry)) count) rules nodes (now
+        (s .entry))) ⌝ }
 {
     let head = node_head(s);
     let NodeHead::Whole(node) = head else {
-        return NodeCheck::Refused(22);
+        return NodeCheck::Refused(node_refusal(head));
     };
     match node {
         NodeRecord::End(leaf) => check_leaf(leaf, rules),
@@ -103,7 +107,10 @@ pub fn check_nodes(
 ) -> NodeCheck
     requires { ⌜ (length (now words) ≡ 11) × (count ≤ 65) × (length (now codes) ≡ 65) ⌝ }
     requires { ⌜ (5 ≤ length (now s)) × (nodes ≤ 1024) × (length (now starts) ≡ 1024) ⌝ }
-    ensures { λ r. ⌜ checkedNodes nodes r (now (starts .exit)) ≡ after 5 (startsFrom 5) (readNodes (keptTest (now (words .entry)) (now (codes .entry)) count) rules nodes (drop 5 (now (s .entry)))) ⌝ }
+    ensures { λ r. ⌜ checkedNodes nodes r (now (starts .exit))
+        ≡ after 5 (startsFrom 5)
+        (readNodes (keptTest (now (words .entry)) (now (codes .entry)) count) rules nodes
+        (drop 5 (now (s .entry)))) ⌝ }
     ensures { λ _. ⌜ length (now (starts .exit)) ≡ 1024 ⌝ }
 {
     let mut at: usize = 5;

@@ -11,16 +11,19 @@ ghost use mathlib.Core.Path.{_≡_};
 ghost use mathlib.Core.List.{[]};
 ghost use lib.ListN.{length, drop};
 ghost use Rattle.records.specs.Writing.{splice};
-ghost use Rattle.decision.specs.Key.{fail};
+ghost use Rattle.decision.specs.Key.{failNode};
 ghost use Rattle.decision.specs.Node.{end};
 ghost use Rattle.decision.specs.GraphBytes.{casesBytes, nodeBytes, nodesBytes};
-ghost use Rattle.graph.specs.ReadGraph.{readCases};
-ghost use Rattle.graph.specs.views.Rewriting.{IsTook, readOr, readRecord, readRecords};
+ghost use Rattle.graph.specs.ReadGraph.{readCases, readRecord};
+ghost use Rattle.graph.specs.views.Rewriting.{IsTook, readOr, readRecords};
 
 // So many cases from a position of the graph to the same of the buffer, and the position behind them.
 fn copy_cases(s: &[u8], buf: &mut [u8], start: usize, count: u8) -> usize
     requires { ⌜ (start ≤ length (now s)) × (length (now s) ≤ length (now buf)) × IsTook (readCases count (drop start (now s))) ⌝ }
-    ensures { λ r. ⌜ (r ≡ start + length (casesBytes (readOr [] (readCases count (drop start (now (s .entry))))))) × (now (buf .exit) ≡ splice (now (buf .entry)) start (casesBytes (readOr [] (readCases count (drop start (now (s .entry))))))) ⌝ }
+    ensures { λ r. ⌜ (r ≡ start + length (casesBytes (readOr [] (readCases count (drop start (now (s .entry)))))))
+        × (now (buf .exit)
+        ≡ splice (now (buf .entry)) start
+        (casesBytes (readOr [] (readCases count (drop start (now (s .entry))))))) ⌝ }
 {
     let mut at = start;
     let mut i: u8 = 0;
@@ -38,7 +41,10 @@ fn copy_cases(s: &[u8], buf: &mut [u8], start: usize, count: u8) -> usize
 // A node from a position of the graph to the same of the buffer, and the position behind it.
 fn copy_node(s: &[u8], buf: &mut [u8], start: usize) -> usize
     requires { ⌜ (start ≤ length (now s)) × (length (now s) ≤ length (now buf)) × IsTook (readRecord (drop start (now s))) ⌝ }
-    ensures { λ r. ⌜ (r ≡ start + length (nodeBytes (readOr (end fail) (readRecord (drop start (now (s .entry))))))) × (now (buf .exit) ≡ splice (now (buf .entry)) start (nodeBytes (readOr (end fail) (readRecord (drop start (now (s .entry))))))) ⌝ }
+    ensures { λ r. ⌜ (r ≡ start + length (nodeBytes (readOr (end failNode) (readRecord (drop start (now (s .entry)))))))
+        × (now (buf .exit)
+        ≡ splice (now (buf .entry)) start
+        (nodeBytes (readOr (end failNode) (readRecord (drop start (now (s .entry))))))) ⌝ }
 {
     let head = node_head(&s[start..]);
     let NodeHead::Whole(node) = head else {
@@ -54,8 +60,13 @@ fn copy_node(s: &[u8], buf: &mut [u8], start: usize) -> usize
 
 // So many nodes from a position of the graph to the same of the buffer, and the position behind them.
 pub fn copy_nodes(s: &[u8], buf: &mut [u8], start: usize, count: u16) -> usize
-    requires { ⌜ (start ≤ length (now s)) × (length (now s) ≤ length (now buf)) × IsTook (readRecords count (drop start (now s))) ⌝ }
-    ensures { λ r. ⌜ (r ≡ start + length (nodesBytes (readOr [] (readRecords count (drop start (now (s .entry))))))) × (now (buf .exit) ≡ splice (now (buf .entry)) start (nodesBytes (readOr [] (readRecords count (drop start (now (s .entry))))))) ⌝ }
+    requires { ⌜ (start ≤ length (now s))
+        × (length (now s) ≤ length (now buf))
+        × IsTook (readRecords count (drop start (now s))) ⌝ }
+    ensures { λ r. ⌜ (r ≡ start + length (nodesBytes (readOr [] (readRecords count (drop start (now (s .entry)))))))
+        × (now (buf .exit)
+        ≡ splice (now (buf .entry)) start
+        (nodesBytes (readOr [] (readRecords count (drop start (now (s .entry))))))) ⌝ }
 {
     let mut at = start;
     let mut i: u16 = 0;

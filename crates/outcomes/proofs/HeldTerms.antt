@@ -22,6 +22,12 @@ use Rattle.outcomes.proofs.FindWith.{findWith, findsWith, with-zero, wi
 use Rattle.outcomes.proofs.Stored.{extent-four}
 use Rattle.outcomes.proofs.CodesCompare.{byCodes, codes-compare}
 
+-- Together with one that is contradicted any outcome is contradicted.
+pub with-contradicted : (x : Outcome) → _and_ x contradicted ≡ contradicted
+with-contradicted holds = refl
+with-contradicted notKnown = refl
+with-contradicted contradicted = refl
+
 -- Rows of other lengths differ.
 other-lengths : (ts us : Terms) → (count ts ≡ count us → ⊥) → compares ts us ≡ contradicted
 other-lengths nil nil other = absurd (other refl)
@@ -29,11 +35,6 @@ other-lengths nil (cons u us) other = refl
 other-lengths (cons t ts) nil other = refl
 other-lengths (cons t ts) (cons u us) other =
     ap (_and_ (compare t u)) (other-lengths ts us (λ e. other (ap suc e))) ∙ with-contradicted (compare t u)
-  where
-    with-contradicted : (x : Outcome) → _and_ x contradicted ≡ contradicted
-    with-contradicted holds = refl
-    with-contradicted notKnown = refl
-    with-contradicted contradicted = refl
 
 -- Two compounds compare by ids and arities, and then by their arguments.
 compounds-compare

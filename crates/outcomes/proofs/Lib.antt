@@ -1,3 +1,4 @@
+-- The laws of cells, comparisons and outcomes by cells.
 pub mod TwoTests
 pub mod Climbing
 pub mod Comparing

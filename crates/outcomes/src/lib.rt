@@ -70,7 +70,8 @@ pub fn both(a: TestOutcome, b: TestOutcome) -> TestOutcome
 
 // Compares the terms at places p and q, with so many levels below the one and the other.
 fn compare(cells: &[u32; 680], below: usize, other: usize, p: usize, q: usize) -> TestOutcome
-    requires { ⌜ (below < 4) × (other < 4) × (p + stride (suc below) ≤ 680) × (q + stride (suc other) ≤ 680) × Narrow (now cells) ⌝ }
+    requires { ⌜ (below < 4) × (other < 4) × (p + stride (suc below) ≤ 680)
+        × (q + stride (suc other) ≤ 680) × Narrow (now cells) ⌝ }
     ensures { λ r. ⌜ outcomeOf r ≡ compareAt (now (cells .entry)) below other p q ⌝ }
 {
     let code = cells[p];
@@ -106,8 +107,10 @@ fn compare_args(
     p: usize,
     q: usize,
 ) -> TestOutcome
-    requires { ⌜ (below < 4) × (other < 4) × (p + n * stride (suc below) ≤ 680) × (q + n * stride (suc other) ≤ 680) × Narrow (now cells) ⌝ }
-    ensures { λ r. ⌜ outcomeOf r ≡ compareRow (compareAt (now (cells .entry)) below other) (stride (suc below)) (stride (suc other)) n p q ⌝ }
+    requires { ⌜ (below < 4) × (other < 4) × (p + n * stride (suc below) ≤ 680)
+        × (q + n * stride (suc other) ≤ 680) × Narrow (now cells) ⌝ }
+    ensures { λ r. ⌜ outcomeOf r
+        ≡ compareRow (compareAt (now (cells .entry)) below other) (stride (suc below)) (stride (suc other)) n p q ⌝ }
 {
     if n == 0 {
         return TestOutcome::Holds;

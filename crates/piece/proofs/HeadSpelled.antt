@@ -7,19 +7,16 @@ use lib.ListN.{length, getD, drop}
 use lib.Seq.{drop-cons}
 use lib.Dec.{eqb·suc-zero}
 use borrow.Author.Tests.{le-leb}
-use Rattle.records.specs.Fields.{IsByte, wideAt, wideThen}
+use Rattle.records.specs.Fields.{wideAt, wideThen, AreBytes}
 use Rattle.records.proofs.WideFields.{wide-bound, high-of, low-of, wide-of}
 use Rattle.terms.specs.Term.{Wide}
 use Rattle.piece.specs.declared.TermRecord.{TermRecord}
 use Rattle.piece.specs.declared.TermRecord.the-variants.{Unknown, Symbol, Number, Compound}
 use Rattle.piece.specs.declared.TermHead.{TermHead}
 use Rattle.piece.specs.declared.TermHead.the-variants.{Whole, Refused}
-use Rattle.piece.specs.TermRecord.{termHead}
+use Rattle.piece.specs.views.TermRecord.{termHead}
 use Rattle.piece.proofs.Heads.{head-cases, recordBytes}
-
--- The numbers are bytes.
-abbrev pub AreBytes : List ℕ → Type 0
-AreBytes s = (i : ℕ) → IsByte (getD s i 0)
+use Rattle.records.proofs.ByteLists.{byte-at}
 
 -- A record, and the bytes that follow it.
 abbrev pub recordThen : TermRecord → List ℕ → List ℕ
@@ -51,14 +48,14 @@ module _ (s : List ℕ) (bytes : AreBytes s) where
       drop-cons s 0 0 (omega arith)
       ∙ ap (λ l. getD s 0 0 ∷ l)
       (drop-cons s 1 0 (omega arith)
-      ∙ ap₂ (λ x l. x ∷ l) (sym (high-of (getD s 1 0) (getD s 2 0) (bytes 1) (bytes 2)))
+      ∙ ap₂ (λ x l. x ∷ l) (sym (high-of (getD s 1 0) (getD s 2 0) (byte-at s 1 bytes) (byte-at s 2 bytes)))
       (drop-cons s 2 0 there
-      ∙ ap (λ x. x ∷ drop 3 s) (sym (low-of (getD s 1 0) (getD s 2 0) (bytes 1) (bytes 2)))))
+      ∙ ap (λ x. x ∷ drop 3 s) (sym (low-of (getD s 1 0) (getD s 2 0) (byte-at s 1 bytes) (byte-at s 2 bytes)))))
 
   -- What is read as a record is spelled.
   pub head-spells : HeadSpells s (termHead s)
   head-spells =
-      let wide = wide-bound (getD s 1 0) (getD s 2 0) (bytes 1) (bytes 2) in
+      let wide = wide-bound (getD s 1 0) (getD s 2 0) (byte-at s 1 bytes) (byte-at s 2 bytes) in
       head-cases (HeadSpells s) s tt
       (λ there kind. (first there ∙ ap (λ x. x ∷ drop 1 s) kind, tt))
       (λ there kind. (wide-field there ∙ ap (λ x. x ∷ wideThen (wideAt s 1) (drop 3 s)) kind, wide))

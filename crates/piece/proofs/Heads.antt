@@ -13,7 +13,7 @@ use Rattle.piece.specs.declared.TermRecord.{TermRecord}
 use Rattle.piece.specs.declared.TermRecord.the-variants.{Unknown, Symbol, Number, Compound}
 use Rattle.piece.specs.declared.TermHead.{TermHead}
 use Rattle.piece.specs.declared.TermHead.the-variants.{Whole, Refused}
-use Rattle.piece.specs.TermRecord.{termHead, wholeIf}
+use Rattle.piece.specs.views.TermRecord.{termHead, wholeIf}
 
 -- What holds of a refusal and of the whole record holds of the record that may be cut.
 whole-cases

@@ -1,6 +1,8 @@
+-- The laws of reading pieces into cells, and of the bytes that spell them.
 pub mod Rooms
 pub mod Readings
 pub mod Heads
+pub mod RecordKinds
 pub mod TermsRead
 pub mod TermCells
 pub mod PiecesRead

@@ -16,7 +16,8 @@ use Rattle.piece.specs.declared.PieceCheck.the-variants as check
 use Rattle.piece.specs.Piece.{Piece}
 use Rattle.piece.specs.ReadPiece.{readTerms, readArity, readPrefix, readPiece}
 use Rattle.piece.specs.views.Cells.{storeTerms}
-use Rattle.piece.specs.views.LaidOut.{LaidOut, PieceResult, termsCells, emptyCells, layOut, arityRead, prefixRead, pieceRead, pieceResult, checkedPiece}
+use Rattle.piece.specs.views.LaidOut.{LaidOut, termsCells, emptyCells, layOut, arityRead, prefixRead, pieceRead}
+use Rattle.piece.specs.CheckPiece.{PieceValues, pieceCheckValues, pieceValues}
 use Rattle.piece.proofs.Readings.{asked, inside, outside}
 
 -- What is known of the bytes where the record that a piece begins with is read.
@@ -124,22 +125,22 @@ module _ (s : List ℕ) (r : Prefix) (cells : List ℕ) (read : prefixRead cells
   piece-refused told = sym (whole ∙ (rw told))
 
 -- The number and the arity that a reading of a laid out piece says.
-abbrev laidOutResult : Reading LaidOut → PieceResult
+abbrev laidOutResult : Reading LaidOut → PieceValues
 laidOutResult (took a x) = record { refusal = 0; arity = x .arity }
 laidOutResult (refused q) = record { refusal = q; arity = 0 }
 
 -- What the answer of a check says,
-check-result : (bytes : ℕ) (cells : List ℕ) (r : PieceCheck) → pieceResult r ≡ laidOutResult (pieceRead bytes cells r)
+check-result : (bytes : ℕ) (cells : List ℕ) (r : PieceCheck) → pieceCheckValues r ≡ laidOutResult (pieceRead bytes cells r)
 check-result bytes cells (check.Accepted n) = refl
 check-result bytes cells (check.Refused q) = refl
 
 -- what a reading says,
-read-result : (r : Reading Piece) → laidOutResult (mapReading layOut r) ≡ checkedPiece r
+read-result : (r : Reading Piece) → laidOutResult (mapReading layOut r) ≡ pieceValues r
 read-result (took a piece) = refl
 read-result (refused q) = refl
 
 -- and both are the same where the answer is that of the reading.
 pub check-says
     : (bytes : ℕ) (cells : List ℕ) (r : PieceCheck) (x : Reading Piece)
-    → pieceRead bytes cells r ≡ mapReading layOut x → pieceResult r ≡ checkedPiece x
+    → pieceRead bytes cells r ≡ mapReading layOut x → pieceCheckValues r ≡ pieceValues x
 check-says bytes cells r x e = check-result bytes cells r ∙ ap laidOutResult e ∙ read-result x

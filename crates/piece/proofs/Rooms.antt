@@ -1,18 +1,12 @@
 -- How many places terms in a row and the arguments of a term take up, and where arguments stand, for any number of
 -- levels below them.
-use Prim.Native.Nat.{ℕ, suc, _+_, _-_, _*_, _≤_, _<_}
+use Prim.Native.Nat.{ℕ, suc, _-_, _*_, _≤_, _<_}
 use mathlib.Core.Path.{_≡_, ap, _∙_}
-use native.Mathlib.Nat.{suc-mul, add-comm, mul-le-mul-right}
+use native.Mathlib.Nat.{mul-le-mul-right}
 use native.Mathlib.Omega.{arith}
 use Rattle.places.specs.Numbering.{stride}
 use Rattle.terms.specs.Term.{Term, Terms, count, unknown, symbol, number, compound, nil, cons}
 use Rattle.terms.specs.Accepted.{Shallow, Shallows}
-
--- A row that is not empty has room for its first term, and for the others after it.
-pub row-room : (n z : ℕ) → (n ≡ 0 → ⊥) → n * z ≡ z + (n - 1) * z
-row-room n z some =
-    let counted : n ≡ suc (n - 1) = omega arith in
-    ap (λ (k : ℕ). k * z) counted ∙ suc-mul (n - 1) z ∙ add-comm ((n - 1) * z) z
 
 -- A term with a level below it has room for itself and for its arguments, at most 4.
 pub arguments-room

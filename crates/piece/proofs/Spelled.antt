@@ -16,9 +16,10 @@ use Rattle.piece.specs.ReadPiece.{readTerms, readArity, readPrefix, read
 use Rattle.piece.specs.WritePiece.{termsBytes, pieceBytes}
 use Rattle.piece.proofs.Readings.{asked, took-bytes}
 use Rattle.piece.proofs.PiecesRead.{ArityRead, arity-read, right-arity}
-use Rattle.piece.proofs.HeadSpelled.{AreBytes}
 use Rattle.piece.proofs.WrittenBytes.{piece-written}
-use Rattle.piece.proofs.TermSpelled.{TermsSpelled, TermsRead, drop-bytes, terms-spelled, terms-read}
+use Rattle.piece.proofs.TermSpelled.{TermsSpelled, TermsRead, terms-spelled, terms-read}
+use Rattle.records.specs.Fields.{AreBytes}
+use Rattle.records.proofs.ByteLists.{bytes-drop}
 
 -- The bytes s begin with the k bytes of an accepted piece.
 pub record Spells (s : List ℕ) (k : ℕ) (piece : Piece) : Type 0 where
@@ -70,7 +71,7 @@ prefix-sound s bytes = head (readArity s) (λ a n read. arity-read s read)
         : (r : Reading ℕ) → ((a n : ℕ) → r ≡ took a n → ArityRead s a n)
         → PrefixRead s (andThen r (λ a n. after a (λ ts. record { arity = n; terms = ts }) (readTerms 3 n (drop a s))))
     head (took a n) known =
-        row a n (known a n refl) (readTerms 3 n (drop a s)) (terms-spelled 3 n (drop a s) (drop-bytes s a bytes))
+        row a n (known a n refl) (readTerms 3 n (drop a s)) (terms-spelled 3 n (drop a s) (bytes-drop a s bytes))
     head (refused q) known = tt
 
 -- The bytes of an accepted piece are read as the piece, whatever follows them.

@@ -16,8 +16,8 @@ use Rattle.piece.specs.declared.TermHead.the-variants.{Whole}
 use Rattle.piece.specs.declared.Taken.{Taken}
 use Rattle.piece.specs.declared.Taken.the-variants as taken
 use Rattle.piece.specs.declared.Taken.the-variants.{Bytes}
-use Rattle.piece.specs.TermRecord.{termHead}
-use Rattle.piece.specs.ReadPiece.{onHead, readTerm, readTerms}
+use Rattle.piece.specs.views.TermRecord.{termHead, onHead}
+use Rattle.piece.specs.ReadPiece.{readTerm, readTerms}
 use Rattle.piece.specs.views.Cells.{compoundCode, storeTerm, storeTerms}
 use Rattle.piece.specs.views.LaidOut.{tookCells, termCells, termsCells}
 use Rattle.piece.proofs.Readings.{bytesOf, bytes-map, map-after, same-views, row-took}

@@ -6,10 +6,10 @@ use mathlib.Core.Bool.{Bool, true, false, _&&_, and-eq-true-iff}
 use mathlib.Core.List.{List, _∷_, _++_, append-assoc}
 use native.Mathlib.Omega.{arith}
 use lib.ListN.{length, drop, length-append}
-use lib.Seq.{drop-drop, drop-append-seam, getD-drop}
+use lib.Seq.{drop-drop, drop-append-seam}
 use lib.Dec.{leb}
 use borrow.Author.Tests.{leb-true}
-use Rattle.records.specs.Fields.{wideThen}
+use Rattle.records.specs.Fields.{wideThen, AreBytes}
 use Rattle.records.specs.Reading.{Reading, took, refused, ask, after, andThen, readRow}
 use Rattle.terms.specs.Term.{Term, Terms, count, unknown, symbol, number, compound, nil, cons, Wide}
 use Rattle.terms.specs.Filling.{WellFormed, WellFormeds}
@@ -17,13 +17,14 @@ use Rattle.terms.specs.Accepted.{Shallow, Shallows}
 use Rattle.piece.specs.declared.TermRecord.the-variants.{Unknown, Symbol, Number, Compound}
 use Rattle.piece.specs.declared.TermHead.{TermHead}
 use Rattle.piece.specs.declared.TermHead.the-variants.{Whole, Refused}
-use Rattle.piece.specs.TermRecord.{termHead}
-use Rattle.piece.specs.ReadPiece.{onHead, readTerm, readTerms}
+use Rattle.piece.specs.views.TermRecord.{termHead, onHead}
+use Rattle.piece.specs.ReadPiece.{readTerm, readTerms}
 use Rattle.piece.specs.WritePiece.{termBytes, termsBytes}
 use Rattle.piece.proofs.Rooms.{no-arguments}
 use Rattle.piece.proofs.Readings.{inside}
 use Rattle.piece.proofs.TermsRead.{readCompound, by-head}
-use Rattle.piece.proofs.HeadSpelled.{AreBytes, recordThen, HeadSpells, head-spells, spelled-head}
+use Rattle.piece.proofs.HeadSpelled.{recordThen, HeadSpells, head-spells, spelled-head}
+use Rattle.records.proofs.ByteLists.{bytes-drop}
 
 -- The bytes s begin with the k bytes of the term t, which is accepted where so many levels are below it;
 pub record TermSpelled (s : List ℕ) (below k : ℕ) (t : Term) : Type 0 where
@@ -48,10 +49,6 @@ TermRead s below (refused q) = Unit
 abbrev pub TermsRead : List ℕ → ℕ → ℕ → Reading Terms → Type 0
 TermsRead s below n (took k ts) = TermsSpelled s below n k ts
 TermsRead s below n (refused q) = Unit
-
--- What follows bytes are bytes.
-pub drop-bytes : (s : List ℕ) (a : ℕ) → AreBytes s → AreBytes (drop a s)
-drop-bytes s a bytes i = rw (getD-drop a s i 0) (bytes (a + i))
 
 -- One term and then the others are spelled one after another.
 cons-spelled
@@ -78,7 +75,7 @@ row-spelled
 unfolding readRow
 row-spelled below one zero s bytes = record { counted = refl; wellFormed = tt; shallow = tt; size = refl; bytes = refl }
 row-spelled below one (suc n) s bytes =
-    first (readTerm below s) (one s bytes) (λ a. row-spelled below one n (drop a s) (drop-bytes s a bytes))
+    first (readTerm below s) (one s bytes) (λ a. row-spelled below one n (drop a s) (bytes-drop a s bytes))
   where
     others
         : (a : ℕ) (t : Term) → TermSpelled s below a t → (r : Reading Terms) → TermsRead (drop a s) below n r
@@ -150,7 +147,7 @@ term-spelled zero s bytes =
 term-spelled (suc below) s bytes =
     rw (by-head (suc below) s)
     (by-head-spelled s (suc below) (λ a n head wide.
-    compound-read s below a n head wide (row-spelled below (term-spelled below) n (drop 4 s) (drop-bytes s 4 bytes)))
+    compound-read s below a n head wide (row-spelled below (term-spelled below) n (drop 4 s) (bytes-drop 4 s bytes)))
     (termHead s) (head-spells s bytes))
 
 -- and so is what is read as a row of terms.

@@ -1,6 +1,6 @@
 -- Laws of reading terms, for any number of levels below them and of terms in a row.
 use Prim.Native.Nat.{ℕ, zero, suc, _-_, _≤_, _<_}
-use mathlib.Core.Path.{_≡_, refl, ap, _∙_}
+use mathlib.Core.Path.{_≡_, ap, _∙_}
 use mathlib.Core.Bool.{Bool, true, false, _&&_}
 use mathlib.Core.List.{List}
 use mathlib.Core.Logic.{_⊎_}
@@ -10,9 +10,10 @@ use lib.Dec.{leb}
 use Rattle.records.specs.Fields.{wideAt}
 use Rattle.records.specs.Reading.{Reading, refused, ask, after}
 use Rattle.terms.specs.Term.{Term, compound, nil, cons}
-use Rattle.piece.specs.TermRecord.{termHead}
-use Rattle.piece.specs.ReadPiece.{onHead, readTerm, readTerms}
+use Rattle.piece.specs.views.TermRecord.{termHead, onHead}
+use Rattle.piece.specs.ReadPiece.{readTerm, readTerms}
 use Rattle.piece.proofs.Heads.{head-cases}
+use Rattle.piece.proofs.RecordKinds.{by-table}
 use Rattle.piece.proofs.Readings.{bytesOf, bytes-after, row-within, inside, outside}
 
 -- What a compound's record, with so many levels below it, goes on to.
@@ -23,8 +24,8 @@ readCompound (suc below) s a n = ask 16 (leb 1 n && leb n 4) (after 4 (compound 
 -- A term is read by its record.
 pub by-head : (below : ℕ) (s : List ℕ) → readTerm below s ≡ onHead (readCompound below s) (termHead s)
 unfolding readTerm readCompound
-by-head zero s = refl
-by-head (suc below) s = refl
+by-head zero s = by-table (readCompound zero s) s
+by-head (suc below) s = by-table (readCompound (suc below) s) s
 
 -- No compound stands where there is no level below.
 pub too-deep : (below : ℕ) (s : List ℕ) (a n : ℕ) → below ≡ 0 → readCompound below s a n ≡ refused 15

@@ -1,3 +1,4 @@
 -- How the code keeps things.
 pub mod Cells
 pub mod LaidOut
+pub mod TermRecord

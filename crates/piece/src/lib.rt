@@ -4,10 +4,12 @@ ghost use Prim.Native.Nat.{suc, _+_, _*_, _≤_, _<_};
 ghost use lib.ListN.{length};
 ghost use Rattle.places.specs.Numbering.{stride};
 ghost use Rattle.records.specs.Reading.{mapReading};
-ghost use Rattle.piece.specs.TermRecord.{termHead, headRefusal};
+ghost use Rattle.piece.specs.views.TermRecord.{termHead, headRefusal};
 ghost use Rattle.piece.specs.ReadPiece.{readArity, readPrefix, readPiece};
 ghost use Rattle.piece.specs.views.Cells.{symbolCode, compoundCode, numberCode};
-ghost use Rattle.piece.specs.views.LaidOut.{tookCells, termCells, termsCells, layOut, arityRead, prefixRead, prefixBytes, pieceRead, pieceResult, checkedPiece};
+ghost use Rattle.piece.specs.views.LaidOut.{tookCells, termCells, termsCells, layOut};
+ghost use Rattle.piece.specs.views.LaidOut.{arityRead, prefixRead, prefixBytes, pieceRead};
+ghost use Rattle.piece.specs.CheckPiece.{pieceCheckValues, pieceValues};
 
 // A whole record of a term.
 pub enum TermRecord {
@@ -197,7 +199,8 @@ fn piece_head(s: &[u8]) -> Prefix
 
 // Reads the piece that the input begins with. Bytes may follow it.
 pub fn read_prefix(s: &[u8], cells: &mut [u32; 680]) -> Prefix
-    ensures { λ r. ⌜ (prefixRead (now (cells .exit)) r ≡ mapReading layOut (readPrefix (now (s .entry)))) × (prefixBytes r ≤ length (now (s .entry))) ⌝ }
+    ensures { λ r. ⌜ (prefixRead (now (cells .exit)) r ≡ mapReading layOut (readPrefix (now (s .entry))))
+        × (prefixBytes r ≤ length (now (s .entry))) ⌝ }
 {
     let head = piece_head(s);
     let Prefix::Read(arity, _) = head else {
@@ -229,7 +232,7 @@ pub fn read_piece(s: &[u8], cells: &mut [u32; 680]) -> PieceCheck
 
 // Checks a piece.
 pub fn check_piece(s: &[u8]) -> PieceCheck
-    ensures { λ r. ⌜ pieceResult r ≡ checkedPiece (readPiece (now (s .entry))) ⌝ }
+    ensures { λ r. ⌜ pieceCheckValues r ≡ pieceValues (readPiece (now (s .entry))) ⌝ }
 {
     let mut cells = [0; 680];
     read_piece(s, &mut cells)

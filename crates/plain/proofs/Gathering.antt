@@ -3,6 +3,7 @@ use mathlib.Core.Path.{_≡_, refl, sym, ap, _∙_}
 use mathlib.Core.List.{List, [], _∷_, _++_}
 use Rattle.basics.specs.Lists.{All}
 use Rattle.terms.specs.Outcome.{Outcome, holds, notKnown, contradicted, _and_, together}
+use Rattle.outcomes.proofs.HeldTerms.{with-contradicted}
 
 -- Three outcomes together, taken in either order.
 pub and-assoc : (x y z : Outcome) → _and_ (_and_ x y) z ≡ _and_ x (_and_ y z)
@@ -19,12 +20,6 @@ pub and-holds : (x : Outcome) → _and_ x holds ≡ x
 and-holds holds = refl
 and-holds notKnown = refl
 and-holds contradicted = refl
-
--- One that is contradicted decides.
-and-contradicted : (x : Outcome) → _and_ x contradicted ≡ contradicted
-and-contradicted holds = refl
-and-contradicted notKnown = refl
-and-contradicted contradicted = refl
 
 -- The outcomes of two lists of tests.
 pub together-append
@@ -48,7 +43,7 @@ module _ (gathered x rest : Outcome) {all : Outcome} (left : _and_ gathered (_an
   -- A contradicted x is the outcome of all.
   pub gathered-stops : x ≡ contradicted → x ≡ all
   gathered-stops e =
-      e ∙ sym (ap (λ y. _and_ gathered (_and_ y rest)) e ∙ and-contradicted gathered) ∙ left
+      e ∙ sym (ap (λ y. _and_ gathered (_and_ y rest)) e ∙ with-contradicted gathered) ∙ left
 
 -- Where nothing is left, all is gathered.
 pub gathered-all : (gathered rest : Outcome) {all : Outcome} → rest ≡ holds → _and_ gathered rest ≡ all → gathered ≡ all

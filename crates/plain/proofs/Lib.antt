@@ -1,3 +1,4 @@
+-- The laws of the plain answer, rule by rule.
 pub mod RuleByRule
 pub mod Gathering
 pub mod NoteTurns
@@ -6,5 +7,4 @@ pub mod SoundNotes
 pub mod NotesRight
 pub mod PiecesRead
 pub mod PieceAnswers
-pub mod ByteLists
-pub mod PlainBytes
+pub mod RulesBehind

@@ -34,7 +34,7 @@ use Rattle.piece.specs.views.LaidOut.{pieceCells}
 use Rattle.outcomes.specs.views.CellOutcome.{wantLow, wantHigh, placeCells}
 use Rattle.outcomes.proofs.PlaceTestsAgree.{SoundWant, place-test-agrees}
 use Rattle.outcomes.proofs.PairTestsAgree.{pair-test-agrees}
-use Rattle.plain.specs.views.NotesOutcome.{testedIf, rangeOutcome, recordOutcome, pairOutcome, placesOutcome, pairsOutcome, notesOutcome, cellsOutcome}
+use Rattle.plain.specs.views.NotesOutcome.{testedIf, rangeOutcome, recordOutcome, pairTestCells, placesOutcome, pairsOutcome, notesOutcome, cellsOutcome}
 use Rattle.plain.proofs.Gathering.{and-holds, together-append, together-same}
 use Rattle.plain.proofs.SoundNotes.{NoteFits, rule-fits, rule-notes-placed}
 
@@ -122,8 +122,8 @@ module _ {arity : ℕ} (piece : Terms) (ok : AcceptedPiece arity piece) (few : a
       → pairsOutcome cells notes ≡ together (outcome.pairOutcome piece) (pairsOf (notesVariables notes))
   pairs-right notes h =
       let pairs = pairsOf (notesVariables notes) in
-      together-same (pairOutcome cells) (outcome.pairOutcome piece) pairs
-      (all-map PairPlaced (λ (x : PairTest). pairOutcome cells x ≡ outcome.pairOutcome piece x)
+      together-same (pairTestCells cells) (outcome.pairOutcome piece) pairs
+      (all-map PairPlaced (λ (x : PairTest). pairTestCells cells x ≡ outcome.pairOutcome piece x)
       (λ x placed. pair-test-agrees arity piece ok few (x .first) (x .second) (placed .0) (placed .1)) pairs
       (pairs-placed (notesVariables notes) (variables-placed notes h)))
 

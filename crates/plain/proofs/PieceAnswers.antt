@@ -17,7 +17,7 @@ use Rattle.sheet_tests.specs.CheckSheet.{acceptSheet}
 use Rattle.piece.specs.Piece.{Piece}
 use Rattle.piece.specs.ReadPiece.{readPiece}
 use Rattle.piece.specs.views.LaidOut.{pieceCells}
-use Rattle.plain.specs.Plain.{PlainValues, pieceReading, plainReading, answerValues, refusalValues, readingValues}
+use Rattle.plain.specs.Plain.{PlainValues, pieceReading, plainReading, answerValues, plainRefusalValues, readingValues}
 use Rattle.plain.specs.views.RuleByRule.{movedBy}
 use Rattle.plain.specs.views.NotesOutcome.{cellsOutcome}
 use Rattle.plain.proofs.RuleByRule.{plain-by-rule, moved-same}
@@ -28,12 +28,12 @@ module _ (arity : ℕ) (rules : List Patterns) (p : List ℕ) where
   asked k piece = ask 20 (eqb arity (piece .arity)) (took 0 (plainAnswer rules (piece .terms)))
 
   -- A piece that is refused.
-  pub piece-refused : {q : ℕ} → readPiece p ≡ refused q → refusalValues q ≡ readingValues (pieceReading arity rules p)
+  pub piece-refused : {q : ℕ} → readPiece p ≡ refused q → plainRefusalValues q ≡ readingValues (pieceReading arity rules p)
   piece-refused e = sym (ap (λ x. readingValues (andThen x asked)) e)
 
   module _ {k : ℕ} {piece : Piece} (read : readPiece p ≡ took k piece) where
     -- A piece of another arity.
-    pub arities-differ : (piece .arity ≡ arity → ⊥) → refusalValues 20 ≡ readingValues (pieceReading arity rules p)
+    pub arities-differ : (piece .arity ≡ arity → ⊥) → plainRefusalValues 20 ≡ readingValues (pieceReading arity rules p)
     arities-differ differ =
         sym
         (ap (λ x. readingValues (andThen x asked)) read
@@ -70,7 +70,7 @@ module _ (s p : List ℕ) where
   answered k sheet = pieceReading (sheet .arity) (sheet .rules) p
 
   -- A sheet that is refused.
-  pub sheet-refused : {q : ℕ} → acceptSheet s ≡ refused q → refusalValues q ≡ readingValues (plainReading s p)
+  pub sheet-refused : {q : ℕ} → acceptSheet s ≡ refused q → plainRefusalValues q ≡ readingValues (plainReading s p)
   unfolding plainReading
   sheet-refused e = sym (ap (λ x. readingValues (andThen x answered)) e)
 

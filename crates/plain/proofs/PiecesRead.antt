@@ -3,8 +3,8 @@ use Prim.Native.Nat.{ℕ}
 use mathlib.Core.Path.{_≡_, sym, ap, _∙_, subst}
 use mathlib.Core.List.{List}
 use native.Mathlib.Omega.{arith}
-use lib.ListN.{length, getD}
-use Rattle.records.specs.Fields.{IsByte}
+use lib.ListN.{length}
+use Rattle.records.specs.Fields.{AreBytes}
 use Rattle.records.specs.Reading.{refused, mapReading}
 use Rattle.records.proofs.Rows.{took-view, refused-view}
 use Rattle.terms.specs.Accepted.{AcceptedPiece}
@@ -15,7 +15,7 @@ use Rattle.piece.specs.views.LaidOut.{LaidOut, layOut, pieceRead}
 use Rattle.piece.proofs.Spelled.{piece-spelled}
 use Rattle.outcomes.specs.views.CompareCells.{Narrow}
 use Rattle.outcomes.proofs.LookFinds.{narrow}
-use Rattle.plain.specs.AcceptedBytes.{ReadAs}
+use Rattle.plain.specs.views.ReadAs.{ReadAs}
 
 module _ (p cells : List ℕ) (r : PieceCheck) (told : pieceRead (length p) cells r ≡ mapReading layOut (readPiece p)) where
   -- The reader refused, so the piece is refused.
@@ -23,7 +23,7 @@ module _ (p cells : List ℕ) (r : PieceCheck) (told : pieceRead (length p) cell
   reader-refused e = refused-view layOut (readPiece p) (sym (ap (pieceRead (length p) cells) e) ∙ told)
 
   -- The reader accepted bytes, so they are those of an accepted piece, and the cells are its cells.
-  pub reader-accepted : {n : ℕ} → r ≡ check.Accepted n → ((i : ℕ) → IsByte (getD p i 0)) → ReadAs p cells n
+  pub reader-accepted : {n : ℕ} → r ≡ check.Accepted n → AreBytes p → ReadAs p cells n
   reader-accepted {n} e bytes =
       let (piece, read, same) = took-view layOut (readPiece p) (sym (ap (pieceRead (length p) cells) e) ∙ told) in
       let sound = piece-spelled p bytes (length p) piece .0 read .0 in

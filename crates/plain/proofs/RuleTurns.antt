@@ -12,7 +12,7 @@ use Rattle.terms.specs.Pattern.{Patterns}
 use Rattle.terms.specs.Outcome.{Outcome}
 use Rattle.terms.specs.Answer.{Answer}
 use Rattle.sheet.specs.ReadSheet.{readRule, readRules}
-use Rattle.plain.specs.Plain.{PlainValues, answerValues, refusalValues, readingValues}
+use Rattle.plain.specs.Plain.{PlainValues, answerValues, plainRefusalValues, readingValues}
 use Rattle.plain.specs.views.RuleByRule.{moved, movedBy}
 
 -- The values do not say how many bytes were read.
@@ -43,7 +43,7 @@ module _ (outcome : Patterns → Outcome) (arity count : ℕ) (s : List ℕ) whe
 
     module _ (h : i < count) where
       -- A rule that is refused ends the reading.
-      pub turn-refused : {q : ℕ} → readRule arity (drop at s) ≡ refused q → refusalValues q ≡ answerFrom i at a
+      pub turn-refused : {q : ℕ} → readRule arity (drop at s) ≡ refused q → plainRefusalValues q ≡ answerFrom i at a
       turn-refused e =
           sym
           (ap (λ x. readingValues (mapReading (movedBy outcome (suc i) a) x))

@@ -1,4 +1,3 @@
 -- What the plain answer of bytes is.
 pub mod Plain
-pub mod AcceptedBytes
 pub mod views

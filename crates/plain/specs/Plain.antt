@@ -30,12 +30,12 @@ pub record PlainValues : Type 0 where
 abbrev pub answerValues : Answer → PlainValues
 answerValues a = record { refusal = 0; word = wordOf a; rule = ruleOf a }
 
-abbrev pub refusalValues : ℕ → PlainValues
-refusalValues q = record { refusal = q; word = 0; rule = 0 }
+abbrev pub plainRefusalValues : ℕ → PlainValues
+plainRefusalValues q = record { refusal = q; word = 0; rule = 0 }
 
 abbrev pub readingValues : Reading Answer → PlainValues
 readingValues (took a x) = answerValues x
-readingValues (refused q) = refusalValues q
+readingValues (refused q) = plainRefusalValues q
 
 -- The answer, and the values of what is handed back.
 abbrev pub answerOf : answer.Answer → Answer
@@ -46,4 +46,4 @@ answerOf answer.the-variants.Fail = fail
 
 abbrev pub plainValues : plain.Plain → PlainValues
 plainValues (plain.the-variants.Answered a) = answerValues (answerOf a)
-plainValues (plain.the-variants.Refused q) = refusalValues q
+plainValues (plain.the-variants.Refused q) = plainRefusalValues q

@@ -4,19 +4,14 @@ use crate::rules::answer_rules;
 use piece::PieceCheck;
 use sheet_tests::SheetCheck;
 ghost use mathlib.Core.Path.{_≡_};
-ghost use mathlib.Core.List.{List};
-ghost use Prim.Native.Nat.{ℕ, _≤_};
-ghost use Rattle.records.specs.Reading.{took};
-ghost use Rattle.basics.specs.Lists.{All};
-ghost use Rattle.terms.specs.Pattern.{Patterns};
-ghost use Rattle.terms.specs.Accepted.{AcceptedRule};
-ghost use Rattle.sheet.specs.ReadSheet.{readRules};
 ghost use Rattle.plain.specs.Plain.{pieceReading, plainReading, plainValues, readingValues};
+ghost use Rattle.plain.specs.views.SheetRules.{SheetRules};
 
 // The answer for a piece by an accepted sheet's rules, which s begins with: the piece's questions, then 20.
 fn answer_piece(s: &[u8], arity: u8, count: u8, p: &[u8]) -> Plain
-    requires { ⌜ arity ≤ 8 ⌝ }
-    ensures { λ r. ⌜ ((bytes : ℕ) (rules : List Patterns) → readRules arity count (now (s .entry)) ≡ took bytes rules → All (AcceptedRule arity) rules → plainValues r ≡ readingValues (pieceReading arity rules (now (p .entry)))) ⌝ }
+    requires { ⌜ SheetRules (now s) arity count ⌝ }
+    ensures { λ r. ⌜ ((k : SheetRules (now (s .entry)) arity count)
+        → plainValues r ≡ readingValues (pieceReading arity (k .rules) (now (p .entry)))) ⌝ }
 {
     let mut cells = [0u32; 680];
     let read = piece::read_piece(p, &mut cells);

@@ -18,7 +18,7 @@ ghost use Rattle.sheet_tests.specs.views.NoteTests.{notesVariables, Placed};
 ghost use Rattle.outcomes.specs.views.CompareCells.{Narrow};
 ghost use Rattle.outcomes.specs.views.CellOutcome.{outcomeOf};
 ghost use Rattle.plain.specs.views.NotesOutcome.{rangeOutcome, recordOutcome, placesOutcome};
-ghost use Rattle.plain.specs.views.NotesOutcome.{pairOutcome, pairsOutcome, notesOutcome};
+ghost use Rattle.plain.specs.views.NotesOutcome.{pairTestCells, pairsOutcome, notesOutcome};
 
 // The outcome of the test of a variable's common range at a place. A high above every number stands for no range, so no test.
 fn range_outcome(cells: &[u32; 680], place: usize, low: u16, high: u32) -> TestOutcome
@@ -78,7 +78,8 @@ fn record_outcome(
 // The outcome of all place tests of a rule. One contradicted settles it, so the others are not made.
 fn places_outcome(notes: &[u64; 680], n: usize, ranges: Ranges, cells: &[u32; 680]) -> TestOutcome
     requires { ⌜ (n ≤ 680) × (length (now notes) ≡ 680) × All Placed (notesIn (now notes) n) ⌝ }
-    ensures { λ r. ⌜ outcomeOf r ≡ placesOutcome (now (cells .entry)) (ranges .low) (ranges .high) (notesIn (now (notes .entry)) n) ⌝ }
+    ensures { λ r. ⌜ outcomeOf r
+        ≡ placesOutcome (now (cells .entry)) (ranges .low) (ranges .high) (notesIn (now (notes .entry)) n) ⌝ }
 {
     let mut outcome = TestOutcome::Holds;
     let mut i: usize = 0;
@@ -108,17 +109,20 @@ fn pairs_with(
     v: u8,
     cells: &[u32; 680],
 ) -> TestOutcome
-    requires { ⌜ (from ≤ n) × (n ≤ 680) × (place < 680) × (length (now notes) ≡ 680) × All Placed (notesIn (now notes) n) × Narrow (now cells) ⌝ }
-    ensures { λ r. ⌜ outcomeOf r ≡ together (pairOutcome (now (cells .entry))) (pairsWith place v (notesVariables (drop from (notesIn (now (notes .entry)) n)))) ⌝ }
+    requires { ⌜ (from ≤ n) × (n ≤ 680) × (place < 680) × (length (now notes) ≡ 680)
+        × All Placed (notesIn (now notes) n) × Narrow (now cells) ⌝ }
+    ensures { λ r. ⌜ outcomeOf r
+        ≡ together (pairTestCells (now (cells .entry)))
+        (pairsWith place v (notesVariables (drop from (notesIn (now (notes .entry)) n)))) ⌝ }
 {
     let mut outcome = TestOutcome::Holds;
-    let mut i = from;
-    while i < n {
-        let code = notes[i];
+    let mut j = from;
+    while j < n {
+        let code = notes[j];
         if sheet_tests::rule::is_named(v, sheet::note_record(code)) {
             outcome = both(outcome, pair_outcome(cells, place, sheet::note_place(code)));
         }
-        i += 1;
+        j += 1;
     }
     outcome
 }

@@ -45,7 +45,8 @@ fn moved(answer: Answer, rule: u8, outcome: TestOutcome) -> Answer
 // The answer so far moved on by a rule. Where two are open no further rule is tested.
 fn moved_by(answer: Answer, rule: u8, notes: &[u64; 680], n: usize, cells: &[u32; 680]) -> Answer
     requires { ⌜ (n ≤ 680) × (length (now notes) ≡ 680) × All Placed (notesIn (now notes) n) × Narrow (now cells) ⌝ }
-    ensures { λ r. ⌜ answerOf r ≡ moved (answerOf answer) rule (notesOutcome (now (cells .entry)) (notesIn (now (notes .entry)) n)) ⌝ }
+    ensures { λ r. ⌜ answerOf r
+        ≡ moved (answerOf answer) rule (notesOutcome (now (cells .entry)) (notesIn (now (notes .entry)) n)) ⌝ }
 {
     if let Answer::Suspend = answer {
         return answer;
@@ -63,7 +64,9 @@ pub fn answer_rules(
     notes: &mut [u64; 680],
 ) -> Plain
     requires { ⌜ (arity ≤ 8) × (length (now notes) ≡ 680) × Narrow (now cells) ⌝ }
-    ensures { λ r. ⌜ plainValues r ≡ readingValues (mapReading (movedBy (cellsOutcome (now (cells .entry))) 1 fail) (readRules arity count (now (s .entry)))) ⌝ }
+    ensures { λ r. ⌜ plainValues r
+        ≡ readingValues (mapReading (movedBy (cellsOutcome (now (cells .entry))) 1 fail)
+        (readRules arity count (now (s .entry)))) ⌝ }
 {
     let mut answer = Answer::Fail;
     let mut at: usize = 0;

@@ -4,71 +4,89 @@ use Prim.Native.Nat.{ℕ, _+_, _≤_}
 use mathlib.Core.Path.{_≡_, refl, sym, ap, subst, _∙_}
 use mathlib.Core.Bool.{Bool}
 use mathlib.Core.List.{List}
+use mathlib.Core.Option.{some}
 use native.Mathlib.Omega.{arith}
 use lib.ListN.{length, take, drop}
 use lib.Seq.{take-append-seam}
 use borrow.Author.Tests.{le-leb}
-use Rattle.records.specs.Fields.{IsByte}
+use Rattle.records.specs.Fields.{AreBytes}
 use Rattle.records.specs.Reading.{Reading, took, refused, ask, andThen, mapReading}
 use Rattle.records.specs.Writing.{splice}
-use Rattle.basics.specs.Lists.{All}
 use Rattle.sheet.specs.Sheet.{Sheet}
 use Rattle.sheet_tests.specs.CheckSheet.{acceptSheet, AcceptedSheet}
 use Rattle.accepted.proofs.Acceptance.{sheet-accepted}
 use Rattle.decision.specs.Node.{Node}
-use Rattle.decision.specs.Graph.{lowestFirst}
+use Rattle.decision.specs.Graph.{lowestFirst, graphOf}
 use Rattle.decision.specs.GraphBytes.{graphBytes}
 use Rattle.decision.specs.AcceptedGraph.{AcceptedGraph}
-use Rattle.decision.proofs.BuiltGraph.{built-graph-accepted}
+use Rattle.decision.proofs.built.BuiltGraph.{built-graph-accepted}
 use Rattle.graph.specs.ReadGraph.{readGraph}
 use Rattle.graph.proofs.Spelled.{graph-brought, graph-read}
-use Rattle.graph_check.specs.CheckGraph.{graphReading}
+use Rattle.graph_check.specs.CheckGraph.{graphReading, graphValues}
 use Rattle.graph_check.specs.Rewritten.{resultOf, askFits, rewritten}
 use Rattle.build.specs.BuildOutcome.{BuildOutcome, buildOutcome}
-use Rattle.build.proofs.BuiltBytes.{Building, bytesOf, built-outcome, outcome-built}
+use Rattle.build.proofs.BuiltBytes.{built-outcome, outcome-built}
 use Rattle.promises.specs.BuiltGraph.{BuiltGraph}
+use Rattle.build.specs.Building.{bytesOf, Building}
 
--- A built graph is that of an accepted sheet.
+-- A built graph is that of an accepted sheet,
 module _ {s buffer g : List ℕ} (built : BuiltGraph s buffer g) where
-  abbrev pub building : Building s buffer
-  building = outcome-built s buffer (built .notRefused)
+  pub built-from : Building s buffer
+  built-from = outcome-built s buffer (built .notRefused)
+
+  -- which is the sheet that its bytes are accepted as.
+  abbrev pub building : {k : ℕ} {sheet : Sheet} → acceptSheet s ≡ took k sheet → Building s buffer
+  building {k} {sheet} accepted =
+      let b = built-from in
+      let read : took (b .taken) (b .sheet) ≡ took k sheet = sym (b .accepted) ∙ accepted in
+      let same : b .sheet ≡ sheet = cc in
+      record {
+        sheet = sheet;
+        taken = k;
+        accepted = accepted;
+        nodes = b .nodes;
+        graph = subst (λ (x : Sheet). graphOf (x .rules) ≡ some (b .nodes)) same (b .graph);
+        fits = subst (λ (x : Sheet). length (bytesOf x (b .nodes)) ≤ length buffer) same (b .fits);
+      }
 
   -- "The graph written for a sheet is, to the byte, the one document 01 lays down."
-  pub graph-to-the-byte : g ≡ graphBytes (building .sheet .arity) (length (building .sheet .rules)) (building .nodes)
-  graph-to-the-byte =
-      let bytes = bytesOf (building .sheet) (building .nodes) in
+  pub graph-to-the-byte : (b : Building s buffer) → g ≡ bytesOf (b .sheet) (b .nodes)
+  graph-to-the-byte b =
+      let bytes = bytesOf (b .sheet) (b .nodes) in
       built .wrote
-      ∙ ap (λ (x : BuildOutcome). take (x .values .bytes) (x .buffer)) (built-outcome s buffer building)
+      ∙ ap (λ (x : BuildOutcome). take (x .values .bytes) (x .buffer)) (built-outcome s buffer b)
       ∙ take-append-seam bytes (drop (0 + length bytes) buffer)
 
   -- It stands at the front of the buffer, and what stood after it is as it was.
   pub rest-of-buffer : buildOutcome s buffer .buffer ≡ splice buffer 0 g
   rest-of-buffer =
-      ap (λ (x : BuildOutcome). x .buffer) (built-outcome s buffer building)
-      ∙ ap (λ (bytes : List ℕ). splice buffer 0 bytes) (sym graph-to-the-byte)
+      ap (λ (x : BuildOutcome). x .buffer) (built-outcome s buffer built-from)
+      ∙ ap (λ (bytes : List ℕ). splice buffer 0 bytes) (sym (graph-to-the-byte built-from))
 
-  module _ (areBytes : All IsByte s) where
-    pub accepted-sheet : AcceptedSheet (building .sheet)
-    accepted-sheet = sheet-accepted s areBytes (building .taken) (building .sheet) .0 (building .accepted) .0
+  module _ (areBytes : AreBytes s) (b : Building s buffer) where
+    pub accepted-sheet : AcceptedSheet (b .sheet)
+    accepted-sheet = sheet-accepted s areBytes (b .taken) (b .sheet) .0 (b .accepted) .0
 
-    pub accepted-graph : AcceptedGraph (building .sheet .rules) (building .nodes)
+    pub accepted-graph : AcceptedGraph (b .sheet .rules) (b .nodes)
     accepted-graph =
-        built-graph-accepted (building .sheet) accepted-sheet (lowestFirst (building .sheet .rules)) (building .nodes)
-        (building .graph)
+        built-graph-accepted (b .sheet) accepted-sheet (lowestFirst (b .sheet .rules)) (b .nodes) (b .graph)
 
-    pub graph-read-back : readGraph (building .sheet) g ≡ took (length g) (building .nodes)
+    pub graph-read-back : readGraph (b .sheet) g ≡ took (length g) (b .nodes)
     graph-read-back =
-        subst (λ (l : List ℕ). readGraph (building .sheet) l ≡ took (length l) (building .nodes)) (sym graph-to-the-byte)
-        (graph-brought (building .sheet) (accepted-sheet .sound) (building .nodes) accepted-graph)
+        subst (λ (l : List ℕ). readGraph (b .sheet) l ≡ took (length l) (b .nodes)) (sym (graph-to-the-byte b))
+        (graph-brought (b .sheet) (accepted-sheet .sound) (b .nodes) accepted-graph)
 
     -- "Reading it brings back the same nodes": the check of the graph accepts it, with its nodes.
-    pub reading-brings-back : graphReading s g ≡ took (length g) (building .nodes)
+    pub reading-brings-back : graphReading s g ≡ took (length g) (b .nodes)
     unfolding graphReading
-    reading-brings-back =
-        ap (λ (r : Reading Sheet). andThen r (λ _ sheet. readGraph sheet g)) (building .accepted) ∙ graph-read-back
+    reading-brings-back = ap (λ (r : Reading Sheet). andThen r (λ _ sheet. readGraph sheet g)) (b .accepted) ∙ graph-read-back
+
+    -- So the questions of a graph refuse nothing.
+    pub built-passes : graphValues (graphReading s g) ≡ record { refusal = 0; nodes = length (b .nodes) }
+    built-passes = ap graphValues reading-brings-back
 
 -- Accepted bytes are written again as they are, where they fit.
-module _ (s g buffer : List ℕ) (sheetBytes : All IsByte s) (areBytes : All IsByte g) where
+module _ (s g buffer : List ℕ) (sheetBytes : AreBytes s) (areBytes : AreBytes g) where
   -- "What is read and written again is the same bytes", of every graph that the check accepts, built or another maker's.
   pub rewriting-same
       : {k : ℕ} {nodes : List (Node ℕ)} → graphReading s g ≡ took k nodes → length g ≤ length buffer

@@ -6,15 +6,14 @@ use native.Mathlib.Omega.{arith}
 use lib.Dec.{leb, eqb}
 use lib.ListN.{length, getD, drop}
 use Rattle.records.specs.Fields.{wideAt}
-use Rattle.records.specs.Reading.{Reading, took, refused, ask, after}
+use Rattle.records.specs.Reading.{Reading, took, refused, ask, after, mapReading}
 use Rattle.terms.specs.Term.{Terms}
 use Rattle.terms.specs.Pattern.{Patterns}
 use Rattle.sheet_tests.specs.SheetTests.{Test}
 use Rattle.sheet.specs.Sheet.{Sheet}
 use Rattle.decision.specs.Node.{Node, CaseEdge, switch}
-use Rattle.decision.specs.Path.{Path, ends, refusedAt, Step, stop, goTo, noWay, through, nodeAt, stepAt, lastStep, nextStep, pathFrom, mostEdges, path}
-use Rattle.decision.specs.Walk.{Reply, answered, atEnd, walk}
-use Rattle.decision.specs.Walk as reply
+use Rattle.decision.specs.Path.{Step, stop, goTo, noWay, nodeAt, stepAt, lastStep, nextStep, pathFrom, mostEdges, path}
+use Rattle.decision.specs.Walk.{walk}
 use Rattle.graph.specs.declared.Leaf.the-variants.{Execute}
 use Rattle.graph.specs.declared.NodeRecord.{NodeRecord}
 use Rattle.graph.specs.declared.NodeRecord.the-variants.{End, Switch, Pair}
@@ -24,16 +23,12 @@ use Rattle.graph.specs.declared.NodeHead.{NodeHead}
 use Rattle.graph.specs.declared.NodeHead.the-variants.{Whole, Refused}
 use Rattle.graph.specs.declared.CaseHead.{CaseHead}
 use Rattle.graph.specs.declared.CaseHead.the-variants as case
-use Rattle.graph.specs.NodeRecord.{wholeNode, wholeCase, nodeHead, caseHead}
-use Rattle.graph.specs.ReadGraph.{onCase, readCases, onNode, isTest, inRange, inOrder, readNode, readNodes, endGraph, hasHeader, readBy, readGraph}
-use Rattle.accepted.proofs.Named.{Between, Named, ask-named, then-named, after-named, row-named}
-
--- The questions of a graph, and those asked along a path.
-abbrev pub GraphQuestion : ℕ → Type 0
-GraphQuestion = Between 21 25
-
-abbrev pub PathQuestion : ℕ → Type 0
-PathQuestion = Between 26 27
+use Rattle.graph.specs.views.NodeRecord.{wholeNode, wholeCase, nodeHead, caseHead, onCase, onNode}
+use Rattle.graph.specs.ReadGraph.{readCases, isSheetTest, inRange, inOrder, readNode, readNodes, endGraph, hasHeader, readBy, readGraph, readCase, readRecord}
+use Rattle.accepted.proofs.Named.{Named, ask-named, then-named, after-named, row-named}
+use Rattle.promises.specs.Questions.{GraphQuestion, PathQuestion}
+use Rattle.graph.proofs.ByKinds.{case-by-kind, node-by-kind}
+use mathlib.Core.Path.{sym, subst}
 
 -- So it is with the record of a case,
 abbrev CaseNamed : CaseHead → Type 0
@@ -64,8 +59,10 @@ on-case-named (case.Refused q) h = h
 
 cases-named : (n : ℕ) (s : List ℕ) → Named GraphQuestion (readCases n s)
 cases-named n s =
-    row-named GraphQuestion [] _∷_ (λ (bytes : List ℕ). onCase (caseHead bytes))
-    (λ (bytes : List ℕ). on-case-named (caseHead bytes) (case-head-named bytes)) n s
+    row-named GraphQuestion [] _∷_ readCase
+    (λ (bytes : List ℕ).
+    subst (Named GraphQuestion) (sym (case-by-kind bytes)) (on-case-named (caseHead bytes) (case-head-named bytes)))
+    n s
 
 -- of a node,
 abbrev NodeNamed : NodeHead → Type 0
@@ -105,9 +102,9 @@ on-node-named s (Refused q) h = h
 module _ (test : Test → Bool) (rules nodes : ℕ) where
   node-named : (s : List ℕ) → Named GraphQuestion (readNode test rules nodes s)
   node-named s =
-      then-named GraphQuestion (onNode s (nodeHead s))
+      then-named GraphQuestion (readRecord s)
       (λ a node. ask 23 (inRange test rules nodes node) (ask 24 (inOrder node) (took a node)))
-      (on-node-named s (nodeHead s) (node-head-named s))
+      (subst (Named GraphQuestion) (sym (node-by-kind s)) (on-node-named s (nodeHead s) (node-head-named s)))
       (λ a node.
       ask-named GraphQuestion 23 (inRange test rules nodes node) (ask 24 (inOrder node) (took a node)) (omega arith, omega arith)
       (ask-named GraphQuestion 24 (inOrder node) (took a node) (omega arith, omega arith) tt))
@@ -120,47 +117,35 @@ end-named bytes (refused q) h = h
 pub graph-named : (sheet : Sheet) (s : List ℕ) → Named GraphQuestion (readGraph sheet s)
 unfolding readBy
 graph-named sheet s =
-    let test = isTest (sheet .rules) in
+    let test = isSheetTest (sheet .rules) in
     let rules = length (sheet .rules) in
     let read : Reading (List (Node ℕ)) = readNodes test rules (wideAt s 3) (drop 5 s) in
     ask-named GraphQuestion 21 (hasHeader (sheet .arity) rules s) (endGraph (length s - 5) read) (omega arith, omega arith)
     (end-named (length s - 5) read
     (row-named GraphQuestion [] _∷_ (readNode test rules (wideAt s 3)) (node-named test rules (wideAt s 3)) (wideAt s 3) (drop 5 s)))
 
--- A path ends at a leaf, or is refused by 26 or 27.
-abbrev PathNamed : Path → Type 0
-PathNamed (ends walked l) = Unit
-PathNamed (refusedAt q) = PathQuestion q
+-- What is made of a reading is refused as it is.
+pub mapped-named : (P : ℕ → Type 0) {A B : Type 0} (f : A → B) (x : Reading A) → Named P x → Named P (mapReading f x)
+mapped-named P f (took a y) h = tt
+mapped-named P f (refused q) h = h
 
-through-named : (n : ℕ) (p : Path) → PathNamed p → PathNamed (through n p)
-through-named n (ends walked l) h = h
-through-named n (refusedAt q) h = h
-
+-- A path is refused by 26 or 27, and so is the walk along it.
 module _ (nodes : List (Node ℕ)) (piece : Terms) where
-  path-named : (more n : ℕ) → PathNamed (pathFrom nodes piece more n)
-  path-named zero n = go (stepAt piece (nodeAt nodes piece n))
+  path-named : (more n : ℕ) → Named PathQuestion (pathFrom nodes piece more n)
+  path-named zero n = go (stepAt piece (nodeAt nodes n))
     where
-      go : (x : Step ℕ) → PathNamed (lastStep nodes piece n x)
+      go : (x : Step ℕ) → Named PathQuestion (lastStep n x)
       go (stop l) = tt
       go (goTo m) = (omega arith, omega arith)
       go noWay = (omega arith, omega arith)
-  path-named (suc more) n = go (path-named more) (stepAt piece (nodeAt nodes piece n))
+  path-named (suc more) n = go (path-named more) (stepAt piece (nodeAt nodes n))
     where
       go
-          : ((m : ℕ) → PathNamed (pathFrom nodes piece more m)) → (x : Step ℕ)
-          → PathNamed (nextStep nodes piece (λ m. pathFrom nodes piece more m) n x)
+          : ((m : ℕ) → Named PathQuestion (pathFrom nodes piece more m)) → (x : Step ℕ)
+          → Named PathQuestion (nextStep (λ m. pathFrom nodes piece more m) n x)
       go later (stop l) = tt
-      go later (goTo m) = through-named n (pathFrom nodes piece more m) (later m)
+      go later (goTo m) = mapped-named PathQuestion _ (pathFrom nodes piece more m) (later m)
       go later noWay = (omega arith, omega arith)
 
-  -- The number of the question that a walk got a no from.
-  abbrev pub ReplyNamed : Reply → Type 0
-  ReplyNamed (answered w) = Unit
-  ReplyNamed (reply.refused q) = PathQuestion q
-
-  pub walk-named : (rules : List Patterns) → ReplyNamed (walk rules nodes piece)
-  walk-named rules = go (path nodes piece) (path-named (mostEdges nodes piece) 0)
-    where
-      go : (p : Path) → PathNamed p → ReplyNamed (atEnd rules nodes piece p)
-      go (ends walked l) h = tt
-      go (refusedAt q) h = h
+  pub walk-named : (rules : List Patterns) → Named PathQuestion (walk rules nodes piece)
+  walk-named rules = mapped-named PathQuestion _ (path nodes piece) (path-named mostEdges 0)

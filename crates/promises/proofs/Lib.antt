@@ -1,14 +1,18 @@
--- Which questions refuse what:
+-- Which questions refuse what, the path behind an edge count, the keys behind node numbers:
 pub mod PieceQuestions
 pub mod GraphQuestions
+pub mod PathEdges
+pub mod KeysBehind
 -- The demands:
 pub mod Demand1
-pub mod LentBuffers
-pub mod EdgeCount
 pub mod Demand2
+pub mod Sharing
+pub mod PlainBytes
 pub mod Demand3
-pub mod Unchecked
 pub mod Waiting
-pub mod MarkedBytes
+pub mod HandedBack
+pub mod Unchecked
+-- The cases that document 01 gives, and its fakes:
+pub mod Marked
 pub mod Example
 pub mod Fakes

@@ -3,27 +3,26 @@ use Prim.Native.Nat.{ℕ}
 use mathlib.Core.Path.{_≡_, refl, sym, ap, _∙_}
 use mathlib.Core.List.{List}
 use lib.ListN.{length, take}
-use Rattle.records.specs.Fields.{IsByte}
+use Rattle.records.specs.Fields.{AreBytes}
 use Rattle.records.specs.Reading.{took}
-use Rattle.basics.specs.Lists.{All}
 use Rattle.sheet.specs.Sheet.{Sheet}
 use Rattle.accepted.specs.views.AcceptedAs.{AcceptedTests}
 use Rattle.graph.specs.ReadGraph.{readGraph}
 use Rattle.node_check.specs.views.CheckNode.{startsFrom}
 use Rattle.walk.specs.views.Ready.{Checked}
 use Rattle.promises.specs.BuiltGraph.{BuiltGraph}
-use Rattle.promises.proofs.Demand2.{building, graph-read-back}
+use Rattle.promises.proofs.Demand2.{graph-read-back}
+use Rattle.build.specs.Building.{Building}
 
 -- With the tests that were read from its sheet and with starts that are where its nodes begin, a built graph is all that the walk
 -- of a checked graph asks for.
 pub built-checked
-    : {s buffer g words codes starts : List ℕ} {arity count pairs : ℕ} (built : BuiltGraph s buffer g) → All IsByte s
+    : {s buffer g words codes starts : List ℕ} {arity count pairs : ℕ} → BuiltGraph s buffer g → AreBytes s
     → AcceptedTests s words codes arity count pairs
-    → startsFrom 5 (building built .nodes) ≡ take (length (building built .nodes)) starts
-    → Checked s g starts words codes arity count pairs (length (building built .nodes))
-built-checked {g = g} built areBytes t begin =
-    let b = building built in
+    → (b : Building s buffer) → startsFrom 5 (b .nodes) ≡ take (length (b .nodes)) starts
+    → Checked s g starts words codes arity count pairs (length (b .nodes))
+built-checked {g = g} built areBytes t b begin =
     let read : took (t .read .bytes) (t .read .sheet) ≡ took (b .taken) (b .sheet) = sym (t .read .accepted) ∙ b .accepted in
     let same : t .read .sheet ≡ b .sheet = cc in
-    let graph = ap (λ (x : Sheet). readGraph x g) same ∙ graph-read-back built areBytes in
+    let graph = ap (λ (x : Sheet). readGraph x g) same ∙ graph-read-back built areBytes b in
     record { sheet = t; graph = record { nodes = b .nodes; read = graph; countIs = refl; begin = begin } }

@@ -1,54 +1,102 @@
 -- The wait sentence, over bytes (document 01, "The walk"): "If every listed test is still not known in a piece filled in further,
 -- suspend stays suspend."
 use Prim.Native.Nat.{ℕ}
-use mathlib.Core.Path.{_≡_, sym, ap, _∙_}
+use mathlib.Core.Path.{_≡_, refl, sym, ap, subst, _∙_}
 use mathlib.Core.List.{List}
-use Rattle.records.specs.Reading.{took}
+use native.Mathlib.Omega.{arith}
+use Rattle.records.specs.Fields.{AreBytes}
+use Rattle.records.specs.Reading.{Reading, took, refused}
 use Rattle.terms.specs.Filling.{FilledFurther}
-use Rattle.terms.specs.Answer.{suspend}
+use Rattle.terms.specs.Answer.{Answer, commit, execute, suspend, fail, wordOf}
 use Rattle.sheet.specs.Sheet.{Sheet}
 use Rattle.piece.specs.Piece.{Piece}
 use Rattle.accepted.proofs.Acceptance.{sheet-accepted}
-use Rattle.plain.specs.AcceptedBytes.{AcceptedBytes}
+use Rattle.promises.specs.AcceptedBytes.{AcceptedBytes}
 use Rattle.decision.specs.Node.{Node}
-use Rattle.decision.specs.Walk.{Walk, walk}
-use Rattle.decision.proofs.WaitSentence.{ListedNotKnown, wait-sentence-accepted, wait-sentence-built}
+use Rattle.decision.specs.AcceptedGraph.{AcceptedGraph}
+use Rattle.decision.specs.Walk.{Walk}
+use Rattle.decision.proofs.waiting.WaitSentence.{wait-sentence-accepted}
 use Rattle.graph.specs.ReadGraph.{readGraph}
 use Rattle.graph.proofs.Spelled.{graph-read}
-use Rattle.basics.specs.Lists.{All}
-use Rattle.records.specs.Fields.{IsByte}
-use Rattle.walk.specs.Walking.{readingOf, walkReply}
+use Rattle.walk.specs.Walking.{walkReply, replyValues}
 use Rattle.promises.specs.BuiltGraph.{BuiltGraph}
-use Rattle.promises.proofs.Demand2.{building, accepted-sheet}
-use Rattle.promises.proofs.Demand3.{walk-over-nodes, nodes-answer, walk-is}
+use Rattle.promises.proofs.Demand2.{building, accepted-graph, graph-read-back}
+use Rattle.promises.proofs.Demand3.{walk-over-nodes}
+use Rattle.promises.proofs.PathEdges.{walk-takes-none}
+use Rattle.decision.specs.Waiting.{ListedNotKnown}
+use Rattle.build.specs.Building.{Building}
+
+-- The word tells whether an answer is suspend.
+word-suspends : (a : Answer) → wordOf a ≡ wordOf suspend → a ≡ suspend
+word-suspends (commit i) e = absurd (omega (arith, e))
+word-suspends (execute i) e = absurd (omega (arith, e))
+word-suspends suspend e = refl
+word-suspends fail e = absurd (omega (arith, e))
 
 module _ {s p q : List ℕ} {sheet : Sheet} {piece further : Piece} (ok : AcceptedBytes s p sheet piece)
     (okFurther : AcceptedBytes s q sheet further) (more : FilledFurther (piece .terms) (further .terms)) where
+  -- Every test that the list holds is not known in the piece filled in further.
+  abbrev StillListed : ℕ → Type 0
+  StillListed waits = ListedNotKnown (sheet .rules) waits (further .terms)
+
+  -- Over a graph that is read as accepted nodes.
+  module _ (g : List ℕ) {k : ℕ} {nodes : List (Node ℕ)} (read : readGraph sheet g ≡ took k nodes)
+      (graph : AcceptedGraph (sheet .rules) nodes) where
+    suspends-still
+        : {w : Walk} → walkReply s g p ≡ took 0 w → w .answer ≡ suspend → StillListed (w .waits) → walkReply s g q ≡ took 0 w
+    suspends-still {w} e suspends listed =
+        walk-over-nodes g okFurther read
+        ∙ wait-sentence-accepted (sheet .rules) nodes graph (piece .terms) (further .terms) more w
+        (sym (walk-over-nodes g ok read) ∙ e) suspends listed
+
+    values-still
+        : replyValues (walkReply s g p) .word ≡ wordOf suspend → StillListed (replyValues (walkReply s g p) .waits)
+        → replyValues (walkReply s g q) ≡ replyValues (walkReply s g p)
+    values-still word listed = go (walkReply s g p) refl
+      where
+        go : (r : Reading Walk) → walkReply s g p ≡ r → replyValues (walkReply s g q) ≡ replyValues (walkReply s g p)
+        go (took k w) e =
+            let none = walk-takes-none (sheet .rules) nodes (piece .terms) (sym (walk-over-nodes g ok read) ∙ e) in
+            let answers = e ∙ ap (λ (n : ℕ). took n w) none in
+            let suspends = word-suspends (w .answer) (ap (λ (x : Reading Walk). replyValues x .word) (sym e) ∙ word) in
+            let here = subst (λ (x : Reading Walk). StillListed (replyValues x .waits)) e listed in
+            ap replyValues (suspends-still answers suspends here ∙ sym answers)
+        go (refused q) e = absurd (omega (arith, ap (λ (x : Reading Walk). replyValues x .word) (sym e) ∙ word))
+
   -- Of every graph that the check accepts, built or another maker's: the walk of the piece filled in further suspends too, with the
   -- same edges and the same wait list.
-  pub wait-sentence-graph
-      : (g : List ℕ) → All IsByte g → {k : ℕ} {nodes : List (Node ℕ)} → readGraph sheet g ≡ took k nodes
-      → (w : Walk) → walkReply s g p ≡ took 0 w → w .answer ≡ suspend
-      → ListedNotKnown (sheet .rules) (w .waits) (further .terms) → walkReply s g q ≡ took 0 w
-  wait-sentence-graph g areBytes {k} {nodes} read w e suspends listed =
-      let sound = sheet-accepted s (ok .areBytes .0) (ok .sheetBytes) sheet .0 (ok .sheetAccepted) .0 .sound in
-      let graph = graph-read sheet sound g areBytes read .accepted in
-      let walks = nodes-answer (walk (sheet .rules) nodes (piece .terms)) (sym (walk-over-nodes g ok read) ∙ e) in
-      walk-over-nodes g okFurther read
-      ∙ ap readingOf
-      (wait-sentence-accepted (sheet .rules) nodes graph (piece .terms) (further .terms) more w walks suspends listed)
+  module _ (g : List ℕ) (areBytes : AreBytes g) {k : ℕ} {nodes : List (Node ℕ)} (read : readGraph sheet g ≡ took k nodes) where
+    graph-accepted : AcceptedGraph (sheet .rules) nodes
+    graph-accepted =
+        let sound = sheet-accepted s (ok .areBytes .0) (ok .sheetTook) sheet .0 (ok .sheetAccepted) .0 .sound in
+        graph-read sheet sound g areBytes read .accepted
 
--- Of every built graph.
-pub wait-sentence
-    : {s buffer g p q : List ℕ} {piece further : Piece} (built : BuiltGraph s buffer g)
-    → AcceptedBytes s p (building built .sheet) piece → AcceptedBytes s q (building built .sheet) further
-    → FilledFurther (piece .terms) (further .terms)
-    → (w : Walk) → walkReply s g p ≡ took 0 w → w .answer ≡ suspend
-    → ListedNotKnown (building built .sheet .rules) (w .waits) (further .terms) → walkReply s g q ≡ took 0 w
-wait-sentence {piece = piece} {further = further} built ok okFurther more w e suspends listed =
-    let b = building built in
-    let walks = nodes-answer (walk (b .sheet .rules) (b .nodes) (piece .terms)) (sym (walk-is built ok) ∙ e) in
-    walk-is built okFurther
-    ∙ ap readingOf
-    (wait-sentence-built (b .sheet) (accepted-sheet built (ok .areBytes .0)) (b .nodes) (b .graph) (piece .terms) (further .terms)
-    more w walks suspends listed)
+    pub wait-sentence-graph
+        : {w : Walk} → walkReply s g p ≡ took 0 w → w .answer ≡ suspend
+        → ListedNotKnown (sheet .rules) (w .waits) (further .terms) → walkReply s g q ≡ took 0 w
+    wait-sentence-graph = suspends-still g read graph-accepted
+
+    -- So it is of the values: of the word that `vt_walk` and of the wait list that `vt_wait` hands back.
+    pub wait-values-graph
+        : replyValues (walkReply s g p) .word ≡ wordOf suspend
+        → ListedNotKnown (sheet .rules) (replyValues (walkReply s g p) .waits) (further .terms)
+        → replyValues (walkReply s g q) ≡ replyValues (walkReply s g p)
+    wait-values-graph = values-still g read graph-accepted
+
+  -- Of every built graph.
+  module _ {buffer g : List ℕ} (built : BuiltGraph s buffer g) where
+    abbrev built-as : Building s buffer
+    built-as = building built (ok .sheetAccepted)
+
+    pub wait-sentence
+        : {w : Walk} → walkReply s g p ≡ took 0 w → w .answer ≡ suspend
+        → ListedNotKnown (sheet .rules) (w .waits) (further .terms) → walkReply s g q ≡ took 0 w
+    wait-sentence =
+        suspends-still g (graph-read-back built (ok .areBytes .0) built-as) (accepted-graph built (ok .areBytes .0) built-as)
+
+    pub wait-values
+        : replyValues (walkReply s g p) .word ≡ wordOf suspend
+        → ListedNotKnown (sheet .rules) (replyValues (walkReply s g p) .waits) (further .terms)
+        → replyValues (walkReply s g q) ≡ replyValues (walkReply s g p)
+    wait-values =
+        values-still g (graph-read-back built (ok .areBytes .0) built-as) (accepted-graph built (ok .areBytes .0) built-as)

@@ -1,2 +1,7 @@
 -- What the theorems speak of besides the definitions of the other crates.
+pub mod Questions
+pub mod AcceptedBytes
 pub mod BuiltGraph
+pub mod Path
+pub mod Marked
+pub mod Example

@@ -40,6 +40,10 @@ recordLength b = suc (bodyIn kinds b)
 abbrev pub kindOf : List ℕ → ℕ
 kindOf bytes = getD bytes 0 0
 
+-- "Does it begin with a whole .. record?"
+abbrev pub beginsWith : ℕ → List ℕ → Bool
+beginsWith k bytes = leb (recordLength k) (length bytes) && eqb (kindOf bytes) k
+
 -- "Is it a whole record of kinds .. to ..?"
 abbrev pub isWhole : ℕ → ℕ → List ℕ → Bool
 isWhole first last bytes =

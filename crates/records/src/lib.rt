@@ -43,7 +43,8 @@ fn copy_in(buf: &mut [u8], bytes: &[u8])
 // sets the byte after the record, or hands back the buffer's end, is none.
 pub fn put(buf: &mut [u8], at: usize, bytes: &[u8]) -> usize
     requires { ⌜ at + length (now bytes) ≤ length (now buf) ⌝ }
-    ensures { λ r. ⌜ (r ≡ at + length (now (bytes .entry))) × (now (buf .exit) ≡ splice (now (buf .entry)) at (now (bytes .entry))) ⌝ }
+    ensures { λ r. ⌜ (r ≡ at + length (now (bytes .entry)))
+        × (now (buf .exit) ≡ splice (now (buf .entry)) at (now (bytes .entry))) ⌝ }
 {
     copy_in(&mut buf[at..], bytes);
     at + bytes.len()

@@ -16,12 +16,12 @@ use Rattle.terms.specs.Pattern.{Pattern, Patterns, countPatterns, theCompound, 
 use Rattle.sheet.specs.declared.PatternRecord.{PatternRecord}
 use Rattle.sheet.specs.declared.PatternRecord.the-variants.{Anything, Symbol, Range, Compound, Variable, Ranged}
 use Rattle.sheet.specs.declared.PatternHead.the-variants.{Whole, Refused}
-use Rattle.sheet.specs.PatternRecord.{patternHead}
-use Rattle.sheet.specs.ReadSheet.{onRecord, onHead, readPattern, readPatterns}
+use Rattle.sheet.specs.views.PatternRecord.{patternHead, onRecord, onHead}
+use Rattle.sheet.specs.ReadSheet.{readPattern, readPatterns}
 use Rattle.sheet.specs.views.Noted.{Note, note, patternNotes, patternsNotes}
 use Rattle.sheet.specs.views.NotesBehind.{leafBehind, patternBehind, rowBehind}
 use Rattle.sheet.proofs.PatternRecord.{the-type}
-use Rattle.sheet.proofs.Heads.{head-refused}
+use Rattle.sheet.proofs.RecordKinds.{by-table}
 
 -- What a compound goes on with: question 5, or question 6 and its arguments.
 abbrev pub compoundOf : ℕ → List ℕ → ℕ → ℕ → Reading Pattern
@@ -32,8 +32,8 @@ compoundOf (suc below) s a n =
 -- A pattern is read by its record.
 pub pattern-by-head : (below : ℕ) (s : List ℕ) → readPattern below s ≡ onHead (compoundOf below s) (patternHead s)
 unfolding readPattern
-pattern-by-head zero s = refl
-pattern-by-head (suc below) s = refl
+pattern-by-head zero s = by-table (compoundOf zero s) s
+pattern-by-head (suc below) s = by-table (compoundOf (suc below) s) s
 
 -- No compound.
 abbrev pub Flat : PatternRecord → Type 0
@@ -86,10 +86,8 @@ module _ (below place : ℕ) (before : List Note) (s : List ℕ) where
   by-record e = ap (mapReading noted) (pattern-by-head below s ∙ ap (onHead (compoundOf below s)) e)
 
   -- Question 4.
-  pub head-no : {q : ℕ} → patternHead s ≡ Refused q → refused 4 ≡ patternRead
-  head-no e =
-      ap refused (sym (head-refused s e))
-      ∙ sym (ap (mapReading noted) (pattern-by-head below s ∙ ap (onHead (compoundOf below s)) e))
+  pub head-no : {q : ℕ} → patternHead s ≡ Refused q → refused q ≡ patternRead
+  head-no e = sym (ap (mapReading noted) (pattern-by-head below s ∙ ap (onHead (compoundOf below s)) e))
 
   -- A record with no level below it.
   pub lowest-read : {r : PatternRecord} → patternHead s ≡ Whole r → below ≡ 0 → leafBehind place before r ≡ patternRead

@@ -1,38 +1,22 @@
 -- The bytes of a record: those that a list begins with, and those that spell the record.
-use Prim.Native.Nat.{ℕ, zero, suc, _+_, _≤_, _<_}
+use Prim.Native.Nat.{ℕ, zero, suc, _+_, _≤_}
 use mathlib.Core.Path.{_≡_, sym, ap, subst, _∙_}
 use mathlib.Core.List.{List, [], _∷_, _++_, map}
 use native.Mathlib.Omega.{arith}
 use lib.ListN.{length, getD, drop}
 use lib.Seq.{drop-cons}
 use borrow.Author.Tests.{ne-eqb, le-leb}
-use Rattle.records.specs.Fields.{IsByte, wideAt, wideThen}
+use Rattle.records.specs.Fields.{wideAt, wideThen, AreBytes}
 use Rattle.records.proofs.WideFields.{wide-bound, high-of, low-of, wide-of}
-use Rattle.basics.specs.Lists.{All, countFrom}
+use Rattle.basics.specs.Lists.{countFrom}
 use Rattle.terms.specs.Term.{Wide}
 use Rattle.sheet.specs.declared.PatternRecord.{PatternRecord}
 use Rattle.sheet.specs.declared.PatternRecord.the-variants.{Anything, Symbol, Range, Compound, Variable, Ranged}
 use Rattle.sheet.specs.declared.PatternHead.{PatternHead}
 use Rattle.sheet.specs.declared.PatternHead.the-variants.{Whole, Refused}
-use Rattle.sheet.specs.PatternRecord.{recordBytes, patternHead}
+use Rattle.sheet.specs.views.PatternRecord.{recordBytes, patternHead}
 use Rattle.sheet.proofs.Heads.{head-cases}
-
--- The bytes of a list behind its first a are bytes too.
-pub bytes-rest : (a : ℕ) (s : List ℕ) → All IsByte s → All IsByte (drop a s)
-bytes-rest zero s h = h
-bytes-rest (suc a) [] h = h
-bytes-rest (suc a) (x ∷ s) h = bytes-rest a s (h .1)
-
--- Each is a byte.
-pub byte-at : (s : List ℕ) → All IsByte s → (i : ℕ) → IsByte (getD s i 0)
-byte-at [] h i = omega arith
-byte-at (x ∷ s) h zero = h .0
-byte-at (x ∷ s) h (suc i) = byte-at s (h .1) i
-
--- A list of which each element is a byte is one of bytes.
-pub bytes-all : (s : List ℕ) → ((i : ℕ) → i < length s → IsByte (getD s i 0)) → All IsByte s
-bytes-all [] each = tt
-bytes-all (x ∷ s) each = (each 0 (omega arith), bytes-all s (λ i inside. each (suc i) (omega arith)))
+use Rattle.records.proofs.ByteLists.{byte-at}
 
 -- The bytes that spell a record.
 abbrev pub recordSpelling : PatternRecord → List ℕ
@@ -68,17 +52,17 @@ pub first-bytes : (k : ℕ) (s : List ℕ) → k ≤ length s → s ≡ part s 0
 first-bytes k s h =
     let e : 0 + k ≡ k = omega arith in bytes-from k 0 s (omega arith) ∙ ap (λ (j : ℕ). part s 0 k ++ drop j s) e
 
-module _ (s : List ℕ) (bytes : All IsByte s) where
+module _ (s : List ℕ) (bytes : AreBytes s) where
   abbrev wide : (i : ℕ) → Wide (wideAt s i)
-  wide i = wide-bound (getD s i 0) (getD s (i + 1) 0) (byte-at s bytes i) (byte-at s bytes (i + 1))
+  wide i = wide-bound (getD s i 0) (getD s (i + 1) 0) (byte-at s i bytes) (byte-at s (i + 1) bytes)
 
   -- Two bytes are those of the wide field that they make.
   two-bytes : (i : ℕ) (rest : List ℕ) → getD s i 0 ∷ getD s (i + 1) 0 ∷ rest ≡ wideThen (wideAt s i) rest
   two-bytes i rest =
       let high = getD s i 0 in
       let low = getD s (i + 1) 0 in
-      λ j. sym (high-of high low (byte-at s bytes i) (byte-at s bytes (i + 1))) j
-      ∷ sym (low-of high low (byte-at s bytes i) (byte-at s bytes (i + 1))) j ∷ rest
+      λ j. sym (high-of high low (byte-at s i bytes) (byte-at s (i + 1) bytes)) j
+      ∷ sym (low-of high low (byte-at s i bytes) (byte-at s (i + 1) bytes)) j ∷ rest
 
   abbrev Spells : PatternHead → Type 0
   Spells (Whole r) = WideFields r × (s ≡ recordSpelling r ++ drop (recordBytes r) s)

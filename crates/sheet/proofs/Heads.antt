@@ -13,7 +13,7 @@ use Rattle.sheet.specs.declared.PatternRecord.{PatternRecord}
 use Rattle.sheet.specs.declared.PatternRecord.the-variants.{Anything, Symbol, Range, Compound, Variable, Ranged}
 use Rattle.sheet.specs.declared.PatternHead.{PatternHead}
 use Rattle.sheet.specs.declared.PatternHead.the-variants.{Whole, Refused}
-use Rattle.sheet.specs.PatternRecord.{recordBytes, wholeIf, patternHead}
+use Rattle.sheet.specs.views.PatternRecord.{recordBytes, wholeIf, patternHead}
 
 module _ (P : PatternHead → Type 0) where
   whole : (k n : ℕ) (r : PatternRecord) → P (Refused 4) → (k ≤ n → P (Whole r)) → P (wholeIf (leb k n) r)
@@ -51,20 +51,14 @@ module _ (P : PatternHead → Type 0) where
         (kind-case 0x23 4 _ _ short compound
         (kind-case 0x24 2 _ _ short variable (kind-case 0x25 6 _ _ short ranged short))))))
 
--- A record's bytes are there, and a refusal is question 4.
-abbrev Said : ℕ → PatternHead → Type 0
-Said n (Whole r) = recordBytes r ≤ n
-Said n (Refused q) = q ≡ 4
-
-head-said : (s : List ℕ) → Said (length s) (patternHead s)
-head-said s =
-    head-cases (Said (length s)) s refl (λ there is. there) (λ there is. there) (λ there is. there) (λ there is. there)
-    (λ there is. there) (λ there is. there)
+-- A record's bytes are there.
+abbrev There : ℕ → PatternHead → Type 0
+There n (Whole r) = recordBytes r ≤ n
+There n (Refused q) = Unit
 
 -- A whole record's bytes are there.
 pub head-whole : (s : List ℕ) {r : PatternRecord} → patternHead s ≡ Whole r → recordBytes r ≤ length s
-head-whole s e = subst (Said (length s)) e (head-said s)
-
--- What is no whole record is refused by question 4.
-pub head-refused : (s : List ℕ) {q : ℕ} → patternHead s ≡ Refused q → q ≡ 4
-head-refused s e = subst (Said (length s)) e (head-said s)
+head-whole s e =
+    subst (There (length s)) e
+    (head-cases (There (length s)) s tt (λ there is. there) (λ there is. there) (λ there is. there) (λ there is. there)
+    (λ there is. there) (λ there is. there))

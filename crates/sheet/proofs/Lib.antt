@@ -3,6 +3,7 @@ pub mod NoteCodes
 pub mod NoteArrays
 -- Of reading patterns:
 pub mod Heads
+pub mod RecordKinds
 pub mod Leaves
 pub mod Compounds
 pub mod Rows

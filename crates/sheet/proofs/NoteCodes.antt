@@ -8,7 +8,7 @@ use Rattle.terms.specs.Term.{Wide}
 use Rattle.sheet.specs.declared.PatternRecord.{PatternRecord}
 use Rattle.sheet.specs.declared.PatternRecord.the-variants.{Anything, Symbol, Range, Compound, Variable, Ranged}
 use Rattle.sheet.specs.views.Noted.{note}
-use Rattle.sheet.specs.views.NoteCode.{packed, noteCode, noteOf, codePlace, codeKind, codeVariable, codeFirst, codeSecond, codeRecord, Fitting}
+use Rattle.sheet.specs.views.NoteCode.{packedNote, noteCode, noteOf, codePlace, codeKind, codeVariable, codeFirst, codeSecond, codeRecord, Fitting}
 
 -- The record of kind k with these fields.
 abbrev recordWith : ℕ → ℕ → ℕ → ℕ → ℕ → PatternRecord
@@ -20,10 +20,10 @@ recordWith k v x y arity =
 -- Each part of a number made of parts that fit is that part.
 note-packed
     : (n k v x y : ℕ) → k < 8 → v < 16 → Wide x → Wide y
-    → noteOf (packed n k v x y) ≡ note n (recordWith k v x y (packed n k v x y % 256))
+    → noteOf (packedNote n k v x y) ≡ note n (recordWith k v x y (packedNote n k v x y % 256))
 unfolding codeRecord
 note-packed n k v x y hk hv hx hy =
-    let c = packed n k v x y in
+    let c = packedNote n k v x y in
     let place : codePlace c ≡ n = omega arith in
     let kind : codeKind c ≡ k = omega arith in
     let variable : codeVariable c ≡ v = omega arith in
@@ -37,7 +37,7 @@ note-kept n Anything h = note-packed n 0 0 0 0 (omega arith) (omega arith) (omeg
 note-kept n (Symbol a) h = note-packed n 1 0 a 0 (omega arith) (omega arith) h (omega arith)
 note-kept n (Range l h) f = note-packed n 2 0 l h (omega arith) (omega arith) (f .0) (f .1)
 note-kept n (Compound a k) h =
-    let arity : packed n 3 0 a k % 256 ≡ k = omega arith in
+    let arity : packedNote n 3 0 a k % 256 ≡ k = omega arith in
     note-packed n 3 0 a k (omega arith) (omega arith) (h .0) (omega arith) ∙ ap (λ (i : ℕ). note n (Compound a i)) arity
 note-kept n (Variable v) h = note-packed n 4 v 0 0 (omega arith) h (omega arith) (omega arith)
 note-kept n (Ranged v l h) f = note-packed n 5 v l h (omega arith) (f .0) (f .1) (f .2)

@@ -13,8 +13,8 @@ use Rattle.terms.specs.Pattern.{Pattern, Patterns, anything, theSymbol, theRang
 use Rattle.sheet.specs.declared.PatternRecord.the-variants.{Anything, Symbol, Range, Compound, Variable, Ranged}
 use Rattle.sheet.specs.declared.PatternHead.{PatternHead}
 use Rattle.sheet.specs.declared.PatternHead.the-variants.{Whole, Refused}
-use Rattle.sheet.specs.PatternRecord.{patternHead}
-use Rattle.sheet.specs.ReadSheet.{onHead, readPattern, readPatterns}
+use Rattle.sheet.specs.views.PatternRecord.{patternHead, onHead}
+use Rattle.sheet.specs.ReadSheet.{readPattern, readPatterns}
 use Rattle.sheet.proofs.Compounds.{compoundOf, pattern-by-head}
 use Rattle.basics.proofs.Booleans.{and-both}
 

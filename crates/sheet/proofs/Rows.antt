@@ -2,7 +2,7 @@
 use Prim.Native.Nat.{ℕ, suc, _+_, _-_, _*_, _≤_, _<_}
 use mathlib.Core.Path.{_≡_, sym, ap, subst, _∙_}
 use mathlib.Core.List.{List, _++_, append-nil, append-assoc}
-use native.Mathlib.Nat.{mul-le-mul-right, suc-mul, add-comm}
+use native.Mathlib.Nat.{mul-le-mul-right}
 use native.Mathlib.Omega.{arith}
 use lib.ListN.{length, take, drop}
 use Rattle.places.specs.Numbering.{stride}
@@ -13,12 +13,6 @@ use Rattle.terms.specs.Pattern.{Patterns, pnil, pcons}
 use Rattle.sheet.specs.ReadSheet.{readPattern, readPatterns}
 use Rattle.sheet.specs.views.Noted.{Note, patternNotes, patternsNotes}
 use Rattle.sheet.specs.views.NotesBehind.{patternBehind, rowBehind}
-
--- A row takes the places of its first and those of the others.
-pub row-room : (count places : ℕ) → (count ≡ 0 → ⊥) → count * places ≡ places + (count - 1) * places
-row-room count places some =
-    let e : count ≡ suc (count - 1) = omega arith in
-    ap (λ (k : ℕ). k * places) e ∙ suc-mul (count - 1) places ∙ add-comm ((count - 1) * places) places
 
 -- Four arguments or fewer have room below their compound.
 pub arguments-room

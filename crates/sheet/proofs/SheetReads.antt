@@ -36,17 +36,17 @@ pub record HeaderIs (s : List ℕ) (k : ℕ) (head : SheetHead) : Type 0 where
   pub whole : 3 ≤ length s
   pub kind : getD s 0 0 ≡ 0x10
   pub arityThere : getD s 1 0 ≡ head .arity
-  pub countThere : getD s 2 0 ≡ head .count
+  pub countThere : getD s 2 0 ≡ head .ruleCount
   pub someArgument : 1 ≤ head .arity
   pub fewArguments : head .arity ≤ 8
-  pub fewRules : head .count ≤ mostRules
+  pub fewRules : head .ruleCount ≤ mostRules
   pub threeBytes : k ≡ 3
 
 -- Where questions 1 and 2 get a yes, question 3 is asked.
 pub header-count
     : (s : List ℕ) → 3 ≤ length s → getD s 0 0 ≡ 0x10 → 1 ≤ getD s 1 0 → getD s 1 0 ≤ 8
     → readHeader s
-    ≡ ask 3 (leb (getD s 2 0) mostRules) (took 3 (record { arity = getD s 1 0; count = getD s 2 0 }))
+    ≡ ask 3 (leb (getD s 2 0) mostRules) (took 3 (record { arity = getD s 1 0; ruleCount = getD s 2 0 }))
 unfolding readHeader
 header-count s whole kind enough few =
     simp (
@@ -87,7 +87,7 @@ header-is s e = subst (HeaderRead s) e (header-asked s)
 -- A sheet that was read has that record and then its rules, to the end.
 pub record SheetIs (s : List ℕ) (k : ℕ) (sheet : Sheet) : Type 0 where
   pub count : ℕ
-  pub header : HeaderIs s 3 (record { arity = sheet .arity; count = count })
+  pub header : HeaderIs s 3 (record { arity = sheet .arity; ruleCount = count })
   pub rulesRead : readRules (sheet .arity) count (drop 3 s) ≡ took (length s - 3) (sheet .rules)
   pub allBytes : k ≡ length s
 
@@ -97,13 +97,13 @@ SheetRead s (refused q) = Unit
 
 rules-asked
     : (s : List ℕ) (head : SheetHead) → HeaderIs s 3 head → (x : Reading (List Patterns))
-    → readRules (head .arity) (head .count) (drop 3 s) ≡ x → SheetRead s (endSheet (head .arity) (length s - 3) x)
+    → readRules (head .arity) (head .ruleCount) (drop 3 s) ≡ x → SheetRead s (endSheet (head .arity) (length s - 3) x)
 rules-asked s head is (took a rules) e =
     ask-holds (SheetRead s) 10 (eqb a (length s - 3)) _ tt
     (λ end.
     let all : a ≡ length s - 3 = eqb-true a (length s - 3) end in
     record {
-      count = head .count;
+      count = head .ruleCount;
       header = is;
       rulesRead = e ∙ ap (λ (n : ℕ). took n rules) all;
       allBytes = omega (arith, is .whole);
@@ -113,14 +113,14 @@ rules-asked s head is (refused q) e = tt
 sheet-asked
     : (s : List ℕ) (x : Reading SheetHead) → readHeader s ≡ x
     → SheetRead s (andThen x
-    (λ a head. endSheet (head .arity) (length s - a) (readRules (head .arity) (head .count) (drop a s))))
+    (λ a head. endSheet (head .arity) (length s - a) (readRules (head .arity) (head .ruleCount) (drop a s))))
 sheet-asked s (took k head) e =
     let is = header-is s e in
     subst (λ (a : ℕ). SheetRead s
-    (endSheet (head .arity) (length s - a) (readRules (head .arity) (head .count) (drop a s))))
+    (endSheet (head .arity) (length s - a) (readRules (head .arity) (head .ruleCount) (drop a s))))
     (sym (is .threeBytes))
     (rules-asked s head (subst (λ (a : ℕ). HeaderIs s a head) (is .threeBytes) is)
-    (readRules (head .arity) (head .count) (drop 3 s)) refl)
+    (readRules (head .arity) (head .ruleCount) (drop 3 s)) refl)
 sheet-asked s (refused q) e = tt
 
 pub sheet-is : (s : List ℕ) {k : ℕ} {sheet : Sheet} → readSheet s ≡ took k sheet → SheetIs s k sheet

@@ -1,54 +1,53 @@
--- How a sheet is read: its arity and rules, or the number of the first question that gets a no (document 01, "Questions
--- at the counter", 1 to 10).
+-- How a sheet is read: its arity and rules, or the number of the first question that gets a no (document 01, "Questions at the
+-- counter", 1 to 10).
 use Prim.Native.Nat.{ℕ, zero, suc, _+_, _-_}
-use mathlib.Core.Bool.{Bool, true, _&&_}
+use mathlib.Core.Bool.{Bool, true, cond, _&&_}
 use mathlib.Core.List.{List, [], _∷_}
 use mathlib.Core.Option.{Option, some, none}
-use lib.ListN.{length, getD, drop}
+use lib.ListN.{length, drop}
 use lib.Dec.{leb, eqb}
+use Rattle.records.specs.Kinds.{recordLength, kindOf, beginsWith, isWhole}
+use Rattle.records.specs.Fields.{byteAt, wideAt}
 use Rattle.records.specs.Reading.{Reading, took, refused, ask, after, andThen, readRow}
-use Rattle.terms.specs.Pattern.{Pattern, Patterns, anything, theSymbol, theRange, theCompound, variable, rangedVariable, pnil, pcons}
+use Rattle.terms.specs.Pattern.{Pattern, Patterns, pnil, pcons}
+use Rattle.terms.specs.Pattern.{anything, theSymbol, theRange, theCompound, variable, rangedVariable}
 use Rattle.terms.specs.RuleTests.{Range, patternsRange}
-use Rattle.sheet.specs.declared.PatternRecord.{PatternRecord}
-use Rattle.sheet.specs.declared.PatternRecord.the-variants.{Anything, Symbol, Range as RangeOf, Compound, Variable, Ranged}
-use Rattle.sheet.specs.declared.PatternHead.{PatternHead}
-use Rattle.sheet.specs.declared.PatternHead.the-variants.{Whole, Refused}
-use Rattle.sheet.specs.PatternRecord.{patternHead}
 use Rattle.sheet.specs.Sheet.{Sheet, SheetHead, mostRules}
 use Rattle.basics.specs.Lists.{allBelow}
 
--- "1 Does it begin with a whole 10 record? 2 Is its arity 1 to 8? 3 Has it at most 32 rules (0 is allowed)?"
+-- "1 Does it begin with a whole 10 record?" "2 Is its arity 1 to 8?" "3 Has it at most 32 rules (0 is allowed)?"
 unfoldable pub readHeader : List ℕ → Reading SheetHead
 readHeader s =
-    ask 1 (leb 3 (length s) && eqb (getD s 0 0) 0x10)
-    (ask 2 (leb 1 (getD s 1 0) && leb (getD s 1 0) 8)
-    (ask 3 (leb (getD s 2 0) mostRules)
-    (took 3 (record { arity = getD s 1 0; count = getD s 2 0 }))))
+    ask 1 (beginsWith 0x10 s)
+    (ask 2 (leb 1 (byteAt s 1) && leb (byteAt s 1) 8)
+    (ask 3 (leb (byteAt s 2) mostRules)
+    (took (recordLength 0x10) (record { arity = byteAt s 1; ruleCount = byteAt s 2 }))))
 
--- "7 Is low at most high? 8 Is the variable 0 to 15?", asked in this order; a compound goes on by compoundOf.
-abbrev pub onRecord : (ℕ → ℕ → Reading Pattern) → PatternRecord → Reading Pattern
-onRecord compoundOf Anything = took 1 anything
-onRecord compoundOf (Symbol a) = took 3 (theSymbol a)
-onRecord compoundOf (RangeOf l h) = ask 7 (leb l h) (took 5 (theRange l h))
-onRecord compoundOf (Compound a n) = compoundOf a n
-onRecord compoundOf (Variable v) = ask 8 (leb v 15) (took 2 (variable v))
-onRecord compoundOf (Ranged v l h) = ask 7 (leb l h) (ask 8 (leb v 15) (took 6 (rangedVariable v l h)))
+-- The pattern of a record, by its kind: "7 Is low at most high?" "8 Is the variable 0 to 15?" A compound is read as given.
+abbrev pub patternOf : Reading Pattern → List ℕ → Reading Pattern
+patternOf compound s =
+    cond (eqb (kindOf s) 0x20) (took (recordLength 0x20) anything)
+    (cond (eqb (kindOf s) 0x21) (took (recordLength 0x21) (theSymbol (wideAt s 1)))
+    (cond (eqb (kindOf s) 0x22)
+    (ask 7 (leb (wideAt s 1) (wideAt s 3)) (took (recordLength 0x22) (theRange (wideAt s 1) (wideAt s 3))))
+    (cond (eqb (kindOf s) 0x23) compound
+    (cond (eqb (kindOf s) 0x24) (ask 8 (leb (byteAt s 1) 15) (took (recordLength 0x24) (variable (byteAt s 1))))
+    (cond (eqb (kindOf s) 0x25)
+    (ask 7 (leb (wideAt s 2) (wideAt s 4))
+    (ask 8 (leb (byteAt s 1) 15) (took (recordLength 0x25) (rangedVariable (byteAt s 1) (wideAt s 2) (wideAt s 4)))))
+    (refused 4))))))
 
--- "5 If compound, is its depth at most 3?" It is 4 where no level is below.
-abbrev pub readLeaf : PatternRecord → Reading Pattern
-readLeaf what = onRecord (λ a n. refused 5) what
-
-abbrev pub onHead : (ℕ → ℕ → Reading Pattern) → PatternHead → Reading Pattern
-onHead compoundOf (Whole r) = onRecord compoundOf r
-onHead compoundOf (Refused q) = refused q
-
--- A pattern with so many levels below it. "6 Is its arity 1 to 4?" Its arguments follow, "in prefix order".
+-- A pattern with so many levels below it: "4 Is it a whole record of kinds 20 to 25?" "5 If compound, is its depth at most 3?"
+-- Its depth is 4 where no level is below. "6 Is its arity 1 to 4?" Its arguments follow, "in prefix order".
 unfoldable pub readPattern : ℕ → List ℕ → Reading Pattern
-readPattern zero s = onHead (λ a n. refused 5) (patternHead s)
+readPattern zero s = ask 4 (isWhole 0x20 0x25 s) (patternOf (refused 5) s)
 readPattern (suc below) s =
-    onHead
-    (λ a n. ask 6 (leb 1 n && leb n 4) (after 4 (theCompound a) (readRow pnil pcons (readPattern below) n (drop 4 s))))
-    (patternHead s)
+    ask 4 (isWhole 0x20 0x25 s)
+    (patternOf
+    (ask 6 (leb 1 (byteAt s 3) && leb (byteAt s 3) 4)
+    (after (recordLength 0x23) (theCompound (wideAt s 1))
+    (readRow pnil pcons (readPattern below) (byteAt s 3) (drop (recordLength 0x23) s))))
+    s)
 
 -- n patterns in a row.
 abbrev pub readPatterns : ℕ → ℕ → List ℕ → Reading Patterns
@@ -80,4 +79,4 @@ unfoldable pub readSheet : List ℕ → Reading Sheet
 readSheet s =
     andThen
     (readHeader s)
-    (λ a head. endSheet (head .arity) (length s - a) (readRules (head .arity) (head .count) (drop a s)))
+    (λ a head. endSheet (head .arity) (length s - a) (readRules (head .arity) (head .ruleCount) (drop a s)))

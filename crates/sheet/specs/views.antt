@@ -5,3 +5,4 @@ pub mod NoteCode
 pub mod NoteArray
 pub mod NotesBehind
 pub mod NoteRanges
+pub mod PatternRecord

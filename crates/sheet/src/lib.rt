@@ -7,6 +7,7 @@ pub mod variable; // the common range of each variable of a rule
 pub use note::note_code;
 pub use note::note_place;
 pub use note::note_record;
+pub use record::header_refusal;
 pub use record::pattern_head;
 pub use record::read_header;
 pub use rule::read_rule;

@@ -3,12 +3,12 @@ use crate::PatternRecord;
 ghost use mathlib.Core.Path.{_≡_};
 ghost use Prim.Native.Nat.{_<_};
 ghost use Rattle.sheet.specs.views.Noted.{note};
-ghost use Rattle.sheet.specs.views.NoteCode.{packed, noteCode, noteOf};
+ghost use Rattle.sheet.specs.views.NoteCode.{packedNote, noteCode, noteOf};
 
 // The parts of a note as one number.
 fn pack(place: usize, kind: u8, variable: u8, first: u16, second: u16) -> u64
     requires { ⌜ place < 680 ⌝ }
-    ensures { λ r. ⌜ r ≡ packed place kind variable first second ⌝ }
+    ensures { λ r. ⌜ r ≡ packedNote place kind variable first second ⌝ }
 {
     let head = (place as u64 * 8 + kind as u64) * 16 + variable as u64;
     (head * 0x1_0000 + first as u64) * 0x1_0000 + second as u64

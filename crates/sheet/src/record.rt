@@ -4,8 +4,8 @@ use crate::PatternHead;
 use crate::PatternRecord;
 ghost use mathlib.Core.Path.{_≡_};
 ghost use Rattle.sheet.specs.ReadSheet.{readHeader};
-ghost use Rattle.sheet.specs.views.HeaderRead.{headerRead};
-ghost use Rattle.sheet.specs.PatternRecord.{patternHead, rangeHead, rangedHead};
+ghost use Rattle.sheet.specs.views.HeaderRead.{headerRead, headerRefusal};
+ghost use Rattle.sheet.specs.views.PatternRecord.{patternHead, rangeHead, rangedHead, headRefusal};
 
 // "At most 32 rules".
 const MOST_RULES: u8 = 32;
@@ -31,6 +31,16 @@ pub fn read_header(s: &[u8]) -> Header
         return Header::Refused(3);
     }
     Header::Of(arity, rules)
+}
+
+// The number of the question that a sheet's first record got a no from, 0 for a record.
+pub fn header_refusal(header: Header) -> u8
+    ensures { λ r. ⌜ r ≡ headerRefusal header ⌝ }
+{
+    match header {
+        Header::Of(_, _) => 0,
+        Header::Refused(question) => question,
+    }
 }
 
 // The range that the input begins with.
@@ -89,5 +99,15 @@ pub fn pattern_head(s: &[u8]) -> PatternHead
         }
         0x25 => ranged_head(s),
         0..=0x1f | 0x26..=255 => PatternHead::Refused(4),
+    }
+}
+
+// The number of the question that a head got a no from, 0 for a whole record.
+pub fn head_refusal(head: PatternHead) -> u8
+    ensures { λ r. ⌜ r ≡ headRefusal head ⌝ }
+{
+    match head {
+        PatternHead::Whole(_) => 0,
+        PatternHead::Refused(question) => question,
     }
 }

@@ -3,6 +3,7 @@ use crate::PatternHead;
 use crate::PatternRecord;
 use crate::Took;
 use crate::note::note_code;
+use crate::record::head_refusal;
 use crate::record::pattern_head;
 use crate::variable::common;
 ghost use mathlib.Core.Path.{_≡_};
@@ -11,11 +12,11 @@ ghost use Prim.Native.Nat.{suc, _+_, _*_, _^_, _≤_, _<_};
 ghost use lib.ListN.{length};
 ghost use Rattle.places.specs.Numbering.{stride};
 ghost use Rattle.records.specs.Reading.{took, mapReading};
-ghost use Rattle.sheet.specs.PatternRecord.{recordBytes};
+ghost use Rattle.sheet.specs.views.PatternRecord.{recordBytes};
 ghost use Rattle.sheet.specs.ReadSheet.{readRule};
 ghost use Rattle.sheet.specs.views.Noted.{note, ruleNotes};
 ghost use Rattle.sheet.specs.views.NoteCode.{Fitting};
-ghost use Rattle.sheet.specs.views.NoteArray.{notesIn, tookNotes, usedAfter, bytesUsed, Within};
+ghost use Rattle.sheet.specs.views.NoteArray.{notesIn, tookNotes, usedAfter, bytesUsed, TookWithin};
 ghost use Rattle.sheet.specs.views.NotesBehind.{leafBehind, patternBehind, rowBehind};
 
 // Notes a record at its place as note n.
@@ -31,7 +32,7 @@ fn put(place: usize, what: PatternRecord, n: usize, notes: &mut [u64; 680])
 fn noted(bytes: usize, place: usize, what: PatternRecord, n: usize, notes: &mut [u64; 680]) -> Took
     requires { ⌜ (place < 680) × Fitting what × (n < 680) × (length (now notes) ≡ 680) ⌝ }
     ensures { λ r. ⌜ tookNotes (now (notes .exit)) r ≡ took bytes (notesIn (now (notes .entry)) n ++ (note place what ∷ [])) ⌝ }
-    ensures { λ r. ⌜ Within bytes (n + 1) (now (notes .exit)) r ⌝ }
+    ensures { λ r. ⌜ TookWithin bytes (n + 1) (now (notes .exit)) r ⌝ }
 {
     put(place, what, n, notes);
     Took::Used(bytes, n + 1)
@@ -52,7 +53,7 @@ fn after(bytes: usize, rest: Took) -> Took
 fn leaf(what: PatternRecord, place: usize, n: usize, notes: &mut [u64; 680]) -> Took
     requires { ⌜ (n ≤ place) × (place < 680) × (length (now notes) ≡ 680) ⌝ }
     ensures { λ r. ⌜ tookNotes (now (notes .exit)) r ≡ leafBehind place (notesIn (now (notes .entry)) n) what ⌝ }
-    ensures { λ r. ⌜ Within (recordBytes what) (n + 1) (now (notes .exit)) r ⌝ }
+    ensures { λ r. ⌜ TookWithin (recordBytes what) (n + 1) (now (notes .exit)) r ⌝ }
 {
     match what {
         PatternRecord::Anything => Took::Used(1, n),
@@ -85,12 +86,13 @@ fn leaf(what: PatternRecord, place: usize, n: usize, notes: &mut [u64; 680]) -> 
 // The pattern that the input begins with, at a place with so many levels below it. Its notes begin at note n.
 fn pattern(s: &[u8], below: usize, place: usize, n: usize, notes: &mut [u64; 680]) -> Took
     requires { ⌜ (below < 4) × (place + stride (suc below) ≤ 680) × (n ≤ place) × (length (now notes) ≡ 680) ⌝ }
-    ensures { λ r. ⌜ tookNotes (now (notes .exit)) r ≡ patternBehind below place (notesIn (now (notes .entry)) n) (now (s .entry)) ⌝ }
-    ensures { λ r. ⌜ Within (length (now (s .entry))) (place + stride (suc below)) (now (notes .exit)) r ⌝ }
+    ensures { λ r. ⌜ tookNotes (now (notes .exit)) r
+        ≡ patternBehind below place (notesIn (now (notes .entry)) n) (now (s .entry)) ⌝ }
+    ensures { λ r. ⌜ TookWithin (length (now (s .entry))) (place + stride (suc below)) (now (notes .exit)) r ⌝ }
 {
     let head = pattern_head(s);
     let PatternHead::Whole(what) = head else {
-        return Took::Refused(4);
+        return Took::Refused(head_refusal(head));
     };
     if below == 0 {
         return leaf(what, place, n, notes);
@@ -116,8 +118,9 @@ fn patterns(
     notes: &mut [u64; 680],
 ) -> Took
     requires { ⌜ (below < 4) × (place + count * stride (suc below) ≤ 680) × (n ≤ place) × (length (now notes) ≡ 680) ⌝ }
-    ensures { λ r. ⌜ tookNotes (now (notes .exit)) r ≡ rowBehind below count place (notesIn (now (notes .entry)) n) (now (s .entry)) ⌝ }
-    ensures { λ r. ⌜ Within (length (now (s .entry))) (place + count * stride (suc below)) (now (notes .exit)) r ⌝ }
+    ensures { λ r. ⌜ tookNotes (now (notes .exit)) r
+        ≡ rowBehind below count place (notesIn (now (notes .entry)) n) (now (s .entry)) ⌝ }
+    ensures { λ r. ⌜ TookWithin (length (now (s .entry))) (place + count * stride (suc below)) (now (notes .exit)) r ⌝ }
 {
     if count == 0 {
         return Took::Used(0, n);
@@ -136,7 +139,7 @@ fn patterns(
 pub fn read_rule(s: &[u8], arity: usize, notes: &mut [u64; 680]) -> Took
     requires { ⌜ (arity ≤ 8) × (length (now notes) ≡ 680) ⌝ }
     ensures { λ r. ⌜ tookNotes (now (notes .exit)) r ≡ mapReading ruleNotes (readRule arity (now (s .entry))) ⌝ }
-    ensures { λ r. ⌜ Within (length (now (s .entry))) 680 (now (notes .exit)) r ⌝ }
+    ensures { λ r. ⌜ TookWithin (length (now (s .entry))) 680 (now (notes .exit)) r ⌝ }
 {
     let read = patterns(s, 3, arity, 0, 0, notes);
     let Took::Used(bytes, n) = read else {

@@ -8,7 +8,7 @@ use lib.Dec.{leb, eqb}
 use lib.ListN.{length, take, drop, replicate, length-append, length-map, length-replicate}
 use lib.Seq.{length-take-le}
 use borrow.Author.Tests.{leb-false, le-leb, lt-leb, eq-eqb, ne-eqb}
-use Rattle.records.specs.Fields.{IsByte}
+use Rattle.records.specs.Fields.{AreBytes}
 use Rattle.records.specs.Reading.{Reading, took, refused, ask, mapReading, andThen}
 use Rattle.records.proofs.Rows.{took-view, refused-view, row-size}
 use Rattle.records.proofs.Spelling.{row-holds}
@@ -20,7 +20,6 @@ use Rattle.terms.specs.Accepted.{AcceptedRule}
 use Rattle.sheet.specs.views.Noted.{Note, ruleNotes}
 use Rattle.sheet.specs.Sheet.{Sheet}
 use Rattle.sheet.specs.ReadSheet.{readRule, readRules, endSheet, readHeader, readSheet}
-use Rattle.sheet.proofs.HeadBytes.{bytes-rest}
 use Rattle.sheet.proofs.ReadsSound.{rule-sound}
 use Rattle.sheet.proofs.SheetReads.{header-is}
 use Rattle.sheet_tests.specs.declared.Name.{Name}
@@ -36,13 +35,14 @@ use Rattle.sheet_tests.specs.views.TestedPlaces.{hasPlace, placesIn, ins
 use Rattle.sheet_tests.specs.views.KeptPairs.{these, many, keptIf, keptOf, pairsIn, codePair}
 use Rattle.sheet_tests.specs.views.NoteTests.{nameOf, occurrence, notesVariables, Placed}
 use Rattle.sheet_tests.specs.views.Gathered.{Gathered, gather, held, gatheredIn, sheetPlaces, sheetCodes}
-use Rattle.sheet_tests.specs.CheckSheet.{mostTests, askTests, acceptSheet, checkValues, sheetValues}
+use Rattle.sheet_tests.specs.CheckSheet.{mostTests, askTests, acceptSheet, sheetCheckValues, sheetValues}
 use Rattle.sheet_tests.specs.views.TestsRead.{keptTests, testsFound, sheetFound, foundValues, Counted, Held}
 use Rattle.sheet_tests.proofs.NotedTests.{rule-placed, rule-varied}
 use Rattle.sheet_tests.proofs.PlaceSets.{places-none}
 use Rattle.sheet_tests.proofs.KeptLists.{pairs-many, pairs-these, keep-all}
 use Rattle.sheet_tests.proofs.TestsSplit.{Small, SmallRule, tests-split, tests-count}
 use Rattle.basics.proofs.Counting.{filter-count}
+use Rattle.records.proofs.ByteLists.{bytes-drop}
 
 -- A variable's place is one of the 680.
 abbrev Within680 : Occurrence → Type 0
@@ -79,10 +79,10 @@ rule-small arity rule accepted few =
     (variables-placed (ruleNotes rule) (rule-placed arity rule accepted few)))
 
 rules-small
-    : (arity n : ℕ) → arity ≤ 8 → (s : List ℕ) → All IsByte s → {k : ℕ} {rules : List Patterns}
+    : (arity n : ℕ) → arity ≤ 8 → (s : List ℕ) → AreBytes s → {k : ℕ} {rules : List Patterns}
     → readRules arity n s ≡ took k rules → All SmallRule rules
 rules-small arity n few s bytes e =
-    row-holds [] _∷_ (readRule arity) (All IsByte) bytes-rest SmallRule (All SmallRule) tt (λ rule rules first rest. (first, rest))
+    row-holds [] _∷_ (readRule arity) AreBytes bytes-drop SmallRule (All SmallRule) tt (λ rule rules first rest. (first, rest))
     (λ t k rule good read. rule-small arity rule (rule-sound arity t good read) few) n s bytes e
 
 -- Arrays of zeros have their entries.
@@ -114,7 +114,7 @@ module _ (arity rules : ℕ) (s : List ℕ) where
 
   -- What the scan of the rules says where it read them.
   pub rules-gathered
-      : (words codes : List ℕ) {r : Scan} {bytes count : ℕ} → arity ≤ 8 → All IsByte s → r ≡ Done bytes count
+      : (words codes : List ℕ) {r : Scan} {bytes count : ℕ} → arity ≤ 8 → AreBytes s → r ≡ Done bytes count
       → gatheredIn words codes r ≡ gatheredRules → RulesRead arity rules s words codes bytes count
   rules-gathered words codes few bytes same gathers =
       let e = sym (ap (gatheredIn words codes) same) ∙ gathers in
@@ -230,9 +230,9 @@ module _ (s : List ℕ) where
   pub header-refused : (words codes : List ℕ) {q : ℕ} → refused q ≡ readHeader s → testsFound words codes (Refused q) ≡ sheetFound (acceptSheet s)
   unfolding acceptSheet readSheet
   header-refused words codes e =
-      ap (λ x. sheetFound (askTests (andThen x (λ a head. endSheet (head .arity) (length s - a) (readRules (head .arity) (head .count) (drop a s)))))) e
+      ap (λ x. sheetFound (askTests (andThen x (λ a head. endSheet (head .arity) (length s - a) (readRules (head .arity) (head .ruleCount) (drop a s)))))) e
 
-  module _ {arity rules : ℕ} (e : took 3 (record { arity = arity; count = rules }) ≡ readHeader s) where
+  module _ {arity rules : ℕ} (e : took 3 (record { arity = arity; ruleCount = rules }) ≡ readHeader s) where
     -- Otherwise its 3 bytes are there, and the arity is at most 8.
     pub header-known : (3 ≤ length s) × (arity ≤ 8)
     header-known = let is = header-is s (sym e) in (is .whole, is .fewArguments)
@@ -241,7 +241,7 @@ module _ (s : List ℕ) where
     pub header-read : acceptSheet s ≡ askTests (endSheet arity (length s - 3) (readRules arity rules (drop 3 s)))
     unfolding acceptSheet readSheet
     header-read =
-        sym (ap (λ x. askTests (andThen x (λ a head. endSheet (head .arity) (length s - a) (readRules (head .arity) (head .count) (drop a s))))) e)
+        sym (ap (λ x. askTests (andThen x (λ a head. endSheet (head .arity) (length s - a) (readRules (head .arity) (head .ruleCount) (drop a s))))) e)
 
 -- What is found says what the check answers,
 pub values-found : (x : Reading Sheet) → foundValues (sheetFound x) ≡ sheetValues x
@@ -251,7 +251,7 @@ values-found (refused q) = refl
 -- where the sheet is refused,
 pub check-no
     : (words codes : List ℕ) {r : TestsRead} {q : ℕ} (x : Reading Sheet) → r ≡ Refused q
-    → testsFound words codes r ≡ sheetFound x → checkValues (check.Refused q) ≡ sheetValues x
+    → testsFound words codes r ≡ sheetFound x → sheetCheckValues (check.Refused q) ≡ sheetValues x
 check-no words codes x same found = ap foundValues (sym (ap (testsFound words codes) same) ∙ found) ∙ values-found x
 
 -- and where it is accepted.
@@ -262,7 +262,7 @@ module _ (words codes : List ℕ) {r : TestsRead} {arity rules places pairs : �
 
   pub check-yes
       : (x : Reading Sheet) → testsFound words codes r ≡ sheetFound x
-      → checkValues (check.Accepted arity rules (places + pairs)) ≡ sheetValues x
+      → sheetCheckValues (check.Accepted arity rules (places + pairs)) ≡ sheetValues x
   check-yes x found =
       let within : pairs ≤ length codes = omega (arith, read-counted .1, held .allCodes) in
       let number : places + pairs ≡ length (keptTests words codes pairs) =

@@ -7,12 +7,13 @@ use mathlib.Core.List.{List, [], _∷_, _++_}
 use native.Mathlib.Omega.{arith}
 use lib.Dec.{T, ltb}
 use lib.ListN.{length}
-use Rattle.basics.specs.Lists.{Mem, here, there, All, filter, countFrom}
+use Rattle.basics.specs.Lists.{Mem, here, there, filter, countFrom}
 use Rattle.basics.specs.Order.{insertBy}
 use Rattle.basics.proofs.ListLaws.{mem-cases, mem-none}
 use Rattle.basics.proofs.Sorted.{Ascending, insert-has, insert-keeps, insert-mem, insert-ascends, number-order}
 use Rattle.sheet_tests.specs.views.TestedPlaces.{insertAll}
 use Rattle.masks.proofs.Listed.{consIf, listFrom}
+use Rattle.basics.proofs.Filters.{all-filter}
 
 module _ {A : Type 0} (f : A → Bool) where
   abbrev consWhere : Bool → A → List A → List A
@@ -43,22 +44,13 @@ module _ {A : Type 0} (f : A → Bool) where
       go false d (inl p) h = absurd (subst T (sym e ∙ ap f p ∙ d) tt)
       go false d (inr k) h = h k
 
-  -- What holds of each thing of the list holds of each that passed.
-  filter-all : (Q : A → Type 0) (xs : List A) → All Q xs → All Q (filter f xs)
-  filter-all Q [] h = tt
-  filter-all Q (y ∷ xs) h = go (f y) (filter-all Q xs (h .1))
-    where
-      go : (b : Bool) → All Q (filter f xs) → All Q (consWhere b y (filter f xs))
-      go true k = (h .0, k)
-      go false k = k
-
   -- Of a list that ascends, those that passed ascend.
   pub filter-ascends : (before : A → A → Bool) (xs : List A) → Ascending before xs → Ascending before (filter f xs)
   filter-ascends before [] a = tt
   filter-ascends before (y ∷ xs) a = go (f y) (filter-ascends before xs (a .1))
     where
       go : (b : Bool) → Ascending before (filter f xs) → Ascending before (consWhere b y (filter f xs))
-      go true k = (filter-all (λ (z : A). T (before y z)) xs (a .0), k)
+      go true k = (all-filter f (λ (z : A). T (before y z)) xs (a .0), k)
       go false k = k
 
   -- Those of two lists joined.

@@ -5,7 +5,7 @@ use mathlib.Core.List.{List, [], _∷_}
 use native.Mathlib.Omega.{arith}
 use lib.ListN.{length, getD, take, drop}
 use lib.Seq.{drop-drop}
-use Rattle.records.specs.Fields.{IsByte}
+use Rattle.records.specs.Fields.{AreBytes}
 use Rattle.records.specs.Reading.{Reading, took, refused, mapReading, after}
 use Rattle.records.proofs.Parts.{rest, rest-length}
 use Rattle.records.proofs.Rows.{took-view, refused-view, row-none, row-refused, row-next}
@@ -15,14 +15,14 @@ use Rattle.terms.specs.Accepted.{AcceptedRule}
 use Rattle.sheet.specs.declared.Took.{Took}
 use Rattle.sheet.specs.declared.Took.the-variants.{Used, Refused}
 use Rattle.sheet.specs.views.Noted.{ruleNotes}
-use Rattle.sheet.specs.views.NoteArray.{notesIn, tookNotes, bytesUsed, notesMade, Within}
+use Rattle.sheet.specs.views.NoteArray.{notesIn, tookNotes, bytesUsed, notesMade, TookWithin}
 use Rattle.sheet.specs.ReadSheet.{readRule, readRules}
-use Rattle.sheet.proofs.HeadBytes.{bytes-rest}
 use Rattle.sheet.proofs.ReadsSound.{rule-sound}
 use Rattle.sheet_tests.specs.views.NoteTests.{Placed}
 use Rattle.sheet_tests.specs.views.Gathered.{Gathered, gathered, gather, gatherNotes, rulePlaces, ruleCodes}
 use Rattle.sheet_tests.proofs.NotedTests.{rule-placed}
 use Rattle.sheet_tests.proofs.Gathering.{notes-fit, gather-rule, gather-more}
+use Rattle.records.proofs.ByteLists.{bytes-drop}
 
 -- A rule that was read behind the first bytes of a list: b bytes, n notes.
 pub record RuleRead (arity at : ℕ) (s notes : List ℕ) (b n : ℕ) : Type 0 where
@@ -41,11 +41,11 @@ module _ (arity at : ℕ) (s notes : List ℕ) (r : Took)
 
   -- What the reader of a rule says where it read one.
   pub rule-read
-      : {b n : ℕ} → arity ≤ 8 → All IsByte s → r ≡ Used b n → Within (length (take (length s - at) (drop at s))) 680 notes r
+      : {b n : ℕ} → arity ≤ 8 → AreBytes s → r ≡ Used b n → TookWithin (length (take (length s - at) (drop at s))) 680 notes r
       → RuleRead arity at s notes b n
   rule-read {b} {n} few bytes same within =
       let (rule, read, noted) = took-view ruleNotes (readRule arity (drop at s)) (sym (ap (tookNotes notes) same) ∙ behind) in
-      let accepted = rule-sound arity (drop at s) (bytes-rest at s bytes) read in
+      let accepted = rule-sound arity (drop at s) (bytes-drop at s bytes) read in
       record {
         rule = rule;
         read = read;
@@ -61,7 +61,7 @@ module _ (arity at : ℕ) (s notes : List ℕ) (r : Took)
   rule-refused same = refused-view ruleNotes (readRule arity (drop at s)) (sym (ap (tookNotes notes) same) ∙ behind)
 
 -- A slice's elements are bytes.
-pub bytes-known : (s : List ℕ) → ((i : ℕ) → getD s i 0 < 256) → All IsByte s
+pub bytes-known : (s : List ℕ) → ((i : ℕ) → getD s i 0 < 256) → AreBytes s
 bytes-known [] h = tt
 bytes-known (x ∷ s) h = (h 0, bytes-known s (λ i. h (suc i)))
 

@@ -21,7 +21,7 @@ askTests read = andThen read (λ a sheet. ask 11 (leb (length (sheetTests (sheet
 unfoldable pub acceptSheet : List ℕ → Reading Sheet
 acceptSheet s = askTests (readSheet s)
 
--- "A sheet is accepted when none of its own questions gets a no."
+-- "A sheet .. is accepted when none of its own questions gets a no."
 pub record AcceptedSheet (sheet : Sheet) : Type 0 where
   pub sound : SoundSheet sheet
   pub fewTests : length (sheetTests (sheet .rules)) ≤ mostTests
@@ -33,9 +33,9 @@ pub record SheetValues : Type 0 where
   pub rules : ℕ
   pub tests : ℕ
 
-abbrev pub checkValues : SheetCheck → SheetValues
-checkValues (Accepted a n t) = record { refusal = 0; arity = a; rules = n; tests = t }
-checkValues (Refused q) = record { refusal = q; arity = 0; rules = 0; tests = 0 }
+abbrev pub sheetCheckValues : SheetCheck → SheetValues
+sheetCheckValues (Accepted a n t) = record { refusal = 0; arity = a; rules = n; tests = t }
+sheetCheckValues (Refused q) = record { refusal = q; arity = 0; rules = 0; tests = 0 }
 
 abbrev pub sheetValues : Reading Sheet → SheetValues
 sheetValues (took k sheet) =

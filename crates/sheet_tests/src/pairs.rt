@@ -24,7 +24,8 @@ fn position(codes: &[u32; 65], n: usize, code: u32) -> usize
 // Puts the code at a place among the first n, and those from there on one place further.
 fn insert_at(codes: &mut [u32; 65], n: usize, at: usize, code: u32)
     requires { ⌜ (at ≤ n) × (n ≤ 64) × (length (now codes) ≡ 65) ⌝ }
-    ensures { λ _. ⌜ take (n + 1) (now (codes .exit)) ≡ take at (now (codes .entry)) ++ (code ∷ drop at (take n (now (codes .entry)))) ⌝ }
+    ensures { λ _. ⌜ take (n + 1) (now (codes .exit))
+        ≡ take at (now (codes .entry)) ++ (code ∷ drop at (take n (now (codes .entry)))) ⌝ }
     ensures { λ _. ⌜ length (now (codes .exit)) ≡ 65 ⌝ }
 {
     let mut i = at;

@@ -10,7 +10,8 @@ ghost use Rattle.basics.specs.Lists.{All};
 ghost use Rattle.sheet.specs.views.NoteArray.{notesIn};
 ghost use Rattle.sheet_tests.specs.views.TestedPlaces.{placesIn, insertAll};
 ghost use Rattle.sheet_tests.specs.views.KeptPairs.{pairCode, pairsIn, keepAll};
-ghost use Rattle.sheet_tests.specs.views.NoteTests.{isTested, testedPlaces, hasRange, nameOf, isNamed, codesWith, notesCodes, Placed};
+ghost use Rattle.sheet_tests.specs.views.NoteTests.{isTested, testedPlaces, hasRange, nameOf, isNamed};
+ghost use Rattle.sheet_tests.specs.views.NoteTests.{codesWith, notesCodes, Placed};
 
 // Has variable v a range?
 fn has_range(high: &[u32; 16], v: u8) -> bool
@@ -42,8 +43,11 @@ fn is_tested(what: PatternRecord, high: &[u32; 16]) -> bool
 // Marks the places of a rule's place tests. Not those of variables that have no range, nor a range's place alone where its
 // variable stands at others too.
 pub fn mark_rule(notes: &[u64; 680], n: usize, high: &[u32; 16], words: &mut [u64; 11])
-    requires { ⌜ (n ≤ 680) × (length (now notes) ≡ 680) × (length (now high) ≡ 16) × (length (now words) ≡ 11) × All Placed (notesIn (now notes) n) ⌝ }
-    ensures { λ _. ⌜ placesIn (now (words .exit)) ≡ insertAll (testedPlaces (hasRange (now (high .entry))) (notesIn (now (notes .entry)) n)) (placesIn (now (words .entry))) ⌝ }
+    requires { ⌜ (n ≤ 680) × (length (now notes) ≡ 680) × (length (now high) ≡ 16) × (length (now words) ≡ 11)
+        × All Placed (notesIn (now notes) n) ⌝ }
+    ensures { λ _. ⌜ placesIn (now (words .exit))
+        ≡ insertAll (testedPlaces (hasRange (now (high .entry))) (notesIn (now (notes .entry)) n))
+        (placesIn (now (words .entry))) ⌝ }
     ensures { λ _. ⌜ length (now (words .exit)) ≡ 11 ⌝ }
 {
     let mut i: usize = 0;
@@ -102,8 +106,10 @@ fn pairs_with(
     codes: &mut [u32; 65],
     count: usize,
 ) -> usize
-    requires { ⌜ (from ≤ n) × (n ≤ 680) × (place < 680) × (length (now notes) ≡ 680) × All Placed (notesIn (now notes) n) × (count ≤ 65) × (length (now codes) ≡ 65) ⌝ }
-    ensures { λ r. ⌜ pairsIn (now (codes .exit)) r ≡ keepAll (codesWith place v (drop from (notesIn (now (notes .entry)) n))) (pairsIn (now (codes .entry)) count) ⌝ }
+    requires { ⌜ (from ≤ n) × (n ≤ 680) × (place < 680) × (length (now notes) ≡ 680) × All Placed (notesIn (now notes) n)
+        × (count ≤ 65) × (length (now codes) ≡ 65) ⌝ }
+    ensures { λ r. ⌜ pairsIn (now (codes .exit)) r
+        ≡ keepAll (codesWith place v (drop from (notesIn (now (notes .entry)) n))) (pairsIn (now (codes .entry)) count) ⌝ }
     ensures { λ r. ⌜ (r ≤ 65) × (length (now (codes .exit)) ≡ 65) ⌝ }
 {
     let mut kept = count;
@@ -123,22 +129,24 @@ fn pairs_with(
 
 // Keeps all pairs of a rule. Not neighbours alone where a variable stands at three places, nor pairs of two variables.
 pub fn pair_rule(notes: &[u64; 680], n: usize, codes: &mut [u32; 65], count: usize) -> usize
-    requires { ⌜ (n ≤ 680) × (length (now notes) ≡ 680) × All Placed (notesIn (now notes) n) × (count ≤ 65) × (length (now codes) ≡ 65) ⌝ }
-    ensures { λ r. ⌜ pairsIn (now (codes .exit)) r ≡ keepAll (notesCodes (notesIn (now (notes .entry)) n)) (pairsIn (now (codes .entry)) count) ⌝ }
+    requires { ⌜ (n ≤ 680) × (length (now notes) ≡ 680) × All Placed (notesIn (now notes) n)
+        × (count ≤ 65) × (length (now codes) ≡ 65) ⌝ }
+    ensures { λ r. ⌜ pairsIn (now (codes .exit)) r
+        ≡ keepAll (notesCodes (notesIn (now (notes .entry)) n)) (pairsIn (now (codes .entry)) count) ⌝ }
     ensures { λ r. ⌜ (r ≤ 65) × (length (now (codes .exit)) ≡ 65) ⌝ }
 {
-    let mut kept = count;
+    let mut pairs = count;
     let mut i: usize = 0;
     while i < n {
-        if 64 < kept {
-            return kept;
+        if 64 < pairs {
+            return pairs;
         }
         let code = notes[i];
         let name = name_of(sheet::note_record(code));
         if let Name::Of(v) = name {
-            kept = pairs_with(notes, n, i + 1, sheet::note_place(code), v, codes, kept);
+            pairs = pairs_with(notes, n, i + 1, sheet::note_place(code), v, codes, pairs);
         }
         i += 1;
     }
-    kept
+    pairs
 }

@@ -16,7 +16,7 @@ ghost use Rattle.sheet.specs.views.NoteArray.{notesIn};
 ghost use Rattle.sheet.specs.ReadSheet.{readRules, endSheet};
 ghost use Rattle.sheet_tests.specs.views.NoteTests.{Placed};
 ghost use Rattle.sheet_tests.specs.views.Gathered.{gather, gatherNotes, held, gatheredIn, Scanned};
-ghost use Rattle.sheet_tests.specs.CheckSheet.{askTests, acceptSheet, checkValues, sheetValues};
+ghost use Rattle.sheet_tests.specs.CheckSheet.{askTests, acceptSheet, sheetCheckValues, sheetValues};
 ghost use Rattle.sheet_tests.specs.views.TestsRead.{testsFound, sheetFound, Held};
 
 // Gathers the tests of a rule from its notes.
@@ -27,8 +27,10 @@ fn gather_rule(
     codes: &mut [u32; 65],
     count: usize,
 ) -> usize
-    requires { ⌜ (n ≤ 680) × (length (now notes) ≡ 680) × All Placed (notesIn (now notes) n) × (length (now words) ≡ 11) × (count ≤ 65) × (length (now codes) ≡ 65) ⌝ }
-    ensures { λ r. ⌜ held (now (words .exit)) (now (codes .exit)) r ≡ gatherNotes (notesIn (now (notes .entry)) n) (held (now (words .entry)) (now (codes .entry)) count) ⌝ }
+    requires { ⌜ (n ≤ 680) × (length (now notes) ≡ 680) × All Placed (notesIn (now notes) n)
+        × (length (now words) ≡ 11) × (count ≤ 65) × (length (now codes) ≡ 65) ⌝ }
+    ensures { λ r. ⌜ held (now (words .exit)) (now (codes .exit)) r
+        ≡ gatherNotes (notesIn (now (notes .entry)) n) (held (now (words .entry)) (now (codes .entry)) count) ⌝ }
     ensures { λ r. ⌜ (length (now (words .exit)) ≡ 11) × (r ≤ 65) × (length (now (codes .exit)) ≡ 65) ⌝ }
 {
     let ranges = sheet::variable_ranges(notes, n);
@@ -47,7 +49,9 @@ fn scan_rules(
     codes: &mut [u32; 65],
 ) -> Scan
     requires { ⌜ (arity ≤ 8) × (length (now notes) ≡ 680) × (length (now words) ≡ 11) × (length (now codes) ≡ 65) ⌝ }
-    ensures { λ r. ⌜ gatheredIn (now (words .exit)) (now (codes .exit)) r ≡ mapReading (λ rs. gather rs (held (now (words .entry)) (now (codes .entry)) 0)) (readRules arity rules (now (s .entry))) ⌝ }
+    ensures { λ r. ⌜ gatheredIn (now (words .exit)) (now (codes .exit)) r
+        ≡ mapReading (λ rs. gather rs (held (now (words .entry)) (now (codes .entry)) 0))
+        (readRules arity rules (now (s .entry))) ⌝ }
     ensures { λ r. ⌜ Scanned (length (now (s .entry))) (now (words .exit)) (now (codes .exit)) r ⌝ }
 {
     let mut at: usize = 0;
@@ -76,7 +80,8 @@ fn read_rules(
     codes: &mut [u32; 65],
 ) -> TestsRead
     requires { ⌜ (arity ≤ 8) × (now words ≡ replicate 11 0) × (now codes ≡ replicate 65 0) ⌝ }
-    ensures { λ r. ⌜ testsFound (now (words .exit)) (now (codes .exit)) r ≡ sheetFound (askTests (endSheet arity (length (now (s .entry))) (readRules arity rules (now (s .entry))))) ⌝ }
+    ensures { λ r. ⌜ testsFound (now (words .exit)) (now (codes .exit)) r
+        ≡ sheetFound (askTests (endSheet arity (length (now (s .entry))) (readRules arity rules (now (s .entry))))) ⌝ }
     ensures { λ r. ⌜ Held (now (words .exit)) (now (codes .exit)) r ⌝ }
 {
     let mut notes = [0u64; 680];
@@ -106,15 +111,15 @@ pub fn read_tests(s: &[u8], words: &mut [u64; 11], codes: &mut [u32; 65]) -> Tes
     ensures { λ r. ⌜ Held (now (words .exit)) (now (codes .exit)) r ⌝ }
 {
     let header = sheet::read_header(s);
-    match header {
-        Header::Refused(q) => TestsRead::Refused(q),
-        Header::Of(arity, rules) => read_rules(&s[3..], arity, rules, words, codes),
-    }
+    let Header::Of(arity, rules) = header else {
+        return TestsRead::Refused(sheet::header_refusal(header));
+    };
+    read_rules(&s[3..], arity, rules, words, codes)
 }
 
 // Checks a sheet: questions 1 to 11. Not a sheet accepted that has 65 tests, nor one refused for its tests that has bytes left.
 pub fn check_sheet(s: &[u8]) -> SheetCheck
-    ensures { λ r. ⌜ checkValues r ≡ sheetValues (acceptSheet (now (s .entry))) ⌝ }
+    ensures { λ r. ⌜ sheetCheckValues r ≡ sheetValues (acceptSheet (now (s .entry))) ⌝ }
 {
     let mut words = [0u64; 11];
     let mut codes = [0u32; 65];

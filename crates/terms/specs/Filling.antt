@@ -39,7 +39,7 @@ mutual
     putNil : Putss P nil nil
     putCons : {t g : Term} {ts gs : Terms} → Puts P t g → Putss P ts gs → Putss P (cons t ts) (cons g gs)
 
--- "A filling puts a term without unknowns in each unknown": of a term, and of a piece.
+-- "A filling puts a term without unknowns, .. in each unknown": of a term, and of a piece.
 abbrev pub Fills : Term → Term → Type 0
 Fills t g = Puts Ground t g
 

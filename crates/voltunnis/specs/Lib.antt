@@ -1,2 +1,3 @@
 -- How the library packs its results.
 pub mod Packed
+pub mod PackedWords

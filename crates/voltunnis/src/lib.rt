@@ -1,4 +1,6 @@
 // The static library. Every call takes byte slices and hands back one number, the refusal's number in its lowest byte.
+mod window_calls; // the calls of a window
+
 use build::Built;
 use graph_check::GraphCheck;
 use graph_check::Rewrote;
@@ -11,17 +13,20 @@ ghost use mathlib.Core.Path.{_≡_};
 ghost use Rattle.terms.specs.Answer.{wordOf, ruleOf};
 ghost use Rattle.sheet_tests.specs.CheckSheet.{acceptSheet, sheetValues};
 ghost use Rattle.piece.specs.ReadPiece.{readPiece};
-ghost use Rattle.piece.specs.views.LaidOut.{checkedPiece};
+ghost use Rattle.piece.specs.CheckPiece.{pieceValues};
 ghost use Rattle.plain.specs.Plain.{answerOf, plainReading, readingValues};
 ghost use Rattle.graph_check.specs.CheckGraph.{graphReading, graphValues};
 ghost use Rattle.graph_check.specs.Rewritten.{rewritten};
 ghost use Rattle.build.specs.BuildOutcome.{buildOutcome};
 ghost use Rattle.walk.specs.Walking.{walkReply, replyValues};
-ghost use Rattle.voltunnis.specs.Packed.{packed, packedWide, packedSheet, packedPiece, packedPlain, packedGraph, packedWritten, packedBuilt, packedTwo, packedWalk};
+ghost use mathlib.Core.List.{[], _∷_};
+ghost use Rattle.voltunnis.specs.Packed.{Packs, bits8, bits16, bits32};
+ghost use Rattle.voltunnis.specs.Packed.{sheetFields, pieceFields, plainFields, graphFields};
+ghost use Rattle.voltunnis.specs.Packed.{writtenFields, builtFields, walkFields};
 
 // A refusal's number and three values as one number.
 fn pack(refusal: u8, first: u8, second: u8, third: u8) -> u64
-    ensures { λ r. ⌜ r ≡ packed refusal first second third ⌝ }
+    ensures { λ r. ⌜ Packs r (bits8 refusal ∷ bits8 first ∷ bits8 second ∷ bits8 third ∷ []) ⌝ }
 {
     refusal as u64
         + 0x100 * (first as u64)
@@ -31,14 +36,14 @@ fn pack(refusal: u8, first: u8, second: u8, third: u8) -> u64
 
 // A refusal's number and one value of more bits as one number.
 fn pack_wide(refusal: u8, value: u32) -> u64
-    ensures { λ r. ⌜ r ≡ packedWide refusal value ⌝ }
+    ensures { λ r. ⌜ Packs r (bits8 refusal ∷ bits32 value ∷ []) ⌝ }
 {
     refusal as u64 + 0x100 * (value as u64)
 }
 
 // A refusal's number, a value of 16 bits and one of 32 as one number.
 fn pack_two(refusal: u8, first: u16, second: u32) -> u64
-    ensures { λ r. ⌜ r ≡ packedTwo refusal first second ⌝ }
+    ensures { λ r. ⌜ Packs r (bits8 refusal ∷ bits16 first ∷ bits32 second ∷ []) ⌝ }
 {
     refusal as u64 + 0x100 * (first as u64) + 0x100_0000 * (second as u64)
 }
@@ -70,7 +75,7 @@ fn rule(answer: Answer) -> u8
 // Checks a sheet: arity, rules and tests. Not the arity of a sheet that is refused, nor the rules in the place of the tests.
 #[no_mangle]
 pub extern "C" fn vt_check_sheet(sheet: &[u8]) -> u64
-    ensures { λ r. ⌜ r ≡ packedSheet (sheetValues (acceptSheet (now (sheet .entry)))) ⌝ }
+    ensures { λ r. ⌜ Packs r (sheetFields (sheetValues (acceptSheet (now (sheet .entry))))) ⌝ }
 {
     let checked = sheet_tests::check_sheet(sheet);
     match checked {
@@ -82,7 +87,7 @@ pub extern "C" fn vt_check_sheet(sheet: &[u8]) -> u64
 // Checks a piece: its arity. Not an arity beside a refusal's number, nor 0 for a piece that is accepted.
 #[no_mangle]
 pub extern "C" fn vt_check_piece(piece: &[u8]) -> u64
-    ensures { λ r. ⌜ r ≡ packedPiece (checkedPiece (readPiece (now (piece .entry)))) ⌝ }
+    ensures { λ r. ⌜ Packs r (pieceFields (pieceValues (readPiece (now (piece .entry))))) ⌝ }
 {
     let checked = piece::check_piece(piece);
     match checked {
@@ -94,7 +99,7 @@ pub extern "C" fn vt_check_piece(piece: &[u8]) -> u64
 // The plain answer: its word and rule. Not the rule before the word, nor suspend for every piece with an unknown.
 #[no_mangle]
 pub extern "C" fn vt_plain(sheet: &[u8], piece: &[u8]) -> u64
-    ensures { λ r. ⌜ r ≡ packedPlain (readingValues (plainReading (now (sheet .entry)) (now (piece .entry)))) ⌝ }
+    ensures { λ r. ⌜ Packs r (plainFields (readingValues (plainReading (now (sheet .entry)) (now (piece .entry))))) ⌝ }
 {
     let answered = plain::call::plain(sheet, piece);
     match answered {
@@ -107,7 +112,7 @@ pub extern "C" fn vt_plain(sheet: &[u8], piece: &[u8]) -> u64
 // is refused.
 #[no_mangle]
 pub extern "C" fn vt_check_graph(sheet: &[u8], graph: &[u8]) -> u64
-    ensures { λ r. ⌜ r ≡ packedGraph (graphValues (graphReading (now (sheet .entry)) (now (graph .entry)))) ⌝ }
+    ensures { λ r. ⌜ Packs r (graphFields (graphValues (graphReading (now (sheet .entry)) (now (graph .entry))))) ⌝ }
 {
     let checked = graph_check::check_graph(sheet, graph);
     match checked {
@@ -120,7 +125,7 @@ pub extern "C" fn vt_check_graph(sheet: &[u8], graph: &[u8]) -> u64
 // changed beside a refusal's number.
 #[no_mangle]
 pub extern "C" fn vt_rewrite(sheet: &[u8], graph: &[u8], buffer: &mut [u8]) -> u64
-    ensures { λ r. ⌜ r ≡ packedWritten (rewritten (now (sheet .entry)) (now (graph .entry)) (now (buffer .entry))) ⌝ }
+    ensures { λ r. ⌜ Packs r (writtenFields (rewritten (now (sheet .entry)) (now (graph .entry)) (now (buffer .entry)))) ⌝ }
     ensures { λ _. ⌜ now (buffer .exit) ≡ rewritten (now (sheet .entry)) (now (graph .entry)) (now (buffer .entry)) .buffer ⌝ }
 {
     let written = graph_check::rewrite(sheet, graph, buffer);
@@ -130,11 +135,11 @@ pub extern "C" fn vt_rewrite(sheet: &[u8], graph: &[u8], buffer: &mut [u8]) -> u
     }
 }
 
-// Builds a sheet's graph: its nodes and the bytes written. Not a byte changed behind the graph or on a refusal, nor the bytes in the
-// place of the nodes.
+// Builds a sheet's graph: its nodes and the bytes written. Not a byte changed behind the graph or on a refusal, nor the bytes in
+// the place of the nodes.
 #[no_mangle]
 pub extern "C" fn vt_build(sheet: &[u8], buffer: &mut [u8]) -> u64
-    ensures { λ r. ⌜ r ≡ packedBuilt (buildOutcome (now (sheet .entry)) (now (buffer .entry)) .values) ⌝ }
+    ensures { λ r. ⌜ Packs r (builtFields (buildOutcome (now (sheet .entry)) (now (buffer .entry)) .values)) ⌝ }
     ensures { λ _. ⌜ now (buffer .exit) ≡ buildOutcome (now (sheet .entry)) (now (buffer .entry)) .buffer ⌝ }
 {
     let built = build::build(sheet, buffer);
@@ -148,7 +153,8 @@ pub extern "C" fn vt_build(sheet: &[u8], buffer: &mut [u8]) -> u64
 // edge count of its own.
 #[no_mangle]
 pub extern "C" fn vt_walk(sheet: &[u8], graph: &[u8], piece: &[u8]) -> u64
-    ensures { λ r. ⌜ r ≡ packedWalk (replyValues (walkReply (now (sheet .entry)) (now (graph .entry)) (now (piece .entry)))) ⌝ }
+    ensures { λ r. ⌜ Packs r
+        (walkFields (replyValues (walkReply (now (sheet .entry)) (now (graph .entry)) (now (piece .entry))))) ⌝ }
 {
     let walked = walk::call::walk(sheet, graph, piece);
     match walked {

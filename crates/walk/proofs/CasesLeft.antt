@@ -12,10 +12,9 @@ use Rattle.decision.specs.Node.{CaseEdge}
 use Rattle.graph.specs.declared.CaseRecord.{CaseRecord}
 use Rattle.graph.specs.declared.CaseRecord.the-variants.{Symbol, Compound, Numbers}
 use Rattle.graph.specs.declared.CaseHead.the-variants.{Whole, Refused}
-use Rattle.graph.specs.NodeRecord.{caseHead}
-use Rattle.graph.specs.ReadGraph.{readCases}
+use Rattle.graph.specs.views.NodeRecord.{caseHead}
+use Rattle.graph.specs.ReadGraph.{readCases, readCase}
 use Rattle.graph.specs.views.Rewriting.{IsTook, readOr}
-use Rattle.graph.proofs.SpelledCases.{readCase}
 use Rattle.node_check.specs.views.CaseCodes.{rangeOf}
 use Rattle.node_check.proofs.CasesPass.{case-fits, case-refused}
 use Rattle.node_check.proofs.CopiedRecords.{edgeOf, edge-read}

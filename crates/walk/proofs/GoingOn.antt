@@ -8,11 +8,12 @@ use lib.ListN.{length, length-append}
 use Rattle.sheet_tests.specs.SheetTests.{Test}
 use Rattle.decision.specs.Key.{Leaf}
 use Rattle.decision.specs.Node.{Node}
-use Rattle.decision.specs.Path.{Step, stop, goTo, noWay, Path, ends, refusedAt, through}
+use Rattle.decision.specs.Path.{Step, stop, goTo, noWay, Path, ends, through, lastStep, nextStep, pathBy}
 use Rattle.walk.specs.views.CodeSteps.{stepCells, openAt}
 use Rattle.walk.specs.views.TestNumbers.{Once, withTest}
-use Rattle.walk.specs.views.Following.{lastOf, nextOf, pathBy, reached, stopped, node, metOpen, endOf, cellsPath, cellsEnd}
+use Rattle.walk.specs.views.Following.{reached, stopped, node, metOpen, endOf, cellsPath, cellsEnd}
 use Rattle.walk.proofs.MetTests.{AskedIn, met-none, met-more}
+use Rattle.records.specs.Reading.{refused}
 
 -- The path through nodes.
 abbrev throughAll : List ℕ → Path → Path
@@ -27,24 +28,24 @@ through-ends : (ns : List ℕ) (n : ℕ) (l : Leaf) → throughAll ns (ends (n �
 through-ends [] n l = refl
 through-ends (m ∷ ns) n l = ap (through m) (through-ends ns n l)
 
-through-refused : (ns : List ℕ) (q : ℕ) → throughAll ns (refusedAt q) ≡ refusedAt q
+through-refused : (ns : List ℕ) (q : ℕ) → throughAll ns (refused q) ≡ refused q
 through-refused [] q = refl
 through-refused (m ∷ ns) q = ap (through m) (through-refused ns q)
 
 -- The path at a leaf, wherever it is reached, and where it goes on or stops while edges are left, or not.
 module _ (step : ℕ → Step ℕ) (n : ℕ) where
   path-leaf : (more : ℕ) {l : Leaf} → step n ≡ stop l → pathBy step more n ≡ ends (n ∷ []) l
-  path-leaf zero e = ap (lastOf n) e
-  path-leaf (suc more) e = ap (nextOf (pathBy step more) n) e
+  path-leaf zero e = ap (lastStep n) e
+  path-leaf (suc more) e = ap (nextStep (pathBy step more) n) e
 
   path-next : (more : ℕ) {m k : ℕ} → more ≡ suc k → step n ≡ goTo m → pathBy step more n ≡ through n (pathBy step k m)
-  path-next more {m} {k} e f = ap (λ (j : ℕ). pathBy step j n) e ∙ ap (nextOf (pathBy step k) n) f
+  path-next more {m} {k} e f = ap (λ (j : ℕ). pathBy step j n) e ∙ ap (nextStep (pathBy step k) n) f
 
-  path-stuck : (more k : ℕ) → more ≡ suc k → step n ≡ noWay → pathBy step more n ≡ refusedAt 27
-  path-stuck more k e f = ap (λ (j : ℕ). pathBy step j n) e ∙ ap (nextOf (pathBy step k) n) f
+  path-stuck : (more k : ℕ) → more ≡ suc k → step n ≡ noWay → pathBy step more n ≡ refused 27
+  path-stuck more k e f = ap (λ (j : ℕ). pathBy step j n) e ∙ ap (nextStep (pathBy step k) n) f
 
-  path-out : (more : ℕ) {s : Step ℕ} → more ≡ 0 → step n ≡ s → lastOf n s ≡ refusedAt 26 → pathBy step more n ≡ refusedAt 26
-  path-out more e f g = ap (λ (j : ℕ). pathBy step j n) e ∙ ap (lastOf n) f ∙ g
+  path-out : (more : ℕ) {s : Step ℕ} → more ≡ 0 → step n ≡ s → lastStep n s ≡ refused 26 → pathBy step more n ≡ refused 26
+  path-out more e f g = ap (λ (j : ℕ). pathBy step j n) e ∙ ap (lastStep n) f ∙ g
 
 module _ (tests : List Test) (nodes : List (Node ℕ)) (cells : List ℕ) where
   abbrev stepFrom : ℕ → Step ℕ
@@ -109,7 +110,7 @@ module _ (tests : List Test) (nodes : List (Node ℕ)) (cells : List ℕ) where
         ap₂ (λ (x y : ℕ). reached l x y) edges same ∙ sym (ap (endOf tests nodes cells) path)
 
   module _ {i n waits : ℕ} (g : Going i n waits) where
-    refused-by : {q : ℕ} → pathBy stepFrom (64 - i) n ≡ refusedAt q → stopped q ≡ cellsEnd tests nodes cells
+    refused-by : {q : ℕ} → pathBy stepFrom (64 - i) n ≡ refused q → stopped q ≡ cellsEnd tests nodes cells
     refused-by {q} e =
         sym (ap (endOf tests nodes cells) (g .path ∙ ap (throughAll (g .before)) e ∙ through-refused (g .before) q))
 
@@ -118,5 +119,5 @@ module _ (tests : List Test) (nodes : List (Node ℕ)) (cells : List ℕ) where
     going-stuck more e =
         let left : 64 - i ≡ suc (63 - i) = omega arith in refused-by (path-stuck stepFrom n (64 - i) (63 - i) left (sym e))
 
-    pub going-out : {s : Step ℕ} → 64 ≤ i → s ≡ stepFrom n → lastOf n s ≡ refusedAt 26 → stopped 26 ≡ cellsEnd tests nodes cells
+    pub going-out : {s : Step ℕ} → 64 ≤ i → s ≡ stepFrom n → lastStep n s ≡ refused 26 → stopped 26 ≡ cellsEnd tests nodes cells
     going-out full e out = refused-by (path-out stepFrom n (64 - i) (omega (arith, g .few)) (sym e) out)

@@ -13,7 +13,7 @@ use Rattle.basics.proofs.ListLaws.{all-split}
 use Rattle.sheet_tests.specs.SheetTests.{place, pair}
 use Rattle.outcomes.specs.views.Look.{look}
 use Rattle.outcomes.specs.views.CellOutcome.{pairCells}
-use Rattle.decision.specs.Key.{fail}
+use Rattle.decision.specs.Key.{failNode}
 use Rattle.decision.specs.Node.{Node, CaseEdge, end, switch, pairNode, edges}
 use Rattle.decision.specs.Path.{Step, stop, goTo, noWay, byComparison}
 use Rattle.node_check.specs.views.CheckNode.{keptTest}
@@ -83,7 +83,7 @@ module _ (words codes : List ℕ) (count : ℕ) (size : length words ≡ 11) whe
       go true = (near, kept)
       go false = tt
 
-mapped-at : (f : ℕ → Node ℕ) (a k n : ℕ) → n < k → getD (map f (countFrom a k)) n (end fail) ≡ f (a + n)
+mapped-at : (f : ℕ → Node ℕ) (a k n : ℕ) → n < k → getD (map f (countFrom a k)) n (end failNode) ≡ f (a + n)
 mapped-at f a zero n h = absurd (omega arith)
 mapped-at f a (suc k) zero h = let here : a ≡ a + 0 = omega arith in ap f here
 mapped-at f a (suc k) (suc n) h =
@@ -94,7 +94,7 @@ module _ (graph starts : List ℕ) (nodes : ℕ) where
   unfolding nodesAt
   nodes-number = length-map (countFrom 0 nodes) (nodeFrom graph starts) ∙ count-length 0 nodes
 
-  pub node-at : (k : ℕ) → k < nodes → getD (nodesAt graph starts nodes) k (end fail) ≡ nodeFrom graph starts k
+  pub node-at : (k : ℕ) → k < nodes → getD (nodesAt graph starts nodes) k (end failNode) ≡ nodeFrom graph starts k
   unfolding nodesAt
   node-at k h =
       let here : 0 + k ≡ k = omega arith in

@@ -18,15 +18,15 @@ use Rattle.sheet_tests.specs.views.TestedPlaces.{hasPlace, placesIn}
 use Rattle.sheet_tests.specs.views.KeptPairs.{codePair}
 use Rattle.sheet_tests.proofs.NumberLists.{filter-mem}
 use Rattle.sheet.specs.Sheet.{Sheet, SoundSheet}
-use Rattle.decision.specs.Key.{fail, suspend, execute}
+use Rattle.decision.specs.Key.{failNode, suspendNode, executeNode}
 use Rattle.decision.specs.Node.{Node, CaseEdge, end, switch, pairNode}
 use Rattle.decision.specs.GraphBytes.{nodeBytes, nodesBytes}
 use Rattle.decision.specs.AcceptedGraph.{AcceptedNode, AcceptedGraph}
-use Rattle.decision.proofs.BreadthFirst.{mem-join}
+use Rattle.decision.proofs.exploring.BreadthFirst.{mem-join}
 use Rattle.basics.proofs.Filters.{map-mem, mem-any, all-mapped}
-use Rattle.graph.specs.ReadGraph.{readGraph}
-use Rattle.graph.specs.views.Rewriting.{IsTook, readOr, readRecord}
-use Rattle.graph.proofs.TestedPlaces.{Near, tests-near}
+use Rattle.graph.specs.ReadGraph.{readGraph, readRecord}
+use Rattle.graph.specs.views.Rewriting.{IsTook, readOr}
+use Rattle.graph.proofs.TestedPlaces.{tests-near}
 use Rattle.graph.proofs.SpelledNodes.{NodeFields}
 use Rattle.graph.proofs.AcceptedNodes.{accepted-asked}
 use Rattle.graph.proofs.Spelled.{graph-read}
@@ -39,6 +39,7 @@ use Rattle.walk.specs.views.Following.{nodeFrom, nodesAt, GoodNode, Inde
 use Rattle.walk.specs.views.Ready.{LeafNode}
 use Rattle.walk.proofs.StepsAgree.{FieldsFit}
 use Rattle.basics.proofs.Positions.{mem-at}
+use Rattle.decision.proofs.rules.NearTests.{Near}
 
 -- A test that stands among the kept tests is kept.
 pub mem-kept
@@ -76,6 +77,7 @@ near-test (pair p q) h = h
 
 -- A record is read within the bytes.
 read-within : (s : List ℕ) (n : ℕ) → IsTook (readRecord (drop n s)) → n ≤ length s
+unfolding readRecord
 read-within s n h =
     by-cases (decLt (length s) n)
     (λ (l : length s < n). absurd (subst (λ (b : List ℕ). IsTook (readRecord b)) (drop-of-length-le s {i = n} (omega arith)) h))
@@ -83,7 +85,7 @@ read-within s n h =
 
 -- Nodes by their numbers are the list of them.
 listed
-    : (f : ℕ → Node ℕ) (a : ℕ) (ns : List (Node ℕ)) → ((k : ℕ) → k < length ns → f (a + k) ≡ getD ns k (end fail))
+    : (f : ℕ → Node ℕ) (a : ℕ) (ns : List (Node ℕ)) → ((k : ℕ) → k < length ns → f (a + k) ≡ getD ns k (end failNode))
     → map f (countFrom a (length ns)) ≡ ns
 listed f a [] h = refl
 listed f a (n ∷ ns) h =
@@ -119,9 +121,9 @@ module _ (sheet : Sheet) (sound : SoundSheet sheet) (s : List ℕ) (bytes : All 
   nodes-fit = all-map (AcceptedNode (sheet .rules) (length nodes)) FieldsFit node-fits nodes (accepted .acceptedNodes)
 
   node-leaf : (n : Node ℕ) → AcceptedNode (sheet .rules) (length nodes) n → LeafNode (length (sheet .rules)) n
-  node-leaf (end fail) a = tt
-  node-leaf (end suspend) a = tt
-  node-leaf (end (execute i)) a = a
+  node-leaf (end failNode) a = tt
+  node-leaf (end suspendNode) a = tt
+  node-leaf (end (executeNode i)) a = a
   node-leaf (switch p cs x y) a = tt
   node-leaf (pairNode p q x y) a = tt
 
@@ -132,18 +134,18 @@ module _ (sheet : Sheet) (sound : SoundSheet sheet) (s : List ℕ) (bytes : All 
 
   module _ (starts : List ℕ) (are : take (length nodes) starts ≡ startsFrom 5 nodes) where
     reads : (k : ℕ) → k < length nodes
-        → readRecord (drop (getD starts k 0) s) ≡ took (length (nodeBytes (getD nodes k (end fail)))) (getD nodes k (end fail))
+        → readRecord (drop (getD starts k 0) s) ≡ took (length (nodeBytes (getD nodes k (end failNode)))) (getD nodes k (end failNode))
     reads k h =
-        let node = getD nodes k (end fail) in
+        let node = getD nodes k (end failNode) in
         let start : getD starts k 0 ≡ getD (startsFrom 5 nodes) k 0 =
         sym (getD-take (length nodes) starts k 0 h) ∙ ap (λ (l : List ℕ). getD l k 0) are in
         let behind : drop 5 s ≡ nodesBytes nodes = sym (ap (drop 5) (graph-read sheet sound s bytes read .spelled)) in
         ap (λ (n : ℕ). readRecord (drop n s)) start
-        ∙ start-reads s 5 nodes k (end fail) h behind
-        (fields node (all-at (AcceptedNode (sheet .rules) (length nodes)) (mem-at (end fail) nodes k h) (accepted .acceptedNodes)))
+        ∙ start-reads s 5 nodes k (end failNode) h behind
+        (fields node (all-at (AcceptedNode (sheet .rules) (length nodes)) (mem-at (end failNode) nodes k h) (accepted .acceptedNodes)))
 
-    here-is : (k : ℕ) → k < length nodes → nodeFrom s starts k ≡ getD nodes k (end fail)
-    here-is k h = ap (readOr (end fail)) (reads k h)
+    here-is : (k : ℕ) → k < length nodes → nodeFrom s starts k ≡ getD nodes k (end failNode)
+    here-is k h = ap (readOr (end failNode)) (reads k h)
 
     -- They are the nodes at the starts,
     pub nodes-are : nodesAt s starts (length nodes) ≡ nodes
@@ -178,6 +180,6 @@ module _ (sheet : Sheet) (sound : SoundSheet sheet) (s : List ℕ) (bytes : All 
         whole = λ k h. subst IsTook (sym (reads k h)) tt;
         good = λ k h.
             subst (GoodNode (keptTest words codes count) (length nodes)) (sym (here-is k h))
-            (good (getD nodes k (end fail))
-            (all-at (AcceptedNode (sheet .rules) (length nodes)) (mem-at (end fail) nodes k h) (accepted .acceptedNodes)));
+            (good (getD nodes k (end failNode))
+            (all-at (AcceptedNode (sheet .rules) (length nodes)) (mem-at (end failNode) nodes k h) (accepted .acceptedNodes)));
       }

@@ -26,7 +26,7 @@ use Rattle.decision.specs.Rules.{sameTest}
 use Rattle.basics.proofs.Filters.{mem-left, mem-right, mem-map, any-mem, all-mapped, mapped-always}
 use Rattle.node_check.specs.views.CheckNode.{isPair, keptTest}
 use Rattle.sheet_tests.specs.views.TestsRead.{keptTests}
-use Rattle.walk.specs.views.TestNumbers.{numberIn, placesUnder, NearTest}
+use Rattle.walk.specs.views.TestNumbers.{testNumber, placesUnder, NearTest}
 use Rattle.walk.proofs.Numbers.{number-behind, number-first}
 use Rattle.basics.proofs.Counting.{count-mem, mem-count, count-append, filter-count}
 use Rattle.masks.proofs.Listed.{consIf, listFrom}
@@ -89,7 +89,7 @@ module _ (words : List ℕ) (p : ℕ) where
 -- The number of a place in a list that begins with the places of a row that pass a test.
 row-number
     : (f : ℕ → Bool) (n p : ℕ) (ys : List Test) → p < n → f p ≡ true
-    → numberIn (map place (filter f (countFrom 0 n)) ++ ys) (place p) ≡ length (filter f (countFrom 0 p))
+    → testNumber (map place (filter f (countFrom 0 n)) ++ ys) (place p) ≡ length (filter f (countFrom 0 p))
 row-number f n p ys h e =
     let first = filter f (countFrom 0 p) in
     let later = filter f (countFrom (suc p) (n - suc p)) in
@@ -102,9 +102,9 @@ row-number f n p ys h e =
     ∙ ap (λ (k : ℕ). first ++ filter f (countFrom k (suc (n - suc p)))) here
     ∙ ap (λ (b : Bool). first ++ kept b p later) e in
     let none : length (map place first) + 0 ≡ length first = omega (arith, length-map first place) in
-    ap (λ (l : List ℕ). numberIn (map place l ++ ys) (place p)) split
-    ∙ ap (λ (l : List Test). numberIn (l ++ ys) (place p)) (map-append place first (p ∷ later))
-    ∙ ap (λ (l : List Test). numberIn l (place p)) (append-assoc (map place first) (place p ∷ map place later) ys)
+    ap (λ (l : List ℕ). testNumber (map place l ++ ys) (place p)) split
+    ∙ ap (λ (l : List Test). testNumber (l ++ ys) (place p)) (map-append place first (p ∷ later))
+    ∙ ap (λ (l : List Test). testNumber l (place p)) (append-assoc (map place first) (place p ∷ map place later) ys)
     ∙ number-behind (place p) (map place first) (place p ∷ (map place later ++ ys))
     (all-mapped (λ (u : Test). sameTest u (place p) ≡ false) place first
     (all-from (λ (x : ℕ). eqb x p ≡ false) first (λ x m. ne-eqb x p (λ d. omega (arith, count-mem 0 p x (filter-mem f (countFrom 0 p) m .0) .1)))))
@@ -118,14 +118,14 @@ module _ (words codes : List ℕ) (count : ℕ) where
   -- A kept place has as its number how many kept places are below it.
   pub place-number
       : (p : ℕ) → p < 64 * length words → hasPlace words p ≡ true
-      → placesUnder words p ≡ numberIn (keptTests words codes count) (place p)
+      → placesUnder words p ≡ testNumber (keptTests words codes count) (place p)
   unfolding placesUnder placesIn
   place-number p h e = sym (row-number (hasPlace words) (64 * length words) p (map codePair (take count codes)) h e)
 
   -- A pair is numbered behind all places.
   pub pair-number
-      : (p q : ℕ) {places k : ℕ} → places ≡ length (placesIn words) → k ≡ numberIn (map codePair (take count codes)) (pair p q)
-      → places + k ≡ numberIn (keptTests words codes count) (pair p q)
+      : (p q : ℕ) {places k : ℕ} → places ≡ length (placesIn words) → k ≡ testNumber (map codePair (take count codes)) (pair p q)
+      → places + k ≡ testNumber (keptTests words codes count) (pair p q)
   pair-number p q e f =
       (λ i. (e ∙ sym (length-map (placesIn words) place)) i + f i)
       ∙ sym
@@ -150,19 +150,19 @@ module _ (words codes : List ℕ) (count : ℕ) where
 -- The search for a pair among the first count codes, from i on.
 module _ (codes : List ℕ) (count p q : ℕ) (small : q < 0x1_0000) where
   abbrev pub numberFrom : ℕ → ℕ
-  numberFrom i = numberIn (map codePair (take (count - i) (drop i codes))) (pair p q)
+  numberFrom i = testNumber (map codePair (take (count - i) (drop i codes))) (pair p q)
 
-  pub search-starts : numberIn (map codePair (take count codes)) (pair p q) ≡ 0 + numberFrom 0
+  pub search-starts : testNumber (map codePair (take count codes)) (pair p q) ≡ 0 + numberFrom 0
   search-starts =
       let all : count ≡ count - 0 = omega arith in
       let none : numberFrom 0 ≡ 0 + numberFrom 0 = omega arith in
-      ap (λ (n : ℕ). numberIn (map codePair (take n codes)) (pair p q)) all ∙ none
+      ap (λ (n : ℕ). testNumber (map codePair (take n codes)) (pair p q)) all ∙ none
 
   module _ (i : ℕ) where
     pub search-ends : count ≡ i → count ≡ i + numberFrom i
     search-ends e =
         let none : count - i ≡ 0 = omega arith in
-        omega (arith, ap (λ (n : ℕ). numberIn (map codePair (take n (drop i codes))) (pair p q)) none)
+        omega (arith, ap (λ (n : ℕ). testNumber (map codePair (take n (drop i codes))) (pair p q)) none)
 
     module _ (h : i < count) (k : i < length codes) where
       search-step
@@ -170,8 +170,8 @@ module _ (codes : List ℕ) (count p q : ℕ) (small : q < 0x1_0000) where
           ≡ cond (sameTest (codePair (getD codes i 0)) (pair p q)) 0 (suc (numberFrom (i + 1)))
       search-step =
           let more : count - i ≡ suc (count - (i + 1)) = omega arith in
-          (λ j. numberIn (map codePair (take (more j) (drop-cons codes i 0 k j))) (pair p q))
-          ∙ ap (λ (m : ℕ). cond (sameTest (codePair (getD codes i 0)) (pair p q)) 0 (suc (numberIn (map codePair (take (count - (i + 1)) (drop m codes))) (pair p q)))) (sym (add-one i))
+          (λ j. testNumber (map codePair (take (more j) (drop-cons codes i 0 k j))) (pair p q))
+          ∙ ap (λ (m : ℕ). cond (sameTest (codePair (getD codes i 0)) (pair p q)) 0 (suc (testNumber (map codePair (take (count - (i + 1)) (drop m codes))) (pair p q)))) (sym (add-one i))
 
       -- It stands at i,
       pub search-here : getD codes i 0 ≡ p * 0x1_0000 + q → i ≡ i + numberFrom i

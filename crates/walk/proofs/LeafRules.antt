@@ -10,14 +10,15 @@ use Rattle.terms.specs.Outcome.{Outcome, holds, notKnown, contradicted}
 use Rattle.sheet_tests.specs.SheetTests.{Test}
 use Rattle.outcomes.specs.views.Look.{look}
 use Rattle.outcomes.specs.views.CellOutcome.{pairCells}
-use Rattle.decision.specs.Key.{Leaf, fail}
+use Rattle.decision.specs.Key.{Leaf, failNode}
 use Rattle.decision.specs.Node.{Node, end, switch, pairNode}
-use Rattle.decision.specs.Path.{Step, stop, goTo, noWay, Path, ends, refusedAt, through, byComparison}
+use Rattle.decision.specs.Path.{Step, stop, goTo, noWay, Path, through, byComparison, lastStep, nextStep, pathBy}
 use Rattle.walk.specs.views.CodeSteps.{stepCells}
-use Rattle.walk.specs.views.Following.{lastOf, nextOf, pathBy, Ended, reached, stopped, endOf, cellsPath, cellsEnd}
+use Rattle.walk.specs.views.Following.{Ended, reached, stopped, endOf, cellsPath, cellsEnd}
 use Rattle.walk.specs.views.LeafAnswers.{LeafIn}
 use Rattle.walk.specs.views.Ready.{LeafNode}
 use Rattle.walk.proofs.PathsAgree.{nodes-each}
+use Rattle.records.specs.Reading.{refused, took}
 
 module _ (count : ℕ) where
   -- So of a step, of a path and of a walk's end.
@@ -27,8 +28,8 @@ module _ (count : ℕ) where
   LeafStep noWay = Unit
 
   abbrev pub LeafPath : Path → Type 0
-  LeafPath (ends walked l) = LeafIn count l
-  LeafPath (refusedAt q) = Unit
+  LeafPath (took a w) = LeafIn count (w .last)
+  LeafPath (refused q) = Unit
 
   abbrev LeafEnd : Ended → Type 0
   LeafEnd (reached l edges met) = LeafIn count l
@@ -50,15 +51,15 @@ module _ (count : ℕ) where
       goes-on (eqb (look cells p) 0 || eqb (look cells q) 0) (byComparison x y (pairCells cells p q)) (compared x y (pairCells cells p q))
 
   through-leaf : (n : ℕ) (p : Path) → LeafPath p → LeafPath (through n p)
-  through-leaf n (ends walked l) h = h
-  through-leaf n (refusedAt q) h = tt
+  through-leaf n (took a w) h = h
+  through-leaf n (refused q) h = tt
 
-  last-leaf : (n : ℕ) (s : Step ℕ) → LeafStep s → LeafPath (lastOf n s)
+  last-leaf : (n : ℕ) (s : Step ℕ) → LeafStep s → LeafPath (lastStep n s)
   last-leaf n (stop l) h = h
   last-leaf n (goTo m) h = tt
   last-leaf n noWay h = tt
 
-  next-leaf : (f : ℕ → Path) → ((m : ℕ) → LeafPath (f m)) → (n : ℕ) (s : Step ℕ) → LeafStep s → LeafPath (nextOf f n s)
+  next-leaf : (f : ℕ → Path) → ((m : ℕ) → LeafPath (f m)) → (n : ℕ) (s : Step ℕ) → LeafStep s → LeafPath (nextStep f n s)
   next-leaf f g n (stop l) h = h
   next-leaf f g n (goTo m) h = through-leaf n (f m) (g m)
   next-leaf f g n noWay h = tt
@@ -70,12 +71,12 @@ module _ (count : ℕ) where
   module _ (tests : List Test) (nodes : List (Node ℕ)) (cells : List ℕ) (leaves : All (LeafNode count) nodes) where
     pub cells-leaf : LeafPath (cellsPath tests nodes cells)
     cells-leaf =
-        path-leaf (λ n. stepCells cells (getD nodes n (end fail)))
-        (λ n. step-leaf cells (getD nodes n (end fail)) (nodes-each (LeafNode count) nodes tt leaves n)) 64 0
+        path-leaf (λ n. stepCells cells (getD nodes n (end failNode)))
+        (λ n. step-leaf cells (getD nodes n (end failNode)) (nodes-each (LeafNode count) nodes tt leaves n)) 64 0
 
     end-leaf : (p : Path) → LeafPath p → LeafEnd (endOf tests nodes cells p)
-    end-leaf (ends walked l) h = h
-    end-leaf (refusedAt q) h = tt
+    end-leaf (took a w) h = h
+    end-leaf (refused q) h = tt
 
     pub reached-leaf : {l : Leaf} {edges met : ℕ} → reached l edges met ≡ cellsEnd tests nodes cells → LeafIn count l
     reached-leaf e = subst LeafEnd (sym e) (end-leaf (cellsPath tests nodes cells) cells-leaf)

@@ -19,9 +19,9 @@ use Rattle.sheet_tests.specs.SheetTests.{Test, place, pair}
 use Rattle.decision.specs.Rules.{sameTest}
 use Rattle.decision.specs.Node.{Node, end, switch, pairNode}
 use Rattle.decision.specs.Walk.{asksTest}
-use Rattle.decision.proofs.TestsOfRules.{same-test}
+use Rattle.decision.proofs.rules.TestsOfRules.{same-test}
 use Rattle.walk.specs.views.CodeSteps.{openCells, openIf, openAt}
-use Rattle.walk.specs.views.TestNumbers.{numberIn, Once, withTest}
+use Rattle.walk.specs.views.TestNumbers.{testNumber, Once, withTest}
 use Rattle.walk.specs.views.Following.{node, test, isMet, metOpen}
 use Rattle.walk.proofs.Numbers.{number-there, number-at}
 use Rattle.basics.proofs.Filters.{any-join}
@@ -56,7 +56,7 @@ module _ (tests : List Test) (few : length tests ≤ 64) (once : Once tests) (is
     set-with = go (isOpen t) refl
       where
         number : ℕ
-        number = numberIn tests t
+        number = testNumber tests t
 
         fits : (p : ℕ → Bool) → maskOf (length tests) p < 2 ^ 64
         fits p = lt-of-lt-of-le (maskOf-lt (length tests) p) (pow-mono few)

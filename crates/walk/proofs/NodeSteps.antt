@@ -16,7 +16,7 @@ use Rattle.piece.specs.views.Cells.{unknownCode}
 use Rattle.outcomes.specs.views.CellOutcome.{codesOutcome}
 use Rattle.outcomes.proofs.TwoTests.{one-is, none-is}
 use Rattle.outcomes.proofs.PairCells.{one-lacking}
-use Rattle.decision.specs.Key.{fail}
+use Rattle.decision.specs.Key.{failNode}
 use Rattle.decision.specs.Node.{Node, CaseEdge, end, switch, pairNode}
 use Rattle.decision.specs.Path.{noWay, goTo, byComparison}
 use Rattle.decision.specs.Walk.{isNotKnown}
@@ -24,12 +24,13 @@ use Rattle.graph.specs.declared.Leaf.{Leaf}
 use Rattle.graph.specs.declared.Leaf.the-variants.{Fail, Suspend, Execute}
 use Rattle.graph.specs.declared.NodeRecord.the-variants.{End, Switch, Pair}
 use Rattle.graph.specs.declared.NodeHead.the-variants.{Whole}
-use Rattle.graph.specs.NodeRecord.{nodeHead}
-use Rattle.graph.specs.ReadGraph.{onNode, leafOf, readCases}
-use Rattle.graph.specs.views.Rewriting.{IsTook, readOr, readRecord}
+use Rattle.graph.specs.views.NodeRecord.{nodeHead, leafOf}
+use Rattle.graph.specs.ReadGraph.{readCases, readRecord}
+use Rattle.graph.specs.views.Rewriting.{IsTook, readOr}
 use Rattle.node_check.proofs.NodeHeads.{node-fits}
 use Rattle.node_check.proofs.CopiedNodes.{cases-there}
 use Rattle.walk.specs.views.CodeSteps.{followCode, codeStep, codesStep, openIf}
+use Rattle.graph.proofs.ByKinds.{node-read-by}
 
 -- A switch whose place is lacking, unknown or known.
 module _ (cs : List (CaseEdge ℕ)) (neither unknownEdge : ℕ) (t : Test) (code : ℕ) where
@@ -62,27 +63,27 @@ pair-there a b differ other t h k e =
 -- The node of a record that s begins with.
 module _ (s : List ℕ) where
   abbrev pub nodeIn : Node ℕ
-  nodeIn = readOr (end fail) (readRecord s)
+  nodeIn = readOr (end failNode) (readRecord s)
 
   pub leaf-node : (l : Leaf) → nodeHead s ≡ Whole (End l) → end (leafOf l) ≡ nodeIn
-  leaf-node Fail e = sym (ap (λ h. readOr (end fail) (onNode s h)) e)
-  leaf-node Suspend e = sym (ap (λ h. readOr (end fail) (onNode s h)) e)
-  leaf-node (Execute i) e = sym (ap (λ h. readOr (end fail) (onNode s h)) e)
+  leaf-node Fail e = sym (ap (readOr (end failNode)) (node-read-by s e))
+  leaf-node Suspend e = sym (ap (readOr (end failNode)) (node-read-by s e))
+  leaf-node (Execute i) e = sym (ap (readOr (end failNode)) (node-read-by s e))
 
   pub pair-node : {p q x y : ℕ} → nodeHead s ≡ Whole (Pair p q x y) → pairNode p q x y ≡ nodeIn
-  pair-node e = sym (ap (λ h. readOr (end fail) (onNode s h)) e)
+  pair-node e = sym (ap (readOr (end failNode)) (node-read-by s e))
 
   pub switch-node
       : {n count x y : ℕ} → nodeHead s ≡ Whole (Switch n count x y) → IsTook (readRecord s)
       → switch n (readOr [] (readCases count (drop 8 s))) x y ≡ nodeIn
   switch-node {n} {count} {x} {y} e there =
       sym
-      (ap (λ h. readOr (end fail) (onNode s h)) e
-      ∙ go (leb 1 count) (readCases count (drop 8 s)) (subst (λ h. IsTook (onNode s h)) e there))
+      (ap (readOr (end failNode)) (node-read-by s e)
+      ∙ go (leb 1 count) (readCases count (drop 8 s)) (subst IsTook (node-read-by s e) there))
     where
       go
           : (b : Bool) (r : Reading (List (CaseEdge ℕ))) → IsTook (ask 22 b (after 8 (λ cs. switch n cs x y) r))
-          → readOr (end fail) (ask 22 b (after 8 (λ cs. switch n cs x y) r)) ≡ switch n (readOr [] r) x y
+          → readOr (end failNode) (ask 22 b (after 8 (λ cs. switch n cs x y) r)) ≡ switch n (readOr [] r) x y
       go true (took a cs) h = refl
       go true (refused q) h = absurd h
       go false r h = absurd h

@@ -15,8 +15,8 @@ use Rattle.sheet_tests.specs.SheetTests.{Test, before, sheetTests, allTests}
 use Rattle.sheet_tests.proofs.TestOrder.{before-order, ascending-ascends}
 use Rattle.terms.specs.Pattern.{Patterns}
 use Rattle.decision.specs.Rules.{sameTest}
-use Rattle.decision.proofs.TestsOfRules.{same-test, test-same}
-use Rattle.walk.specs.views.TestNumbers.{numberIn, Once}
+use Rattle.decision.proofs.rules.TestsOfRules.{same-test, test-same}
+use Rattle.walk.specs.views.TestNumbers.{testNumber, Once}
 use Rattle.basics.proofs.Positions.{mem-at}
 
 -- A choice by cases, with what the test said.
@@ -27,16 +27,16 @@ by-choice Q false f g = g refl
 module _ (t : Test) where
   -- Behind tests that are not the same.
   pub number-behind
-      : (xs ys : List Test) → All (λ (u : Test). sameTest u t ≡ false) xs → numberIn (xs ++ ys) t ≡ length xs + numberIn ys t
-  number-behind [] ys h = let none : numberIn ys t ≡ 0 + numberIn ys t = omega arith in none
+      : (xs ys : List Test) → All (λ (u : Test). sameTest u t ≡ false) xs → testNumber (xs ++ ys) t ≡ length xs + testNumber ys t
+  number-behind [] ys h = let none : testNumber ys t ≡ 0 + testNumber ys t = omega arith in none
   number-behind (x ∷ xs) ys h =
-      ap (λ (b : Bool). cond b 0 (suc (numberIn (xs ++ ys) t))) (h .0)
+      ap (λ (b : Bool). cond b 0 (suc (testNumber (xs ++ ys) t))) (h .0)
       ∙ ap suc (number-behind xs ys (h .1))
-      ∙ (let more : suc (length xs + numberIn ys t) ≡ suc (length xs) + numberIn ys t = omega arith in more)
+      ∙ (let more : suc (length xs + testNumber ys t) ≡ suc (length xs) + testNumber ys t = omega arith in more)
 
   -- At the first that is the same.
-  pub number-first : (u : Test) (us : List Test) → sameTest u t ≡ true → numberIn (u ∷ us) t ≡ 0
-  number-first u us e = ap (λ (b : Bool). cond b 0 (suc (numberIn us t))) e
+  pub number-first : (u : Test) (us : List Test) → sameTest u t ≡ true → testNumber (u ∷ us) t ≡ 0
+  number-first u us e = ap (λ (b : Bool). cond b 0 (suc (testNumber us t))) e
 
   same-mem : (u : Test) (us : List Test) → Mem t (u ∷ us) → sameTest u t ≡ false → Mem t us
   same-mem u us m f =
@@ -46,7 +46,7 @@ module _ (t : Test) where
       ]
 
   -- A test that stands in a list has a number there,
-  pub number-there : (ts : List Test) → Mem t ts → numberIn ts t < length ts
+  pub number-there : (ts : List Test) → Mem t ts → testNumber ts t < length ts
   number-there [] m = absurd (mem-none m)
   number-there (u ∷ us) m =
       by-choice (λ (k : ℕ). k < suc (length us)) (sameTest u t) (λ e. omega arith)
@@ -55,15 +55,15 @@ module _ (t : Test) where
   module _ (d : Test) where
     -- which, where each test stands in the list once, is the number of that test and of no other.
     pub number-at
-        : (ts : List Test) → Once ts → Mem t ts → (i : ℕ) → i < length ts → eqb (numberIn ts t) i ≡ sameTest (getD ts i d) t
+        : (ts : List Test) → Once ts → Mem t ts → (i : ℕ) → i < length ts → eqb (testNumber ts t) i ≡ sameTest (getD ts i d) t
     number-at [] once m i h = absurd (mem-none m)
     number-at (u ∷ us) once m zero h =
         by-choice (λ (k : ℕ). eqb k 0 ≡ sameTest u t) (sameTest u t) (λ e. eq-eqb 0 0 refl ∙ sym e)
-        (λ e. ne-eqb (suc (numberIn us t)) 0 (λ k. omega arith) ∙ sym e)
+        (λ e. ne-eqb (suc (testNumber us t)) 0 (λ k. omega arith) ∙ sym e)
     number-at (u ∷ us) once m (suc i) h =
         by-choice (λ (k : ℕ). eqb k (suc i) ≡ sameTest (getD us i d) t) (sameTest u t)
         (λ e. ne-eqb 0 (suc i) (λ k. omega arith) ∙ sym (other (sameTest (getD us i d) t) refl (same-test u t (subst T (sym e) tt))))
-        (λ e. eqb·suc-suc (numberIn us t) i ∙ number-at us (once .1) (same-mem u us m e) i (omega arith))
+        (λ e. eqb·suc-suc (testNumber us t) i ∙ number-at us (once .1) (same-mem u us m e) i (omega arith))
       where
         other : (b : Bool) → sameTest (getD us i d) t ≡ b → u ≡ t → b ≡ false
         other true e is =

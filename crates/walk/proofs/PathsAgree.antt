@@ -11,57 +11,53 @@ use Rattle.terms.specs.Pattern.{Patterns}
 use Rattle.terms.specs.Accepted.{AcceptedPiece}
 use Rattle.sheet_tests.specs.SheetTests.{Test, place, sheetTests}
 use Rattle.piece.specs.views.LaidOut.{pieceCells}
-use Rattle.decision.specs.Key.{fail}
+use Rattle.decision.specs.Key.{failNode}
 use Rattle.decision.specs.Node.{Node, end}
-use Rattle.decision.specs.Path.{Step, stop, goTo, noWay, Path, ends, refusedAt, through, stepAt, lastStep, nextStep, pathFrom, path}
+use Rattle.decision.specs.Path.{Step, stop, goTo, noWay, Path, through, stepAt, lastStep, nextStep, pathFrom, path, pathBy}
 use Rattle.decision.specs.Walk.{suspendWaits}
 use Rattle.decision.specs.Walk as walk
 use Rattle.walk.specs.views.CodeSteps.{stepCells, NearNode}
 use Rattle.walk.specs.views.TestNumbers.{NearTest}
-use Rattle.walk.specs.views.Following.{lastOf, nextOf, pathBy, Ended, reached, stopped, isMet, metOpen, endOf, cellsEnd}
+use Rattle.walk.specs.views.Following.{Ended, reached, stopped, isMet, metOpen, endOf, cellsEnd}
 use Rattle.walk.proofs.StepsAgree.{FieldsFit, step-agrees, open-agrees}
 use Rattle.basics.proofs.Positions.{mem-at}
+use Rattle.records.specs.Reading.{refused, took}
 
 -- What is said of each node of a list is said of each number's, where it is said of the node that stands for no number.
 pub nodes-each
-    : (Q : Node ℕ → Type 0) (nodes : List (Node ℕ)) → Q (end fail) → All Q nodes → (n : ℕ) → Q (getD nodes n (end fail))
+    : (Q : Node ℕ → Type 0) (nodes : List (Node ℕ)) → Q (end failNode) → All Q nodes → (n : ℕ) → Q (getD nodes n (end failNode))
 nodes-each Q [] none h n = none
 nodes-each Q (x ∷ nodes) none h zero = h .0
 nodes-each Q (x ∷ nodes) none h (suc n) = nodes-each Q nodes none (h .1) n
 
 -- What happens to be at a walk's end, as the piece says it.
 abbrev pub pieceEnd : List Patterns → List (Node ℕ) → Terms → Path → Ended
-pieceEnd rules nodes piece (ends walked l) = reached l (pred (length walked)) (suspendWaits rules nodes piece walked)
-pieceEnd rules nodes piece (refusedAt q) = stopped q
+pieceEnd rules nodes piece (took a w) =
+    reached (w .last) (pred (length (w .walked))) (suspendWaits rules nodes piece (w .walked))
+pieceEnd rules nodes piece (refused q) = stopped q
 
 module _ (arity : ℕ) (piece : Terms) (accepted : AcceptedPiece arity piece) (few : arity ≤ 8) (nodes : List (Node ℕ))
     (near : All NearNode nodes) (fit : All FieldsFit nodes) where
   abbrev cells : List ℕ
   cells = pieceCells piece
 
-  step-same : (n : ℕ) → stepCells cells (getD nodes n (end fail)) ≡ stepAt piece (getD nodes n (end fail))
+  step-same : (n : ℕ) → stepCells cells (getD nodes n (end failNode)) ≡ stepAt piece (getD nodes n (end failNode))
   step-same n =
-      step-agrees arity piece accepted few (getD nodes n (end fail)) (nodes-each NearNode nodes tt near n)
+      step-agrees arity piece accepted few (getD nodes n (end failNode)) (nodes-each NearNode nodes tt near n)
       (nodes-each FieldsFit nodes tt fit n)
 
-  last-same : (n : ℕ) (s : Step ℕ) → lastOf n s ≡ lastStep nodes piece n s
-  last-same n (stop l) = refl
-  last-same n (goTo m) = refl
-  last-same n noWay = refl
-
-  next-same
-      : (f g : ℕ → Path) → ((m : ℕ) → f m ≡ g m) → (n : ℕ) (s : Step ℕ) → nextOf f n s ≡ nextStep nodes piece g n s
-  next-same f g h n (stop l) = refl
-  next-same f g h n (goTo m) = ap (through n) (h m)
-  next-same f g h n noWay = refl
-
   pub paths-same
-      : (more n : ℕ) → pathBy (λ k. stepCells cells (getD nodes k (end fail))) more n ≡ pathFrom nodes piece more n
-  paths-same zero n = ap (lastOf n) (step-same n) ∙ last-same n (stepAt piece (getD nodes n (end fail)))
+      : (more n : ℕ) → pathBy (λ k. stepCells cells (getD nodes k (end failNode))) more n ≡ pathFrom nodes piece more n
+  paths-same zero n = ap (lastStep n) (step-same n)
   paths-same (suc more) n =
-      ap (nextOf (pathBy (λ k. stepCells cells (getD nodes k (end fail))) more) n) (step-same n)
-      ∙ next-same (pathBy (λ k. stepCells cells (getD nodes k (end fail))) more) (pathFrom nodes piece more) (paths-same more) n
-      (stepAt piece (getD nodes n (end fail)))
+      ap (nextStep (pathBy (λ k. stepCells cells (getD nodes k (end failNode))) more) n) (step-same n)
+      ∙ next-same (paths-same more) (stepAt piece (getD nodes n (end failNode)))
+    where
+      next-same
+          : {f g : ℕ → Path} → ((m : ℕ) → f m ≡ g m) → (s : Step ℕ) → nextStep f n s ≡ nextStep g n s
+      next-same h (stop l) = refl
+      next-same h (goTo m) = ap (through n) (h m)
+      next-same h noWay = refl
 
   module _ (rules : List Patterns) (nearTests : (t : Test) → Mem t (sheetTests rules) → NearTest t) where
     met-same : (walked : List ℕ) → metOpen (sheetTests rules) nodes cells walked ≡ suspendWaits rules nodes piece walked
@@ -69,13 +65,13 @@ module _ (arity : ℕ) (piece : Terms) (accepted : AcceptedPiece arity piece) (f
     met-same walked =
         maskOf-same (length (sheetTests rules)) _ _
         (λ t h.
-        ap (λ (b : Bool). walk.isMet rules nodes piece walked t && b)
+        ap (λ (b : Bool). walk.isMet rules nodes walked t && b)
         (open-agrees arity piece accepted few (getD (sheetTests rules) t (place 0))
         (nearTests (getD (sheetTests rules) t (place 0)) (mem-at (place 0) (sheetTests rules) t h))))
 
     end-same : (p : Path) → endOf (sheetTests rules) nodes cells p ≡ pieceEnd rules nodes piece p
-    end-same (ends walked l) = ap (reached l (pred (length walked))) (met-same walked)
-    end-same (refusedAt q) = refl
+    end-same (took a w) = ap (reached (w .last) (pred (length (w .walked)))) (met-same (w .walked))
+    end-same (refused q) = refl
 
     -- So the walk by cells ends as the piece's path does.
     pub path-agrees

@@ -20,7 +20,6 @@ use Rattle.accepted.proofs.CheckedSheets.{accepted-read}
 use Rattle.accepted.specs.views.AcceptedAs.{AcceptedTests}
 use Rattle.piece.specs.Piece.{Piece}
 use Rattle.piece.specs.ReadPiece.{readPiece}
-use Rattle.plain.specs.AcceptedBytes.{ReadAs}
 use Rattle.decision.specs.Walk.{Walk, walk}
 use Rattle.graph.specs.ReadGraph.{readGraph}
 use Rattle.graph.specs.views.Rewriting.{IsTook, readOr}
@@ -32,10 +31,11 @@ use Rattle.walk.specs.views.TestNumbers.{Once}
 use Rattle.walk.specs.views.Following.{Index, cellsEnd, nodesAt}
 use Rattle.walk.specs.views.LeafAnswers.{endWalk}
 use Rattle.walk.specs.views.Ready.{LeafNode, Ready, Checked}
-use Rattle.walk.specs.Walking.{readingOf, graphReply, pieceReply, walkReply, replyValues, walkedValues, walkedReading}
+use Rattle.walk.specs.Walking.{graphReply, pieceReply, walkReply, replyValues, walkedValues, walkedReading}
 use Rattle.walk.proofs.Numbers.{sheet-once}
 use Rattle.walk.proofs.Indexing.{nodes-are, nodes-leaves, index-made}
 use Rattle.walk.proofs.WalksAgree.{tests-all-near, walk-agrees}
+use Rattle.plain.specs.views.ReadAs.{ReadAs}
 
 -- The values of what is handed back are those of its reading.
 pub values-read : (w : Walked) → walkedValues w ≡ replyValues (walkedReading w)
@@ -82,7 +82,7 @@ module _ (s g words codes : List ℕ) {arity count pairs : ℕ} (t : AcceptedTes
 
   -- The graph is refused,
   pub graph-refuses : (piece : Piece) {q : ℕ} → readGraph sheet g ≡ refused q → refused q ≡ graphReply sheet g (piece .terms)
-  graph-refuses piece e = sym (ap (λ r. andThen r (λ _ ns. readingOf (walk (sheet .rules) ns (piece .terms)))) e)
+  graph-refuses piece e = sym (ap (λ r. andThen r (λ _ ns. walk (sheet .rules) ns (piece .terms))) e)
 
   -- or accepted for the one sheet that the bytes are,
   pub checked-graph

@@ -9,16 +9,18 @@ use Rattle.sheet_tests.specs.SheetTests.{Test}
 use Rattle.sheet_tests.specs.views.TestsRead.{keptTests}
 use Rattle.decision.specs.Key.{Leaf}
 use Rattle.decision.specs.Node.{Node}
-use Rattle.decision.specs.Path.{Step, stop, goTo, noWay, refusedAt}
-use Rattle.graph.specs.views.Rewriting.{IsTook, readRecord}
+use Rattle.decision.specs.Path.{Step, stop, goTo, noWay, lastStep}
+use Rattle.graph.specs.views.Rewriting.{IsTook}
 use Rattle.node_check.specs.views.CheckNode.{keptTest}
 use Rattle.walk.specs.views.CodeSteps.{NearNode, stepCells, openAt}
 use Rattle.walk.specs.views.TestNumbers.{KeptOpen, withTest}
-use Rattle.walk.specs.views.Following.{GoodNode, nodeFrom, nodesAt, node, lastOf, reached, stopped, cellsEnd}
+use Rattle.walk.specs.views.Following.{GoodNode, nodeFrom, nodesAt, node, reached, stopped, cellsEnd}
 use Rattle.walk.specs.views.Course.{Course}
 use Rattle.walk.proofs.GoingOn.{Going, going-starts, going-on, going-ends, going-stuck, going-out}
 use Rattle.walk.proofs.Indexed.{step-inside, good-asked, good-open, nodes-number, node-at}
 use Rattle.walk.proofs.MetTests.{AskedIn}
+use Rattle.graph.specs.ReadGraph.{readRecord}
+use Rattle.records.specs.Reading.{refused}
 
 module _ {graph starts words codes : List ℕ} {pairs nodes : ℕ} (course : Course graph starts words codes pairs nodes) (cells : List ℕ)
   where
@@ -96,6 +98,6 @@ module _ {graph starts words codes : List ℕ} {pairs nodes : ℕ} (course : Cou
       stands-stuck more e = going-stuck tests graphNodes cells g more (by-step e)
 
       pub stands-out
-          : {s : Step ℕ} → 64 ≤ edges → s ≡ stepCells cells (nodeFrom graph starts k) → lastOf k s ≡ refusedAt 26
+          : {s : Step ℕ} → 64 ≤ edges → s ≡ stepCells cells (nodeFrom graph starts k) → lastStep k s ≡ refused 26
           → stopped 26 ≡ cellsEnd tests graphNodes cells
       stands-out full e out = going-out tests graphNodes cells g full (by-step e) out

@@ -1,12 +1,12 @@
 -- The walk by cells over an accepted graph answers what the walk of the piece over its nodes does.
-use Prim.Native.Nat.{ℕ, pred, _+_, _≤_}
+use Prim.Native.Nat.{ℕ, pred, _+_, _≤_, zero, suc}
 use mathlib.Core.Path.{_≡_, refl, sym, ap, subst, _∙_}
 use mathlib.Core.Bool.{_&&_}
 use mathlib.Core.List.{List}
 use native.Mathlib.Omega.{arith}
 use lib.ListN.{length, take}
 use Rattle.records.specs.Fields.{IsByte}
-use Rattle.records.specs.Reading.{took, andThen}
+use Rattle.records.specs.Reading.{took, andThen, refused}
 use Rattle.basics.specs.Lists.{All}
 use Rattle.terms.specs.Term.{Terms}
 use Rattle.terms.specs.Pattern.{Patterns, pnil}
@@ -21,18 +21,18 @@ use Rattle.sheet_tests.specs.views.TestedPlaces.{placesIn}
 use Rattle.sheet_tests.specs.views.TestsRead.{keptTests}
 use Rattle.piece.specs.views.LaidOut.{pieceCells}
 use Rattle.plain.proofs.NotesRight.{rule-right}
-use Rattle.decision.specs.Key.{fail, suspend, execute}
+use Rattle.decision.specs.Key.{failNode, suspendNode, executeNode, Leaf}
 use Rattle.decision.specs.Node.{Node}
 use Rattle.decision.specs.Rules.{testAt, hasTest, testsWhere}
-use Rattle.decision.specs.Path.{Path, ends, refusedAt, path}
-use Rattle.decision.specs.Walk.{testNotKnown, executeWaits, atEnd, walk}
+use Rattle.decision.specs.Path.{Path, path, through, pathFrom, Step, stop, goTo, noWay, stepAt, nodeAt, lastStep, nextStep, mostEdges}
+use Rattle.decision.specs.Walk.{testNotKnown, executeWaits, atEnd, walk, atLeaf, suspendWaits}
 use Rattle.graph.specs.ReadGraph.{readGraph}
 use Rattle.graph.proofs.TestedPlaces.{tests-near}
 use Rattle.node_check.specs.views.CheckNode.{startsFrom}
 use Rattle.walk.specs.views.TestNumbers.{NearTest}
 use Rattle.walk.specs.views.Following.{cellsEnd, nodesAt}
-use Rattle.walk.specs.views.LeafAnswers.{ownWaits, waitsOf, executed, endWalk}
-use Rattle.walk.specs.Walking.{readingOf, graphReply}
+use Rattle.walk.specs.views.LeafAnswers.{ownWaits, waitsOf, executed, endWalk, LeafIn, leafWalk}
+use Rattle.walk.specs.Walking.{graphReply}
 use Rattle.walk.proofs.OwnWaits.{own-right}
 use Rattle.walk.proofs.PathsAgree.{pieceEnd, paths-same, path-agrees}
 use Rattle.walk.proofs.Indexing.{near-test, nodes-near, nodes-fit, nodes-are, nodes-leaves}
@@ -41,12 +41,35 @@ use Rattle.basics.proofs.Positions.{mem-at}
 
 -- A wait list goes by the outcome.
 waits-by
-    : (rules : List Patterns) (nodes : List (Node ℕ)) (piece : Terms) (i : ℕ) (o : Outcome) {own : ℕ}
+    : (rules : List Patterns) (piece : Terms) (i : ℕ) (o : Outcome) {own : ℕ}
     → own ≡ testsWhere rules (λ t. hasTest rules (pred i) t && testNotKnown piece (testAt rules t))
-    → waitsOf o own ≡ executeWaits rules nodes piece i o
-waits-by rules nodes piece i holds e = refl
-waits-by rules nodes piece i notKnown e = e
-waits-by rules nodes piece i contradicted e = refl
+    → waitsOf o own ≡ executeWaits rules piece i o
+waits-by rules piece i holds e = refl
+waits-by rules piece i notKnown e = e
+waits-by rules piece i contradicted e = refl
+
+-- A path takes no bytes.
+abbrev NoBytes : Path → Type 0
+NoBytes (took a w) = a ≡ 0
+NoBytes (refused q) = Unit
+
+through-none : (n : ℕ) (p : Path) → NoBytes p → NoBytes (through n p)
+through-none n (took a w) h = h
+through-none n (refused q) h = tt
+
+no-bytes : (nodes : List (Node ℕ)) (piece : Terms) (more n : ℕ) → NoBytes (pathFrom nodes piece more n)
+no-bytes nodes piece zero n = go (stepAt piece (nodeAt nodes n))
+  where
+    go : (s : Step ℕ) → NoBytes (lastStep n s)
+    go (stop l) = refl
+    go (goTo m) = tt
+    go noWay = tt
+no-bytes nodes piece (suc more) n = go (no-bytes nodes piece more) (stepAt piece (nodeAt nodes n))
+  where
+    go : ((m : ℕ) → NoBytes (pathFrom nodes piece more m)) → (s : Step ℕ) → NoBytes (nextStep (pathFrom nodes piece more) n s)
+    go h (stop l) = refl
+    go h (goTo m) = through-none n (pathFrom nodes piece more m) (h m)
+    go h noWay = tt
 
 module _ (sheet : Sheet) (sound : SoundSheet sheet) where
   -- The tests of a sound sheet are of places among the 680.
@@ -64,13 +87,14 @@ module _ (sheet : Sheet) (sound : SoundSheet sheet) where
     abbrev rules : List Patterns
     rules = sheet .rules
 
-    -- What is answered at the end of a path.
+    -- What is answered at a leaf,
     leaf-agrees
-        : (p : Path) → LeafPath (length rules) p
-        → endWalk rules words codes pairs cells (pieceEnd rules nodes piece p) ≡ readingOf (atEnd rules nodes piece p)
-    leaf-agrees (ends walked fail) inside = refl
-    leaf-agrees (ends walked suspend) inside = refl
-    leaf-agrees (ends walked (execute i)) inside =
+        : (walked : List ℕ) (l : Leaf) → LeafIn (length rules) l
+        → leafWalk rules words codes pairs cells l (pred (length walked)) (suspendWaits rules nodes piece walked)
+        ≡ atLeaf rules nodes piece walked l
+    leaf-agrees walked failNode inside = refl
+    leaf-agrees walked suspendNode inside = refl
+    leaf-agrees walked (executeNode i) inside =
         let few = sound .fewArguments in
         let rule : AcceptedRule (sheet .arity) (ruleAt rules i) =
         all-at (AcceptedRule (sheet .arity)) (mem-at pnil rules (pred i) (omega (arith, inside .0, inside .1))) (sound .acceptedRules) in
@@ -78,12 +102,18 @@ module _ (sheet : Sheet) (sound : SoundSheet sheet) where
         let own =
         own-right (sheet .arity) rules few (sound .acceptedRules) words codes pairs room tests fewTests (tests-all-near tests) piece ok i
         (inside .0) (inside .1) in
-        let waits = waits-by rules nodes piece i (ruleOutcome (ruleAt rules i) piece) own in
-        ap (λ (o : Outcome). took 0 (executed i (pred (length walked)) o (ownWaits words codes pairs cells (ruleNotes (ruleAt rules i))))) outcome
+        let waits = waits-by rules piece i (ruleOutcome (ruleAt rules i) piece) own in
+        ap (λ (o : Outcome). executed i (pred (length walked)) o (ownWaits words codes pairs cells (ruleNotes (ruleAt rules i)))) outcome
         ∙ ap
-        (λ (w : ℕ). took 0 (record { answer = onlyRule i (ruleOutcome (ruleAt rules i) piece); edges = pred (length walked); waits = w }))
+        (λ (w : ℕ). record { answer = onlyRule i (ruleOutcome (ruleAt rules i) piece); edges = pred (length walked); waits = w })
         waits
-    leaf-agrees (refusedAt q) inside = refl
+
+    -- and at the end of a path that takes no bytes.
+    end-agrees
+        : (p : Path) → LeafPath (length rules) p → NoBytes p
+        → endWalk rules words codes pairs cells (pieceEnd rules nodes piece p) ≡ atEnd rules nodes piece p
+    end-agrees (took a w) inside none = λ i. took (sym none i) (leaf-agrees (w .walked) (w .last) inside i)
+    end-agrees (refused q) inside none = refl
 
     module _ (g : List ℕ) (bytes : All IsByte g) {size : ℕ} (read : readGraph sheet g ≡ took size nodes) where
       -- The walk by cells, over the nodes at the starts, is the walk of the piece.
@@ -103,5 +133,5 @@ module _ (sheet : Sheet) (sound : SoundSheet sheet) where
           (nodes-are sheet sound g bytes read starts are)
           ∙ ap (endWalk rules words codes pairs cells)
           (path-agrees (sheet .arity) piece ok few nodes near fit rules (λ t m. near-test t (tests-near sheet sound t m)) (sym tests))
-          ∙ leaf-agrees (path nodes piece) leaf
-          ∙ sym (ap (λ r. andThen r (λ _ ns. readingOf (walk rules ns piece))) read)
+          ∙ end-agrees (path nodes piece) leaf (no-bytes nodes piece mostEdges 0)
+          ∙ sym (ap (λ r. andThen r (λ _ ns. walk rules ns piece)) read)

@@ -9,23 +9,17 @@ use Rattle.sheet.specs.Sheet.{Sheet}
 use Rattle.sheet_tests.specs.CheckSheet.{acceptSheet}
 use Rattle.piece.specs.ReadPiece.{readPiece}
 use Rattle.plain.specs.Plain.{answerOf}
-use Rattle.decision.specs.Walk.{Walk, Reply, walk}
-use Rattle.decision.specs.Walk as reply
+use Rattle.decision.specs.Walk.{Walk, walk}
 use Rattle.graph.specs.ReadGraph.{readGraph}
 use Rattle.walk.specs.declared.Walk as given
 use Rattle.walk.specs.declared.Walked as walked
 
--- What the walk over the nodes replies, as a reading that takes no bytes more.
-abbrev pub readingOf : Reply → Reading Walk
-readingOf (reply.answered w) = took 0 w
-readingOf (reply.refused q) = refused q
-
 -- The walk of a piece's terms over a graph of bytes g, for an accepted sheet: 21 to 25, then "at each switch or pair walked" 26
 -- and 27.
 abbrev pub graphReply : Sheet → List ℕ → Terms → Reading Walk
-graphReply sheet g terms = andThen (readGraph sheet g) (λ _ nodes. readingOf (walk (sheet .rules) nodes terms))
+graphReply sheet g terms = andThen (readGraph sheet g) (λ _ nodes. walk (sheet .rules) nodes terms)
 
--- "Walking, after sheet and piece: 20 Are the two arities equal?"
+-- "Walking, after sheet and piece": "20 Are the two arities equal?"
 abbrev pub pieceReply : Sheet → List ℕ → List ℕ → Reading Walk
 pieceReply sheet g p =
     andThen (readPiece p) (λ _ piece. ask 20 (eqb (sheet .arity) (piece .arity)) (graphReply sheet g (piece .terms)))
@@ -46,12 +40,12 @@ pub record WalkValues : Type 0 where
 abbrev pub walkValues : Walk → WalkValues
 walkValues w = record { refusal = 0; word = wordOf (w .answer); rule = ruleOf (w .answer); edges = w .edges; waits = w .waits }
 
-abbrev pub refusalValues : ℕ → WalkValues
-refusalValues q = record { refusal = q; word = 0; rule = 0; edges = 0; waits = 0 }
+abbrev pub walkRefusalValues : ℕ → WalkValues
+walkRefusalValues q = record { refusal = q; word = 0; rule = 0; edges = 0; waits = 0 }
 
 abbrev pub replyValues : Reading Walk → WalkValues
 replyValues (took a w) = walkValues w
-replyValues (refused q) = refusalValues q
+replyValues (refused q) = walkRefusalValues q
 
 -- The walk that is handed back, and its values.
 abbrev pub walkOf : given.Walk → Walk
@@ -59,7 +53,7 @@ walkOf w = record { answer = answerOf (w .answer); edges = w .edges; waits = w .
 
 abbrev pub walkedValues : walked.Walked → WalkValues
 walkedValues (walked.the-variants.Answered w) = walkValues (walkOf w)
-walkedValues (walked.the-variants.Refused q) = refusalValues q
+walkedValues (walked.the-variants.Refused q) = walkRefusalValues q
 
 abbrev pub walkedReading : walked.Walked → Reading Walk
 walkedReading (walked.the-variants.Answered w) = took 0 (walkOf w)

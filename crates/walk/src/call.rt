@@ -16,11 +16,11 @@ ghost use Rattle.sheet_tests.specs.views.TestedPlaces.{placesIn};
 ghost use Rattle.sheet_tests.specs.views.TestsRead.{keptTests};
 ghost use Rattle.accepted.specs.views.AcceptedAs.{AcceptedTests};
 ghost use Rattle.outcomes.specs.views.CompareCells.{Narrow};
-ghost use Rattle.plain.specs.AcceptedBytes.{ReadAs};
+ghost use Rattle.plain.specs.views.ReadAs.{ReadAs};
 ghost use Rattle.graph.specs.views.Rewriting.{readOr};
 ghost use Rattle.walk.specs.views.Following.{cellsEnd, nodesAt};
 ghost use Rattle.walk.specs.views.LeafAnswers.{endWalk};
-ghost use Rattle.walk.specs.views.Ready.{Ready, Checked};
+ghost use Rattle.walk.specs.views.Ready.{Ready, Arrays, SomePiece, Checked};
 ghost use Rattle.walk.specs.Walking.{graphReply, pieceReply, walkReply, replyValues, walkedValues, walkedReading};
 
 // Follows the edges of an accepted graph, and answers at the leaf.
@@ -36,9 +36,13 @@ fn walk_nodes(
     pairs: usize,
     cells: &[u32; 680],
 ) -> Walked
-    requires { ⌜ (length (now words) ≡ 11) × (length (now codes) ≡ 65) × (length (now starts) ≡ 1024) × Narrow (now cells) ⌝ }
+    requires { ⌜ Arrays (now words) (now codes) pairs × (length (now starts) ≡ 1024) × Narrow (now cells) ⌝ }
     requires { ⌜ Ready (now s) (now graph) (now starts) (now words) (now codes) arity count pairs nodes ⌝ }
-    ensures { λ r. ⌜ walkedReading r ≡ endWalk (readOr [] (readRules arity count (now (s .entry)))) (now (words .entry)) (now (codes .entry)) pairs (now (cells .entry)) (cellsEnd (keptTests (now (words .entry)) (now (codes .entry)) pairs) (nodesAt (now (graph .entry)) (now (starts .entry)) nodes) (now (cells .entry))) ⌝ }
+    ensures { λ r. ⌜ walkedReading r
+        ≡ endWalk (readOr [] (readRules arity count (now (s .entry)))) (now (words .entry))
+        (now (codes .entry)) pairs (now (cells .entry))
+        (cellsEnd (keptTests (now (words .entry)) (now (codes .entry)) pairs)
+        (nodesAt (now (graph .entry)) (now (starts .entry)) nodes) (now (cells .entry))) ⌝ }
 {
     let followed = follow_path(graph, starts, nodes, words, codes, pairs, cells);
     match followed {
@@ -74,9 +78,11 @@ pub fn walk_checked(
     pairs: usize,
     cells: &[u32; 680],
 ) -> Walked
-    requires { ⌜ (length (now words) ≡ 11) × (length (now codes) ≡ 65) × (length (placesIn (now words)) + pairs ≤ 64) × (length (now starts) ≡ 1024) × Narrow (now cells) ⌝ }
+    requires { ⌜ Arrays (now words) (now codes) pairs × (length (now starts) ≡ 1024) × SomePiece (now cells) arity ⌝ }
     requires { ⌜ Checked (now sheet) (now graph) (now starts) (now words) (now codes) arity count pairs nodes ⌝ }
-    ensures { λ r. ⌜ ((t : AcceptedTests (now (sheet .entry)) (now (words .entry)) (now (codes .entry)) arity count pairs) (p : List ℕ) (k : ReadAs p (now (cells .entry)) arity) → walkedReading r ≡ graphReply (t .read .sheet) (now (graph .entry)) (k .piece .terms)) ⌝ }
+    ensures { λ r. ⌜ ((t : AcceptedTests (now (sheet .entry)) (now (words .entry)) (now
+        (codes .entry)) arity count pairs) (p : List ℕ) (k : ReadAs p (now (cells .entry)) arity)
+        → walkedReading r ≡ graphReply (t .read .sheet) (now (graph .entry)) (k .piece .terms)) ⌝ }
 {
     walk_nodes(
         &sheet[3..],
@@ -103,9 +109,11 @@ fn walk_graph(
     pairs: usize,
     cells: &[u32; 680],
 ) -> Walked
-    requires { ⌜ (length (now words) ≡ 11) × (length (now codes) ≡ 65) × (length (placesIn (now words)) + pairs ≤ 64) × Narrow (now cells) ⌝ }
+    requires { ⌜ Arrays (now words) (now codes) pairs × SomePiece (now cells) arity ⌝ }
     requires { ⌜ AcceptedTests (now sheet) (now words) (now codes) arity count pairs ⌝ }
-    ensures { λ r. ⌜ ((t : AcceptedTests (now (sheet .entry)) (now (words .entry)) (now (codes .entry)) arity count pairs) (p : List ℕ) (k : ReadAs p (now (cells .entry)) arity) → walkedReading r ≡ graphReply (t .read .sheet) (now (graph .entry)) (k .piece .terms)) ⌝ }
+    ensures { λ r. ⌜ ((t : AcceptedTests (now (sheet .entry)) (now (words .entry)) (now
+        (codes .entry)) arity count pairs) (p : List ℕ) (k : ReadAs p (now (cells .entry)) arity)
+        → walkedReading r ≡ graphReply (t .read .sheet) (now (graph .entry)) (k .piece .terms)) ⌝ }
 {
     let mut starts = [0u32; 1024];
     let index = index_graph(graph, words, codes, pairs, arity, count, &mut starts);
@@ -141,7 +149,8 @@ fn walk_piece(
 ) -> Walked
     requires { ⌜ (length (now words) ≡ 11) × (length (now codes) ≡ 65) × (length (placesIn (now words)) + pairs ≤ 64) ⌝ }
     requires { ⌜ AcceptedTests (now sheet) (now words) (now codes) arity count pairs ⌝ }
-    ensures { λ r. ⌜ ((t : AcceptedTests (now (sheet .entry)) (now (words .entry)) (now (codes .entry)) arity count pairs) → walkedReading r ≡ pieceReply (t .read .sheet) (now (graph .entry)) (now (piece .entry))) ⌝ }
+    ensures { λ r. ⌜ ((t : AcceptedTests (now (sheet .entry)) (now (words .entry)) (now (codes .entry)) arity count pairs)
+        → walkedReading r ≡ pieceReply (t .read .sheet) (now (graph .entry)) (now (piece .entry))) ⌝ }
 {
     let mut cells = [0u32; 680];
     let read = piece::read_piece(piece, &mut cells);

@@ -16,21 +16,20 @@ ghost use Rattle.sheet.specs.views.Noted.{ruleNotes};
 ghost use Rattle.sheet.specs.views.NoteArray.{notesIn};
 ghost use Rattle.sheet.specs.ReadSheet.{readRules};
 ghost use Rattle.sheet_tests.specs.views.NoteTests.{Placed};
-ghost use Rattle.sheet_tests.specs.views.TestedPlaces.{placesIn};
-ghost use Rattle.sheet_tests.specs.views.TestsRead.{keptTests};
 ghost use Rattle.outcomes.specs.views.CompareCells.{Narrow};
-ghost use Rattle.decision.specs.Key.{execute};
-ghost use Rattle.graph.specs.ReadGraph.{leafOf};
+ghost use Rattle.decision.specs.Key.{executeNode};
+ghost use Rattle.graph.specs.views.NodeRecord.{leafOf};
 ghost use Rattle.graph.specs.views.Rewriting.{IsTook, readOr};
 ghost use Rattle.walk.specs.Walking.{walkOf};
-ghost use Rattle.walk.specs.views.TestNumbers.{NearTest};
 ghost use Rattle.walk.specs.views.LeafAnswers.{leafWalk, LeafIn};
+ghost use Rattle.walk.specs.views.Ready.{KeptNear, RuleRead};
 
 // The notes of a rule, from 1, of the rules, so many, that the input begins with: how many there are. The rules were read before,
 // so none is refused here. Not the notes of the rule after it, nor those of the first.
 pub fn notes_at(s: &[u8], arity: usize, count: u8, rule: u8, notes: &mut [u64; 680]) -> usize
-    requires { ⌜ (arity ≤ 8) × (length (now notes) ≡ 680) × (1 ≤ rule) × (rule ≤ count) × IsTook (readRules arity count (now s)) ⌝ }
-    ensures { λ r. ⌜ notesIn (now (notes .exit)) r ≡ ruleNotes (ruleAt (readOr [] (readRules arity count (now (s .entry)))) rule) ⌝ }
+    requires { ⌜ RuleRead (now s) arity count rule × (length (now notes) ≡ 680) ⌝ }
+    ensures { λ r. ⌜ notesIn (now (notes .exit)) r
+        ≡ ruleNotes (ruleAt (readOr [] (readRules arity count (now (s .entry)))) rule) ⌝ }
     ensures { λ r. ⌜ (r ≤ 680) × (length (now (notes .exit)) ≡ 680) × All Placed (notesIn (now (notes .exit)) r) ⌝ }
 {
     let mut at: usize = 0;
@@ -62,9 +61,11 @@ pub fn at_rule(
     pairs: usize,
     cells: &[u32; 680],
 ) -> Walk
-    requires { ⌜ (arity ≤ 8) × (1 ≤ rule) × (rule ≤ count) × IsTook (readRules arity count (now s)) × Narrow (now cells) ⌝ }
-    requires { ⌜ (length (now words) ≡ 11) × (length (now codes) ≡ 65) × (length (placesIn (now words)) + pairs ≤ 64) × All NearTest (keptTests (now words) (now codes) pairs) ⌝ }
-    ensures { λ r. ⌜ walkOf r ≡ leafWalk (readOr [] (readRules arity count (now (s .entry)))) (now (words .entry)) (now (codes .entry)) pairs (now (cells .entry)) (execute rule) edges 0 ⌝ }
+    requires { ⌜ RuleRead (now s) arity count rule × Narrow (now cells) ⌝ }
+    requires { ⌜ KeptNear (now words) (now codes) pairs ⌝ }
+    ensures { λ r. ⌜ walkOf r
+        ≡ leafWalk (readOr [] (readRules arity count (now (s .entry)))) (now (words .entry))
+        (now (codes .entry)) pairs (now (cells .entry)) (executeNode rule) edges 0 ⌝ }
 {
     let mut notes = [0u64; 680];
     let n = notes_at(s, arity, count, rule, &mut notes);
@@ -102,9 +103,11 @@ pub fn at_leaf(
     pairs: usize,
     cells: &[u32; 680],
 ) -> Walk
-    requires { ⌜ (arity ≤ 8) × LeafIn count (leafOf leaf) × IsTook (readRules arity count (now s)) × Narrow (now cells) ⌝ }
-    requires { ⌜ (length (now words) ≡ 11) × (length (now codes) ≡ 65) × (length (placesIn (now words)) + pairs ≤ 64) × All NearTest (keptTests (now words) (now codes) pairs) ⌝ }
-    ensures { λ r. ⌜ walkOf r ≡ leafWalk (readOr [] (readRules arity count (now (s .entry)))) (now (words .entry)) (now (codes .entry)) pairs (now (cells .entry)) (leafOf leaf) edges met ⌝ }
+    requires { ⌜ (arity ≤ 8) × LeafIn count (leafOf leaf) × IsTook (readRules arity count (now s)) ⌝ }
+    requires { ⌜ KeptNear (now words) (now codes) pairs × Narrow (now cells) ⌝ }
+    ensures { λ r. ⌜ walkOf r
+        ≡ leafWalk (readOr [] (readRules arity count (now (s .entry)))) (now (words .entry))
+        (now (codes .entry)) pairs (now (cells .entry)) (leafOf leaf) edges met ⌝ }
 {
     match leaf {
         Leaf::Fail => Walk {

@@ -17,11 +17,12 @@ ghost use Rattle.sheet_tests.specs.SheetTests.{place, pair};
 ghost use Rattle.outcomes.specs.views.Look.{look};
 ghost use Rattle.outcomes.specs.views.CompareCells.{Narrow};
 ghost use Rattle.outcomes.specs.views.CellOutcome.{pairCells};
-ghost use Rattle.decision.specs.Key.{fail};
+ghost use Rattle.decision.specs.Key.{failNode};
 ghost use Rattle.decision.specs.Node.{end};
-ghost use Rattle.graph.specs.ReadGraph.{readCases};
-ghost use Rattle.graph.specs.views.Rewriting.{IsTook, readOr, readRecord};
-ghost use Rattle.walk.specs.views.CodeSteps.{codeStep, codesStep, stepCells, NearNode, stepOf};
+ghost use Rattle.graph.specs.ReadGraph.{readCases, readRecord};
+ghost use Rattle.graph.specs.views.Rewriting.{IsTook, readOr};
+ghost use Rattle.walk.specs.views.CodeSteps.{codeStep, codesStep, stepCells, stepOf};
+ghost use Rattle.walk.specs.views.Following.{NodeStands};
 ghost use Rattle.walk.specs.views.CodeSteps.{openCells, openIf, openAt, openIn};
 
 // The step at a switch, whose cases, so many, begin at a position of the graph: code 0 says that the piece lacks the place.
@@ -35,7 +36,9 @@ fn switch_step(
     cells: &[u32; 680],
 ) -> Step
     requires { ⌜ (start ≤ length (now graph)) × IsTook (readCases count (drop start (now graph))) × (tested < 680) ⌝ }
-    ensures { λ r. ⌜ stepOf r ≡ codeStep (readOr [] (readCases count (drop start (now (graph .entry))))) neither unknown (look (now (cells .entry)) tested) ⌝ }
+    ensures { λ r. ⌜ stepOf r
+        ≡ codeStep (readOr [] (readCases count (drop start (now (graph .entry))))) neither unknown
+        (look (now (cells .entry)) tested) ⌝ }
     ensures { λ r. ⌜ openIn r ≡ openIf (openCells (now (cells .entry)) (place tested)) (place tested) ⌝ }
 {
     let code = look(cells, tested as usize);
@@ -51,7 +54,9 @@ fn switch_step(
 // The step at a pair: by differ only where its test is contradicted, and no way where a place is lacking.
 fn pair_step(cells: &[u32; 680], p: u16, q: u16, differ: u16, other: u16) -> Step
     requires { ⌜ (p < 680) × (q < 680) × Narrow (now cells) ⌝ }
-    ensures { λ r. ⌜ stepOf r ≡ codesStep differ other (look (now (cells .entry)) p) (look (now (cells .entry)) q) (pairCells (now (cells .entry)) p q) ⌝ }
+    ensures { λ r. ⌜ stepOf r
+        ≡ codesStep differ other (look (now (cells .entry)) p) (look (now (cells .entry)) q)
+        (pairCells (now (cells .entry)) p q) ⌝ }
     ensures { λ r. ⌜ openIn r ≡ openIf (openCells (now (cells .entry)) (pair p q)) (pair p q) ⌝ }
 {
     if look(cells, p as usize) == 0 {
@@ -71,9 +76,10 @@ fn pair_step(cells: &[u32; 680], p: u16, q: u16, differ: u16, other: u16) -> Ste
 // The step at the node whose record, which is whole, begins at a position of the graph. Not by neither where the place is
 // unknown, nor by other where a place is lacking.
 pub fn step_at(graph: &[u8], at: usize, cells: &[u32; 680]) -> Step
-    requires { ⌜ (at ≤ length (now graph)) × IsTook (readRecord (drop at (now graph))) × NearNode (readOr (end fail) (readRecord (drop at (now graph)))) × Narrow (now cells) ⌝ }
-    ensures { λ r. ⌜ stepOf r ≡ stepCells (now (cells .entry)) (readOr (end fail) (readRecord (drop at (now (graph .entry))))) ⌝ }
-    ensures { λ r. ⌜ openIn r ≡ openAt (now (cells .entry)) (readOr (end fail) (readRecord (drop at (now (graph .entry))))) ⌝ }
+    requires { ⌜ NodeStands (now graph) at × Narrow (now cells) ⌝ }
+    ensures { λ r. ⌜ stepOf r
+        ≡ stepCells (now (cells .entry)) (readOr (end failNode) (readRecord (drop at (now (graph .entry))))) ⌝ }
+    ensures { λ r. ⌜ openIn r ≡ openAt (now (cells .entry)) (readOr (end failNode) (readRecord (drop at (now (graph .entry))))) ⌝ }
 {
     let head = node_head(&graph[at..]);
     let NodeHead::Whole(node) = head else {

@@ -8,7 +8,7 @@ ghost use Rattle.sheet_tests.specs.SheetTests.{pair};
 ghost use Rattle.sheet_tests.specs.views.KeptPairs.{codePair};
 ghost use Rattle.walk.specs.views.CodeSteps.{openOf};
 ghost use Rattle.sheet_tests.specs.views.TestsRead.{keptTests};
-ghost use Rattle.walk.specs.views.TestNumbers.{numberIn, placesUnder, KeptOpen, withTest};
+ghost use Rattle.walk.specs.views.TestNumbers.{testNumber, placesUnder, KeptOpen, withTest};
 
 // How many places of the set are below a place. Not the place itself too, nor those of its own word alone.
 pub fn places_under(words: &[u64; 11], place: usize) -> usize
@@ -28,7 +28,7 @@ pub fn places_under(words: &[u64; 11], place: usize) -> usize
 // first place, nor that of a code behind those.
 pub fn pair_number(codes: &[u32; 65], count: usize, p: u16, q: u16) -> usize
     requires { ⌜ (count ≤ 65) × (length (now codes) ≡ 65) ⌝ }
-    ensures { λ r. ⌜ r ≡ numberIn (map codePair (take count (now (codes .entry)))) (pair p q) ⌝ }
+    ensures { λ r. ⌜ r ≡ testNumber (map codePair (take count (now (codes .entry)))) (pair p q) ⌝ }
 {
     let code = (p as u32) * 0x10000 + (q as u32);
     let mut i: usize = 0;
@@ -43,7 +43,10 @@ pub fn pair_number(codes: &[u32; 65], count: usize, p: u16, q: u16) -> usize
 
 // The set of tests with a test that is not known, if there is one. Not that test alone, nor the place with a pair's number.
 pub fn with_open(words: &[u64; 11], codes: &[u32; 65], count: usize, waits: u64, met: Open) -> u64
-    requires { ⌜ (length (now words) ≡ 11) × (count ≤ 65) × (length (now codes) ≡ 65) × (length (keptTests (now words) (now codes) count) ≤ 64) ⌝ }
+    requires { ⌜ (length (now words) ≡ 11)
+        × (count ≤ 65)
+        × (length (now codes) ≡ 65)
+        × (length (keptTests (now words) (now codes) count) ≤ 64) ⌝ }
     requires { ⌜ KeptOpen (now words) (now codes) count (openOf met) ⌝ }
     ensures { λ r. ⌜ r ≡ withTest (keptTests (now (words .entry)) (now (codes .entry)) count) waits (openOf met) ⌝ }
 {

@@ -3,9 +3,7 @@ use crate::Followed;
 use crate::Step;
 use crate::node::step_at;
 use crate::number::with_open;
-ghost use Prim.Native.Nat.{_≤_};
 ghost use mathlib.Core.Path.{_≡_};
-ghost use lib.ListN.{length};
 ghost use Rattle.outcomes.specs.views.CompareCells.{Narrow};
 ghost use Rattle.sheet_tests.specs.views.TestsRead.{keptTests};
 ghost use Rattle.walk.specs.views.Following.{cellsEnd, nodesAt, endedOf};
@@ -22,9 +20,11 @@ pub fn follow_path(
     pairs: usize,
     cells: &[u32; 680],
 ) -> Followed
-    requires { ⌜ (pairs ≤ 65) × (length (now codes) ≡ 65) × (length (now starts) ≡ 1024) × Narrow (now cells) ⌝ }
+    requires { ⌜ Narrow (now cells) ⌝ }
     requires { ⌜ Course (now graph) (now starts) (now words) (now codes) pairs nodes ⌝ }
-    ensures { λ r. ⌜ endedOf r ≡ cellsEnd (keptTests (now (words .entry)) (now (codes .entry)) pairs) (nodesAt (now (graph .entry)) (now (starts .entry)) nodes) (now (cells .entry)) ⌝ }
+    ensures { λ r. ⌜ endedOf r
+        ≡ cellsEnd (keptTests (now (words .entry)) (now (codes .entry)) pairs)
+        (nodesAt (now (graph .entry)) (now (starts .entry)) nodes) (now (cells .entry)) ⌝ }
 {
     let mut node: u16 = 0;
     let mut edges: u8 = 0;

@@ -10,12 +10,11 @@ ghost use Rattle.masks.specs.Mask.{maskOf};
 ghost use Rattle.basics.specs.Lists.{All};
 ghost use Rattle.sheet.specs.views.NoteArray.{notesIn};
 ghost use Rattle.sheet_tests.specs.views.NoteTests.{Placed};
-ghost use Rattle.sheet_tests.specs.views.TestedPlaces.{placesIn};
-ghost use Rattle.sheet_tests.specs.views.TestsRead.{keptTests};
 ghost use Rattle.outcomes.specs.views.CompareCells.{Narrow};
 ghost use Rattle.walk.specs.views.CodeSteps.{openCells};
 ghost use Rattle.walk.specs.views.TestNumbers.{NearTest};
 ghost use Rattle.walk.specs.views.LeafAnswers.{listedTest, withIf, ownWaits};
+ghost use Rattle.walk.specs.views.Ready.{KeptNear};
 
 // A set with a number where it is wanted, else as it is.
 fn with_if(wanted: bool, set: u64, number: usize) -> u64
@@ -63,7 +62,9 @@ pub fn open_tests(
 ) -> u64
     requires { ⌜ (m ≤ 64) × (m + n ≤ 64) × (length (now places) ≡ 64) × (length (now codes) ≡ 65) × Narrow (now cells) ⌝ }
     requires { ⌜ ((t : ℕ) → t < m + n → NearTest (listedTest (now places) m (now codes) t)) ⌝ }
-    ensures { λ r. ⌜ r ≡ maskOf (m + n) (λ t. openCells (now (cells .entry)) (listedTest (now (places .entry)) m (now (codes .entry)) t)) ⌝ }
+    ensures { λ r. ⌜ r
+        ≡ maskOf (m + n) (λ t. openCells (now (cells .entry)) (listedTest (now (places .entry)) m (now
+        (codes .entry)) t)) ⌝ }
 {
     let all = m + n;
     let mut set: u64 = 0;
@@ -85,8 +86,10 @@ pub fn own_waits(
     cells: &[u32; 680],
 ) -> u64
     requires { ⌜ (n ≤ 680) × (length (now notes) ≡ 680) × All Placed (notesIn (now notes) n) × Narrow (now cells) ⌝ }
-    requires { ⌜ (length (now words) ≡ 11) × (length (now codes) ≡ 65) × (length (placesIn (now words)) + pairs ≤ 64) × All NearTest (keptTests (now words) (now codes) pairs) ⌝ }
-    ensures { λ r. ⌜ r ≡ ownWaits (now (words .entry)) (now (codes .entry)) pairs (now (cells .entry)) (notesIn (now (notes .entry)) n) ⌝ }
+    requires { ⌜ KeptNear (now words) (now codes) pairs ⌝ }
+    ensures { λ r. ⌜ r
+        ≡ ownWaits (now (words .entry)) (now (codes .entry)) pairs (now (cells .entry))
+        (notesIn (now (notes .entry)) n) ⌝ }
 {
     let mut places = [0u16; 64];
     let count = compiled::list_places(words, &mut places);

@@ -12,20 +12,20 @@ use Rattle.sheet_tests.specs.views.TestsRead.{keptTests}
 use Rattle.edges.specs.views.Compiled.{Compiled}
 
 -- An accepted sheet of that arity and so many rules.
-pub record AcceptedAs (arity count : ℕ) (sheet : Sheet) : Type 0 where
+pub record SizedSheet (arity count : ℕ) (sheet : Sheet) : Type 0 where
   pub accepted : AcceptedSheet sheet
   pub arityIs : sheet .arity ≡ arity
   pub countIs : length (sheet .rules) ≡ count
 
 -- Its rules follow the sheet's first record, and the arrays hold its tests.
-pub record Kept (s words codes : List ℕ) (arity count pairs : ℕ) (sheet : Sheet) : Type 0 where
-  pub known : AcceptedAs arity count sheet
+pub record SheetHeld (s words codes : List ℕ) (arity count pairs : ℕ) (sheet : Sheet) : Type 0 where
+  pub known : SizedSheet arity count sheet
   pub bytes : ℕ
   pub rulesRead : readRules arity count s ≡ took bytes (sheet .rules)
   pub tests : sheetTests (sheet .rules) ≡ keptTests words codes pairs
 
 -- Its tables are these, and it has so many tests.
 pub record Tabled (arity count tests : ℕ) (rows low high places pairs : List ℕ) (placeTests : ℕ) (sheet : Sheet) : Type 0 where
-  pub known : AcceptedAs arity count sheet
+  pub known : SizedSheet arity count sheet
   pub testsAre : length (sheetTests (sheet .rules)) ≡ tests
   pub compiled : Compiled (sheet .rules) rows low high places pairs placeTests

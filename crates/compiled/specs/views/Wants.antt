@@ -22,7 +22,7 @@ numberIf false low high = none
 abbrev pub rangeWant : ℕ → ℕ → Option Want
 rangeWant low high = numberIf (ltb high 0x1_0000) low high
 
--- "One place test for each symbol, range or compound (id and arity)".
+-- "one place test for each symbol, range or compound (id and arity)"
 abbrev pub recordWant : List ℕ → List ℕ → PatternRecord → Option Want
 recordWant low high Anything = none
 recordWant low high (Symbol a) = some (aSymbol a)

@@ -35,19 +35,19 @@ isPlace (pair p q) = false
 
 -- The first so many tests are places, all of the 680, and stand in `place`; the others are pairs p, q, and stand in `pairs` as
 -- p × 65,536 + q.
-pub record PlaceTable (rules : List Patterns) (places pairs : List ℕ) (count : ℕ) : Type 0 where
-  pub split : (t : ℕ) → t < length (sheetTests rules) → isPlace (testAt rules t) ≡ ltb t count
+pub record PlaceTable (rules : List Patterns) (places pairs : List ℕ) (placeTests : ℕ) : Type 0 where
+  pub split : (t : ℕ) → t < length (sheetTests rules) → isPlace (testAt rules t) ≡ ltb t placeTests
   pub inside : (t n : ℕ) → t < length (sheetTests rules) → testAt rules t ≡ place n → n < 680
   pub placeOf : (t n : ℕ) → t < length (sheetTests rules) → testAt rules t ≡ place n → getD places t 0 ≡ n
   pub pairOf
       : (t p q : ℕ) → t < length (sheetTests rules) → testAt rules t ≡ pair p q
-      → (q < 0x1_0000) × (getD pairs (t - count) 0 ≡ p * 0x1_0000 + q)
+      → (q < 0x1_0000) × (getD pairs (t - placeTests) 0 ≡ p * 0x1_0000 + q)
 
 -- The tables are those of the rules.
-pub record Compiled (rules : List Patterns) (rows low high places pairs : List ℕ) (count : ℕ) : Type 0 where
+pub record Compiled (rules : List Patterns) (rows low high places pairs : List ℕ) (placeTests : ℕ) : Type 0 where
   pub tests : RowTable rules rows
   pub wants : CodeTable rules low high
-  pub spots : PlaceTable rules places pairs count
+  pub spots : PlaceTable rules places pairs placeTests
 
 -- Rules of the sheet are live, and test t is one of its tests.
 pub record Asked (rules : List Patterns) (rows : List ℕ) (live t : ℕ) : Type 0 where

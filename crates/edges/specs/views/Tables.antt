@@ -27,8 +27,9 @@ stays rows low high t code i =
 
 -- Test u is a place at or below place p, or a pair with such a place; the first so many tests are places.
 unfoldable pub isBelow : List ℕ → List ℕ → ℕ → ℕ → ℕ → Bool
-isBelow places pairs count p u =
-    cond (ltb u count) (atOrBelow p (getD places u 0)) (atOrBelow p (getD pairs (u - count) 0 / 0x1_0000) || atOrBelow p (getD pairs (u - count) 0 % 0x1_0000))
+isBelow places pairs placeTests p u =
+    let code = getD pairs (u - placeTests) 0 in
+    cond (ltb u placeTests) (atOrBelow p (getD places u 0)) (atOrBelow p (code / 0x1_0000) || atOrBelow p (code % 0x1_0000))
 
 -- The code that stands after all: no cut is there.
 abbrev pub noCut : ℕ

@@ -2,14 +2,14 @@
 -- rule", so each of them has one key, which no node that asks has, for that has two live rules or more.
 use Prim.Native.Nat.{pred, _^_}
 use Rattle.decision.specs.Key as decision
-use Rattle.decision.specs.Key.{Vertex, leaf, asking, fail, suspend, execute}
+use Rattle.decision.specs.Key.{Vertex, leaf, asking, failNode, suspendNode, executeNode}
 use Rattle.edges.specs.declared.Key.{Key}
 
 -- The key of a vertex: no live rule for fail and suspend, the one rule for execute.
 abbrev pub vertexKey : Vertex → Key
-vertexKey (leaf fail) = record { live = 0; pending = 0 }
-vertexKey (leaf suspend) = record { live = 0; pending = 1 }
-vertexKey (leaf (execute i)) = record { live = 2 ^ pred i; pending = 0 }
+vertexKey (leaf failNode) = record { live = 0; pending = 0 }
+vertexKey (leaf suspendNode) = record { live = 0; pending = 1 }
+vertexKey (leaf (executeNode i)) = record { live = 2 ^ pred i; pending = 0 }
 vertexKey (asking key) = record { live = key .live; pending = key .pending }
 
 -- The key that the code has.

@@ -10,7 +10,7 @@ use Rattle.decision.specs.Node.{CaseEdge, mapCase, mapNode}
 use Rattle.decision.specs.Edges.{liveWants, byCase, askNode}
 use Rattle.decision.specs.GraphBytes.{nodeBytes, nodesBytes}
 use Rattle.edges.specs.views.Compiled.{Compiled}
-use Rattle.keys.specs.views.KeysMet.{numberOf}
+use Rattle.keys.specs.views.KeysMet.{keyNumber}
 use Rattle.keys.specs.views.KeyGraph.{nameOf, keyedNode, keyedNodes}
 use Rattle.keys.specs.views.NodeKind.{Fits}
 
@@ -23,12 +23,12 @@ module _ (rules : List Patterns) (keys : List Key) where
   -- The cases of the switch at place n, which the key's test t asks, with the numbers of the nodes that they lead to.
   abbrev pub switchEdges : Key → ℕ → ℕ → List (CaseEdge ℕ)
   switchEdges key t n =
-      map (mapCase (λ (v : Vertex). numberOf keys (nameOf v)))
+      map (mapCase (λ (v : Vertex). keyNumber keys (nameOf v)))
       (map (λ (c : Case). record { case = c; target = byCase rules key t n c }) (casesOf (liveWants rules (key .live) n)))
 
   -- The bytes of the node that asks a key's test t,
   abbrev pub askBytes : Key → ℕ → List ℕ
-  askBytes key t = nodeBytes (mapNode (λ (v : Vertex). numberOf keys (nameOf v)) (askNode rules key t (testAt rules t)))
+  askBytes key t = nodeBytes (mapNode (λ (v : Vertex). keyNumber keys (nameOf v)) (askNode rules key t (testAt rules t)))
 
   -- of a key's node,
   abbrev pub keyBytes : Key → List ℕ

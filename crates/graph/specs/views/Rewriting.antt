@@ -3,8 +3,7 @@ use Prim.Native.Nat.{ℕ}
 use mathlib.Core.List.{List, [], _∷_}
 use Rattle.records.specs.Reading.{Reading, took, refused, readRow}
 use Rattle.decision.specs.Node.{Node}
-use Rattle.graph.specs.NodeRecord.{nodeHead}
-use Rattle.graph.specs.ReadGraph.{onNode}
+use Rattle.graph.specs.ReadGraph.{readRecord}
 
 -- Something was read.
 abbrev pub IsTook : {A : Type 0} → Reading A → Type 0
@@ -16,9 +15,6 @@ abbrev pub readOr : {A : Type 0} → A → Reading A → A
 readOr other (took a x) = x
 readOr other (refused q) = other
 
--- A node, and nodes in a row, of which questions 23 and 24 are not asked again.
-abbrev pub readRecord : List ℕ → Reading (Node ℕ)
-readRecord s = onNode s (nodeHead s)
-
+-- Nodes in a row, of which questions 23 and 24 are not asked again.
 abbrev pub readRecords : ℕ → List ℕ → Reading (List (Node ℕ))
 readRecords n s = readRow [] _∷_ readRecord n s

@@ -8,7 +8,7 @@ use Rattle.graph.specs.declared.NodeRecord.{NodeRecord}
 use Rattle.graph.specs.declared.NodeRecord.the-variants.{End, Switch, Pair}
 use Rattle.graph.specs.declared.CaseRecord.{CaseRecord}
 use Rattle.graph.specs.declared.CaseRecord.the-variants.{Symbol, Compound, Numbers}
-use Rattle.graph.specs.ReadGraph.{leafOf}
+use Rattle.graph.specs.views.NodeRecord.{leafOf}
 
 abbrev pub nodeRecordBytes : NodeRecord → List ℕ
 nodeRecordBytes (End l) = leafBytes (leafOf l)

@@ -14,7 +14,7 @@ use Rattle.keys.specs.views.KeyGraph.{nameOf}
 abbrev pub recordLength : {A : Type 0} → Node A → ℕ
 recordLength {A} node = length (nodeBytes (mapNode (λ (x : A). 0) node))
 
--- "A switch's edges are taken as cases, neither, unknown, a pair's as no, other": the keys behind the edges of a node are met
+-- "a switch's edges are taken as cases, neither, unknown, a pair's as no, other": the keys behind the edges of a node are met
 -- after some keys, and so many bytes are its record, where the keys are not too many.
 pub record EdgesMet (node : Node Vertex) (keys : List Key) (count bytes : ℕ) (lives pendings : List ℕ) : Type 0 where
   pub met : Met count lives pendings (meetAll keys (map nameOf (edges node)))

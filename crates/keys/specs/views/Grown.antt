@@ -1,4 +1,4 @@
--- All keys of a sheet's graph (document 01, "Nodes"): "Nodes are numbered breadth first from root 0."
+-- All keys of a sheet's graph (document 01, "Nodes"): "Nodes are numbered breadth first from root 0"
 use Prim.Native.Nat.{ℕ, _≤_, _<_}
 use mathlib.Core.Path.{_≡_}
 use mathlib.Core.List.{List, [], _∷_}

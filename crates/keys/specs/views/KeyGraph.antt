@@ -6,12 +6,12 @@ use mathlib.Core.List.{List, [], _∷_, map}
 use lib.Dec.{eqb}
 use Rattle.masks.specs.Mask.{members}
 use Rattle.terms.specs.Pattern.{Patterns}
-use Rattle.decision.specs.Key.{Key, Vertex, leaf, asking, fail, suspend, execute}
+use Rattle.decision.specs.Key.{Key, Vertex, leaf, asking, failNode, suspendNode, executeNode}
 use Rattle.decision.specs.Node.{Node, edges, mapNode}
 use Rattle.decision.specs.Edges.{nodeOf}
 use Rattle.decision.specs.Graph.{lowestFirst}
 use Rattle.edges.specs.views.VertexKey.{vertexKey, keyIn}
-use Rattle.keys.specs.views.KeysMet.{numberOf}
+use Rattle.keys.specs.views.KeysMet.{keyNumber}
 
 -- The key of a vertex.
 abbrev pub nameOf : Vertex → Key
@@ -19,8 +19,8 @@ nameOf v = keyIn (vertexKey v)
 
 -- The vertex that has a key, by its live rules.
 abbrev pub vertexBy : List ℕ → Key → Vertex
-vertexBy [] key = leaf (cond (eqb (key .pending) 0) fail suspend)
-vertexBy (i ∷ []) key = leaf (execute (suc i))
+vertexBy [] key = leaf (cond (eqb (key .pending) 0) failNode suspendNode)
+vertexBy (i ∷ []) key = leaf (executeNode (suc i))
 vertexBy (i ∷ (j ∷ l)) key = asking key
 
 abbrev pub vertexIn : Key → Vertex
@@ -36,7 +36,7 @@ nextKeys rules key = map nameOf (edges (nodeBy rules key))
 
 -- The node of a key, whose edges lead to the numbers of keys among those met.
 abbrev pub keyedNode : List Patterns → List Key → Key → Node ℕ
-keyedNode rules keys key = mapNode (λ (v : Vertex). numberOf keys (nameOf v)) (nodeBy rules key)
+keyedNode rules keys key = mapNode (λ (v : Vertex). keyNumber keys (nameOf v)) (nodeBy rules key)
 
 -- The nodes of the keys met, each at its number.
 abbrev pub keyedNodes : List Patterns → List Key → List (Node ℕ)

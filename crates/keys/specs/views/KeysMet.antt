@@ -22,8 +22,8 @@ abbrev pub keysIn : List ℕ → List ℕ → ℕ → List Key
 keysIn lives pendings count = map (keyAt lives pendings) (countFrom 0 count)
 
 -- The number of a key among keys, their count where it is not among them.
-abbrev pub numberOf : List Key → Key → ℕ
-numberOf keys key = numberIn sameKey (λ (k : Key). []) keys key
+abbrev pub keyNumber : List Key → Key → ℕ
+keyNumber keys key = numberIn sameKey keys key
 
 -- Key i of the first so many is this one.
 abbrev pub isAt : List ℕ → List ℕ → ℕ → Key → ℕ → Bool

@@ -9,9 +9,9 @@ use Rattle.decision.specs.Rules.{testAt}
 use Rattle.decision.specs.Key.{Key, Vertex}
 use Rattle.decision.specs.Node.{Node, end}
 use Rattle.decision.specs.Edges.{askNode}
-use Rattle.graph.specs.ReadGraph.{leafOf}
 use Rattle.keys.specs.declared.Kind.{Kind}
 use Rattle.keys.specs.declared.Kind.the-variants.{End, Ask}
+use Rattle.graph.specs.views.NodeRecord.{leafOf}
 
 -- "A node's key is its live rules and its pending tests": both are of the sheet. The key of suspend, which has no live rule, has
 -- a pending test even where the sheet has none.

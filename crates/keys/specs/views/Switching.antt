@@ -1,27 +1,17 @@
 -- The cases of a switch one after another, the keys behind them, and the bytes of their records.
 use Prim.Native.Nat.{ℕ, _+_}
-use mathlib.Core.Path.{_≡_}
 use mathlib.Core.Bool.{cond}
 use mathlib.Core.List.{List, [], _∷_, map}
 use lib.Dec.{leb, ltb}
 use lib.ListN.{length}
 use Rattle.basics.specs.Lists.{filter}
 use Rattle.terms.specs.Pattern.{Patterns}
-use Rattle.sheet_tests.specs.SheetTests.{place}
-use Rattle.decision.specs.Rules.{testAt}
 use Rattle.decision.specs.Key.{Key}
 use Rattle.decision.specs.Cases.{Case, casesOf}
 use Rattle.decision.specs.Edges.{liveWants, byCase}
 use Rattle.decision.specs.GraphBytes.{caseBytes}
 use Rattle.edges.specs.views.Codes.{caseLow}
-use Rattle.edges.specs.views.Compiled.{Asked, CodeTable}
 use Rattle.keys.specs.views.KeyGraph.{nameOf}
-
--- The tables are those of rules with these live, whose test t asks at place n.
-pub record Switches (rows low high : List ℕ) (live t : ℕ) (rules : List Patterns) (n : ℕ) : Type 0 where
-  pub asked : Asked rules rows live t
-  pub codes : CodeTable rules low high
-  pub test : testAt rules t ≡ place n
 
 -- The cases that begin at a code or above it.
 abbrev pub casesFrom : ℕ → List Case → List Case

@@ -45,3 +45,8 @@ casesFound nodes cs = record { inside = allInside nodes cs; ascend = casesAscend
 abbrev pub checkedCases : CasesCheck → Reading CasesFound
 checkedCases (Used a i b) = took a (record { inside = i; ascend = b })
 checkedCases (Refused q) = refused q
+
+-- The number of the question that cases got a no from, 0 where they are whole.
+abbrev pub casesRefusal : CasesCheck → ℕ
+casesRefusal (Used a i b) = 0
+casesRefusal (Refused q) = q

@@ -15,8 +15,9 @@ use Rattle.graph.specs.declared.NodeRecord.the-variants.{End}
 use Rattle.graph.specs.declared.NodeHead.the-variants.{Whole}
 use Rattle.node_check.specs.declared.NodeCheck.{NodeCheck}
 use Rattle.node_check.specs.declared.NodeCheck.the-variants.{Used, Refused}
-use Rattle.graph.specs.ReadGraph.{allInside, casesAscend, readCases, onNode, askNode}
+use Rattle.graph.specs.ReadGraph.{allInside, casesAscend, readCases, askRangeAndOrder}
 use Rattle.basics.specs.Lists.{anyOf}
+use Rattle.graph.specs.views.NodeRecord.{onNode}
 
 -- A pair is among the first so many codes, each of which has p in its two high bytes and q in its two low ones.
 abbrev pub isPair : ℕ → ℕ → ℕ → Bool
@@ -36,7 +37,7 @@ checked (refused q) = Refused q
 
 -- A leaf, of which no test is asked.
 abbrev pub leafCheck : ℕ → Leaf → NodeCheck
-leafCheck rules l = checked (askNode (λ t. false) rules 0 (onNode [] (Whole (End l))))
+leafCheck rules l = checked (askRangeAndOrder (λ t. false) rules 0 (onNode [] (Whole (End l))))
 
 -- A switch of which the place is a test and neither and unknown are in range, or not, and whose cases s begins with.
 abbrev pub switchCheck : Bool → ℕ → ℕ → List ℕ → NodeCheck

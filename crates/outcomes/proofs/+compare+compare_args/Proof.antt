@@ -15,7 +15,7 @@ use borrow.Fn.PlainCycle.{Measures, is, falls, and}
 use Rattle.places.specs.Numbering.{stride}
 use Rattle.places.proofs.step.Reads as step-reads
 use Rattle.terms.specs.Outcome.{Outcome}
-use Rattle.piece.proofs.Rooms.{row-room, arguments-room, step-of}
+use Rattle.piece.proofs.Rooms.{arguments-room, step-of}
 use Rattle.outcomes.specs.views.CompareCells.{arityOf, compareCodes, compareAt}
 use Rattle.outcomes.proofs.Comparing.{one-unknown, other-codes, same-leaf, same-compound, compareBelow, by-codes, no-level, some-level, no-pairs, first-pair}
 use Rattle.outcomes.proofs.both.Reads as both-reads
@@ -27,6 +27,7 @@ use Rattle.outcomes.proofs.+compare+compare_args.Lts-compare as compare
 use Rattle.outcomes.proofs.+compare+compare_args.Lts-compare_args as compare-args-lts
 use Rattle.outcomes.proofs.+compare+compare_args.Tie.{close}
 use Rattle.outcomes.proofs.+compare+compare_args.{statement}
+use Rattle.basics.proofs.Numbers.{row-room}
 
 abbrev μ-compare : Measures 1 compare-kinds.ps ℕ
 μ-compare κs a = 6 * a .1 .0

@@ -10,8 +10,8 @@ use borrow.Author.Needs.{needs}
 use borrow.Author.Tests.{ltb-true, ltb-false}
 use Rattle.places.specs.Numbering.{stride}
 use Rattle.records.specs.Reading.{took, refused}
-use Rattle.piece.specs.TermRecord.{headRefusal}
-use Rattle.piece.proofs.Rooms.{row-room, arguments-room, step-of}
+use Rattle.piece.specs.views.TermRecord.{headRefusal}
+use Rattle.piece.proofs.Rooms.{arguments-room, step-of}
 use Rattle.piece.proofs.TermCells.{went-on, stopped, by-record, deep-refused, arity-refused, none-read, first-refused}
 use Rattle.piece.proofs.term.Reads as term
 use Rattle.piece.proofs.terms.Reads as terms
@@ -20,6 +20,7 @@ use Rattle.piece.proofs.+term+terms.Lts-terms as terms-lts
 use Rattle.piece.proofs.+term+terms.Tie.{close}
 use Rattle.piece.proofs.+term+terms.{statement}
 use Rattle.piece.proofs.+term+terms.Proof.Places.{μ-term, μ-terms, term-at, terms-at, term-calls, terms-calls, head-start, whole-head, compound-start, id, arity, compound-head, compound-there, arguments-start, compound-read, arguments-fit, row-start, first-fits, row-fits, others-start, row-read, others-fit}
+use Rattle.basics.proofs.Numbers.{row-room}
 
 term-returns : (t : ℕ) → term-lts.Need-returns (term-calls t) (term-at t) term.Post
 term-returns t c =

@@ -1,5 +1,4 @@
--- Pieces laid out by place, and what the answers of reading and checking a piece say in document 01's numbers and
--- values.
+-- Pieces laid out by place, and what is read into the cells.
 use Prim.Native.Nat.{ℕ}
 use mathlib.Core.List.{List}
 use lib.ListN.{replicate}
@@ -62,18 +61,3 @@ prefixBytes (prefix.Refused q) = 0
 abbrev pub pieceRead : ℕ → List ℕ → PieceCheck → Reading LaidOut
 pieceRead bytes cells (check.Accepted n) = took bytes (record { arity = n; cells = cells })
 pieceRead bytes cells (check.Refused q) = refused q
-
--- "The first no, in order, gives its number. Every other result field is then 0." "When accepted, .. a piece check
--- [gives] arity", and the number is 0.
-pub record PieceResult : Type 0 where
-  pub refusal : ℕ
-  pub arity : ℕ
-
-abbrev pub pieceResult : PieceCheck → PieceResult
-pieceResult (check.Accepted n) = record { refusal = 0; arity = n }
-pieceResult (check.Refused q) = record { refusal = q; arity = 0 }
-
--- What the check of a piece must say of how it reads.
-abbrev pub checkedPiece : Reading Piece → PieceResult
-checkedPiece (took a piece) = record { refusal = 0; arity = piece .arity }
-checkedPiece (refused q) = record { refusal = q; arity = 0 }

@@ -37,15 +37,15 @@ module _ (cells : List ℕ) where
   abbrev pub noteOutcome : List ℕ → List ℕ → Note → Outcome
   noteOutcome low high n = recordOutcome low high (n .place) (n .what)
 
-  abbrev pub pairOutcome : PairTest → Outcome
-  pairOutcome x = pairCells cells (x .first) (x .second)
+  abbrev pub pairTestCells : PairTest → Outcome
+  pairTestCells x = pairCells cells (x .first) (x .second)
 
   -- All place tests, all equality tests, and all tests of a rule.
   abbrev pub placesOutcome : List ℕ → List ℕ → List Note → Outcome
   placesOutcome low high notes = together (noteOutcome low high) notes
 
   abbrev pub pairsOutcome : List Note → Outcome
-  pairsOutcome notes = together pairOutcome (pairsOf (notesVariables notes))
+  pairsOutcome notes = together pairTestCells (pairsOf (notesVariables notes))
 
   unfoldable pub notesOutcome : List Note → Outcome
   notesOutcome notes = _and_ (placesOutcome (lowsOf notes) (highsOf notes) notes) (pairsOutcome notes)

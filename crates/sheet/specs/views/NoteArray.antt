@@ -33,7 +33,7 @@ notesMade (Used bytes n) = n
 notesMade (Refused q) = 0
 
 -- The reader used at most so many bytes and made at most so many notes, and the array has its 680 entries.
-pub record Within (bytes notes : ℕ) (codes : List ℕ) (r : Took) : Type 0 where
+pub record TookWithin (bytes notes : ℕ) (codes : List ℕ) (r : Took) : Type 0 where
   pub used : bytesUsed r ≤ bytes
   pub made : notesMade r ≤ notes
   pub entries : length codes ≡ 680

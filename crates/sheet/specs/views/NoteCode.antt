@@ -8,18 +8,18 @@ use Rattle.sheet.specs.declared.PatternRecord.{PatternRecord}
 use Rattle.sheet.specs.declared.PatternRecord.the-variants.{Anything, Symbol, Range, Compound, Variable, Ranged}
 use Rattle.sheet.specs.views.Noted.{Note, note}
 
-abbrev pub packed : ℕ → ℕ → ℕ → ℕ → ℕ → ℕ
-packed place kind variable first second =
+abbrev pub packedNote : ℕ → ℕ → ℕ → ℕ → ℕ → ℕ
+packedNote place kind variable first second =
     (((place * 8 + kind) * 16 + variable) * 0x1_0000 + first) * 0x1_0000 + second
 
 -- The number of a note: of a record at place n.
 abbrev pub recordCode : ℕ → PatternRecord → ℕ
-recordCode n Anything = packed n 0 0 0 0
-recordCode n (Symbol a) = packed n 1 0 a 0
-recordCode n (Range l h) = packed n 2 0 l h
-recordCode n (Compound a k) = packed n 3 0 a k
-recordCode n (Variable v) = packed n 4 v 0 0
-recordCode n (Ranged v l h) = packed n 5 v l h
+recordCode n Anything = packedNote n 0 0 0 0
+recordCode n (Symbol a) = packedNote n 1 0 a 0
+recordCode n (Range l h) = packedNote n 2 0 l h
+recordCode n (Compound a k) = packedNote n 3 0 a k
+recordCode n (Variable v) = packedNote n 4 v 0 0
+recordCode n (Ranged v l h) = packedNote n 5 v l h
 
 abbrev pub noteCode : Note → ℕ
 noteCode n = recordCode (n .place) (n .what)

@@ -3,7 +3,8 @@
 use Prim.Native.Nat.{ℕ, pred, suc, _+_}
 use mathlib.Core.List.{List, [], _∷_, _++_}
 use Rattle.places.specs.Numbering.{stride}
-use Rattle.terms.specs.Pattern.{Pattern, Patterns, countPatterns, anything, theSymbol, theRange, theCompound, variable, rangedVariable, pnil, pcons}
+use Rattle.terms.specs.Pattern.{Pattern, Patterns, countPatterns, pnil, pcons}
+use Rattle.terms.specs.Pattern.{anything, theSymbol, theRange, theCompound, variable, rangedVariable}
 use Rattle.sheet.specs.declared.PatternRecord.{PatternRecord}
 use Rattle.sheet.specs.declared.PatternRecord.the-variants.{Symbol, Range, Compound, Variable, Ranged}
 

@@ -4,8 +4,9 @@ use mathlib.Core.List.{List, _++_}
 use Rattle.records.specs.Reading.{Reading, mapReading}
 use Rattle.terms.specs.Pattern.{Pattern, Patterns}
 use Rattle.sheet.specs.declared.PatternRecord.{PatternRecord}
-use Rattle.sheet.specs.ReadSheet.{readLeaf, readPattern, readPatterns}
+use Rattle.sheet.specs.ReadSheet.{readPattern, readPatterns}
 use Rattle.sheet.specs.views.Noted.{Note, patternNotes, patternsNotes}
+use Rattle.sheet.specs.views.PatternRecord.{readLeaf}
 
 -- Of a record with no level below it, at a place.
 abbrev pub leafBehind : ℕ → List Note → PatternRecord → Reading (List Note)

@@ -55,16 +55,16 @@ gatheredIn words codes (Done bytes count) = took bytes (held words codes count)
 gatheredIn words codes (Refused q) = refused q
 
 -- The rules used at most so many bytes, there are at most 65 pairs, and the arrays have their entries.
-abbrev pub bytesUsed : Scan → ℕ
-bytesUsed (Done bytes count) = bytes
-bytesUsed (Refused q) = 0
+abbrev pub scanBytes : Scan → ℕ
+scanBytes (Done bytes count) = bytes
+scanBytes (Refused q) = 0
 
 abbrev pub pairsKept : Scan → ℕ
 pairsKept (Done bytes count) = count
 pairsKept (Refused q) = 0
 
 pub record Scanned (bytes : ℕ) (words codes : List ℕ) (r : Scan) : Type 0 where
-  pub used : bytesUsed r ≤ bytes
-  pub kept : pairsKept r ≤ 65
+  pub used : scanBytes r ≤ bytes
+  pub fewPairs : pairsKept r ≤ 65
   pub allWords : length words ≡ 11
   pub allCodes : length codes ≡ 65

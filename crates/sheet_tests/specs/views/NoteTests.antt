@@ -1,6 +1,6 @@
 -- What a rule tests, read off its notes.
 use Prim.Native.Nat.{ℕ, _<_}
-use mathlib.Core.Bool.{Bool, true, false, _&&_}
+use mathlib.Core.Bool.{Bool, true, false, cond, _&&_}
 use mathlib.Core.List.{List, [], _∷_, map}
 use lib.Dec.{ltb, eqb}
 use lib.ListN.{getD}
@@ -11,7 +11,6 @@ use Rattle.sheet.specs.views.Noted.{Note}
 use Rattle.sheet_tests.specs.declared.Name.{Name}
 use Rattle.sheet_tests.specs.declared.Name.the-variants.{Nameless, Of}
 use Rattle.sheet_tests.specs.views.KeptPairs.{pairCode}
-use Rattle.masks.proofs.Listed.{consIf}
 
 -- A record is a place test: a symbol, a range, a compound, or a variable with a range.
 abbrev pub isTested : (ℕ → Bool) → PatternRecord → Bool
@@ -25,7 +24,8 @@ isTested ranged (Ranged v l h) = ranged v
 -- The places of the place tests.
 abbrev pub testedPlaces : (ℕ → Bool) → List Note → List ℕ
 testedPlaces ranged [] = []
-testedPlaces ranged (n ∷ ns) = consIf (isTested ranged (n .what)) (n .place) (testedPlaces ranged ns)
+testedPlaces ranged (n ∷ ns) =
+    cond (isTested ranged (n .what)) (n .place ∷ testedPlaces ranged ns) (testedPlaces ranged ns)
 
 -- The least high ends of the variables' ranges, in an array, say which variables have a range: 65,536 is no high end.
 abbrev pub hasRange : List ℕ → ℕ → Bool

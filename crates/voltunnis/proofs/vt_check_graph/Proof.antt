@@ -1,10 +1,11 @@
 -- The values of the check, packed.
-use mathlib.Core.Path.{sym, ap, _∙_}
-use Rattle.graph_check.specs.CheckGraph.{checkValues}
-use Rattle.voltunnis.specs.Packed.{packedGraph}
+use mathlib.Core.Path.{sym, ap, _∙_, subst}
+use Rattle.graph_check.specs.CheckGraph.{graphCheckValues, GraphValues}
+use Rattle.voltunnis.specs.Packed.{Packs, graphFields}
 use borrow.Author.Needs.{needs}
 use Rattle.voltunnis.proofs.vt_check_graph.Statement.{statement}
 use Rattle.voltunnis.proofs.vt_check_graph.Tie as tie
+use native.Mathlib.Omega.{arith}
 
 check-graph-requires : tie.Need-check-graph-requires
 check-graph-requires c κs = search needs
@@ -25,10 +26,16 @@ pack-wide-requires-2 : tie.Need-pack-wide-requires-2
 pack-wide-requires-2 c κs = search needs
 
 returns : tie.Need-returns
-returns c = c .pack-wide .ensures ∙ ap packedGraph (sym (ap checkValues (c .before .before .checked .given .1)) ∙ c .before .before .before .before .check-graph .ensures)
+returns c =
+    let p = c .pack-wide .ensures in
+    subst (λ (x : GraphValues). Packs (c .pack-wide .result) (graphFields x)) (sym (ap graphCheckValues (c .before .before .checked .given .1)) ∙ c .before .before .before .before .check-graph .ensures)
+    (omega (arith, p .0), (p .1 .0, (search needs, tt)))
 
 returns-2 : tie.Need-returns-2
-returns-2 c = c .pack-wide2 .ensures ∙ ap packedGraph (sym (ap checkValues (c .before .before .checked2 .given .1)) ∙ c .before .before .before .before .check-graph .ensures)
+returns-2 c =
+    let p = c .pack-wide2 .ensures in
+    subst (λ (x : GraphValues). Packs (c .pack-wide2 .result) (graphFields x)) (sym (ap graphCheckValues (c .before .before .checked2 .given .1)) ∙ c .before .before .before .before .check-graph .ensures)
+    (omega (arith, p .0), (p .1 .0, (search needs, tt)))
 
 pub vt-check-graph-spec : {M : Type 1} → statement M
 vt-check-graph-spec =

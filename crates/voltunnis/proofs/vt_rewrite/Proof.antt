@@ -1,7 +1,7 @@
 -- The values of the call, packed, and the buffer that it leaves.
-use mathlib.Core.Path.{sym, ap, _∙_}
+use mathlib.Core.Path.{sym, ap, _∙_, subst}
 use Rattle.graph_check.specs.Rewritten.{Result, leftBy}
-use Rattle.voltunnis.specs.Packed.{packedWritten}
+use Rattle.voltunnis.specs.Packed.{Packs, writtenFields}
 use borrow.Author.Needs.{needs}
 use Rattle.voltunnis.proofs.vt_rewrite.Statement.{statement}
 use Rattle.voltunnis.proofs.vt_rewrite.Tie as tie
@@ -27,7 +27,7 @@ same-length c = search needs
 returns : tie.Need-returns
 returns c =
     let told = sym (ap (λ w. leftBy w (c .before .before .before .before .before .before .rewrite .last .1 .1 .0)) (c .before .before .written .given .1)) ∙ c .before .before .before .before .before .before .rewrite .ensures in
-    (c .pack-wide .ensures ∙ ap packedWritten told, ap (λ (x : Result). x .buffer) told)
+    (subst (λ (x : Result). Packs (c .pack-wide .result) (writtenFields x)) told (c .pack-wide .ensures), ap (λ (x : Result). x .buffer) told)
 
 same-length-2 : tie.Need-same-length-2
 same-length-2 c = search needs
@@ -35,7 +35,7 @@ same-length-2 c = search needs
 returns-2 : tie.Need-returns-2
 returns-2 c =
     let told = sym (ap (λ w. leftBy w (c .before .before .before .before .before .before .rewrite .last .1 .1 .0)) (c .before .before .written2 .given .1)) ∙ c .before .before .before .before .before .before .rewrite .ensures in
-    (c .pack-wide2 .ensures ∙ ap packedWritten told, ap (λ (x : Result). x .buffer) told)
+    (subst (λ (x : Result). Packs (c .pack-wide2 .result) (writtenFields x)) told (c .pack-wide2 .ensures), ap (λ (x : Result). x .buffer) told)
 
 pub vt-rewrite-spec : {M : Type 1} → statement M
 vt-rewrite-spec =

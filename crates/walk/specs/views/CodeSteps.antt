@@ -13,10 +13,10 @@ use Rattle.decision.specs.Cases.{Case}
 use Rattle.decision.specs.Node.{Node, CaseEdge, end, switch, pairNode}
 use Rattle.decision.specs.Path.{Step, stop, goTo, noWay, byComparison}
 use Rattle.decision.specs.Walk.{isNotKnown}
-use Rattle.graph.specs.ReadGraph.{leafOf}
 use Rattle.node_check.specs.views.CaseCodes.{firstCode, lastCode}
 use Rattle.walk.specs.declared.Step as step
 use Rattle.walk.specs.declared.Open as open-test
+use Rattle.graph.specs.views.NodeRecord.{leafOf}
 
 -- "44 symbol (wide id, ..), 45 compound (wide id, arity, ..), 46 numbers (wide low, wide high, ..)": a case takes the terms whose
 -- codes lie from its first to its last.

@@ -10,6 +10,9 @@ use Rattle.walk.specs.views.Following.{Index}
 
 pub record Course (graph starts words codes : List ℕ) (pairs nodes : ℕ) : Type 0 where
   pub size : length words ≡ 11
+  pub allCodes : length codes ≡ 65
+  pub fewPairs : pairs ≤ 65
+  pub allStarts : length starts ≡ 1024
   pub few : length (keptTests words codes pairs) ≤ 64
   pub once : Once (keptTests words codes pairs)
   pub index : Index graph starts (keptTest words codes pairs) nodes

@@ -18,7 +18,7 @@ use Rattle.sheet_tests.specs.views.TestsRead.{keptTests}
 use Rattle.compiled.specs.views.Numbers.{numberAll}
 use Rattle.compiled.specs.views.RuleTables.{notesRow}
 use Rattle.plain.specs.views.NotesOutcome.{cellsOutcome}
-use Rattle.decision.specs.Key.{Leaf, fail, suspend, execute}
+use Rattle.decision.specs.Key.{Leaf, failNode, suspendNode, executeNode}
 use Rattle.decision.specs.Walk.{Walk}
 use Rattle.walk.specs.views.CodeSteps.{openCells}
 use Rattle.walk.specs.views.Following.{Ended, reached, stopped}
@@ -60,9 +60,9 @@ module _ (rules : List Patterns) (words codes : List ℕ) (pairs : ℕ) (cells :
   -- The answer at a leaf that so many edges lead to, where these tests were met not known: "for suspend it holds the tests met
   -- not known on the walk".
   abbrev pub leafWalk : Leaf → ℕ → ℕ → Walk
-  leafWalk fail edges met = record { answer = answers.fail; edges = edges; waits = 0 }
-  leafWalk suspend edges met = record { answer = answers.suspend; edges = edges; waits = met }
-  leafWalk (execute i) edges met =
+  leafWalk failNode edges met = record { answer = answers.fail; edges = edges; waits = 0 }
+  leafWalk suspendNode edges met = record { answer = answers.suspend; edges = edges; waits = met }
+  leafWalk (executeNode i) edges met =
       executed i edges (cellsOutcome cells (ruleAt rules i)) (ownWaits words codes pairs cells (ruleNotes (ruleAt rules i)))
 
   abbrev pub endWalk : Ended → Reading Walk
@@ -71,6 +71,6 @@ module _ (rules : List Patterns) (words codes : List ℕ) (pairs : ℕ) (cells :
 
 -- "Are its nodes and rule in range": the rule of an execute is one of so many.
 abbrev pub LeafIn : ℕ → Leaf → Type 0
-LeafIn count fail = Unit
-LeafIn count suspend = Unit
-LeafIn count (execute i) = (1 ≤ i) × (i ≤ count)
+LeafIn count failNode = Unit
+LeafIn count suspendNode = Unit
+LeafIn count (executeNode i) = (1 ≤ i) × (i ≤ count)

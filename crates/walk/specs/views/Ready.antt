@@ -14,6 +14,8 @@ use Rattle.graph_check.specs.views.GraphIndex.{AcceptedGraphAs}
 use Rattle.walk.specs.views.TestNumbers.{NearTest, Once}
 use Rattle.walk.specs.views.Following.{Index, nodesAt}
 use Rattle.walk.specs.views.LeafAnswers.{LeafIn}
+use Rattle.plain.specs.views.ReadAs.{ReadAs}
+use mathlib.Core.Path.{_≡_}
 
 -- "Are its nodes and rule in range": so with the rule of an execute node.
 abbrev pub LeafNode : ℕ → Node ℕ → Type 0
@@ -30,6 +32,29 @@ pub record Ready (s graph starts words codes : List ℕ) (arity count pairs node
   pub once : Once (keptTests words codes pairs)
   pub index : Index graph starts (keptTest words codes pairs) nodes
   pub leaves : All (LeafNode count) (nodesAt graph starts nodes)
+
+-- The arrays of a sheet's tests have their sizes, and hold 64 tests at most.
+pub record Arrays (words codes : List ℕ) (pairs : ℕ) : Type 0 where
+  pub allWords : length words ≡ 11
+  pub allCodes : length codes ≡ 65
+  pub fewTests : length (placesIn words) + pairs ≤ 64
+
+-- The same, with tests of places among the 680.
+pub record KeptNear (words codes : List ℕ) (pairs : ℕ) : Type 0 where
+  pub arrays : Arrays words codes pairs
+  pub near : All NearTest (keptTests words codes pairs)
+
+-- A rule, from 1, of the rules, so many, that s begins with.
+pub record RuleRead (s : List ℕ) (arity count rule : ℕ) : Type 0 where
+  pub fewArguments : arity ≤ 8
+  pub fromOne : 1 ≤ rule
+  pub inside : rule ≤ count
+  pub rulesRead : IsTook (readRules arity count s)
+
+-- Some bytes are an accepted piece of this arity, and these are its cells.
+pub record SomePiece (cells : List ℕ) (arity : ℕ) : Type 0 where
+  pub bytes : List ℕ
+  pub readAs : ReadAs bytes cells arity
 
 -- Questions 1 to 11 and 21 to 25 refuse nothing of the bytes s and g: the sheet is accepted, the arrays hold its tests, and the
 -- graph is accepted for it, with so many nodes, which begin at the starts.

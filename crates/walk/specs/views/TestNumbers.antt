@@ -15,9 +15,9 @@ use Rattle.decision.specs.Rules.{sameTest}
 use Rattle.node_check.specs.views.CheckNode.{keptTest}
 
 -- The number of a test in a list: that of the first that is the same, how many there are where none is.
-abbrev pub numberIn : List Test → Test → ℕ
-numberIn [] t = 0
-numberIn (u ∷ us) t = cond (sameTest u t) 0 (suc (numberIn us t))
+abbrev pub testNumber : List Test → Test → ℕ
+testNumber [] t = 0
+testNumber (u ∷ us) t = cond (sameTest u t) 0 (suc (testNumber us t))
 
 -- How many places of a set are below p.
 unfoldable pub placesUnder : List ℕ → ℕ → ℕ
@@ -40,4 +40,4 @@ KeptOpen words codes count (some t) = NearTest t × T (keptTest words codes coun
 -- "A set of tests, test t being bit t of 64", with one more.
 abbrev pub withTest : List Test → ℕ → Option Test → ℕ
 withTest tests waits none = waits
-withTest tests waits (some t) = maskOf 64 (λ j. has waits j || eqb (numberIn tests t) j)
+withTest tests waits (some t) = maskOf 64 (λ j. has waits j || eqb (testNumber tests t) j)

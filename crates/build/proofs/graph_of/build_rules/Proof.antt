@@ -2,7 +2,7 @@
 use Prim.Native.Nat.{ℕ}
 use mathlib.Core.Path.{refl}
 use lib.ListN.{length-replicate}
-use Rattle.build.proofs.SheetTables.{pairs-within, small-sheet, kept-tabled}
+use Rattle.build.proofs.SheetTables.{pairs-within, accepted-rules, small-sheet, kept-tabled}
 use borrow.Author.Needs.{needs}
 use Rattle.build.proofs.graph_of.build_rules.Statement.{statement}
 use Rattle.build.proofs.graph_of.build_rules.Tie as tie
@@ -12,15 +12,18 @@ compile-rules-requires c κs =
     let start = c .before .before .before .before .before .before in
     let (sheet, k) = start .pre .1 in
     let small = small-sheet _ _ _ _ _ _ sheet k in (
-      small .0,
-      small .1,
-      start .pre .0 .0,
-      start .pre .0 .1,
-      start .pre .0 .2,
-      length-replicate {A = ℕ} 64 0,
-      refl,
-      length-replicate {A = ℕ} 4096 0,
-      length-replicate {A = ℕ} 4096 0,
+      (
+        small .0,
+        small .1,
+        start .pre .0 .0,
+        start .pre .0 .1,
+        start .pre .0 .2,
+        length-replicate {A = ℕ} 64 0,
+        refl,
+        length-replicate {A = ℕ} 4096 0,
+        length-replicate {A = ℕ} 4096 0,
+      ),
+      (k .bytes, (sheet .rules, k .rulesRead, accepted-rules _ _ _ _ _ _ sheet k, k .tests)),
     )
 
 add-build-tables : tie.Need-add-build-tables

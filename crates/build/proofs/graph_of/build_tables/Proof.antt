@@ -13,7 +13,8 @@ within : (n m : ℕ) → 5 + n ≤ m → n + 5 ≤ m
 within n m h = omega arith
 
 root-key-requires : tie.Need-root-key-requires
-root-key-requires c κs = search needs
+root-key-requires c κs =
+    let (sheet, t) = c .before .pre in (sheet .rules, t .compiled .tests, t .known .countIs, t .testsAre)
 
 grow-requires : tie.Need-grow-requires
 grow-requires c κs =

@@ -15,36 +15,40 @@ use Rattle.compiled.proofs.rules.compile_rules.Statement.{statement}
 use Rattle.compiled.proofs.rules.compile_rules.Tie as tie
 
 list-places-requires : tie.Need-list-places-requires
-list-places-requires c κs = let pre = c .before .before .pre in (pre .2, omega (arith, pre .4), pre .5)
+list-places-requires c κs = let pre = c .before .before .pre .0 in (pre .2, omega (arith, pre .4), pre .5)
 
 number-places-requires : tie.Need-number-places-requires
 number-places-requires c κs =
     let listed = c .before .before .list-places .ensures .1 in
-    (omega (arith, listed .0, c .before .before .before .before .before .pre .4), listed .1, length-replicate {A = ℕ} 680 0)
+    (omega (arith, listed .0, c .before .before .before .before .before .pre .0 .4), listed .1, length-replicate {A = ℕ} 680 0)
 
 table-rules-requires : tie.Need-table-rules-requires
 table-rules-requires c κs =
-    let pre = c .before .before .before .before .before .before .before .before .before .before .pre in
+    let start = c .before .before .before .before .before .before .before .before .before .before in
+    let pre = start .pre .0 in
     let listed = c .before .before .before .before .before .before .before .list-places .ensures in
     let words = c .before .before .before .before .before .before .before .before .before .before .args .words .now in
     let numbers = c .before .before .before .before .number-places .ensures in
     let made = numbers ∙ ap (λ (l : List ℕ). numberAll l 0 (replicate 680 0)) (listed .0) in (
-      pre .0,
-      pre .1,
-      subst Small (sym made) (new-small (placesIn words) (omega (arith, pre .4))),
-      omega (arith, pre .4),
-      omega (arith, listed .1 .0, pre .4),
-      pre .3,
-      ap length (pre .6) ∙ length-replicate {A = ℕ} 64 0,
-      pre .7,
-      pre .8,
+      (
+        pre .0,
+        pre .1,
+        subst Small (sym made) (new-small (placesIn words) (omega (arith, pre .4))),
+        omega (arith, pre .4),
+        omega (arith, listed .1 .0, pre .4),
+        pre .3,
+        ap length (pre .6) ∙ length-replicate {A = ℕ} 64 0,
+        pre .7,
+        pre .8,
+      ),
+      (start .pre .1 .0, (start .pre .1 .1 .0, start .pre .1 .1 .1)),
     )
 
 returns : tie.Need-returns
 returns c =
     let start = c .before .before .before .before .before .before .before .before .before .before .before in
     let a = start .args in
-    let pre = start .pre in
+    let pre = start .pre .0 in
     let listed = c .before .before .before .before .before .before .before .before .list-places .ensures in
     let before = tables (a .rows .now) (a .low .now) (a .high .now) in
     let sized : Sized before =

@@ -28,7 +28,7 @@ loop-holds c =
       omega arith,
       omega arith,
       length-replicate {A = ℕ} 680 0,
-      record { allRows = start .pre .6; allLow = start .pre .7; allHigh = start .pre .8 },
+      record { allRows = start .pre .0 .6; allLow = start .pre .0 .7; allHigh = start .pre .0 .8 },
       tabling-start (a .numbers .now) (a .count) (take (a .pairs) (a .codes .now)) (a .arity) (a .rules) (a .s .now)
           (tables (a .rows .now) (a .low .now) (a .high .now)),
     )
@@ -43,7 +43,7 @@ part-read-rule-end : tie.Need-part-read-rule-end Inv-loop μ-loop
 part-read-rule-end c = search needs
 
 read-rule-requires : tie.Need-read-rule-requires Inv-loop μ-loop
-read-rule-requires c κs = (c .before .before .before .before .before .pre .0, c .before .before .before .loop .inv .2)
+read-rule-requires c κs = (c .before .before .before .before .before .pre .0 .0, c .before .before .before .loop .inv .2)
 
 enum-told : tie.Need-enum-told Inv-loop μ-loop
 enum-told c = search needs
@@ -59,7 +59,7 @@ returns c all-bytes all reads =
     let notes = read .last .1 .1 .0 in
     let none = rule-refused (a .arity) (turn .at) s notes (read .result) (read .ensures .0) (c .enum-told .given .1) in
     tabling-refused (a .numbers .now) (a .count) (take (a .pairs) (a .codes .now)) (a .arity) (a .rules) s _ (turn .i) (turn .at)
-    (tables (turn .rows) (turn .low) (turn .high)) (turn .inv .4) (omega arith) none all-bytes all reads
+    (tables (turn .rows) (turn .low) (turn .high)) (turn .inv .4) (c .before .before .before .before .before .loop-test .taken) none all-bytes all reads
 
 enum-known-read : tie.Need-enum-known-read Inv-loop μ-loop
 enum-known-read c = search needs
@@ -77,8 +77,8 @@ table-rule-requires c κs =
     let bytes = bytes-known s (λ i. omega (arith, known i)) in
     let used = c .before .before .before .before .before .read .given .1 in
     let rule =
-    rule-read (a .arity) (turn .at) s notes (read .result) (read .ensures .0) (start .pre .0) bytes used (read .ensures .1) in
-    let pre = start .pre in
+    rule-read (a .arity) (turn .at) s notes (read .result) (read .ensures .0) (start .pre .0 .0) bytes used (read .ensures .1) in
+    let pre = start .pre .0 in
     let sized = turn .inv .3 in (
       rule .made,
       read .ensures .1 .entries,
@@ -106,7 +106,7 @@ add-at c =
     let bytes = bytes-known s (λ i. omega (arith, known i)) in
     let used = c .before .before .before .before .before .before .read .given .1 in
     let rule =
-    rule-read (a .arity) (turn .at) s notes (read .result) (read .ensures .0) (start .pre .0) bytes used (read .ensures .1) in
+    rule-read (a .arity) (turn .at) s notes (read .result) (read .ensures .0) (start .pre .0 .0) bytes used (read .ensures .1) in
     omega (arith, rule .used)
 
 add-i : tie.Need-add-i Inv-loop μ-loop
@@ -128,7 +128,7 @@ loop-again c =
     let bytes = bytes-known s (λ i. omega (arith, known i)) in
     let used = c .before .before .before .before .before .before .read .given .1 in
     let rule =
-    rule-read (a .arity) (turn .at) s notes (read .result) (read .ensures .0) (start .pre .0) bytes used (read .ensures .1) in
+    rule-read (a .arity) (turn .at) s notes (read .result) (read .ensures .0) (start .pre .0 .0) bytes used (read .ensures .1) in
     let kept = take (a .pairs) (a .codes .now) in
     let numbers = a .numbers .now in
     let before = tables (turn .rows) (turn .low) (turn .high) in
@@ -149,7 +149,7 @@ returns-2 c all-bytes all reads =
     let turn = c .before .loop in
     let kept = take (a .pairs) (a .codes .now) in
     tabling-end (a .numbers .now) (a .count) kept (a .arity) (a .rules) (a .s .now) _ (turn .i) (turn .at)
-    (tables (turn .rows) (turn .low) (turn .high)) (turn .inv .4) (omega arith) all-bytes all reads
+    (tables (turn .rows) (turn .low) (turn .high)) (turn .inv .4) (omega (arith, c .loop-test .left, turn .inv .0)) all-bytes all reads
 
 pub table-rules-spec : {M : Type 1} → statement M
 table-rules-spec =

@@ -6,11 +6,9 @@ use mathlib.Core.List.{List}
 use native.Mathlib.Omega.{arith}
 use borrow.Author.Needs.{needs}
 use Rattle.terms.specs.Pattern.{Patterns}
-use Rattle.sheet_tests.specs.SheetTests.{place}
-use Rattle.decision.specs.Rules.{testAt}
 use Rattle.decision.specs.Edges.{liveWants}
 use Rattle.edges.specs.views.Codes.{cutCodes}
-use Rattle.edges.specs.views.Compiled.{CodeTable, Asked}
+use Rattle.edges.specs.views.Switches.{Switches}
 use Rattle.edges.specs.views.Tables.{noCut, firstFrom}
 use Rattle.edges.proofs.OpenRuns.{isOpen}
 use Rattle.edges.proofs.CasesLeft.{CasesLeft, left-start, left-none, left-last, left-here, left-next}
@@ -21,7 +19,7 @@ abbrev Inv-loop : tie.InvT-loop
 Inv-loop t live cut rows low high x₀ x =
     (cut ≤ x)
     × (x ≤ noCut)
-    × ((rules : List Patterns) → Asked rules rows live t → CodeTable rules low high → (n : ℕ) → testAt rules t ≡ place n
+    × ((rules : List Patterns) (n : ℕ) → Switches rows low high live t rules n
     → (from : ℕ) → cut ≡ firstFrom from (cutCodes (liveWants rules live n))
     → CasesLeft (liveWants rules live n) (isOpen rows low high t live) from x)
 
@@ -33,12 +31,13 @@ loop-holds c =
     let a = c .args in (
       omega arith,
       search needs,
-      λ rules asked codes n at from first.
-          left-start rules (a .rows .now) (a .low .now) (a .high .now) (a .t) (a .live) n asked codes at from first,
+      λ rules n s from first.
+          left-start rules (a .rows .now) (a .low .now) (a .high .now) (a .t) (a .live) n (s .asked) (s .codes) (s .test) from first,
     )
 
 read-cut-requires : tie.Need-read-cut-requires Inv-loop μ-loop
-read-cut-requires c κs = search needs
+read-cut-requires c κs =
+    let pre = c .before .before .pre in ((pre .0 .0, search needs), (pre .1 .0, (pre .1 .1 .0, pre .1 .1 .1)))
 
 returns : tie.Need-returns Inv-loop μ-loop
 returns c =
@@ -47,11 +46,11 @@ returns c =
     let low = a .low .now in
     let high = a .high .now in
     let loop = c .before .before .before .loop in (
-      λ rules asked codes n at from first.
-          left-last rules rows low high (a .t) (a .live) n asked codes at from (loop .x)
-          (loop .inv .2 rules asked codes n at from first) (omega arith)
-          (c .before .read-cut .ensures .1 .1 .1 rules asked codes n at) (c .if1 .taken),
-      (tt, λ rules asked codes n at. tt),
+      λ rules n s from first.
+          left-last rules rows low high (a .t) (a .live) n (s .asked) (s .codes) (s .test) from (loop .x)
+          (loop .inv .2 rules n s from first) (omega arith)
+          (c .before .read-cut .ensures .1 .1 .1 rules n s) (c .if1 .taken),
+      (tt, λ rules n s. tt),
     )
 
 sub-t12 : tie.Need-sub-t12 Inv-loop μ-loop
@@ -70,13 +69,13 @@ returns-2 c =
     let cut = c .before .before .before .read-cut in
     let l : cut .result .next < noCut = omega (arith, cut .ensures .1 .1 .0 .0) in
     let more = cut .ensures .1 .1 .0 .1 l in (
-      λ rules asked codes n at from first.
-          left-here rules rows low high (a .t) (a .live) n asked codes at from (loop .x)
-          (loop .inv .2 rules asked codes n at from first) (omega arith) (cut .ensures .1 .1 .1 rules asked codes n at) l
+      λ rules n s from first.
+          left-here rules rows low high (a .t) (a .live) n (s .asked) (s .codes) (s .test) from (loop .x)
+          (loop .inv .2 rules n s from first) (omega arith) (cut .ensures .1 .1 .1 rules n s) l
           (cut .ensures .0) (cut .ensures .1 .0) (c .if2 .taken),
       (
         (loop .inv .0, omega (arith, more), omega (arith, more), cut .ensures .0),
-        λ rules asked codes n at. omega (arith, more, cut .ensures .1 .1 .1 rules asked codes n at),
+        λ rules n s. omega (arith, more, cut .ensures .1 .1 .1 rules n s),
       ),
     )
 
@@ -97,9 +96,9 @@ loop-again c =
     let l : cut .result .next < noCut = omega (arith, cut .ensures .1 .1 .0 .0) in (
       omega (arith, loop .inv .0, cut .ensures .1 .1 .0 .1 l),
       cut .ensures .1 .1 .0 .0,
-      λ rules asked codes n at from first.
-          left-next rules rows low high (a .t) (a .live) n asked codes at from (loop .x)
-          (loop .inv .2 rules asked codes n at from first) (omega arith) (cut .ensures .1 .1 .1 rules asked codes n at) l
+      λ rules n s from first.
+          left-next rules rows low high (a .t) (a .live) n (s .asked) (s .codes) (s .test) from (loop .x)
+          (loop .inv .2 rules n s from first) (omega arith) (cut .ensures .1 .1 .1 rules n s) l
           (cut .ensures .0) (cut .ensures .1 .0) (c .if2 .left),
     )
 
@@ -110,10 +109,10 @@ returns-3 c =
     let low = a .low .now in
     let high = a .high .now in
     let loop = c .before .loop in (
-      λ rules asked codes n at from first.
-          left-none rules rows low high (a .t) (a .live) n asked codes at from (loop .x)
-          (loop .inv .2 rules asked codes n at from first) (omega (arith, loop .inv .1)),
-      (tt, λ rules asked codes n at. tt),
+      λ rules n s from first.
+          left-none rules rows low high (a .t) (a .live) n (s .asked) (s .codes) (s .test) from (loop .x)
+          (loop .inv .2 rules n s from first) (omega (arith, loop .inv .1)),
+      (tt, λ rules n s. tt),
     )
 
 pub next-case-spec : {M : Type 1} → statement M

@@ -99,9 +99,9 @@ returns c =
     let s : Nearest rows low high (a .t) (a .live) (a .from) 0 (at .best) =
     subst (λ (x : ℕ). Nearest rows low high (a .t) (a .live) (a .from) x (at .best)) (c .loop-test .left) (at .inv) in (
       (s .atMost, nearest-from rows low high (a .t) (a .live) (a .from) s),
-      λ rules asked codes n place.
-          next-is rules rows low high (record { live = a .live; pending = 0 }) (a .t) n (a .from) (at .best) asked codes
-          place s,
+      λ rules n w.
+          next-is rules rows low high (record { live = a .live; pending = 0 }) (a .t) n (a .from) (at .best) (w .asked)
+          (w .codes) (w .test) s,
     )
 
 pub next-cut-spec : {M : Type 1} → statement M

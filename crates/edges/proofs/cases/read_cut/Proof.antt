@@ -153,9 +153,9 @@ returns c =
         keeping-done 64 (lacks rows (a .t)) (a .live) (at .free) (at .left) (at .inv .1) done,
         (
           (s .atMost, nearest-from rows low high (a .t) (a .live) (a .code + 1) s),
-          λ rules asked codes n place.
-              next-is rules rows low high (record { live = a .live; pending = 0 }) (a .t) n (a .code + 1) (at .best) asked codes
-              place s,
+          λ rules n w.
+              next-is rules rows low high (record { live = a .live; pending = 0 }) (a .t) n (a .code + 1) (at .best) (w .asked)
+              (w .codes) (w .test) s,
         ),
       ),
     )

@@ -2,7 +2,6 @@
 use Prim.Native.Nat.{ℕ, _^_, _<_}
 use mathlib.Core.Path.{ap, _∙_}
 use lib.ListN.{length}
-use borrow.Author.Needs.{needs}
 use Rattle.masks.specs.Mask.{has}
 use Rattle.decision.specs.Edges.{leadsTo}
 use Rattle.edges.specs.views.VertexKey.{vertexKey, keyIn}
@@ -11,13 +10,19 @@ use Rattle.edges.proofs.keys.by_none.Statement.{statement}
 use Rattle.edges.proofs.keys.by_none.Tie as tie
 
 without-requires : tie.Need-without-requires
-without-requires c κs = search needs
+without-requires c κs = c .pre .0
 
 remove-requires : tie.Need-remove-requires
-remove-requires c κs = search needs
+remove-requires c κs = c .before .pre .0
 
 lead-requires : tie.Need-lead-requires
-lead-requires c κs = search needs
+lead-requires c κs =
+    let start = c .before .before in
+    let (rules, asked) = start .pre .1 in (
+      rules,
+      asked .table,
+      rw (c .before .without .ensures) (without-fits rules (start .args .rows .now) (keyIn (start .args .key)) (start .args .t) asked),
+    )
 
 returns : tie.Need-returns
 returns c rules asked =

@@ -1,16 +1,15 @@
 -- `edges::keys::by_other` meets its contract: all rules stay live.
 use mathlib.Core.Path.{ap, _∙_}
-use borrow.Author.Needs.{needs}
 use Rattle.edges.specs.views.VertexKey.{vertexKey, keyIn}
 use Rattle.edges.proofs.EdgeKeys.{other-is}
 use Rattle.edges.proofs.keys.by_other.Statement.{statement}
 use Rattle.edges.proofs.keys.by_other.Tie as tie
 
 remove-requires : tie.Need-remove-requires
-remove-requires c κs = search needs
+remove-requires c κs = c .pre .0
 
 lead-requires : tie.Need-lead-requires
-lead-requires c κs = search needs
+lead-requires c κs = let (rules, asked) = c .before .pre .1 in (rules, asked .table, asked .within)
 
 returns : tie.Need-returns
 returns c rules asked =

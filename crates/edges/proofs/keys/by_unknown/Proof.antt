@@ -16,7 +16,7 @@ minus-requires : tie.Need-minus-requires
 minus-requires c κs = search needs
 
 lead-requires : tie.Need-lead-requires
-lead-requires c κs = search needs
+lead-requires c κs = let pre = c .before .before .pre .1 in (pre .0, pre .1, pre .3)
 
 returns : tie.Need-returns
 returns c rules rows places within =

@@ -12,15 +12,18 @@ use Rattle.decision.specs.Edges.{liveWants}
 use Rattle.edges.specs.views.Codes.{cutCodes}
 use Rattle.edges.specs.views.VertexKey.{keyIn}
 use Rattle.edges.specs.views.Tables.{noCut, firstFrom, those, stays}
-use Rattle.edges.proofs.CasesInOrder.{of-run}
+use Rattle.edges.proofs.CasesLeft.{of-run}
+use Rattle.basics.proofs.ListLaws.{all-at}
 use Rattle.keys.specs.views.KeysMet.{keysIn}
-use Rattle.keys.specs.views.Switching.{Switches}
+use Rattle.keys.proofs.CasesInTurn.{Sound}
+use Rattle.keys.proofs.SwitchMet.{cases-sound, the-next}
 use Rattle.emit.specs.views.Laid.{switchEdges}
 use Rattle.emit.specs.views.Written.{Room}
 use Rattle.emit.proofs.CasesWritten.{CasesLeft, cases-start, cases-end, case-room, case-counts, cases-next}
 use borrow.Author.Needs.{needs}
 use Rattle.emit.proofs.cases.put_cases.Statement.{statement}
 use Rattle.emit.proofs.cases.put_cases.Tie as tie
+use Rattle.edges.specs.views.Switches.{Switches}
 
 abbrev Inv-loop : tie.InvT-loop
 Inv-loop buf₀ start key t rows low high lives pendings hints₀ count at₀ cases₀ cut₀ buf hints at cases cut =
@@ -34,7 +37,7 @@ abbrev μ-loop : tie.MeasureT-loop
 μ-loop buf₀ start key t rows low high lives pendings hints₀ count at₀ cases₀ cut₀ buf hints at cases cut = noCut - cut
 
 next-cut-requires : tie.Need-next-cut-requires Inv-loop μ-loop
-next-cut-requires c κs = search needs
+next-cut-requires c κs = let (rules, (n, switches, _)) = c .before .pre .1 in (c .before .pre .0 .2, (rules, (n, switches)))
 
 loop-holds : tie.Need-loop-holds Inv-loop μ-loop
 loop-holds c =
@@ -44,14 +47,18 @@ loop-holds c =
       cut .0 .0,
       λ rules n switches room. (
         0,
-        cut .1 rules (switches .asked) (switches .codes) n (switches .test),
+        cut .1 rules n switches,
         cases-start rules (keysIn (now (a .lives)) (now (a .pendings)) (a .count)) (keyIn (a .key)) (a .t) n
             (now (a .buf)) (a .start),
       ),
     )
 
 next-case-requires : tie.Need-next-case-requires Inv-loop μ-loop
-next-case-requires c κs = search needs
+next-case-requires c κs =
+    let pre = c .before .before .before .pre in
+    let (rules, (n, switches, room)) = pre .1 in
+    let s = c .loop .inv .2 rules n switches room in
+    ((pre .0 .2, c .loop .inv .1), (rules, (n, switches, (s .0, s .1))))
 
 enum-known-next : tie.Need-enum-known-next Inv-loop μ-loop
 enum-known-next c = search needs
@@ -69,16 +76,55 @@ returns c =
     λ rules n switches room.
     let s = c .before .before .before .loop .inv .2 rules n switches room in
     cases-end rules (keysIn (now (a .lives)) (now (a .pendings)) (a .count)) (keyIn (a .key)) (a .t) n switches room (s .2)
-    (sym (c .enum-told .given .1) ∙ found rules (switches .asked) (switches .codes) n (switches .test) (s .0) (s .1))
+    (sym (c .enum-told .given .1) ∙ found rules n switches (s .0) (s .1))
 
 by-case-requires : tie.Need-by-case-requires Inv-loop μ-loop
-by-case-requires c κs = search needs
+by-case-requires c κs =
+    let start = c .before .before .before .before .before .before .before in
+    let a = start .args in
+    let at = c .before .before .before .before .loop in
+    let step = c .before .before .before .next-case in
+    let given = c .before .next .given .1 in
+    let (rules, (n, switches, room)) = start .pre .1 in
+    let s = at .inv .2 rules n switches room in
+    let next = the-next rules (keyIn (a .key)) (a .t) n switches (sym given ∙ step .ensures .0 rules n switches (s .0) (s .1)) in
+    let kept : ℕ → ℕ = λ x. those (a .key .live) (stays (now (a .rows)) (now (a .low)) (now (a .high)) (a .t) x) in
+    let run = of-run (λ (x y : ℕ). (at .cut ≤ x) × (x ≤ y) × (y < noCut) × (step .result .kept ≡ kept x)) given
+    (step .ensures .1 .0) in (
+      start .pre .0 .2,
+      (
+        rules,
+        (
+          n,
+          (
+            next .it,
+            record {
+              low = now (a .low);
+              high = now (a .high);
+              switches = switches;
+              listed = next .listed;
+              stay = run .3 ∙ ap kept (next .low);
+            },
+          ),
+        ),
+      ),
+    )
 
 node-of-requires : tie.Need-node-of-requires Inv-loop μ-loop
 node-of-requires c κs = search needs
 
 case-record-requires : tie.Need-case-record-requires Inv-loop μ-loop
-case-record-requires c κs = search needs
+case-record-requires c κs =
+    let start = c .before .before .before .before .before .before .before .before .before .before .before in
+    let a = start .args in
+    let at = c .before .before .before .before .before .before .before .before .loop in
+    let step = c .before .before .before .before .before .before .before .next-case in
+    let given = c .before .before .before .before .before .next .given .1 in
+    let (rules, (n, switches, room)) = start .pre .1 in
+    let s = at .inv .2 rules n switches room in
+    let next = the-next rules (keyIn (a .key)) (a .t) n switches (sym given ∙ step .ensures .0 rules n switches (s .0) (s .1)) in
+    let sound = all-at Sound (next .listed) (cases-sound rules (keyIn (a .key)) (a .t) n switches) in
+    (next .it, sound .0, next .low, next .high)
 
 put-case-requires : tie.Need-put-case-requires Inv-loop μ-loop
 put-case-requires c κs =
@@ -93,7 +139,7 @@ put-case-requires c κs =
     let room₀ = start .pre .1 .1 .2 in
     let keys = keysIn (now (a .lives)) (now (a .pendings)) (a .count) in
     let s = at .inv .2 rules₀ n₀ switches₀ room₀ in
-    let found = step .ensures .0 rules₀ (switches₀ .asked) (switches₀ .codes) n₀ (switches₀ .test) (s .0) (s .1) in
+    let found = step .ensures .0 rules₀ n₀ switches₀ (s .0) (s .1) in
     let kept : ℕ → ℕ = λ x. those (a .key .live) (stays (now (a .rows)) (now (a .low)) (now (a .high)) (a .t) x) in
     let run = of-run (λ (x y : ℕ). (at .cut ≤ x) × (x ≤ y) × (y < noCut) × (step .result .kept ≡ kept x)) given
     (step .ensures .1 .0) in
@@ -102,8 +148,13 @@ put-case-requires c κs =
     let spelt = c .case-record in
     case-room rules₀ keys (keyIn (a .key)) (a .t) n₀ switches₀ room₀ (s .2) (sym given ∙ found) (spelt .result)
     (λ d m e.
-    leads rules₀ (now (a .low)) (now (a .high)) (switches₀ .asked) (switches₀ .codes) n₀ d (switches₀ .test) m
-    (run .3 ∙ ap kept e)) number (spelt .ensures)
+    leads rules₀ n₀ d (record {
+      low = now (a .low);
+      high = now (a .high);
+      switches = switches₀;
+      listed = m;
+      stay = run .3 ∙ ap kept e;
+    })) number (spelt .ensures)
 
 add-cases : tie.Need-add-cases Inv-loop μ-loop
 add-cases c =
@@ -118,7 +169,7 @@ add-cases c =
     let room₀ = start .pre .1 .1 .2 in
     let keys = keysIn (now (a .lives)) (now (a .pendings)) (a .count) in
     let s = at .inv .2 rules₀ n₀ switches₀ room₀ in
-    let found = step .ensures .0 rules₀ (switches₀ .asked) (switches₀ .codes) n₀ (switches₀ .test) (s .0) (s .1) in
+    let found = step .ensures .0 rules₀ n₀ switches₀ (s .0) (s .1) in
     let few = case-counts rules₀ keys (keyIn (a .key)) (a .t) n₀ switches₀ room₀ (s .2) (sym given ∙ found) in
     omega (arith, few)
 
@@ -166,13 +217,18 @@ loop-again c =
           let s = at .inv .2 rules n switches room in (
             _,
             of-run (λ (x y : ℕ). y + 1 ≡ firstFrom (x + 1) (cutCodes (liveWants rules (a .key .live) n))) given
-                (step .ensures .1 .1 rules (switches .asked) (switches .codes) n (switches .test)),
+                (step .ensures .1 .1 rules n switches),
             cases-next rules keys (keyIn (a .key)) (a .t) n switches room (s .2)
-                (sym given ∙ step .ensures .0 rules (switches .asked) (switches .codes) n (switches .test) (s .0) (s .1))
+                (sym given ∙ step .ensures .0 rules n switches (s .0) (s .1))
                 (spelt .result)
                 (λ d m e.
-                leads rules (now (a .low)) (now (a .high)) (switches .asked) (switches .codes) n d (switches .test) m
-                (run .3 ∙ ap kept e)) number (spelt .ensures) (c .before .before .put-case .ensures),
+                leads rules n d (record {
+                  low = now (a .low);
+                  high = now (a .high);
+                  switches = switches;
+                  listed = m;
+                  stay = run .3 ∙ ap kept e;
+                })) number (spelt .ensures) (c .before .before .put-case .ensures),
           ),
     )
 

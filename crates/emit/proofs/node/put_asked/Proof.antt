@@ -27,11 +27,8 @@ put-pair-requires c κs =
     let room =
     pair-room rules₀ keys (keyIn (a .key)) (a .t) (asked₀ .first) (asked₀ .second) (asked₀ .test) (now (a .buf)) (a .at)
     (start .pre .1 .3) in (
-      start .pre .0 .0,
-      start .pre .0 .1,
-      start .pre .0 .2,
-      room,
-      start .pre .0 .3,
+      (start .pre .0 .0, start .pre .0 .1, start .pre .0 .2, room, start .pre .0 .3),
+      (rules₀, (asked₀ .first, (asked₀ .second, start .pre .1 .2, asked₀ .test, asked₀ .stored .0, asked₀ .stored .1))),
     )
 
 same-length : tie.Need-same-length
@@ -71,7 +68,9 @@ put-cases-requires c κs =
     )
 
 by-none-requires : tie.Need-by-none-requires
-by-none-requires c κs = search needs
+by-none-requires c κs =
+    let pre = c .before .before .before .before .before .before .before .before .pre in
+    (pre .0 .2, (pre .1 .0, pre .1 .2))
 
 node-of-requires : tie.Need-node-of-requires
 node-of-requires c κs = search needs
@@ -87,8 +86,9 @@ by-unknown-requires : tie.Need-by-unknown-requires
 by-unknown-requires c κs =
     let start = c .before .before .before .before .before .before .before .before .before .before .before in
     let on = c .before .before .before .before .before .before .before .before .before .if1 .left in
-    let asked₀ = place-asked (start .pre .1 .1) (start .pre .1 .2) on in
-    omega (arith, asked₀ .stored, asked₀ .inside)
+    let compiled = start .pre .1 .1 in
+    let asked₀ = place-asked compiled (start .pre .1 .2) on in
+    (omega (arith, asked₀ .stored, asked₀ .inside), (start .pre .1 .0, compiled .tests, compiled .spots, start .pre .1 .2 .within))
 
 node-of-requires-2 : tie.Need-node-of-requires-2
 node-of-requires-2 c κs =

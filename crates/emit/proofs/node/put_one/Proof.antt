@@ -15,7 +15,7 @@ use Rattle.emit.proofs.node.put_one.Statement.{statement}
 use Rattle.emit.proofs.node.put_one.Tie as tie
 
 kind-of-requires : tie.Need-kind-of-requires
-kind-of-requires c κs = search needs
+kind-of-requires c κs = let pre = c .before .pre in (pre .1 .0, pre .1 .2)
 
 enum-known-kind : tie.Need-enum-known-kind
 enum-known-kind c = search needs

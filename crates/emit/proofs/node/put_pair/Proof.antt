@@ -8,13 +8,17 @@ use Rattle.emit.proofs.node.put_pair.Statement.{statement}
 use Rattle.emit.proofs.node.put_pair.Tie as tie
 
 by-none-requires : tie.Need-by-none-requires
-by-none-requires c κs = search needs
+by-none-requires c κs =
+    let pre = c .before .pre in
+    (pre .0 .2, (pre .1 .0, pre .1 .1 .1 .1))
 
 node-of-requires : tie.Need-node-of-requires
 node-of-requires c κs = search needs
 
 by-other-requires : tie.Need-by-other-requires
-by-other-requires c κs = search needs
+by-other-requires c κs =
+    let pre = c .before .before .before .before .pre in
+    (pre .0 .2, (pre .1 .0, pre .1 .1 .1 .1))
 
 node-of-requires-2 : tie.Need-node-of-requires-2
 node-of-requires-2 c = search needs

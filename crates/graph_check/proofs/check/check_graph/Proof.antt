@@ -2,11 +2,11 @@
 use mathlib.Core.Path.{sym, ap, _∙_}
 use denote.Ref.{now}
 use lib.ListN.{length}
-use Rattle.graph_check.specs.CheckGraph.{fieldsRead}
 use Rattle.graph_check.proofs.Headers.{fieldsValues, values-same}
 use borrow.Author.Needs.{needs}
 use Rattle.graph_check.proofs.check.check_graph.Statement.{statement}
 use Rattle.graph_check.proofs.check.check_graph.Tie as tie
+use Rattle.graph_check.specs.views.Header.{fieldsRead}
 
 graph-header-requires : tie.Need-graph-header-requires
 graph-header-requires c κs = search needs

@@ -7,9 +7,10 @@ use Rattle.graph_check.proofs.Indexing.{count-told}
 use borrow.Author.Needs.{needs}
 use Rattle.graph_check.proofs.index.node_count.Statement.{statement}
 use Rattle.graph_check.proofs.index.node_count.Tie as tie
+use Rattle.graph.proofs.ByKinds.{header-by-kind}
 
 returns : tie.Need-returns
-returns c = simp (lt-leb _ _ (c .if1 .taken))
+returns c = simp (header-by-kind, lt-leb _ _ (c .if1 .taken))
 
 shared-slice-read-wide : tie.Need-shared-slice-read-wide
 shared-slice-read-wide c = search needs

@@ -3,13 +3,13 @@ use mathlib.Core.Path.{sym, ap, _∙_}
 use native.Mathlib.Omega.{arith}
 use denote.Ref.{now}
 use lib.ListN.{length}
-use Rattle.graph.proofs.FieldBytes.{bytes-all}
-use Rattle.graph_check.specs.CheckGraph.{fieldsRead}
+use Rattle.records.proofs.ByteLists.{bytes-all}
 use Rattle.graph_check.proofs.Headers.{header-of}
 use Rattle.graph_check.proofs.WrittenAgain.{rewrite-refused, rewrite-large, rewrite-written, graph-whole, graph-small, records-there, again-size}
 use borrow.Author.Needs.{needs}
 use Rattle.graph_check.proofs.rewriting.rewrite.Statement.{statement}
 use Rattle.graph_check.proofs.rewriting.rewrite.Tie as tie
+use Rattle.graph_check.specs.views.Header.{fieldsRead}
 
 graph-header-requires : tie.Need-graph-header-requires
 graph-header-requires c κs = search needs

@@ -8,10 +8,10 @@ use lib.ListN.{drop}
 use Rattle.decision.specs.GraphBytes.{nodesBytes}
 use Rattle.graph.specs.views.Rewriting.{IsTook, readOr, readRecords}
 use Rattle.node_check.proofs.CopiedNodes.{both-written}
-use Rattle.graph_check.specs.Rewritten.{headerBytes}
 use borrow.Author.Needs.{needs}
 use Rattle.graph_check.proofs.rewriting.write_graph.Statement.{statement}
 use Rattle.graph_check.proofs.rewriting.write_graph.Tie as tie
+use Rattle.graph_check.specs.views.Header.{headerBytes}
 
 high-requires : tie.Need-high-requires
 high-requires c κs = search needs

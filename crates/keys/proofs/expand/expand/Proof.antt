@@ -23,7 +23,7 @@ element-copy-out-t24 : tie.Need-element-copy-out-t24
 element-copy-out-t24 c = search needs
 
 kind-of-requires : tie.Need-kind-of-requires
-kind-of-requires c κs = search needs
+kind-of-requires c κs = let pre = c .before .before .pre in (pre .1 .0, pre .1 .2)
 
 enum-known-kind : tie.Need-enum-known-kind
 enum-known-kind c = search needs
@@ -39,7 +39,15 @@ expand-pair-requires c κs =
     let start = c .before .before .before .before .before .before .before .before .before .before in
     let asks = c .before .before .before .before .before .kind2 .given .1 in
     let kind = c .before .before .before .before .before .before .before .kind-of .ensures in
-    (start .pre .0 .0, start .pre .0 .1, asked-below asks (kind .1))
+    let key = keyAt (now (start .args .lives)) (now (start .args .pendings)) (start .args .k) in
+    let rules = start .pre .1 .0 in
+    let tables = start .pre .1 .1 in
+    let fits = start .pre .1 .2 in
+    let known = kind .0 rules fits in
+    let test = pair-known rules key tables fits asks known (c .before .before .before .if1 .taken) in (
+      (start .pre .0 .0, start .pre .0 .1, asked-below asks (kind .1)),
+      (rules, (test .0, (test .1 .0, is-asked rules key tables fits asks known, test .1 .1))),
+    )
 
 returns : tie.Need-returns
 returns c =
@@ -75,7 +83,8 @@ by-unknown-requires c κs =
     let asks = c .before .before .before .before .kind2 .given .1 in
     let kind = c .before .before .before .before .before .before .kind-of .ensures in
     let test = switch-known rules key (start .pre .1 .1) fits asks (kind .0 rules fits) (c .before .before .if1 .left) in
-    omega (arith, c .wide .ensures, test .3)
+    let tables = start .pre .1 .1 in
+    (omega (arith, c .wide .ensures, test .3), (rules, tables .tests, tables .spots, fits .lives))
 
 expand-switch-requires : tie.Need-expand-switch-requires
 expand-switch-requires c κs =
@@ -88,7 +97,10 @@ expand-switch-requires c κs =
     let kind = c .before .before .before .before .before .before .before .before .before .before .kind-of .ensures in
     let place = c .before .before .before .before .before .before .if1 .left in
     let test = switch-known rules key (start .pre .1 .1) fits asks (kind .0 rules fits) place in
-    ((start .pre .0 .0, start .pre .0 .1, asked-below asks (kind .1)), (rules, (test .0, test .1)))
+    let tables = start .pre .1 .1 in
+    let led = c .before .before .before .by-unknown .ensures rules (tables .tests) (tables .spots) (fits .lives)
+    ∙ ap (λ p. vertexKey (byUnknown rules key p)) (c .before .before .before .before .wide .ensures ∙ test .2) in
+    ((start .pre .0 .0, start .pre .0 .1, asked-below asks (kind .1)), (rules, (test .0, test .1, led)))
 
 returns-2 : tie.Need-returns-2
 returns-2 c =

@@ -7,10 +7,13 @@ use Rattle.keys.proofs.expand.expand_pair.Statement.{statement}
 use Rattle.keys.proofs.expand.expand_pair.Tie as tie
 
 by-none-requires : tie.Need-by-none-requires
-by-none-requires c κs = search needs
+by-none-requires c κs = let (rules, (p, (q, asked, _))) = c .pre .1 in (c .pre .0 .2, (rules, asked))
 
 by-other-requires : tie.Need-by-other-requires
-by-other-requires c κs = search needs
+by-other-requires c κs =
+    let pre = c .before .pre in
+    let (rules, (p, (q, asked, _))) = pre .1 in
+    (pre .0 .2, (rules, asked))
 
 meet-two-requires : tie.Need-meet-two-requires
 meet-two-requires c κs = search needs

@@ -8,7 +8,10 @@ use Rattle.keys.proofs.expand.expand_switch.Statement.{statement}
 use Rattle.keys.proofs.expand.expand_switch.Tie as tie
 
 meet-cases-requires : tie.Need-meet-cases-requires
-meet-cases-requires c κs = search needs
+meet-cases-requires c κs =
+    let pre = c .before .before .before .pre in
+    let (rules, (n, switches, _)) = pre .1 in
+    (pre .0, (rules, (n, switches)))
 
 returns : tie.Need-returns
 returns c =
@@ -21,7 +24,10 @@ returns c =
     )
 
 by-none-requires : tie.Need-by-none-requires
-by-none-requires c κs = search needs
+by-none-requires c κs =
+    let pre = c .before .before .before .before .before .before .pre in
+    let (rules, (n, switches, _)) = pre .1 in
+    (pre .0 .2, (rules, switches .asked))
 
 meet-two-requires : tie.Need-meet-two-requires
 meet-two-requires c κs = search needs

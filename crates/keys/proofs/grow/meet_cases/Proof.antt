@@ -10,13 +10,13 @@ use Rattle.decision.specs.Edges.{liveWants}
 use Rattle.edges.specs.views.Codes.{cutCodes}
 use Rattle.edges.specs.views.VertexKey.{keyIn}
 use Rattle.edges.specs.views.Tables.{noCut, firstFrom, those, stays}
-use Rattle.edges.proofs.CasesInOrder.{of-run}
+use Rattle.edges.proofs.CasesLeft.{of-run}
 use Rattle.keys.specs.views.KeysMet.{keysIn, Sized}
-use Rattle.keys.specs.views.Switching.{Switches}
-use Rattle.keys.proofs.SwitchMet.{CasesLeft, cases-start, cases-end, cases-many, cases-next}
+use Rattle.keys.proofs.SwitchMet.{CasesLeft, the-next, cases-start, cases-end, cases-many, cases-next}
 use borrow.Author.Needs.{needs}
 use Rattle.keys.proofs.grow.meet_cases.Statement.{statement}
 use Rattle.keys.proofs.grow.meet_cases.Tie as tie
+use Rattle.edges.specs.views.Switches.{Switches}
 
 abbrev Inv-loop : tie.InvT-loop
 Inv-loop lives₀ pendings₀ hints₀ start key t rows low high count₀ bytes₀ cut₀ lives pendings hints count bytes cut =
@@ -29,7 +29,7 @@ abbrev μ-loop : tie.MeasureT-loop
 μ-loop lives₀ pendings₀ hints₀ start key t rows low high count₀ bytes₀ cut₀ lives pendings hints count bytes cut = noCut - cut
 
 next-cut-requires : tie.Need-next-cut-requires Inv-loop μ-loop
-next-cut-requires c κs = search needs
+next-cut-requires c κs = (c .pre .0 .2, c .pre .1)
 
 loop-holds : tie.Need-loop-holds Inv-loop μ-loop
 loop-holds c =
@@ -40,13 +40,17 @@ loop-holds c =
       omega arith,
       λ rules n switches. (
         0,
-        c .next-cut .ensures .1 rules (switches .asked) (switches .codes) n (switches .test),
+        c .next-cut .ensures .1 rules n switches,
         cases-start rules (keyIn (a .key)) (a .t) n (now (a .lives)) (now (a .pendings)) (a .start) (c .before .pre .0 .0),
       ),
     )
 
 next-case-requires : tie.Need-next-case-requires Inv-loop μ-loop
-next-case-requires c κs = search needs
+next-case-requires c κs =
+    let pre = c .before .before .before .pre in
+    let (rules, (n, switches)) = pre .1 in
+    let s = c .before .loop .inv .4 rules n switches in
+    ((pre .0 .2, c .before .loop .inv .2), (rules, (n, switches, (s .0, s .1))))
 
 enum-known-next : tie.Need-enum-known-next Inv-loop μ-loop
 enum-known-next c = search needs
@@ -62,14 +66,43 @@ returns c =
       λ rules n switches.
           let s = at .inv .4 rules n switches in
           let e = sym (c .enum-told .given .1)
-          ∙ found rules (switches .asked) (switches .codes) n (switches .test) (s .0) (s .1) in
+          ∙ found rules n switches (s .0) (s .1) in
           let r = cases-end rules (keyIn (a .key)) (a .t) n switches (s .2) (c .before .before .before .loop-test .taken) e in
           (r .0, λ f. r .1),
       (omega arith, omega arith, at .inv .1),
     )
 
 by-case-requires : tie.Need-by-case-requires Inv-loop μ-loop
-by-case-requires c κs = search needs
+by-case-requires c κs =
+    let start = c .before .before .before .before .before .before .before in
+    let a = start .args in
+    let at = c .before .before .before .before .before .loop in
+    let step = c .before .before .before .next-case in
+    let given = c .before .next .given .1 in
+    let (rules, (n, switches)) = start .pre .1 in
+    let s = at .inv .4 rules n switches in
+    let next = the-next rules (keyIn (a .key)) (a .t) n switches (sym given ∙ step .ensures .0 rules n switches (s .0) (s .1)) in
+    let kept : ℕ → ℕ = λ x. those (a .key .live) (stays (now (a .rows)) (now (a .low)) (now (a .high)) (a .t) x) in
+    let run = of-run (λ (x y : ℕ). (at .cut ≤ x) × (x ≤ y) × (y < noCut) × (step .result .kept ≡ kept x)) given
+    (step .ensures .1 .0) in (
+      start .pre .0 .2,
+      (
+        rules,
+        (
+          n,
+          (
+            next .it,
+            record {
+              low = now (a .low);
+              high = now (a .high);
+              switches = switches;
+              listed = next .listed;
+              stay = run .3 ∙ ap kept (next .low);
+            },
+          ),
+        ),
+      ),
+    )
 
 meet-requires : tie.Need-meet-requires Inv-loop μ-loop
 meet-requires c κs = search needs
@@ -123,13 +156,18 @@ loop-again c =
           let s = at .inv .4 rules n switches in (
             _,
             of-run (λ (x y : ℕ). y + 1 ≡ firstFrom (x + 1) (cutCodes (liveWants rules (a .key .live) n))) given
-                (step .ensures .1 .1 rules (switches .asked) (switches .codes) n (switches .test)),
+                (step .ensures .1 .1 rules n switches),
             cases-next rules (keyIn (a .key)) (a .t) n switches (s .2) (c .before .before .before .before .before .by-case .result) _ _ _ _ _ _
                 (c .before .before .before .before .before .before .before .before .before .before .loop-test .taken)
-                (sym given ∙ step .ensures .0 rules (switches .asked) (switches .codes) n (switches .test) (s .0) (s .1))
+                (sym given ∙ step .ensures .0 rules n switches (s .0) (s .1))
                 (λ d m e.
-                c .before .before .before .before .before .by-case .ensures rules (now (a .low)) (now (a .high)) (switches .asked)
-                (switches .codes) n d (switches .test) m (run .3 ∙ ap kept e))
+                c .before .before .before .before .before .by-case .ensures rules n d (record {
+                  low = now (a .low);
+                  high = now (a .high);
+                  switches = switches;
+                  listed = m;
+                  stay = run .3 ∙ ap kept e;
+                }))
                 (c .before .meet .ensures .0) (c .case-length .ensures .0),
           ),
     )

@@ -11,7 +11,8 @@ full-requires-2 : tie.Need-full-requires-2
 full-requires-2 c κs = search needs
 
 lead-requires : tie.Need-lead-requires
-lead-requires c κs = search needs
+lead-requires c κs =
+    let (sheet, table, rules, _) = c .before .before .pre in (sheet, table, live-fits sheet table rules (c .before .full .ensures))
 
 returns : tie.Need-returns
 returns c sheet table rules tests =

@@ -5,7 +5,7 @@ use mathlib.Core.Logic.{inl, inr, ⊎-elim}
 use native.Mathlib.Omega.{arith}
 use borrow.Author.Needs.{needs}
 use denote.Ref.{now}
-use Rattle.keys.specs.views.KeysMet.{keyWith, keysIn, numberOf}
+use Rattle.keys.specs.views.KeysMet.{keyWith, keysIn, keyNumber}
 use Rattle.keys.proofs.Searching.{numberFrom, search-starts, search-ends, search-here, search-on}
 use Rattle.keys.proofs.met.find.Statement.{statement}
 use Rattle.keys.proofs.met.find.Tie as tie
@@ -13,7 +13,7 @@ use Rattle.keys.proofs.met.find.Tie as tie
 abbrev Inv-search : tie.InvT-search
 Inv-search lives pendings count live pending i₀ i =
     (i ≤ count)
-    × (i + numberFrom lives pendings live pending i (count - i) ≡ numberOf (keysIn lives pendings count) (keyWith live pending))
+    × (i + numberFrom lives pendings live pending i (count - i) ≡ keyNumber (keysIn lives pendings count) (keyWith live pending))
 
 abbrev μ-search : tie.MeasureT-search
 μ-search lives pendings count live pending i₀ i = count - i

@@ -1,9 +1,8 @@
 -- `graph::cases::check_cases` meets its contract: what was found and what is still to be read give what all cases give.
 use Rattle.node_check.proofs.CasesPass.{resume, case-fits, pass-starts, pass-next, pass-refused, pass-ends}
-use Rattle.graph.proofs.FieldBytes.{bytes-all}
 use Rattle.node_check.specs.views.CaseCodes.{casesFound}
 use Rattle.graph.specs.ReadGraph.{readCases}
-use Rattle.graph.specs.NodeRecord.{caseHead}
+use Rattle.graph.specs.views.NodeRecord.{caseHead, caseRefusal}
 use Rattle.graph.specs.declared.CaseHead.the-variants.{Whole}
 use Rattle.records.proofs.Parts.{rest}
 use Rattle.records.specs.Reading.{mapReading}
@@ -15,6 +14,7 @@ use Prim.Native.Nat.{_-_, _≤_}
 use borrow.Author.Needs.{needs}
 use Rattle.node_check.proofs.cases.check_cases.Statement.{statement}
 use Rattle.node_check.proofs.cases.check_cases.Tie as tie
+use Rattle.records.proofs.ByteLists.{bytes-all}
 
 abbrev Inv-loop : tie.InvT-loop
 Inv-loop s count nodes at₀ last₀ inside₀ ascend₀ i₀ at last inside ascend i =
@@ -45,14 +45,18 @@ enum-known-head c = search needs
 enum-told : tie.Need-enum-told Inv-loop μ-loop
 enum-told c = search needs
 
+case-refusal-requires : tie.Need-case-refusal-requires Inv-loop μ-loop
+case-refusal-requires c κs = search needs
+
 returns : tie.Need-returns Inv-loop μ-loop
 returns c =
-    let a = c .before .before .before .before .before .before .before .args in
-    let loop = c .before .before .before .before .before .loop in
+    let a = c .before .before .before .before .before .before .before .before .args in
+    let loop = c .before .before .before .before .before .before .loop in
     sym
     (loop .inv .2
-    ∙ pass-refused (a .nodes) (a .count) (now (a .s)) (loop .i) (loop .at) (loop .last) (loop .inside) (loop .ascend) (c .before .before .before .before .loop-test .taken)
-    (ap caseHead (sym (rest (now (c .before .before .before .before .before .before .before .args .s)) (c .before .before .before .before .before .loop .at))) ∙ sym (c .before .before .case-head .ensures) ∙ c .enum-told .given .1))
+    ∙ pass-refused (a .nodes) (a .count) (now (a .s)) (loop .i) (loop .at) (loop .last) (loop .inside) (loop .ascend) (c .before .before .before .before .before .loop-test .taken)
+    (ap caseHead (sym (rest (now (c .before .before .before .before .before .before .before .before .args .s)) (c .before .before .before .before .before .before .loop .at))) ∙ sym (c .before .before .before .case-head .ensures) ∙ c .before .enum-told .given .1)
+    (c .case-refusal .ensures ∙ ap caseRefusal (c .before .enum-told .given .1)))
 
 case-range-requires : tie.Need-case-range-requires Inv-loop μ-loop
 case-range-requires c κs = search needs
@@ -118,6 +122,7 @@ check-cases-spec =
     case-head-requires
     enum-known-head
     enum-told
+    case-refusal-requires
     returns
     case-range-requires
     both-requires

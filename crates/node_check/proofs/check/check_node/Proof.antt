@@ -2,7 +2,7 @@
 use Rattle.node_check.proofs.NodeHeads.{node-fits, refused-asked, leaf-asked, pair-asked}
 use Rattle.node_check.proofs.Switches.{switch-asked}
 use Rattle.node_check.specs.views.CheckNode.{keptTest, checked, switchCheck}
-use Rattle.graph.specs.ReadGraph.{askNode, onNode}
+use Rattle.graph.specs.ReadGraph.{askRangeAndOrder}
 use Rattle.graph.specs.declared.NodeHead.the-variants.{Whole}
 use Rattle.records.proofs.Parts.{rest}
 use lib.Dec.{ltb}
@@ -12,6 +12,8 @@ use mathlib.Core.Path.{sym, ap, _∙_}
 use borrow.Author.Needs.{needs}
 use Rattle.node_check.proofs.check.check_node.Statement.{statement}
 use Rattle.node_check.proofs.check.check_node.Tie as tie
+use Rattle.graph.proofs.ByKinds.{node-read-by}
+use Rattle.graph.specs.views.NodeRecord.{nodeRefusal}
 
 node-head-requires : tie.Need-node-head-requires
 node-head-requires c κs = search needs
@@ -22,8 +24,11 @@ enum-known-head c = search needs
 enum-told : tie.Need-enum-told
 enum-told c = search needs
 
+node-refusal-requires : tie.Need-node-refusal-requires
+node-refusal-requires c κs = search needs
+
 returns : tie.Need-returns
-returns c = refused-asked (keptTest (now (c .before .before .before .before .args .words)) (now (c .before .before .before .before .args .codes)) (c .before .before .before .before .args .count)) (c .before .before .before .before .args .rules) (c .before .before .before .before .args .nodes) (now (c .before .before .before .before .args .s)) (sym (c .before .before .node-head .ensures) ∙ c .enum-told .given .1)
+returns c = refused-asked (keptTest (now (c .before .before .before .before .before .args .words)) (now (c .before .before .before .before .before .args .codes)) (c .before .before .before .before .before .args .count)) (c .before .before .before .before .before .args .rules) (c .before .before .before .before .before .args .nodes) (now (c .before .before .before .before .before .args .s)) (sym (c .before .before .before .node-head .ensures) ∙ c .before .enum-told .given .1) (c .node-refusal .ensures ∙ ap nodeRefusal (c .before .enum-told .given .1))
 
 enum-known-node : tie.Need-enum-known-node
 enum-known-node c = search needs
@@ -76,7 +81,7 @@ returns-3 c =
     c .check-switch .ensures
     ∙ ap (λ l. switchCheck (c .before .before .both2 .result) (g .1 .0) (c .before .before .before .before .before .before .before .before .before .before .before .before .before .args .nodes) l) (rest (now (c .before .before .before .before .before .before .before .before .before .before .before .before .before .args .s)) 8)
     ∙ switch-asked (keptTest (now (c .before .before .before .before .before .before .before .before .before .before .before .before .before .args .words)) (now (c .before .before .before .before .before .before .before .before .before .before .before .before .before .args .codes)) (c .before .before .before .before .before .before .before .before .before .before .before .before .before .args .count)) (c .before .before .before .before .before .before .before .before .before .before .before .before .before .args .rules) (c .before .before .before .before .before .before .before .before .before .before .before .before .before .args .nodes) (now (c .before .before .before .before .before .before .before .before .before .before .before .before .before .args .s)) (g .0) (g .1 .0) (g .1 .1 .0) (g .1 .1 .1 .0) (c .before .before .both2 .ensures ∙ ap (λ b. b && ltb (c .before .before .before .before .before .before .node2 .given .0 .1 .1 .1 .0) (c .before .before .before .before .before .before .before .before .before .before .before .before .before .args .nodes)) (c .before .before .before .both .ensures ∙ ap (λ b. b && ltb (c .before .before .before .before .before .before .node2 .given .0 .1 .1 .0) (c .before .before .before .before .before .before .before .before .before .before .before .before .before .args .nodes)) (c .before .before .before .before .has-place .ensures)))
-    ∙ ap (λ h. checked (askNode (keptTest (now (c .before .before .before .before .before .before .before .before .before .before .before .before .before .args .words)) (now (c .before .before .before .before .before .before .before .before .before .before .before .before .before .args .codes)) (c .before .before .before .before .before .before .before .before .before .before .before .before .before .args .count)) (c .before .before .before .before .before .before .before .before .before .before .before .before .before .args .rules) (c .before .before .before .before .before .before .before .before .before .before .before .before .before .args .nodes) (onNode (now (c .before .before .before .before .before .before .before .before .before .before .before .before .before .args .s)) h))) (sym (sym (c .before .before .before .before .before .before .before .before .before .before .before .node-head .ensures) ∙ c .before .before .before .before .before .before .before .before .before .head .given .1 ∙ ap Whole (c .before .before .before .before .before .before .node2 .given .1)))
+    ∙ ap (λ r. checked (askRangeAndOrder (keptTest (now (c .before .before .before .before .before .before .before .before .before .before .before .before .before .args .words)) (now (c .before .before .before .before .before .before .before .before .before .before .before .before .before .args .codes)) (c .before .before .before .before .before .before .before .before .before .before .before .before .before .args .count)) (c .before .before .before .before .before .before .before .before .before .before .before .before .before .args .rules) (c .before .before .before .before .before .before .before .before .before .before .before .before .before .args .nodes) r)) (sym (node-read-by (now (c .before .before .before .before .before .before .before .before .before .before .before .before .before .args .s)) (sym (c .before .before .before .before .before .before .before .before .before .before .before .node-head .ensures) ∙ c .before .before .before .before .before .before .before .before .before .head .given .1 ∙ ap Whole (c .before .before .before .before .before .before .node2 .given .1))))
 
 returns-4 : tie.Need-returns-4
 returns-4 c = pair-asked (keptTest (now (c .before .before .before .before .before .before .before .before .before .before .before .before .args .words)) (now (c .before .before .before .before .before .before .before .before .before .before .before .before .args .codes)) (c .before .before .before .before .before .before .before .before .before .before .before .before .args .count)) (c .before .before .before .before .before .before .before .before .before .before .before .before .args .rules) (c .before .before .before .before .before .before .before .before .before .before .before .before .args .nodes) (now (c .before .before .before .before .before .before .before .before .before .before .before .before .args .s)) (sym (c .before .before .before .before .before .before .before .before .before .before .node-head .ensures) ∙ c .before .before .before .before .before .before .before .before .head .given .1 ∙ ap Whole (c .before .before .before .before .before .node3 .given .1)) (c .before .both4 .ensures ∙ ap (λ b. b && ltb (c .before .before .before .before .before .node3 .given .0 .1 .1 .1 .0) (c .before .before .before .before .before .before .before .before .before .before .before .before .args .nodes)) (c .before .before .both3 .ensures ∙ ap (λ b. b && ltb (c .before .before .before .before .before .node3 .given .0 .1 .1 .0) (c .before .before .before .before .before .before .before .before .before .before .before .before .args .nodes)) (c .before .before .before .has-pair .ensures))) (c .if1 .taken)
@@ -91,6 +96,7 @@ check-node-spec =
     node-head-requires
     enum-known-head
     enum-told
+    node-refusal-requires
     returns
     enum-known-node
     check-leaf-requires

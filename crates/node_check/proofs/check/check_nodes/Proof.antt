@@ -1,6 +1,5 @@
 -- `graph::check::check_nodes` meets its contract: where the passed nodes begin and what is still to be read give where all begin.
 use Rattle.node_check.proofs.NodesPass.{resumeAt, nodesLeft, nodes-start, nodes-end, nodes-refused, nodes-next, node-few, node-inside, start-stored}
-use Rattle.graph.proofs.FieldBytes.{bytes-all}
 use Rattle.node_check.specs.views.CheckNode.{keptTest, checked, startsFrom, checkedNodes}
 use Rattle.graph.specs.ReadGraph.{readNode, readNodes}
 use Rattle.node_check.specs.declared.NodeCheck.the-variants.{Used, Refused}
@@ -14,6 +13,7 @@ use mathlib.Core.Path.{_≡_, sym, ap, _∙_}
 use borrow.Author.Needs.{needs}
 use Rattle.node_check.proofs.check.check_nodes.Statement.{statement}
 use Rattle.node_check.proofs.check.check_nodes.Tie as tie
+use Rattle.records.proofs.ByteLists.{bytes-all}
 
 abbrev Inv-loop : tie.InvT-loop
 Inv-loop s words codes count rules nodes starts₀ at₀ i₀ starts at i =

@@ -2,9 +2,8 @@
 use Rattle.node_check.proofs.CopiedRecords.{edge-read, edge-bytes}
 use Rattle.node_check.proofs.Copying.{Copied, copied-starts, copied-first, copied-fits, copied-next, copied-ends}
 use Rattle.node_check.proofs.CasesPass.{case-refused}
-use Rattle.graph.proofs.SpelledCases.{edgeBytes, EdgeFields, readCase, case-spelled}
-use Rattle.graph.proofs.FieldBytes.{bytes-all}
-use Rattle.graph.specs.NodeRecord.{caseHead}
+use Rattle.graph.proofs.SpelledCases.{edgeBytes, EdgeFields, case-spelled}
+use Rattle.graph.specs.views.NodeRecord.{caseHead}
 use Rattle.graph.specs.declared.CaseHead.the-variants.{Whole}
 use Rattle.decision.specs.GraphBytes.{casesBytes}
 use Rattle.records.proofs.Parts.{rest}
@@ -17,6 +16,8 @@ use mathlib.Core.Path.{_≡_, refl, sym, ap, _∙_}
 use borrow.Author.Needs.{needs}
 use Rattle.node_check.proofs.rewrite.copy_cases.Statement.{statement}
 use Rattle.node_check.proofs.rewrite.copy_cases.Tie as tie
+use Rattle.graph.specs.ReadGraph.{readCase}
+use Rattle.records.proofs.ByteLists.{bytes-all}
 
 abbrev Inv-loop : tie.InvT-loop
 Inv-loop s buf₀ start count at₀ i₀ buf at i =

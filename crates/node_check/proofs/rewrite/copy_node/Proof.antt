@@ -1,13 +1,12 @@
 -- `graph::rewrite::copy_node` meets its contract, for each kind of node.
 use Rattle.node_check.proofs.CopiedNodes.{both-written, node-there, leaf-bytes, pair-bytes, cases-there, switch-bytes}
 use Rattle.node_check.proofs.NodeHeads.{node-fits}
-use Rattle.graph.proofs.FieldBytes.{bytes-all, bytes-drop}
 use Rattle.decision.specs.GraphBytes.{casesBytes}
 use mathlib.Core.List.{[]}
 use Rattle.graph.specs.views.Rewriting.{IsTook, readOr}
 use Rattle.graph.specs.views.WriteNode.{nodeRecordBytes}
 use Rattle.graph.specs.ReadGraph.{readCases}
-use Rattle.graph.specs.NodeRecord.{nodeHead}
+use Rattle.graph.specs.views.NodeRecord.{nodeHead}
 use Rattle.graph.specs.declared.NodeRecord.the-variants.{Switch}
 use Rattle.graph.specs.declared.NodeHead.the-variants.{Whole}
 use Rattle.records.proofs.Parts.{rest}
@@ -21,6 +20,7 @@ use mathlib.Core.Path.{_≡_, sym, ap, subst, _∙_}
 use borrow.Author.Needs.{needs}
 use Rattle.node_check.proofs.rewrite.copy_node.Statement.{statement}
 use Rattle.node_check.proofs.rewrite.copy_node.Tie as tie
+use Rattle.records.proofs.ByteLists.{bytes-all, bytes-drop}
 
 sub-node-head : tie.Need-sub-node-head
 sub-node-head c = search needs

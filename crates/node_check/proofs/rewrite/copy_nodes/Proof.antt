@@ -1,11 +1,9 @@
 -- `graph::rewrite::copy_nodes` meets its contract: the nodes that are left, written behind those that were, complete them.
 use Rattle.node_check.proofs.Copying.{Copied, copied-starts, first-there, read-there, copied-next, copied-ends}
 use Rattle.graph.proofs.SpelledNodes.{NodeFields, node-spelled}
-use Rattle.graph.proofs.FieldBytes.{bytes-all}
-use Rattle.graph.specs.views.Rewriting.{readRecord}
 use Rattle.decision.specs.GraphBytes.{nodeBytes, nodesBytes}
 use Rattle.decision.specs.Node.{end}
-use Rattle.decision.specs.Key.{fail}
+use Rattle.decision.specs.Key.{failNode}
 use lib.ListN.{length, drop}
 use Prim.Native.Nat.{_-_}
 use denote.Ref.{now}
@@ -14,6 +12,8 @@ use mathlib.Core.Path.{_≡_, refl, _∙_}
 use borrow.Author.Needs.{needs}
 use Rattle.node_check.proofs.rewrite.copy_nodes.Statement.{statement}
 use Rattle.node_check.proofs.rewrite.copy_nodes.Tie as tie
+use Rattle.graph.specs.ReadGraph.{readRecord}
+use Rattle.records.proofs.ByteLists.{bytes-all}
 
 abbrev Inv-loop : tie.InvT-loop
 Inv-loop s buf₀ start count at₀ i₀ buf at i =
@@ -47,7 +47,7 @@ loop-again c =
     let loop = c .before .before .before .before .before .loop in
     let h = bytes-all s (λ i. omega (arith, c .before .before .before .before .before .before .before .shared-slice-known .given i)) in
     let copied = loop .inv .1 in
-    let read = read-there (readRecord (drop (loop .at) s)) (end fail) (first-there nodeBytes NodeFields readRecord node-spelled nodesBytes refl (λ n ns. refl) h copied (c .before .before .before .before .loop-test .taken)) in
+    let read = read-there (readRecord (drop (loop .at) s)) (end failNode) (first-there nodeBytes NodeFields readRecord node-spelled nodesBytes refl (λ n ns. refl) h copied (c .before .before .before .before .loop-test .taken)) in
     (c .before .buf .given ∙ loop .inv .0, copied-next nodeBytes NodeFields readRecord node-spelled nodesBytes refl (λ n ns. refl) h copied (c .before .before .before .before .loop-test .taken) read (c .before .before .copy-node .ensures .0) (c .before .before .copy-node .ensures .1))
 
 same-length : tie.Need-same-length Inv-loop μ-loop

@@ -18,9 +18,9 @@ use Rattle.piece.specs.declared.Taken.the-variants.{Bytes}
 use Rattle.piece.specs.declared.TermRecord.{TermRecord}
 use Rattle.piece.specs.declared.TermRecord.the-variants.{Compound}
 use Rattle.piece.specs.declared.TermHead.the-variants.{Whole}
-use Rattle.piece.specs.TermRecord.{termHead}
+use Rattle.piece.specs.views.TermRecord.{termHead}
 use Rattle.piece.specs.views.LaidOut.{tookCells, termCells, termsCells}
-use Rattle.piece.proofs.Rooms.{row-room, step-of}
+use Rattle.piece.proofs.Rooms.{step-of}
 use Rattle.piece.proofs.Heads.{record-within}
 use Rattle.piece.proofs.TermCells.{begins, later, arguments-read, others-read, term-fits, terms-fit}
 use Rattle.piece.proofs.compound_code.Reads as compound-code-reads
@@ -34,6 +34,7 @@ use Rattle.piece.proofs.terms.Reads as terms
 use Rattle.piece.proofs.terms.Kinds as terms-kinds
 use Rattle.piece.proofs.+term+terms.Lts-term as term-lts
 use Rattle.piece.proofs.+term+terms.Lts-terms as terms-lts
+use Rattle.basics.proofs.Numbers.{row-room}
 
 abbrev pub μ-term : Measures 2 term-kinds.ps ℕ
 μ-term κs a = 6 * a .1 .0

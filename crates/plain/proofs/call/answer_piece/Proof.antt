@@ -3,14 +3,14 @@ use Prim.Native.Nat.{ℕ}
 use mathlib.Core.Path.{sym, _∙_, subst}
 use native.Mathlib.Omega.{arith}
 use denote.Ref.{now}
-use lib.ListN.{getD, length-replicate}
-use Rattle.records.specs.Fields.{IsByte}
+use lib.ListN.{length-replicate}
 use Rattle.terms.specs.Accepted.{AcceptedPiece}
 use Rattle.plain.proofs.PiecesRead.{reader-refused, reader-accepted, read-narrow}
 use Rattle.plain.proofs.PieceAnswers.{piece-refused, arities-differ, cells-answer}
 use borrow.Author.Needs.{needs}
 use Rattle.plain.proofs.call.answer_piece.Statement.{statement}
 use Rattle.plain.proofs.call.answer_piece.Tie as tie
+use Rattle.records.proofs.ByteLists.{bytes-all}
 
 read-piece-requires : tie.Need-read-piece-requires
 read-piece-requires c κs = search needs
@@ -26,38 +26,38 @@ returns c =
     let a = c .before .before .before .before .before .before .before .before .args in
     let p = now (a .p) in
     let cells = c .before .before .before .before .read-piece .last .1 .0 in
-    let bytes : (i : ℕ) → IsByte (getD p i 0) = λ i. omega (arith, c .before .before .before .before .before .before .shared-slice-known2 .given i) in
+    let bytes = bytes-all p (λ i. omega (arith, c .before .before .before .before .before .before .shared-slice-known2 .given i)) in
     let r = reader-accepted p cells (c .before .before .before .before .read-piece .result) (c .before .before .before .before .read-piece .ensures) (c .before .before .read2 .given .1) bytes in
-    λ k rules read accepted. arities-differ (a .arity) rules p (r .read) (λ e. c .if1 .taken (sym (r .arityIs) ∙ e))
+    λ k. arities-differ (a .arity) (k .rules) p (r .read) (λ e. c .if1 .taken (sym (r .arityIs) ∙ e))
 
 answer-rules-requires : tie.Need-answer-rules-requires
 answer-rules-requires c κs =
     let a = c .before .before .before .before .before .before .before .before .before .before .args in
     let p = now (a .p) in
     let cells = c .before .before .before .before .before .before .read-piece .last .1 .0 in
-    let bytes : (i : ℕ) → IsByte (getD p i 0) = λ i. omega (arith, c .before .before .before .before .before .before .before .before .shared-slice-known2 .given i) in
+    let bytes = bytes-all p (λ i. omega (arith, c .before .before .before .before .before .before .before .before .shared-slice-known2 .given i)) in
     let r = reader-accepted p cells (c .before .before .before .before .before .before .read-piece .result) (c .before .before .before .before .before .before .read-piece .ensures) (c .before .before .before .before .read2 .given .1) bytes in
-    (c .before .before .before .before .before .before .before .before .before .before .pre, length-replicate {A = ℕ} 680 0, read-narrow r)
+    (c .before .before .before .before .before .before .before .before .before .before .pre .few, length-replicate {A = ℕ} 680 0, read-narrow r)
 
 returns-2 : tie.Need-returns-2
 returns-2 c =
     let a = c .before .before .before .before .before .before .before .args in
     let p = now (a .p) in
     let cells = c .before .before .before .read-piece .last .1 .0 in
-    λ k rules read accepted.
-    piece-refused (a .arity) rules p (reader-refused p cells (c .before .before .before .read-piece .result) (c .before .before .before .read-piece .ensures) (c .before .read .given .1))
+    λ k.
+    piece-refused (a .arity) (k .rules) p (reader-refused p cells (c .before .before .before .read-piece .result) (c .before .before .before .read-piece .ensures) (c .before .read .given .1))
 
 returns-3 : tie.Need-returns-3
 returns-3 c =
     let a = c .before .before .before .before .before .before .before .before .before .before .before .args in
     let p = now (a .p) in
     let cells = c .before .before .before .before .before .before .before .read-piece .last .1 .0 in
-    let bytes : (i : ℕ) → IsByte (getD p i 0) = λ i. omega (arith, c .before .before .before .before .before .before .before .before .before .shared-slice-known2 .given i) in
+    let bytes = bytes-all p (λ i. omega (arith, c .before .before .before .before .before .before .before .before .before .shared-slice-known2 .given i)) in
     let r = reader-accepted p cells (c .before .before .before .before .before .before .before .read-piece .result) (c .before .before .before .before .before .before .before .read-piece .ensures) (c .before .before .before .before .before .read2 .given .1) bytes in
     let same = c .before .before .before .if1 .left in
     let ok = subst (λ (n : ℕ). AcceptedPiece n (r .piece .terms)) same (r .accepted) in
-    λ k rules read accepted.
-    cells-answer (a .arity) rules p (r .read) (r .arityIs ∙ same) (c .before .before .before .before .before .before .before .before .before .before .before .pre) ok accepted read (r .laid) (c .answer-rules .ensures)
+    λ k.
+    cells-answer (a .arity) (k .rules) p (r .read) (r .arityIs ∙ same) (c .before .before .before .before .before .before .before .before .before .before .before .pre .few) ok (k .accepted) (k .read) (r .laid) (c .answer-rules .ensures)
 
 pub answer-piece-spec : {M : Type 1} → statement M
 answer-piece-spec =

@@ -1,22 +1,17 @@
 -- The sheet is checked, then the piece is answered for.
 use Prim.Native.Nat.{ℕ}
-use mathlib.Core.Path.{sym, ap, _∙_, subst}
+use mathlib.Core.Path.{sym, ap, _∙_}
 use native.Mathlib.Omega.{arith}
 use denote.Ref.{now}
-use lib.ListN.{getD}
-use Rattle.records.specs.Fields.{IsByte}
-use Rattle.records.proofs.Parts.{rest}
-use Rattle.basics.specs.Lists.{All}
-use Rattle.terms.specs.Accepted.{AcceptedRule}
-use Rattle.sheet.specs.ReadSheet.{readRules}
-use Rattle.sheet_tests.specs.CheckSheet.{checkValues}
+use Rattle.sheet_tests.specs.CheckSheet.{sheetCheckValues}
 use Rattle.plain.specs.Plain.{pieceReading, readingValues}
-use Rattle.plain.proofs.ByteLists.{bytes-all}
-use Rattle.accepted.proofs.CheckedSheets.{check-accepts, check-refuses, accepted-rules}
+use Rattle.accepted.proofs.CheckedSheets.{check-accepts, check-refuses}
 use Rattle.plain.proofs.PieceAnswers.{sheet-refused, sheet-answers}
+use Rattle.plain.proofs.RulesBehind.{sheet-rules}
 use borrow.Author.Needs.{needs}
 use Rattle.plain.proofs.call.plain.Statement.{statement}
 use Rattle.plain.proofs.call.plain.Tie as tie
+use Rattle.records.proofs.ByteLists.{bytes-all}
 
 check-sheet-requires : tie.Need-check-sheet-requires
 check-sheet-requires c κs = search needs
@@ -31,7 +26,7 @@ sub-answer-piece : tie.Need-sub-answer-piece
 sub-answer-piece c =
     let a = c .before .before .before .before .before .before .args in
     let s = now (a .sheet) in
-    let told = sym (ap checkValues (c .before .checked2 .given .1)) ∙ c .before .before .before .check-sheet .ensures in
+    let told = sym (ap sheetCheckValues (c .before .checked2 .given .1)) ∙ c .before .before .before .check-sheet .ensures in
     let known = check-accepts s (c .before .checked2 .given .0 .0) (c .before .checked2 .given .0 .1 .0) (c .before .checked2 .given .0 .1 .1 .0) told in
     omega (arith, known .whole)
 
@@ -39,7 +34,7 @@ part-answer-piece-start : tie.Need-part-answer-piece-start
 part-answer-piece-start c =
     let a = c .before .before .before .before .before .before .args in
     let s = now (a .sheet) in
-    let told = sym (ap checkValues (c .before .checked2 .given .1)) ∙ c .before .before .before .check-sheet .ensures in
+    let told = sym (ap sheetCheckValues (c .before .checked2 .given .1)) ∙ c .before .before .before .check-sheet .ensures in
     let known = check-accepts s (c .before .checked2 .given .0 .0) (c .before .checked2 .given .0 .1 .0) (c .before .checked2 .given .0 .1 .1 .0) told in
     omega (arith, known .whole)
 
@@ -50,29 +45,27 @@ answer-piece-requires : tie.Need-answer-piece-requires
 answer-piece-requires c κs =
     let a = c .before .before .before .before .before .before .before .args in
     let s = now (a .sheet) in
-    let told = sym (ap checkValues (c .before .before .checked2 .given .1)) ∙ c .before .before .before .before .check-sheet .ensures in
+    let told = sym (ap sheetCheckValues (c .before .before .checked2 .given .1)) ∙ c .before .before .before .before .check-sheet .ensures in
     let known = check-accepts s (c .before .before .checked2 .given .0 .0) (c .before .before .checked2 .given .0 .1 .0) (c .before .before .checked2 .given .0 .1 .1 .0) told in
-    known .few
+    let bytes = bytes-all s (λ i. omega (arith, c .before .before .before .before .before .before .shared-slice-known .given i)) in
+    sheet-rules s bytes known
 
 returns : tie.Need-returns
 returns c =
     let a = c .before .before .before .before .before .before .args in
     let s = now (a .sheet) in
-    sheet-refused s (now (a .piece)) (check-refuses s (sym (ap checkValues (c .before .checked .given .1)) ∙ c .before .before .before .check-sheet .ensures))
+    sheet-refused s (now (a .piece)) (check-refuses s (sym (ap sheetCheckValues (c .before .checked .given .1)) ∙ c .before .before .before .check-sheet .ensures))
 
 returns-2 : tie.Need-returns-2
 returns-2 c =
     let a = c .before .before .before .before .before .before .before .before .args in
     let s = now (a .sheet) in
-    let told = sym (ap checkValues (c .before .before .before .checked2 .given .1)) ∙ c .before .before .before .before .before .check-sheet .ensures in
+    let told = sym (ap sheetCheckValues (c .before .before .before .checked2 .given .1)) ∙ c .before .before .before .before .before .check-sheet .ensures in
     let known = check-accepts s (c .before .before .before .checked2 .given .0 .0) (c .before .before .before .checked2 .given .0 .1 .0) (c .before .before .before .checked2 .given .0 .1 .1 .0) told in
     let p = now (a .piece) in
-    let rules = known .sheet .rules in
-    let bytes : (i : ℕ) → IsByte (getD s i 0) = λ i. omega (arith, c .before .before .before .before .before .before .before .shared-slice-known .given i) in
-    let accepted = accepted-rules s (bytes-all s bytes) (known .accepted) in
-    let read = ap (readRules (c .before .before .before .checked2 .given .0 .0) (c .before .before .before .checked2 .given .0 .1 .0)) (rest s 3) ∙ known .rulesRead in
-    c .answer-piece .ensures _ rules read (subst (λ (n : ℕ). All (AcceptedRule n) rules) (known .arityIs) accepted)
-    ∙ ap (λ (n : ℕ). readingValues (pieceReading n rules p)) (sym (known .arityIs))
+    let bytes = bytes-all s (λ i. omega (arith, c .before .before .before .before .before .before .before .shared-slice-known .given i)) in
+    c .answer-piece .ensures (sheet-rules s bytes known)
+    ∙ ap (λ (n : ℕ). readingValues (pieceReading n (known .sheet .rules) p)) (sym (known .arityIs))
     ∙ sheet-answers s p (known .accepted)
 
 pub plain-spec : {M : Type 1} → statement M

@@ -12,7 +12,7 @@ use Rattle.sheet.specs.views.NoteArray.{notesIn}
 use Rattle.sheet_tests.specs.views.NoteTests.{nameOf, notesVariables, Placed}
 use Rattle.sheet_tests.proofs.NoteRows.{notes-each}
 use Rattle.outcomes.specs.views.CellOutcome.{outcomeOf}
-use Rattle.plain.specs.views.NotesOutcome.{pairOutcome, pairsOutcome}
+use Rattle.plain.specs.views.NotesOutcome.{pairTestCells, pairsOutcome}
 use Rattle.plain.proofs.Gathering.{gathered-more, gathered-all}
 use Rattle.plain.proofs.NoteTurns.{variable-turn, nameless-turn, no-pairs}
 use borrow.Author.Needs.{needs}
@@ -79,7 +79,7 @@ loop-again c =
     let cells = now (a .cells) in
     let i = c .before .before .before .before .before .loop .i in
     let within : a .n ≤ length codes = omega (arith, c .before .before .before .before .before .before .pre) in
-    let f = pairOutcome cells in
+    let f = pairTestCells cells in
     let gathered = outcomeOf (c .before .before .before .before .before .loop .outcome) in
     let later = drop (i + 1) (notesIn codes (a .n)) in
     let rest = pairsOutcome cells later in
@@ -109,7 +109,7 @@ returns c =
     let cells = now (a .cells) in
     let i = c .before .loop .i in
     let within : a .n ≤ length codes = omega (arith, c .before .before .pre) in
-    let none = no-pairs codes (a .n) within i (pairOutcome cells) (c .loop-test .left) in
+    let none = no-pairs codes (a .n) within i (pairTestCells cells) (c .loop-test .left) in
     gathered-all (outcomeOf (c .before .loop .outcome)) (pairsOutcome cells (drop i (notesIn codes (a .n)))) none (c .before .loop .inv .1)
 
 pub pairs-outcome-spec : {M : Type 1} → statement M

@@ -12,7 +12,7 @@ use Rattle.sheet.specs.views.NoteArray.{notesIn}
 use Rattle.sheet_tests.specs.views.NoteTests.{isNamed, notesVariables, Placed}
 use Rattle.sheet_tests.proofs.NoteRows.{notes-each}
 use Rattle.outcomes.specs.views.CellOutcome.{outcomeOf, pairCells}
-use Rattle.plain.specs.views.NotesOutcome.{pairOutcome}
+use Rattle.plain.specs.views.NotesOutcome.{pairTestCells}
 use Rattle.plain.proofs.Gathering.{gathered-more, gathered-all}
 use Rattle.plain.proofs.NoteTurns.{named-turn, other-turn, no-pair}
 use borrow.Author.Needs.{needs}
@@ -22,8 +22,8 @@ use Rattle.plain.proofs.rule.pairs_with.Tie as tie
 abbrev Inv-loop : tie.InvT-loop
 Inv-loop notes n from place v cells outcome₀ i₀ outcome i =
     (i ≤ n)
-    × (_and_ (outcomeOf outcome) (together (pairOutcome cells) (pairsWith place v (notesVariables (drop i (notesIn notes n)))))
-    ≡ together (pairOutcome cells) (pairsWith place v (notesVariables (drop from (notesIn notes n)))))
+    × (_and_ (outcomeOf outcome) (together (pairTestCells cells) (pairsWith place v (notesVariables (drop i (notesIn notes n)))))
+    ≡ together (pairTestCells cells) (pairsWith place v (notesVariables (drop from (notesIn notes n)))))
 
 abbrev μ-loop : tie.MeasureT-loop
 μ-loop notes n from place v cells outcome₀ i₀ outcome i = n - i
@@ -51,14 +51,14 @@ pair-outcome-requires c κs =
     let a = c .before .before .before .before .before .before .before .args in
     let codes = now (a .notes) in
     let within : a .n ≤ length codes = omega (arith, c .before .before .before .before .before .before .before .pre) in
-    let placed = notes-each codes (a .n) within Placed (c .before .before .before .before .before .before .loop .i) (c .before .before .before .before .before .before .before .pre .4) (c .before .before .before .before .before .loop-test .taken) in
+    let placed = notes-each codes (a .n) within Placed (c .before .before .before .before .before .before .loop .j) (c .before .before .before .before .before .before .before .pre .4) (c .before .before .before .before .before .loop-test .taken) in
     (c .before .before .before .before .before .before .before .pre .2, omega (arith, c .note-place .ensures, placed), c .before .before .before .before .before .before .before .pre .5)
 
 both-requires : tie.Need-both-requires Inv-loop μ-loop
 both-requires c κs = search needs
 
-add-i : tie.Need-add-i Inv-loop μ-loop
-add-i c = search needs
+add-j : tie.Need-add-j Inv-loop μ-loop
+add-j c = search needs
 
 loop-less : tie.Need-loop-less Inv-loop μ-loop
 loop-less c = search needs
@@ -68,9 +68,9 @@ loop-again c =
     let a = c .before .before .before .before .before .before .args in
     let codes = now (a .notes) in
     let cells = now (a .cells) in
-    let i = c .before .before .before .before .before .loop .i in
+    let i = c .before .before .before .before .before .loop .j in
     let within : a .n ≤ length codes = omega (arith, c .before .before .before .before .before .before .pre) in
-    let f = pairOutcome cells in
+    let f = pairTestCells cells in
     let gathered = outcomeOf (c .before .before .before .before .before .loop .outcome) in
     let rest = together f (pairsWith (a .place) (a .v) (notesVariables (drop (i + 1) (notesIn codes (a .n))))) in
     let named = ap (isNamed (a .v)) (sym (c .before .before .note-record .ensures)) ∙ sym (c .before .is-named .ensures) in
@@ -95,9 +95,9 @@ returns : tie.Need-returns Inv-loop μ-loop
 returns c =
     let a = c .before .before .args in
     let codes = now (a .notes) in
-    let i = c .before .loop .i in
+    let i = c .before .loop .j in
     let within : a .n ≤ length codes = omega (arith, c .before .before .pre) in
-    let f = pairOutcome (now (a .cells)) in
+    let f = pairTestCells (now (a .cells)) in
     let rest = together f (pairsWith (a .place) (a .v) (notesVariables (drop i (notesIn codes (a .n))))) in
     let none = no-pair codes (a .n) within i f (a .place) (a .v) (c .loop-test .left) in
     gathered-all (outcomeOf (c .before .loop .outcome)) rest none (c .before .loop .inv .1)
@@ -116,7 +116,7 @@ pairs-with-spec =
     note-place-requires
     pair-outcome-requires
     both-requires
-    add-i
+    add-j
     loop-less
     loop-again
     returns)

@@ -31,7 +31,7 @@ returns c =
     let n = start .args .n in
     let i = turn .i in
     let inv = turn .inv in
-    (full-done (notesCodes (drop i (notesIn notes n))) (turn .codes) (turn .kept) (c .if1 .taken) (inv .3), (inv .1, inv .2))
+    (full-done (notesCodes (drop i (notesIn notes n))) (turn .codes) (turn .pairs) (c .if1 .taken) (inv .3), (inv .1, inv .2))
 
 mul-code : tie.Need-mul-code Inv-loop μ-loop
 mul-code c = search needs
@@ -82,7 +82,7 @@ loop-again c =
     let n = start .args .n in
     let i = turn .i in
     let inv = turn .inv in
-    let kept = pairsIn (turn .codes) (turn .kept) in
+    let kept = pairsIn (turn .codes) (turn .pairs) in
     let name = ap nameOf (sym (note-record .ensures)) ∙ sym (name-of .ensures) in
     ⊎-elim
     (λ w. (
@@ -114,7 +114,7 @@ returns-2 c =
     let n = start .args .n in
     let i = turn .i in
     let inv = turn .inv in
-    (sym (pairs-end notes n (omega arith) i (omega arith) (pairsIn (turn .codes) (turn .kept))) ∙ inv .3, (inv .1, inv .2))
+    (sym (pairs-end notes n (omega arith) i (omega arith) (pairsIn (turn .codes) (turn .pairs))) ∙ inv .3, (inv .1, inv .2))
 
 pub pair-rule-spec : {M : Type 1} → statement M
 pair-rule-spec =

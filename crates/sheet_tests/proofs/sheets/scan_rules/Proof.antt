@@ -63,7 +63,7 @@ returns c =
       scan-refused (start .args .arity) (start .args .rules) s (turn .i) (turn .at)
           (held (turn .words) (turn .codes) (turn .count)) (omega arith) no
           ∙ turn .inv .6,
-      record { used = omega arith; kept = omega arith; allWords = turn .inv .4; allCodes = turn .inv .5 },
+      record { used = omega arith; fewPairs = omega arith; allWords = turn .inv .4; allCodes = turn .inv .5 },
     )
 
 enum-known-read-2 : tie.Need-enum-known-read-2 Inv-loop μ-loop
@@ -137,7 +137,7 @@ returns-2 c =
       scan-end (start .args .arity) (start .args .rules) (start .args .s .now) (turn .i) (turn .at)
           (held (turn .words) (turn .codes) (turn .count)) (omega arith)
           ∙ turn .inv .6,
-      record { used = turn .inv .1; kept = turn .inv .2; allWords = turn .inv .4; allCodes = turn .inv .5 },
+      record { used = turn .inv .1; fewPairs = turn .inv .2; allWords = turn .inv .4; allCodes = turn .inv .5 },
     )
 
 pub scan-rules-spec : {M : Type 1} → statement M

@@ -12,7 +12,7 @@ use Rattle.walk.proofs.call.walk_graph.Tie as tie
 index-graph-requires : tie.Need-index-graph-requires
 index-graph-requires c κs =
     let pre = c .before .before .before .pre .0 in
-    (pre .0, omega (arith, pre .2), pre .1, length-replicate {A = ℕ} 1024 0)
+    (pre .0 .allWords, omega (arith, pre .0 .fewTests), pre .0 .allCodes, length-replicate {A = ℕ} 1024 0)
 
 enum-known-index : tie.Need-enum-known-index
 enum-known-index c = search needs
@@ -31,7 +31,7 @@ walk-checked-requires c κs =
     let f =
     index-accepts (now (a .sheet)) (now (a .graph)) (now (a .words)) (now (a .codes)) starts t (index-graph .result)
     (index-graph .ensures .0) (c .before .before .index2 .given .1) in
-    ((pre .0, pre .1, pre .2, index-graph .ensures .1, pre .3), record { sheet = t; graph = f })
+    ((pre .0, index-graph .ensures .1, pre .1), record { sheet = t; graph = f })
 
 returns : tie.Need-returns
 returns c t p k =

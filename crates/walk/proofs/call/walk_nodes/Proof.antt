@@ -23,9 +23,17 @@ follow-path-requires c κs =
     let words = now (a .words) in
     let codes = now (a .codes) in
     let cells = now (a .cells) in
-    let most = kept-length words codes (a .pairs) (omega (arith, pre .0 .1, ready .fewTests)) in (
-      (omega (arith, ready .fewTests), pre .0 .1, pre .0 .2, pre .0 .3),
-      record { size = pre .0 .0; few = omega (arith, most, ready .fewTests); once = ready .once; index = ready .index },
+    let most = kept-length words codes (a .pairs) (omega (arith, pre .0 .0 .allCodes, ready .fewTests)) in (
+      pre .0 .2,
+      record {
+        size = pre .0 .0 .allWords;
+        allCodes = pre .0 .0 .allCodes;
+        fewPairs = omega (arith, ready .fewTests);
+        allStarts = pre .0 .1;
+        few = omega (arith, most, ready .fewTests);
+        once = ready .once;
+        index = ready .index;
+      },
     )
 
 enum-known-followed : tie.Need-enum-known-followed
@@ -47,9 +55,8 @@ at-leaf-requires c κs =
         ready .fewArguments,
         reached-leaf (a .count) (keptTests words codes (a .pairs)) (nodesAt (now (a .graph)) (now (a .starts)) (a .nodes)) cells (ready .leaves) ends,
         ready .rulesRead,
-        pre .0 .3,
       ),
-      (pre .0 .0, pre .0 .1, ready .fewTests, ready .near),
+      (record { arrays = pre .0 .0; near = ready .near }, pre .0 .2),
     )
 
 returns : tie.Need-returns

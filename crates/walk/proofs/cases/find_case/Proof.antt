@@ -9,7 +9,7 @@ use lib.Dec.{leb}
 use Rattle.records.proofs.Parts.{rest}
 use Rattle.node_check.specs.declared.CaseRange.{CaseRange}
 use Rattle.graph.specs.declared.CaseHead.the-variants.{Whole}
-use Rattle.graph.specs.NodeRecord.{caseHead}
+use Rattle.graph.specs.views.NodeRecord.{caseHead}
 use Rattle.walk.proofs.CasesLeft.{Passed, passed-starts, passed-ends, passed-whole, passed-inside, passed-takes, passed-next, range-takes, range-leads}
 use borrow.Author.Needs.{needs}
 use Rattle.walk.proofs.cases.find_case.Statement.{statement}

@@ -2,7 +2,6 @@
 use Rattle.walk.specs.views.LeafAnswers.{leafWalk, LeafIn}
 use Rattle.graph.specs.views.Rewriting.{readOr}
 use Rattle.graph.specs.declared.Leaf.{Leaf}
-use Rattle.graph.specs.ReadGraph.{leafOf}
 use Rattle.sheet.specs.ReadSheet.{readRules}
 use denote.Ref.{now}
 use mathlib.Core.List.{[]}
@@ -10,6 +9,7 @@ use mathlib.Core.Path.{sym, ap, subst, _∙_}
 use borrow.Author.Needs.{needs}
 use Rattle.walk.proofs.leaf.at_leaf.Statement.{statement}
 use Rattle.walk.proofs.leaf.at_leaf.Tie as tie
+use Rattle.graph.specs.views.NodeRecord.{leafOf}
 
 enum-told : tie.Need-enum-told
 enum-told c = search needs
@@ -25,7 +25,7 @@ at-rule-requires c κs =
     let a = c .before .before .before .before .args in
     let pre = c .before .before .before .before .pre in
     let inside = subst (λ (l : Leaf). LeafIn (a .count) (leafOf l)) (c .before .leaf .given .1) (pre .0 .1) in
-    ((pre .0 .0, inside .0, inside .1, pre .0 .2, pre .0 .3), pre .1)
+    ((record { fewArguments = pre .0 .0; fromOne = inside .0; inside = inside .1; rulesRead = pre .0 .2 }, pre .1 .1), pre .1 .0)
 
 returns : tie.Need-returns
 returns c =

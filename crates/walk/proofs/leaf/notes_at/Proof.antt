@@ -24,7 +24,7 @@ loop-holds : tie.Need-loop-holds Inv-loop μ-loop
 loop-holds c =
     let a = c .before .args in
     let pre = c .before .pre in
-    (pre .1, seeking-starts (readRule (a .arity)) pnil (now (a .s)) (a .count) (pred (a .rule)) (omega (arith, pre .2, pre .3)) (pre .4))
+    (pre .1, seeking-starts (readRule (a .arity)) pnil (now (a .s)) (a .count) (pred (a .rule)) (omega (arith, pre .0 .fromOne, pre .0 .inside)) (pre .0 .rulesRead))
 
 sub-read-rule : tie.Need-sub-read-rule Inv-loop μ-loop
 sub-read-rule c = c .before .loop .inv .1 .there
@@ -36,7 +36,7 @@ part-read-rule-end : tie.Need-part-read-rule-end Inv-loop μ-loop
 part-read-rule-end c = search needs
 
 read-rule-requires : tie.Need-read-rule-requires Inv-loop μ-loop
-read-rule-requires c κs = (c .before .before .before .before .before .pre .0, c .before .before .before .loop .inv .0)
+read-rule-requires c κs = (c .before .before .before .before .before .pre .0 .fewArguments, c .before .before .before .loop .inv .0)
 
 enum-known-read : tie.Need-enum-known-read Inv-loop μ-loop
 enum-known-read c = search needs
@@ -64,7 +64,7 @@ returns-2 c =
     let at = c .before .before .before .before .before .before .before .before .loop .at in
     let read = c .before .before .before .before .read-rule .ensures in
     let bytes = bytes-known s (λ i. omega (arith, c .before .before .before .before .before .before .before .before .before .shared-slice-known .given i)) in
-    let rule = rule-read (a .arity) at s codes (c .before .before .before .before .read-rule .result) (read .0) (c .before .before .before .before .before .before .before .before .before .before .pre .0) bytes (c .before .before .read .given .1) (read .1) in (
+    let rule = rule-read (a .arity) at s codes (c .before .before .before .before .read-rule .result) (read .0) (c .before .before .before .before .before .before .before .before .before .before .pre .0 .fewArguments) bytes (c .before .before .read .given .1) (read .1) in (
       rule .noted ∙ ap ruleNotes (seeking-found (readRule (a .arity)) pnil s (c .before .before .before .before .before .before .before .before .loop .inv .1) (rule .read) (omega (arith, c .if1 .taken))),
       (rule .made, read .1 .entries, rule .placed),
     )
@@ -77,7 +77,7 @@ add-at c =
     let at = c .before .before .before .before .before .before .before .before .loop .at in
     let read = c .before .before .before .before .read-rule .ensures in
     let bytes = bytes-known s (λ i. omega (arith, c .before .before .before .before .before .before .before .before .before .shared-slice-known .given i)) in
-    let rule = rule-read (a .arity) at s codes (c .before .before .before .before .read-rule .result) (read .0) (c .before .before .before .before .before .before .before .before .before .before .pre .0) bytes (c .before .before .read .given .1) (read .1) in
+    let rule = rule-read (a .arity) at s codes (c .before .before .before .before .read-rule .result) (read .0) (c .before .before .before .before .before .before .before .before .before .before .pre .0 .fewArguments) bytes (c .before .before .read .given .1) (read .1) in
     omega (arith, rule .used)
 
 loop-less : tie.Need-loop-less Inv-loop μ-loop
@@ -91,8 +91,8 @@ loop-again c =
     let at = c .before .before .before .before .before .before .before .before .loop .at in
     let read = c .before .before .before .before .read-rule .ensures in
     let bytes = bytes-known s (λ i. omega (arith, c .before .before .before .before .before .before .before .before .before .shared-slice-known .given i)) in
-    let rule = rule-read (a .arity) at s codes (c .before .before .before .before .read-rule .result) (read .0) (c .before .before .before .before .before .before .before .before .before .before .pre .0) bytes (c .before .before .read .given .1) (read .1) in
-    (read .1 .entries, seeking-next (readRule (a .arity)) pnil s (c .before .before .before .before .before .before .before .before .loop .inv .1) (rule .read) (λ e. omega (arith, c .if1 .left, c .before .before .before .before .before .before .before .before .before .before .pre .2)) (omega (arith, rule .used)))
+    let rule = rule-read (a .arity) at s codes (c .before .before .before .before .read-rule .result) (read .0) (c .before .before .before .before .before .before .before .before .before .before .pre .0 .fewArguments) bytes (c .before .before .read .given .1) (read .1) in
+    (read .1 .entries, seeking-next (readRule (a .arity)) pnil s (c .before .before .before .before .before .before .before .before .loop .inv .1) (rule .read) (λ e. omega (arith, c .if1 .left, c .before .before .before .before .before .before .before .before .before .before .pre .0 .fromOne)) (omega (arith, rule .used)))
 
 returns-3 : tie.Need-returns-3 Inv-loop μ-loop
 returns-3 c =

@@ -10,7 +10,7 @@ use Rattle.graph.specs.declared.NodeRecord.the-variants.{Switch, Pair}
 use Rattle.graph.specs.declared.NodeHead.the-variants.{Whole}
 use Rattle.graph.specs.views.Rewriting.{readOr}
 use Rattle.graph.specs.ReadGraph.{readCases}
-use Rattle.graph.specs.NodeRecord.{nodeHead}
+use Rattle.graph.specs.views.NodeRecord.{nodeHead}
 use Rattle.node_check.proofs.CopiedNodes.{node-there}
 use Rattle.walk.specs.views.CodeSteps.{stepCells, openAt, NearNode, codeStep}
 use Rattle.walk.proofs.NodeSteps.{leaf-node, pair-node, switch-node, cases-inside, cases-begin, cases-read}
@@ -42,7 +42,7 @@ returns c =
     let s = now (a .graph) in
     let cells = now (a .cells) in
     let read = ap nodeHead (sym (rest s (a .at))) ∙ sym (c .before .before .node-head .ensures) in
-    absurd (node-there (drop (a .at) s) (c .before .before .before .before .before .pre .1) (read ∙ c .enum-told .given .1))
+    absurd (node-there (drop (a .at) s) (c .before .before .before .before .before .pre .0 .whole) (read ∙ c .enum-told .given .1))
 
 enum-known-node : tie.Need-enum-known-node
 enum-known-node c = search needs
@@ -60,9 +60,9 @@ switch-step-requires c κs =
     let cells = now (a .cells) in
     let read = ap nodeHead (sym (rest s (a .at))) ∙ sym (c .before .before .before .before .before .before .node-head .ensures) in
     let switching : nodeHead (drop (a .at) s) ≡ Whole (Switch (c .before .node2 .given .0 .0) (c .before .node2 .given .0 .1 .0) (c .before .node2 .given .0 .1 .1 .0) (c .before .node2 .given .0 .1 .1 .1 .0)) = read ∙ c .before .before .before .before .head .given .1 ∙ ap Whole (c .before .node2 .given .1) in (
-      cases-inside s (a .at) (c .before .before .before .before .before .before .before .before .before .pre .0) switching,
-      cases-read s (a .at) (c .before .before .before .before .before .before .before .before .before .pre .0) switching (c .before .before .before .before .before .before .before .before .before .pre .1),
-      subst NearNode (sym (switch-node (drop (a .at) s) switching (c .before .before .before .before .before .before .before .before .before .pre .1))) (c .before .before .before .before .before .before .before .before .before .pre .2),
+      cases-inside s (a .at) (c .before .before .before .before .before .before .before .before .before .pre .0 .begins) switching,
+      cases-read s (a .at) (c .before .before .before .before .before .before .before .before .before .pre .0 .begins) switching (c .before .before .before .before .before .before .before .before .before .pre .0 .whole),
+      subst NearNode (sym (switch-node (drop (a .at) s) switching (c .before .before .before .before .before .before .before .before .before .pre .0 .whole))) (c .before .before .before .before .before .before .before .before .before .pre .0 .near),
     )
 
 enum-known-node-3 : tie.Need-enum-known-node-3
@@ -75,8 +75,8 @@ pair-step-requires c κs =
     let cells = now (a .cells) in
     let read = ap nodeHead (sym (rest s (a .at))) ∙ sym (c .before .before .before .before .before .before .node-head .ensures) in
     let pairing : nodeHead (drop (a .at) s) ≡ Whole (Pair (c .before .node3 .given .0 .0) (c .before .node3 .given .0 .1 .0) (c .before .node3 .given .0 .1 .1 .0) (c .before .node3 .given .0 .1 .1 .1 .0)) = read ∙ c .before .before .before .before .head .given .1 ∙ ap Whole (c .before .node3 .given .1) in
-    let near = subst NearNode (sym (pair-node (drop (a .at) s) pairing)) (c .before .before .before .before .before .before .before .before .before .pre .2) in
-    (near .0, near .1, c .before .before .before .before .before .before .before .before .before .pre .3)
+    let near = subst NearNode (sym (pair-node (drop (a .at) s) pairing)) (c .before .before .before .before .before .before .before .before .before .pre .0 .near) in
+    (near .0, near .1, c .before .before .before .before .before .before .before .before .before .pre .1)
 
 returns-2 : tie.Need-returns-2
 returns-2 c =
@@ -94,8 +94,8 @@ returns-3 c =
     let cells = now (a .cells) in
     let read = ap nodeHead (sym (rest s (a .at))) ∙ sym (c .before .before .before .before .before .before .before .node-head .ensures) in
     let switching : nodeHead (drop (a .at) s) ≡ Whole (Switch (c .before .before .node2 .given .0 .0) (c .before .before .node2 .given .0 .1 .0) (c .before .before .node2 .given .0 .1 .1 .0) (c .before .before .node2 .given .0 .1 .1 .1 .0)) = read ∙ c .before .before .before .before .before .head .given .1 ∙ ap Whole (c .before .before .node2 .given .1) in
-    let node = switch-node (drop (a .at) s) switching (c .before .before .before .before .before .before .before .before .before .before .pre .1) in
-    let same = ap (λ (l : List ℕ). codeStep (readOr [] (readCases (c .before .before .node2 .given .0 .1 .0) l)) (c .before .before .node2 .given .0 .1 .1 .0) (c .before .before .node2 .given .0 .1 .1 .1 .0) (look cells (c .before .before .node2 .given .0 .0))) (sym (cases-begin s (a .at) (c .before .before .before .before .before .before .before .before .before .before .pre .0) switching)) in
+    let node = switch-node (drop (a .at) s) switching (c .before .before .before .before .before .before .before .before .before .before .pre .0 .whole) in
+    let same = ap (λ (l : List ℕ). codeStep (readOr [] (readCases (c .before .before .node2 .given .0 .1 .0) l)) (c .before .before .node2 .given .0 .1 .1 .0) (c .before .before .node2 .given .0 .1 .1 .1 .0) (look cells (c .before .before .node2 .given .0 .0))) (sym (cases-begin s (a .at) (c .before .before .before .before .before .before .before .before .before .before .pre .0 .begins) switching)) in
     (c .switch-step .ensures .0 ∙ same ∙ ap (stepCells cells) node, c .switch-step .ensures .1 ∙ ap (openAt cells) node)
 
 returns-4 : tie.Need-returns-4

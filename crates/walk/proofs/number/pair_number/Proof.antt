@@ -7,7 +7,7 @@ use denote.Ref.{now}
 use lib.ListN.{take, drop}
 use Rattle.sheet_tests.specs.views.KeptPairs.{codePair}
 use Rattle.sheet_tests.specs.SheetTests.{pair}
-use Rattle.walk.specs.views.TestNumbers.{numberIn}
+use Rattle.walk.specs.views.TestNumbers.{testNumber}
 use Rattle.walk.proofs.KeptNumbers.{search-starts, search-here, search-next, search-ends}
 use borrow.Author.Needs.{needs}
 use Rattle.walk.proofs.number.pair_number.Statement.{statement}
@@ -16,7 +16,7 @@ use Rattle.walk.proofs.number.pair_number.Tie as tie
 abbrev Inv-loop : tie.InvT-loop
 Inv-loop codes count p q code i₀ i =
     (i ≤ count)
-    × (numberIn (map codePair (take count codes)) (pair p q) ≡ i + numberIn (map codePair (take (count - i) (drop i codes))) (pair p q))
+    × (testNumber (map codePair (take count codes)) (pair p q) ≡ i + testNumber (map codePair (take (count - i) (drop i codes))) (pair p q))
 
 abbrev μ-loop : tie.MeasureT-loop
 μ-loop codes count p q code i₀ i = count - i

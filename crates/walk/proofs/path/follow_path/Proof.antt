@@ -49,7 +49,7 @@ element-copy-out-at c =
     let pre = c .before .before .before .pre .0 in
     let course = c .before .before .before .pre .1 in
     let cells = now (a .cells) in
-    omega (arith, stands-inside course cells (c .before .loop .inv), pre .2)
+    omega (arith, stands-inside course cells (c .before .loop .inv), course .allStarts)
 
 cast-at-2 : tie.Need-cast-at-2 Inv-loop μ-loop
 cast-at-2 c =
@@ -66,7 +66,7 @@ step-at-requires c κs =
     let course = c .before .before .before .before .pre .1 in
     let cells = now (a .cells) in
     let here = c .before .before .loop .inv in
-    (stands-begins course cells here, stands-whole course cells here, stands-near course cells here, pre .3)
+    (record { begins = stands-begins course cells here; whole = stands-whole course cells here; near = stands-near course cells here }, pre)
 
 enum-known-met : tie.Need-enum-known-met Inv-loop μ-loop
 enum-known-met c = search needs
@@ -89,7 +89,7 @@ with-open-requires c κs =
     let pre = c .before .before .before .before .before .before .before .before .pre .0 in
     let course = c .before .before .before .before .before .before .before .before .pre .1 in
     let cells = now (a .cells) in (
-      (course .size, pre .0, pre .1, course .few),
+      (course .size, course .fewPairs, course .allCodes, course .few),
       stands-open course cells (c .before .before .before .before .before .before .loop .inv) (sym (ap openIn (c .before .met2 .given .1)) ∙ c .before .before .before .step-at .ensures .1),
     )
 
@@ -141,7 +141,7 @@ element-copy-out-step-at c =
     let pre = c .before .before .before .pre .0 in
     let course = c .before .before .before .pre .1 in
     let cells = now (a .cells) in
-    omega (arith, stands-inside course cells (c .before .loop .inv), pre .2)
+    omega (arith, stands-inside course cells (c .before .loop .inv), course .allStarts)
 
 cast-step-at-2 : tie.Need-cast-step-at-2 Inv-loop μ-loop
 cast-step-at-2 c =
@@ -158,7 +158,7 @@ step-at-requires-2 c κs =
     let course = c .before .before .before .before .pre .1 in
     let cells = now (a .cells) in
     let here = c .before .before .loop .inv in
-    (stands-begins course cells here, stands-whole course cells here, stands-near course cells here, pre .3)
+    (record { begins = stands-begins course cells here; whole = stands-whole course cells here; near = stands-near course cells here }, pre)
 
 enum-known-last : tie.Need-enum-known-last Inv-loop μ-loop
 enum-known-last c = search needs

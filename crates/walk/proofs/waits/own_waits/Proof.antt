@@ -20,12 +20,12 @@ use Rattle.walk.proofs.waits.own_waits.Statement.{statement}
 use Rattle.walk.proofs.waits.own_waits.Tie as tie
 
 list-places-requires : tie.Need-list-places-requires
-list-places-requires c κs = (c .before .pre .1 .0, omega (arith, c .before .pre .1 .2), length-replicate {A = ℕ} 64 0)
+list-places-requires c κs = (c .before .pre .1 .arrays .allWords, omega (arith, c .before .pre .1 .arrays .fewTests), length-replicate {A = ℕ} 64 0)
 
 number-places-requires : tie.Need-number-places-requires
 number-places-requires c κs =
     let listed = c .before .before .list-places .ensures .1 in
-    (omega (arith, listed .0, c .before .before .before .before .pre .1 .2), listed .1, length-replicate {A = ℕ} 680 0)
+    (omega (arith, listed .0, c .before .before .before .before .pre .1 .arrays .fewTests), listed .1, length-replicate {A = ℕ} 680 0)
 
 ranges-requires : tie.Need-ranges-requires
 ranges-requires c κs = search needs
@@ -41,10 +41,10 @@ rule-row-requires c κs =
       pre .0 .0,
       pre .0 .1,
       pre .0 .2,
-      subst Small (sym made) (new-small (placesIn words) (omega (arith, pre .1 .2))),
-      omega (arith, pre .1 .2),
-      omega (arith, listed .1 .0, pre .1 .2),
-      pre .1 .1,
+      subst Small (sym made) (new-small (placesIn words) (omega (arith, pre .1 .arrays .fewTests))),
+      omega (arith, pre .1 .arrays .fewTests),
+      omega (arith, listed .1 .0, pre .1 .arrays .fewTests),
+      pre .1 .arrays .allCodes,
     )
 
 open-tests-requires : tie.Need-open-tests-requires
@@ -54,8 +54,8 @@ open-tests-requires c κs =
     let codes = now (a .codes) in
     let pre = c .before .before .before .before .before .before .before .before .before .pre in
     let listed = c .before .before .before .before .before .before .before .list-places .ensures in (
-      (omega (arith, listed .1 .0, pre .1 .2), omega (arith, listed .1 .0, pre .1 .2), listed .1 .1, pre .1 .1, pre .0 .3),
-      near-listed words codes (a .pairs) (omega (arith, pre .1 .1, pre .1 .2)) _ _ (listed .0) (listed .1 .0) (pre .1 .3),
+      (omega (arith, listed .1 .0, pre .1 .arrays .fewTests), omega (arith, listed .1 .0, pre .1 .arrays .fewTests), listed .1 .1, pre .1 .arrays .allCodes, pre .0 .3),
+      near-listed words codes (a .pairs) (omega (arith, pre .1 .arrays .allCodes, pre .1 .arrays .fewTests)) _ _ (listed .0) (listed .1 .0) (pre .1 .near),
     )
 
 intersect-requires : tie.Need-intersect-requires
@@ -76,7 +76,7 @@ returns c =
     ∙ (λ i. rowOf (made i) (listed .1 .0 i) (take (a .pairs) codes) (c .before .before .before .before .before .ranges .ensures i .low) (c .before .before .before .before .before .ranges .ensures i .high) notes) in
     let not-known : c .before .open-tests .result ≡ openSet (keptTests words codes (a .pairs)) (now (a .cells)) =
     c .before .open-tests .ensures
-    ∙ open-listed words codes (a .pairs) (omega (arith, pre .1 .1, pre .1 .2)) _ _ (now (a .cells)) (listed .0) (listed .1 .0) in
+    ∙ open-listed words codes (a .pairs) (omega (arith, pre .1 .arrays .allCodes, pre .1 .arrays .fewTests)) _ _ (now (a .cells)) (listed .0) (listed .1 .0) in
     c .intersect .ensures ∙ (λ i. maskOf 64 (λ j. has (own i) j && has (not-known i) j))
 
 pub own-waits-spec : {M : Type 1} → statement M

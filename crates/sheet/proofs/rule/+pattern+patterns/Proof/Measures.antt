@@ -9,6 +9,7 @@ use Rattle.sheet.proofs.rule.patterns.Reads as patterns
 use Rattle.sheet.proofs.rule.patterns.Kinds as patterns-kinds
 use Rattle.sheet.proofs.rule.+pattern+patterns.Lts-patterns as patterns-lts
 use Rattle.sheet.proofs.record.pattern_head.Reads as pattern-head-reads
+use Rattle.sheet.proofs.record.head_refusal.Reads as head-refusal-reads
 use Rattle.sheet.proofs.rule.leaf.Reads as leaf-reads
 use Rattle.sheet.proofs.rule.put.Reads as put-reads
 use Rattle.sheet.proofs.rule.after.Reads as after-reads
@@ -36,6 +37,8 @@ abbrev pub pattern-calls : ℕ → pattern-lts.Claims
 pattern-calls t = (
   pattern-head-reads.Asked,
   pattern-head-reads.Learnt,
+  head-refusal-reads.Asked,
+  head-refusal-reads.Learnt,
   leaf-reads.Asked,
   leaf-reads.Learnt,
   put-reads.Asked,

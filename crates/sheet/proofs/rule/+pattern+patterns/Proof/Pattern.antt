@@ -8,7 +8,8 @@ use borrow.Author.Tests.{ltb-true, ltb-false}
 use Rattle.records.proofs.Parts.{rest-length}
 use Rattle.sheet.specs.declared.PatternRecord.the-variants.{Compound}
 use Rattle.sheet.specs.declared.PatternHead.the-variants.{Whole}
-use Rattle.sheet.specs.PatternRecord.{patternHead}
+use Rattle.sheet.specs.views.PatternRecord.{patternHead, headRefusal}
+use Rattle.records.specs.Reading.{refused}
 use Rattle.sheet.specs.views.NoteArray.{notesIn, tookNotes, bytesUsed, notesMade}
 use Rattle.sheet.proofs.Heads.{head-whole}
 use Rattle.sheet.proofs.NoteArrays.{was-after, after-used, after-made}
@@ -31,11 +32,13 @@ compound-head t c =
 
 pub returns : (t : ℕ) → lts.Need-returns (pattern-calls t) (pattern-at t) pattern.Post
 returns t c =
-    let at-pattern-head = c .before .before in
+    let at-pattern-head = c .before .before .before in
     let a = at-pattern-head .before .before .args in
     let s = now (a .s) in
-    let before = notesIn (now (a .notes)) (a .n) in (
-      head-no (a .below) (a .place) before s (sym (at-pattern-head .pattern-head .ensures) ∙ c .enum-told .given .1),
+    let before = notesIn (now (a .notes)) (a .n) in
+    let told = c .before .enum-told .given .1 in (
+      ap refused (c .head-refusal .ensures ∙ ap headRefusal told)
+          ∙ head-no (a .below) (a .place) before s (sym (at-pattern-head .pattern-head .ensures) ∙ told),
       omega arith,
     )
 

@@ -7,10 +7,11 @@ use Rattle.places.specs.Numbering.{stride}
 use Rattle.records.proofs.Parts.{rest-length}
 use Rattle.sheet.specs.views.NoteArray.{notesIn, tookNotes, bytesUsed, notesMade}
 use Rattle.sheet.proofs.NoteArrays.{was-used, was-refused, was-after, after-used, after-made}
-use Rattle.sheet.proofs.Rows.{row-room, row-step, part-read, none-read, first-no, others-yes, others-no}
+use Rattle.sheet.proofs.Rows.{row-step, part-read, none-read, first-no, others-yes, others-no}
 use Rattle.sheet.proofs.rule.patterns.Reads as patterns
 use Rattle.sheet.proofs.rule.+pattern+patterns.Lts-patterns as lts
 use Rattle.sheet.proofs.rule.+pattern+patterns.Proof.Measures.{patterns-at, patterns-calls}
+use Rattle.basics.proofs.Numbers.{row-room}
 
 pub returns : (t : ℕ) → lts.Need-returns (patterns-calls t) (patterns-at t) patterns.Post
 returns t c =

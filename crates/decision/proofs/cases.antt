@@ -1,0 +1,11 @@
+-- The cases of a switch: lists in order, runs of numbers, and which case takes a term.
+pub mod FunctorOrder
+pub mod Insertion
+pub mod Intervals
+pub mod RangeRuns
+pub mod WantedRanges
+pub mod Runs
+pub mod CaseList
+pub mod CasesLaws
+pub mod CasesAccepted
+pub mod CasesSentence

@@ -1,0 +1,176 @@
+-- Which edge of a switch a known term takes: that of a case that keeps exactly the rules which the term does not
+-- contradict, or neither, where it contradicts every rule that wants something there.
+use Prim.Native.Nat.{ℕ}
+use mathlib.Core.Path.{_≡_, refl, ap, sym, _∙_}
+use mathlib.Core.Bool.{Bool, true, false, _&&_}
+use mathlib.Core.Logic.{_⊎_, inl, inr}
+use mathlib.Core.List.{List, [], _∷_, map}
+use mathlib.Core.Option.{Option, some, none}
+use lib.Dec.{T, eqb, eqb→eq}
+use Rattle.basics.specs.Lists.{Mem, here, there, All}
+use Rattle.terms.specs.Term.{Term, Terms, count, unknown, symbol, number, compound}
+use Rattle.terms.specs.RuleTests.{Want, aSymbol, aNumber, aCompound}
+use Rattle.terms.specs.Lookup.{found}
+use Rattle.terms.specs.Outcome.{contradicted, Holds, known, fits}
+use Rattle.terms.specs.Answer.{isOpen}
+use Rattle.terms.proofs.Unknown.{IsUnknown}
+use Rattle.basics.proofs.ListLaws.{all-always, all-at}
+use Rattle.basics.proofs.Booleans.{both-true, cond-by}
+use Rattle.decision.specs.Cases.{Case, symbolCase, compoundCase, numbersCase, takes, isWanted}
+use Rattle.decision.specs.Cases.{symbolsOf, Functor, functorsOf, casesOf}
+use Rattle.decision.specs.Node.{CaseEdge, follow}
+use Rattle.decision.specs.Edges.{caseKeeps, gatherWants}
+use Rattle.decision.proofs.Truth.{holds-true, known-contradicted, open-known}
+use Rattle.decision.proofs.cases.WantedRanges.{numberRuns, runs-all}
+use Rattle.decision.proofs.cases.Runs.{run-uncut, in-run}
+use Rattle.decision.proofs.rules.LiveWants.{mem-gather}
+use Rattle.decision.proofs.cases.CaseList.{compoundOf, cases-all, symbol-listed, compound-listed, run-listed}
+use Rattle.basics.proofs.Numbers.{eqb-swap}
+
+-- At a symbol a want holds if the symbol's case is wanted, and is contradicted if not;
+symbol-fits : (a : ℕ) (w : Want) → fits w (symbol a) ≡ known (isWanted (symbolCase a) w)
+symbol-fits a (aSymbol b) = ap known (eqb-swap b a)
+symbol-fits a (aNumber l h) = refl
+symbol-fits a (aCompound b n) = refl
+
+-- so at a number, with the case of that number alone,
+number-fits : (v : ℕ) (w : Want) → fits w (number v) ≡ known (isWanted (numbersCase v v) w)
+number-fits v (aSymbol b) = refl
+number-fits v (aNumber l h) = refl
+number-fits v (aCompound b n) = refl
+
+-- and so at a compound.
+compound-fits
+    : (a : ℕ) (ts : Terms) (w : Want) → fits w (compound a ts) ≡ known (isWanted (compoundCase a (count ts)) w)
+compound-fits a ts (aSymbol b) = refl
+compound-fits a ts (aNumber l h) = refl
+compound-fits a ts (aCompound b n) = λ i. known (eqb-swap b a i && eqb-swap n (count ts) i)
+
+-- Hence at a known term a want holds or is contradicted.
+known-fits : (t : Term) (w : Want) → (IsUnknown (found t) → ⊥) → (b : Bool) × (fits w t ≡ known b)
+known-fits unknown w k = absurd (k tt)
+known-fits (symbol a) w k = (isWanted (symbolCase a) w, symbol-fits a w)
+known-fits (number v) w k = (isWanted (numbersCase v v) w, number-fits v w)
+known-fits (compound a ts) w k = (isWanted (compoundCase a (count ts)) w, compound-fits a ts w)
+
+-- At each term that the case takes, a want holds if it wants what the case takes, and is contradicted if not.
+abbrev Agrees : List Want → Case → Type 0
+Agrees ws c = (t : Term) (w : Want) → T (takes c t) → Mem w ws → fits w t ≡ known (isWanted c w)
+
+module _ (ws : List Want) where
+  -- This is so of a symbol's case,
+  symbol-agrees : (a : ℕ) → Agrees ws (symbolCase a)
+  symbol-agrees a unknown w h m = absurd h
+  symbol-agrees a (symbol b) w h m = rw (eqb→eq a b h) (symbol-fits b w)
+  symbol-agrees a (number b) w h m = absurd h
+  symbol-agrees a (compound b ts) w h m = absurd h
+
+  -- of a compound's,
+  compound-agrees : (a n : ℕ) → Agrees ws (compoundCase a n)
+  compound-agrees a n unknown w h m = absurd h
+  compound-agrees a n (symbol b) w h m = absurd h
+  compound-agrees a n (number b) w h m = absurd h
+  compound-agrees a n (compound b ts) w h m =
+      let s = both-true (eqb a b) (eqb n (count ts)) h in
+      rw (eqb→eq a b (s .0), eqb→eq n (count ts) (s .1)) (compound-fits b ts w)
+
+  -- of a run's,
+  run-agrees : (l h : ℕ) → Mem (numbersCase l h) (numberRuns ws) → Agrees ws (numbersCase l h)
+  run-agrees l h k unknown w t m = absurd t
+  run-agrees l h k (symbol b) w t m = absurd t
+  run-agrees l h k (number v) w t m = run-uncut ws l h v w k m t
+  run-agrees l h k (compound b ts) w t m = absurd t
+
+  -- and so of each case.
+  cases-agree : All (Agrees ws) (casesOf ws)
+  cases-agree =
+      cases-all ws (Agrees ws) (all-always (λ (a : ℕ). Agrees ws (symbolCase a)) symbol-agrees (symbolsOf ws))
+      (all-always (λ (f : Functor). Agrees ws (compoundOf f)) (λ f. compound-agrees (f .name) (f .arity))
+      (functorsOf ws))
+      (runs-all ws (Agrees ws) run-agrees)
+
+  -- A term at which a want holds is taken by a case.
+  case-found : (t : Term) (w : Want) → Mem w ws → Holds (fits w t) → (c : Case) × Mem c (casesOf ws) × T (takes c t)
+  case-found unknown w m h = absurd h
+  case-found (symbol b) (aSymbol a) m h = (symbolCase a, symbol-listed ws a m, holds-true (eqb a b) h)
+  case-found (symbol b) (aNumber x y) m h = absurd h
+  case-found (symbol b) (aCompound a n) m h = absurd h
+  case-found (number v) w m h = let c = in-run ws w v m h in (c .0, run-listed ws (c .0) (c .1), c .2)
+  case-found (compound b ts) (aSymbol a) m h = absurd h
+  case-found (compound b ts) (aNumber x y) m h = absurd h
+  case-found (compound b ts) (aCompound a n) m h =
+      (compoundCase a n, compound-listed ws a n m, holds-true (eqb a b && eqb n (count ts)) h)
+
+-- The edges of the cases, of which case c leads to f c.
+abbrev pub edgesTo : {A : Type 0} → (Case → A) → List Case → List (CaseEdge A)
+edgesTo f cs = map (λ (c : Case). record { case = c; target = f c }) cs
+
+-- A term follows the edge of a case that takes it, or neither, where no case does.
+follow-case
+    : {A : Type 0} (cs : List Case) (f : Case → A) (neither : A) (t : Term)
+    → ((c : Case) × Mem c cs × T (takes c t) × (follow (edgesTo f cs) neither t ≡ f c))
+    ⊎ (All (λ (c : Case). T (takes c t) → ⊥) cs × (follow (edgesTo f cs) neither t ≡ neither))
+follow-case [] f neither t = inr (tt, refl)
+follow-case {A} (c ∷ cs) f neither t =
+    let Untaken : Case → Type 0 = λ d. T (takes d t) → ⊥ in
+    let Follows : A → Type 0 =
+    λ x. ((d : Case) × Mem d (c ∷ cs) × T (takes d t) × (x ≡ f d)) ⊎ (All Untaken (c ∷ cs) × (x ≡ neither)) in
+    cond-by Follows (takes c t) (λ h. inl (c, here, h, refl))
+    (λ h. elim (follow-case cs f neither t)
+    [ inl r ↦ inl (r .0, there (r .1), r .2, r .3) | inr r ↦ inr ((h, r .0), r .1) ])
+
+-- A known term takes the edge of a case, and the wants that want what the case takes hold, the others being contradicted;
+-- or it takes neither, and all wants are contradicted.
+pub edge-taken
+    : {A : Type 0} (ws : List Want) (f : Case → A) (neither : A) (t : Term) → (IsUnknown (found t) → ⊥)
+    → ((c : Case) × Mem c (casesOf ws) × (follow (edgesTo f (casesOf ws)) neither t ≡ f c)
+    × ((w : Want) → Mem w ws → fits w t ≡ known (isWanted c w)))
+    ⊎ ((follow (edgesTo f (casesOf ws)) neither t ≡ neither) × ((w : Want) → Mem w ws → fits w t ≡ contradicted))
+edge-taken ws f neither t k =
+    elim (follow-case (casesOf ws) f neither t) [
+      | inl r ↦ inl (r .0, r .1, r .3, λ w m. all-at (Agrees ws) (r .1) (cases-agree ws) t w (r .2) m)
+      | inr r ↦ inr (r .1, λ w m. none-holds w m (r .0))
+    ]
+  where
+    none-holds : (w : Want) → Mem w ws → All (λ (c : Case). T (takes c t) → ⊥) (casesOf ws) → fits w t ≡ contradicted
+    none-holds w m untaken =
+        let b = known-fits t w k in
+        let never : Holds (fits w t) → ⊥ =
+        λ h. (let c = case-found ws t w m h in all-at (λ (d : Case). T (takes d t) → ⊥) (c .1) untaken (c .2)) in
+        b .1 ∙ known-contradicted (b .0) (λ h. never (rw (b .1) h))
+
+-- What a rule wants at a place, if anything, is not contradicted by the term there.
+abbrev pub openAt : Term → Option Want → Bool
+openAt t none = true
+openAt t (some w) = isOpen (fits w t)
+
+abbrev pub wantsNothing : Option Want → Bool
+wantsNothing none = true
+wantsNothing (some w) = false
+
+module _ (xs : List (Option Want)) (t : Term) where
+  -- A case that agrees with the term keeps the rules that are open at it.
+  case-keeps
+      : (c : Case) → ((w : Want) → Mem w (gatherWants xs) → fits w t ≡ known (isWanted c w))
+      → (x : Option Want) → Mem x xs → caseKeeps c x ≡ openAt t x
+  case-keeps c h none m = refl
+  case-keeps c h (some w) m = rw (h w (mem-gather m)) (sym (open-known (isWanted c w)))
+
+  -- Where all wants are contradicted, the rules that want nothing are open.
+  neither-keeps
+      : ((w : Want) → Mem w (gatherWants xs) → fits w t ≡ contradicted)
+      → (x : Option Want) → Mem x xs → wantsNothing x ≡ openAt t x
+  neither-keeps h none m = refl
+  neither-keeps h (some w) m = rw (h w (mem-gather m))
+
+  -- Where the live rules want xs, each something or nothing, a known term takes an edge that keeps exactly those which
+  -- it does not contradict: the edge of a case, or neither, which keeps those that want nothing there.
+  pub edge-keeps
+      : {A : Type 0} (f : Case → A) (neither : A) → (IsUnknown (found t) → ⊥)
+      → ((c : Case) × (follow (edgesTo f (casesOf (gatherWants xs))) neither t ≡ f c)
+      × ((x : Option Want) → Mem x xs → caseKeeps c x ≡ openAt t x))
+      ⊎ ((follow (edgesTo f (casesOf (gatherWants xs))) neither t ≡ neither)
+      × ((x : Option Want) → Mem x xs → wantsNothing x ≡ openAt t x))
+  edge-keeps f neither k =
+      elim (edge-taken (gatherWants xs) f neither t k)
+      [ inl r ↦ inl (r .0, r .2, case-keeps (r .0) (r .3)) | inr r ↦ inr (r .0, neither-keeps (r .1)) ]

@@ -1,0 +1,8 @@
+-- The elimination: rules are dropped only when contradicted, up to the right leaf.
+pub mod Elimination
+pub mod LocalFacts
+pub mod FirmTests
+pub mod RightKeys
+pub mod RightLeaves
+pub mod RightSwitch
+pub mod RightSteps

@@ -1,0 +1,7 @@
+-- Keys: sets of rules and tests, which vertex a key is, the test asked first, and where edges lead.
+pub mod Sets
+pub mod Vertices
+pub mod SameVertex
+pub mod AskedFirst
+pub mod EdgeKeys
+pub mod EdgesLeft

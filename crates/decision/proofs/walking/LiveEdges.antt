@@ -1,0 +1,243 @@
+-- What an edge keeps: of the live rules of a key that asks a test, the step that a piece takes keeps exactly those for which
+-- the test, if they have it, is not contradicted. For every piece.
+use Prim.Native.Nat.{ℕ, suc, _<_}
+use mathlib.Core.Path.{_≡_, refl, sym, subst, _∙_}
+use mathlib.Core.Bool.{Bool, true, false, _&&_, not}
+use mathlib.Core.Logic.{_↔_, inl, inr}
+use mathlib.Core.List.{List, map}
+use mathlib.Core.Option.{Option, some, none}
+use lib.Dec.{T, T-not, not-T}
+use lib.ListN.{length}
+use Rattle.masks.specs.Mask.{has, members}
+use Rattle.basics.specs.Lists.{Mem, All}
+use Rattle.basics.proofs.Booleans.{both-true, true-both}
+use Rattle.basics.proofs.Clash.{clash}
+use Rattle.basics.proofs.ListLaws.{all-at}
+use Rattle.basics.proofs.Filters.{mem-map}
+use Rattle.basics.proofs.Positions.{mem-at}
+use Rattle.terms.specs.Term.{Term, Terms, unknown, symbol, number, compound}
+use Rattle.terms.specs.Pattern.{Patterns, pnil}
+use Rattle.terms.specs.RuleTests.{Want}
+use Rattle.terms.specs.Lookup.{Found, lacking, found, termAt}
+use Rattle.terms.specs.Outcome.{Outcome, holds, notKnown, contradicted, fits, compare}
+use Rattle.terms.specs.Accepted.{AcceptedRule}
+use Rattle.terms.specs.Answer.{ruleAt, isOpen}
+use Rattle.terms.proofs.Unknown.{IsUnknown}
+use Rattle.sheet_tests.specs.SheetTests.{Test, place, pair, sheetTests}
+use Rattle.decision.specs.Rules.{testAt, hasTest, wantAt, rulesWhere}
+use Rattle.decision.specs.Key.{Key, Vertex, keyOf, vertexOf}
+use Rattle.decision.specs.Cases.{Case, casesOf}
+use Rattle.decision.specs.Node.{Node, follow}
+use Rattle.decision.specs.Edges.{settledByUnknown, caseKeeps, liveWants, leadsTo, butTest, byCase, byNone, byUnknown, byOther, askNode}
+use Rattle.decision.specs.Path.{goTo, switchStep, byComparison, pairStep, stepAt}
+use Rattle.decision.specs.Walk.{testOutcome, isContradicted}
+use Rattle.decision.proofs.keys.Sets.{in-where, where-in, in-members}
+use Rattle.decision.proofs.cases.CasesLaws.{openAt, wantsNothing, edgesTo, edge-keeps}
+use Rattle.decision.proofs.rules.TestsOfRules.{HasTest, want-has, has-want}
+use Rattle.decision.proofs.keys.Vertices.{pending-in}
+
+module _ (arity : ℕ) (rules : List Patterns) (accepted : All (AcceptedRule arity) rules) (piece : Terms) where
+  -- A rule wants nothing at a place exactly if it does not have the place's test.
+  without-want
+      : (t n : ℕ) → testAt rules t ≡ place n → (i : ℕ) → i < length rules
+      → not (hasTest rules i t) ≡ wantsNothing (wantAt rules i n)
+  without-want t n at i l = go (hasTest rules i t) (wantAt rules i n) refl refl
+    where
+      rule : Patterns
+      rule = ruleAt rules (suc i)
+
+      go : (b : Bool) (x : Option Want) → hasTest rules i t ≡ b → wantAt rules i n ≡ x → not b ≡ wantsNothing x
+      go true none d e =
+          let owned : HasTest rule (place n) = subst (HasTest rule) at (subst T (sym d) tt) in
+          let ok : AcceptedRule arity rule = all-at (AcceptedRule arity) (mem-at pnil rules i l) accepted in
+          let w = has-want rule (ok .sound) n owned in
+          clash (cc (w .1))
+      go true (some w) d e = refl
+      go false none d e = refl
+      go false (some w) d e = absurd (subst T d (subst (HasTest rule) (sym at) (want-has rule n w e)))
+
+  module _ (nodes : List (Node ℕ)) where
+    -- The test of rule i is contradicted.
+    abbrev pub Against : ℕ → Test → Type 0
+    Against i x = T (isContradicted (testOutcome rules piece i x))
+
+    -- The key that an edge leads to: of the live rules of the key it keeps those for which the test asked, if they have
+    -- it, is not contradicted.
+    pub record KeptRules (key : Key) (t : ℕ) (w : Vertex) : Type 0 where
+      pub next : Key
+      pub leads : w ≡ vertexOf rules next
+      pub inside : (u : ℕ) → T (has (next .pending) u) → u < length (sheetTests rules)
+      pub stays
+          : (i : ℕ) → i < length rules
+          → T (has (next .live) i) ↔ (T (has (key .live) i) × (T (hasTest rules i t) → Against i (testAt rules t) → ⊥))
+
+    module _ (key : Key) (t : ℕ) where
+      -- What stays, for the test's own outcome.
+      abbrev StaysLive : (ℕ → Bool) → Test → Type 0
+      StaysLive kept x =
+          (i : ℕ) → i < length rules
+          → T (kept i) ↔ (T (has (key .live) i) × (HasTest (ruleAt rules (suc i)) x → Against i x → ⊥))
+
+      -- An edge that keeps some of the rules,
+      drops
+          : (x : Test) → testAt rules t ≡ x → (kept isLeft : ℕ → Bool) → StaysLive kept x
+          → KeptRules key t (leadsTo rules (rulesWhere rules kept) isLeft)
+      drops x at kept isLeft same = record {
+        next = keyOf rules (rulesWhere rules kept) isLeft;
+        leads = refl;
+        inside = λ u h. pending-in rules (rulesWhere rules kept) isLeft u h .0;
+        stays = λ i l. rw at (
+          λ m. same i l .0 (where-in (length rules) kept i m .1),
+          λ m. in-where (length rules) kept i l (same i l .1 m),
+        );
+      }
+
+      -- and one that drops none.
+      drops-none
+          : (x : Test) → testAt rules t ≡ x → (isLeft : ℕ → Bool) → ((i : ℕ) → i < length rules → Against i x → ⊥)
+          → KeptRules key t (leadsTo rules (key .live) isLeft)
+      drops-none x at isLeft free = record {
+        next = keyOf rules (key .live) isLeft;
+        leads = refl;
+        inside = λ u h. pending-in rules (key .live) isLeft u h .0;
+        stays = λ i l. rw at (λ m. (m, λ h. free i l), λ m. m .0);
+      }
+
+      -- At a known term a want is open, or it is contradicted.
+      open-against : (o : Outcome) → T (isOpen o) → T (isContradicted o) → ⊥
+      open-against holds h c = c
+      open-against notKnown h c = c
+      open-against contradicted h c = h
+
+      closed-against : (o : Outcome) → (T (isContradicted o) → ⊥) → T (isOpen o)
+      closed-against holds h = tt
+      closed-against notKnown h = tt
+      closed-against contradicted h = h tt
+
+      module _ (n : ℕ) (at : testAt rules t ≡ place n) where
+        -- A rule is open at a term exactly when its place test, if it has one, is not contradicted there.
+        open-stays
+            : (u : Term) → termAt piece n ≡ found u → (i : ℕ)
+            → T (openAt u (wantAt rules i n)) ↔ (HasTest (ruleAt rules (suc i)) (place n) → Against i (place n) → ⊥)
+        open-stays u there-is i = go (wantAt rules i n) refl
+          where
+            go
+                : (x : Option Want) → wantAt rules i n ≡ x
+                → T (openAt u x) ↔ (HasTest (ruleAt rules (suc i)) (place n) → Against i (place n) → ⊥)
+            go none e = (λ o h. rw (there-is, e) (λ c. c), λ f. tt)
+            go (some w) e = (
+              λ o h. rw (there-is, e) (λ c. open-against (fits w u) o c),
+              λ f. closed-against (fits w u) (λ c. f (want-has (ruleAt rules (suc i)) n w e) (rw (there-is, e) c)),
+            )
+
+        -- What the live rules want at the place, each something or nothing.
+        abbrev liveOptions : List (Option Want)
+        liveOptions = map (λ (i : ℕ). wantAt rules i n) (members (length rules) (key .live))
+
+        option-there : (i : ℕ) → i < length rules → T (has (key .live) i) → Mem (wantAt rules i n) liveOptions
+        option-there i l m = mem-map (λ (j : ℕ). wantAt rules j n) (in-members (length rules) (key .live) i l m)
+
+        -- Where a known term leads, the rules that are open at it are kept.
+        open-kept
+            : (u : Term) → termAt piece n ≡ found u → (isLeft : ℕ → Bool) (stays : ℕ → Bool)
+            → ((i : ℕ) → i < length rules → T (has (key .live) i) → T (stays i) ↔ T (openAt u (wantAt rules i n)))
+            → KeptRules key t (leadsTo rules (rulesWhere rules (λ i. has (key .live) i && stays i)) isLeft)
+        open-kept u there-is isLeft stays same =
+            drops (place n) at (λ i. has (key .live) i && stays i) isLeft (λ i l. (
+              λ k.
+                  let s = both-true (has (key .live) i) (stays i) k in
+                  (s .0, open-stays u there-is i .0 (same i l (s .0) .0 (s .1))),
+              λ x. true-both (has (key .live) i) (stays i) (x .0) (same i l (x .0) .1 (open-stays u there-is i .1 (x .1))),
+            ))
+
+        -- So it is by the case that takes the term, or by neither.
+        known-kept
+            : (u : Term) → termAt piece n ≡ found u → (IsUnknown (found u) → ⊥)
+            → KeptRules key t
+            (follow (edgesTo (byCase rules key t n) (casesOf (liveWants rules (key .live) n))) (byNone rules key t) u)
+        known-kept u there-is known =
+            elim (edge-keeps liveOptions u (byCase rules key t n) (byNone rules key t) known) [
+              | inl r ↦
+                  subst (KeptRules key t) (sym (r .1))
+                  (open-kept u there-is (butTest key t) (λ i. caseKeeps (r .0) (wantAt rules i n)) (λ i l m.
+                  let e = r .2 (wantAt rules i n) (option-there i l m) in
+                  (λ k. subst T e k, λ k. subst T (sym e) k)))
+              | inr r ↦
+                  subst (KeptRules key t) (sym (r .0))
+                  (open-kept u there-is (butTest key t) (λ i. not (hasTest rules i t)) (λ i l m.
+                  let e = r .1 (wantAt rules i n) (option-there i l m) in
+                  let same = without-want t n at i l in
+                  (λ k. subst T (same ∙ e) k, λ k. subst T (sym (same ∙ e)) k)))
+            ]
+
+        -- An unknown contradicts no rule,
+        unknown-free : termAt piece n ≡ found unknown → (i : ℕ) → Against i (place n) → ⊥
+        unknown-free there-is i = go (wantAt rules i n) refl
+          where
+            go : (x : Option Want) → wantAt rules i n ≡ x → Against i (place n) → ⊥
+            go none e = rw (there-is, e) (λ c. c)
+            go (some w) e = rw (there-is, e) (λ c. c)
+
+        -- and so the step at a switch keeps what it should,
+        place-kept : (w : Vertex) → stepAt piece (askNode rules key t (place n)) ≡ goTo w → KeptRules key t w
+        place-kept w = go (termAt piece n) refl
+          where
+            cases : List Case
+            cases = casesOf (liveWants rules (key .live) n)
+
+            go
+                : (x : Found) → termAt piece n ≡ x
+                → switchStep (edgesTo (byCase rules key t n) cases) (byNone rules key t) (byUnknown rules key n) x ≡ goTo w
+                → KeptRules key t w
+            go lacking e s = clash (cc)
+            go (found unknown) e s =
+                let same : byUnknown rules key n ≡ w = cc in
+                let isLeft : ℕ → Bool = λ u. has (key .pending) u && not (settledByUnknown n (testAt rules u)) in
+                subst (KeptRules key t) same (drops-none (place n) at isLeft (λ i l. unknown-free e i))
+            go (found (symbol a)) e s = subst (KeptRules key t) (cc) (known-kept (symbol a) e (λ k. k))
+            go (found (number a)) e s = subst (KeptRules key t) (cc) (known-kept (number a) e (λ k. k))
+            go (found (compound a ts)) e s = subst (KeptRules key t) (cc) (known-kept (compound a ts) e (λ k. k))
+
+      -- and so does the step at a pair.
+      pair-kept
+          : (p q : ℕ) → testAt rules t ≡ pair p q → (w : Vertex) → stepAt piece (askNode rules key t (pair p q)) ≡ goTo w
+          → KeptRules key t w
+      pair-kept p q at w = go (termAt piece p) (termAt piece q) refl refl
+        where
+          compared
+              : (x y : Term) → termAt piece p ≡ found x → termAt piece q ≡ found y → (o : Outcome) → compare x y ≡ o
+              → byComparison (byNone rules key t) (byOther rules key t) o ≡ goTo w → KeptRules key t w
+          compared x y d e holds c s =
+              let same : byOther rules key t ≡ w = cc in
+              subst (KeptRules key t) same (drops-none (pair p q) at (butTest key t) (λ i l. rw (d, e, c) (λ k. k)))
+          compared x y d e notKnown c s =
+              let same : byOther rules key t ≡ w = cc in
+              subst (KeptRules key t) same (drops-none (pair p q) at (butTest key t) (λ i l. rw (d, e, c) (λ k. k)))
+          compared x y d e contradicted c s =
+              let same : byNone rules key t ≡ w = cc in
+              let differ : (i : ℕ) → Against i (pair p q) = λ i. rw (d, e, c) tt in
+              subst (KeptRules key t) same
+              (drops (pair p q) at (λ i. has (key .live) i && not (hasTest rules i t)) (butTest key t) (λ i l. (
+                λ k.
+                    let b = both-true (has (key .live) i) (not (hasTest rules i t)) k in
+                    (b .0, λ h z. T-not (hasTest rules i t) (b .1) (subst (HasTest (ruleAt rules (suc i))) (sym at) h)),
+                λ x.
+                    let none : T (hasTest rules i t) → ⊥ =
+                    λ h. x .1 (subst (HasTest (ruleAt rules (suc i))) at h) (differ i) in
+                    true-both (has (key .live) i) (not (hasTest rules i t)) (x .0) (not-T (hasTest rules i t) none),
+              )))
+
+          go
+              : (x y : Found) → termAt piece p ≡ x → termAt piece q ≡ y
+              → pairStep (byNone rules key t) (byOther rules key t) x y ≡ goTo w → KeptRules key t w
+          go lacking y d e s = clash (cc)
+          go (found x) lacking d e s = clash (cc)
+          go (found x) (found y) d e s = compared x y d e (compare x y) refl s
+
+      -- Hence the step at the node that asks the test.
+      pub asked-kept : (w : Vertex) → stepAt piece (askNode rules key t (testAt rules t)) ≡ goTo w → KeptRules key t w
+      asked-kept w = go (testAt rules t) refl
+        where
+          go : (x : Test) → testAt rules t ≡ x → stepAt piece (askNode rules key t x) ≡ goTo w → KeptRules key t w
+          go (place n) e s = place-kept n e w s
+          go (pair p q) e s = pair-kept p q e w s

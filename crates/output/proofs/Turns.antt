@@ -1,0 +1,114 @@
+-- Laws of one turn of the listing: what the reading of a piece and the reply of the walk say of it.
+use Prim.Native.Nat.{ℕ, _+_, _≤_, min}
+use mathlib.Core.Path.{_≡_, refl, sym, ap, _∙_}
+use mathlib.Core.List.{List}
+use native.Mathlib.Omega.{arith}
+use native.Mathlib.Nat.{min-le-left, min-le-right, min-eq-left, min-eq-right}
+use lib.Dec.{leb}
+use lib.ListN.{length, take, drop, length-append}
+use lib.Seq.{length-take-le, take-length, take-all}
+use borrow.Author.Tests.{leb-true, leb-false}
+use mathlib.Core.Bool.{Bool, true, false}
+use Rattle.io.specs.Counts.{Counts}
+use Rattle.records.specs.Reading.{Reading, took, refused, andThen}
+use Rattle.records.specs.Writing.{splice}
+use Rattle.piece.specs.Piece.{Piece}
+use Rattle.piece.specs.ReadPiece.{readPrefix}
+use Rattle.decision.specs.Walk.{Walk}
+use Rattle.lines.specs.Lines.{refusedLine}
+use Rattle.lines.proofs.Wrote.{Wrote}
+use Rattle.output.specs.Listing.{firstWalk}
+use Rattle.output.specs.declared.Turn.{Turn}
+use Rattle.output.specs.declared.Turn.the-variants.{More, Last}
+use Rattle.output.specs.views.Turned.{Turned, turned, walkLine}
+
+module _ (reply : List ℕ → Reading Walk) (s : List ℕ) where
+  -- The first walk where no piece is read, where its walk is refused, and where it is answered.
+  pub turn-unread : {q : ℕ} → readPrefix s ≡ refused q → firstWalk reply s ≡ refused q
+  turn-unread e = ap (λ (r : Reading Piece). andThen r (λ k _. andThen (reply (take k s)) (λ _ w. took k w))) e
+
+  module _ {k : ℕ} {piece : Piece} (e : readPrefix s ≡ took k piece) where
+    read-first : firstWalk reply s ≡ andThen (reply (take k s)) (λ _ w. took k w)
+    read-first = ap (λ (r : Reading Piece). andThen r (λ k _. andThen (reply (take k s)) (λ _ w. took k w))) e
+
+    pub turn-refused : {q : ℕ} → reply (take k s) ≡ refused q → firstWalk reply s ≡ refused q
+    turn-refused r = read-first ∙ ap (λ (x : Reading Walk). andThen x (λ _ w. took k w)) r
+
+    pub turn-answered : {a : ℕ} {w : Walk} → reply (take k s) ≡ took a w → firstWalk reply s ≡ took k w
+    turn-answered r = read-first ∙ ap (λ (x : Reading Walk). andThen x (λ _ w. took k w)) r
+
+module _ (xs : List ℕ) (at number : ℕ) {t : Reading Walk} {end : ℕ} {ys : List ℕ} where
+  pub turned-last
+      : {q : ℕ} → Wrote xs at (refusedLine q) end ys → t ≡ refused q
+      → _≡_ {A = Turned} (record { turn = Last end; buffer = ys }) (turned xs at number t)
+  turned-last v e = (λ i. record { turn = Last (v .0 i); buffer = v .1 i }) ∙ sym (ap (turned xs at number) e)
+
+  pub turned-more
+      : {k : ℕ} {w : Walk} → Wrote xs at (walkLine number w) end ys → t ≡ took k w
+      → _≡_ {A = Turned} (record { turn = More k end; buffer = ys }) (turned xs at number t)
+  turned-more {k} v e = (λ i. record { turn = More k (v .0 i); buffer = v .1 i }) ∙ sym (ap (turned xs at number) e)
+
+-- The turn and the input by other names.
+pub told-as
+    : (reply : List ℕ → Reading Walk) (number : ℕ) (xs : List ℕ) (at : ℕ) {r r' : Turn} {s s' ys : List ℕ} → r ≡ r' → s ≡ s'
+    → _≡_ {A = Turned} (record { turn = r; buffer = ys }) (turned xs at number (firstWalk reply s))
+    → _≡_ {A = Turned} (record { turn = r'; buffer = ys }) (turned xs at number (firstWalk reply s'))
+told-as reply number xs at {ys = ys} e f g =
+    sym (ap (λ (t : Turn). record { turn = t; buffer = ys }) e)
+    ∙ g
+    ∙ ap (λ (l : List ℕ). turned xs at number (firstWalk reply l)) f
+
+-- What is handed back says which turn it was, and what was written.
+pub told-last
+    : (xs : List ℕ) (at number : ℕ) (t : Reading Walk) {end : ℕ} {ys : List ℕ}
+    → _≡_ {A = Turned} (record { turn = Last end; buffer = ys }) (turned xs at number t)
+    → (q : ℕ) × (t ≡ refused q) × Wrote xs at (refusedLine q) end ys
+told-last xs at number (refused q) {end} {ys} e =
+    let turn : Last end ≡ Last (at + length (refusedLine q)) = ap (λ x. x .turn) e in
+    let where-ended : end ≡ at + length (refusedLine q) = cc in
+    (q, refl, (where-ended, ap (λ x. x .buffer) e))
+told-last xs at number (took k w) {end} {ys} e =
+    let turn : Last end ≡ More k (at + length (walkLine number w)) = ap (λ x. x .turn) e in
+    let z : _≡_ {A = ℕ} 0 1 = cc in absurd (omega arith)
+
+pub told-more
+    : (xs : List ℕ) (at number : ℕ) (t : Reading Walk) {k end : ℕ} {ys : List ℕ}
+    → _≡_ {A = Turned} (record { turn = More k end; buffer = ys }) (turned xs at number t)
+    → (w : Walk) × (t ≡ took k w) × Wrote xs at (walkLine number w) end ys
+told-more xs at number (took j w) {k} {end} {ys} e =
+    let turn : More k end ≡ More j (at + length (walkLine number w)) = ap (λ x. x .turn) e in
+    let bytes : j ≡ k = cc in
+    let where-ended : end ≡ at + length (walkLine number w) = cc in
+    (w, ap (λ (i : ℕ). took i w) bytes, (where-ended, ap (λ x. x .buffer) e))
+told-more xs at number (refused q) {k} {end} e =
+    let turn : More k end ≡ Last (at + length (refusedLine q)) = ap (λ x. x .turn) e in
+    let z : _≡_ {A = ℕ} 0 1 = cc in absurd (omega arith)
+
+-- What is written at a buffer's start.
+pub from-start
+    : (xs line : List ℕ) {end : ℕ} {ys : List ℕ} → Wrote xs 0 line end ys → (end ≡ length line) × (ys ≡ splice xs 0 line)
+from-start xs line w = (omega (arith, w .0), w .1)
+
+-- An input that is cut: as many bytes as there are, at most so many.
+pub cut-length : (s : List ℕ) (most : ℕ) {k : ℕ} → k ≡ min (length s) most → k ≡ length (take k s)
+cut-length s most {k} e = sym (length-take-le k s (omega (arith, e, min-le-left (length s) most)))
+
+pub cut-take : (s : List ℕ) (most : ℕ) {k : ℕ} → k ≡ min (length s) most → take k s ≡ take most s
+cut-take s most {k} e = by (leb (length s) most) refl
+  where
+    by : (t : Bool) → leb (length s) most ≡ t → take k s ≡ take most s
+    by true h =
+        let all : length s ≤ most = leb-true (length s) most h in
+        ap (λ (j : ℕ). take j s) (e ∙ min-eq-left all) ∙ take-length s ∙ sym (take-all most s all)
+    by false h = ap (λ (j : ℕ). take j s) (e ∙ min-eq-right (omega (arith, leb-false (length s) most h)))
+
+pub cut-most : (s : List ℕ) (most : ℕ) {k : ℕ} → k ≡ min (length s) most → length (take k s) ≤ most
+cut-most s most e = omega (arith, e, cut-length s most e, min-le-right (length s) most)
+
+-- What was written at a buffer's start is in the buffer.
+pub counted
+    : (xs line : List ℕ) {end : ℕ} {ys : List ℕ} → (end ≡ length line) × (ys ≡ splice xs 0 line) → Counts end ys
+counted xs line {end} {ys} w =
+    let inside : end ≤ length ys =
+    omega (arith, w .0, ap length (w .1), length-append line (drop (0 + length line) xs)) in
+    (inside, sym (length-take-le end ys inside))

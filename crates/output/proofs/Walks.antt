@@ -1,0 +1,108 @@
+-- What is known of the sheet and its graph, and of a piece that was read, tells what the walk replies.
+use Prim.Native.Nat.{ℕ}
+use mathlib.Core.Path.{_≡_, sym, ap, subst, _∙_}
+use mathlib.Core.List.{List}
+use native.Mathlib.Omega.{arith}
+use lib.ListN.{length, getD, take, drop}
+use lib.Seq.{take-at}
+use Rattle.records.specs.Fields.{IsByte}
+use Rattle.records.specs.Reading.{Reading, took, refused, andThen, mapReading}
+use Rattle.records.proofs.Rows.{took-view, refused-view}
+use Rattle.terms.specs.Accepted.{AcceptedPiece}
+use Rattle.sheet.specs.Sheet.{Sheet}
+use Rattle.sheet_tests.specs.CheckSheet.{acceptSheet}
+use Rattle.piece.specs.declared.Prefix.{Prefix}
+use Rattle.piece.specs.declared.Prefix.the-variants as prefix
+use Rattle.piece.specs.ReadPiece.{readPrefix, readPiece}
+use Rattle.piece.specs.WritePiece.{pieceBytes}
+use Rattle.piece.specs.views.LaidOut.{LaidOut, layOut, prefixRead}
+use Rattle.piece.proofs.Spelled.{prefix-spelled, written-piece}
+use Rattle.accepted.specs.views.AcceptedAs.{AcceptedTests}
+use Rattle.graph.specs.ReadGraph.{readBy, readGraph}
+use Rattle.node_check.specs.views.CheckNode.{keptTest}
+use Rattle.graph_check.specs.declared.GraphCheck.{GraphCheck}
+use Rattle.graph_check.specs.declared.GraphCheck.the-variants.{Accepted, Refused}
+use Rattle.graph_check.specs.CheckGraph.{graphReading}
+use Rattle.graph_check.specs.views.GraphIndex.{graphIndex, indexed}
+use Rattle.graph_check.proofs.FoundGraph.{index-accepts, index-refuses}
+use Rattle.walk.specs.views.Ready.{Checked}
+use Rattle.walk.specs.Walking.{graphReply, walkReply}
+use Rattle.walk.proofs.Replies.{sheet-accepts, arities-differ, piece-accepts}
+use Rattle.output.specs.views.Known.{GraphFor}
+use Rattle.plain.specs.views.ReadAs.{ReadAs}
+use Rattle.records.proofs.ByteLists.{bytes-all}
+
+-- What the reader of the piece that the bytes begin with tells of how it is read.
+module _ (s cells : List ℕ) (r : Prefix) (told : prefixRead cells r ≡ mapReading layOut (readPrefix s)) where
+  -- The reader refused, so no piece is read.
+  pub prefix-refused : {q : ℕ} → r ≡ prefix.Refused q → readPrefix s ≡ refused q
+  prefix-refused e = refused-view layOut (readPrefix s) (sym (ap (prefixRead cells) e) ∙ told)
+
+  -- The reader took k bytes: they are those of an accepted piece, and the cells are its cells.
+  pub prefix-accepted
+      : {n k : ℕ} → r ≡ prefix.Read n k → ((i : ℕ) → IsByte (getD s i 0))
+      → (a : ReadAs (take k s) cells n) × (readPrefix s ≡ took k (a .piece))
+  prefix-accepted {n} {k} e bytes =
+      let (piece, read, same) = took-view layOut (readPrefix s) (sym (ap (prefixRead cells) e) ∙ told) in
+      let spells = prefix-spelled s (bytes-all s bytes) k piece .0 read in
+      let own : take k s ≡ pieceBytes piece =
+      ap (take k) (spells .bytes) ∙ take-at (pieceBytes piece) (drop k s) k (sym (spells .size)) in
+      let arity : piece .arity ≡ n = sym (ap (λ (x : LaidOut). x .arity) same) in (
+        record {
+          piece = piece;
+          read = subst (λ (l : List ℕ). readPiece l ≡ took (length l) piece) (sym own) (written-piece piece (spells .sound) .1);
+          arityIs = arity;
+          laid = ap (λ (x : LaidOut). x .cells) same;
+          accepted = subst (λ (m : ℕ). AcceptedPiece m (piece .terms)) arity (spells .sound .accepted);
+          few = omega (arith, spells .sound .fewArguments, arity);
+        },
+        read,
+      )
+
+-- The sheet and its graph are accepted.
+module _ {s g starts words codes : List ℕ} {arity rules pairs nodes : ℕ}
+    (known : Checked s g starts words codes arity rules pairs nodes) {p cells : List ℕ} {n : ℕ} (a : ReadAs p cells n) where
+  abbrev sheet : Sheet
+  sheet = known .sheet .read .sheet
+
+  -- A piece of another arity is refused by 20,
+  pub other-arity : (n ≡ arity → ⊥) → refused 20 ≡ walkReply s g p
+  other-arity differ =
+      arities-differ sheet g p (a .read) (λ e. differ (sym (a .arityIs) ∙ e ∙ known .sheet .read .arityIs))
+      ∙ sheet-accepts s g p (known .sheet .read .accepted)
+
+  -- and one of the sheet's is walked over the graph.
+  pub same-arity : n ≡ arity → graphReply sheet g (a .piece .terms) ≡ walkReply s g p
+  same-arity same =
+      piece-accepts sheet g p (a .read) (a .arityIs ∙ same ∙ sym (known .sheet .read .arityIs))
+      ∙ sheet-accepts s g p (known .sheet .read .accepted)
+
+-- A sheet is accepted that the check accepts a graph for.
+pub sheet-read : {s g : List ℕ} {nodes q : ℕ} → GraphFor s g nodes → acceptSheet s ≡ refused q → ⊥
+unfolding graphReading
+sheet-read {s} {g} f e =
+    let no = sym (ap (λ (x : Reading Sheet). andThen x (λ _ sheet. readGraph sheet g)) e) ∙ f .read in
+    let z : _≡_ {A = ℕ} 0 1 = cc in omega arith
+
+-- The index of a graph that the check accepts.
+module _ {s g words codes : List ℕ} (starts : List ℕ) {arity rules pairs nodes : ℕ} (t : AcceptedTests s words codes arity rules pairs)
+    (f : GraphFor s g nodes) (r : GraphCheck)
+    (e : indexed (length g) starts r ≡ mapReading graphIndex (readBy (keptTest words codes pairs) arity rules g)) where
+  for-sheet : readGraph (t .read .sheet) g ≡ took (length g) (f .nodes)
+  unfolding graphReading
+  for-sheet = sym (ap (λ (x : Reading Sheet). andThen x (λ _ sheet. readGraph sheet g)) (t .read .accepted)) ∙ f .read
+
+  -- It is not refused,
+  pub index-made : {q : ℕ} → r ≡ Refused q → ⊥
+  index-made {q} same =
+      let no : took (length g) (f .nodes) ≡ refused q = sym for-sheet ∙ index-refuses s g words codes starts t r e same in
+      let z : _≡_ {A = ℕ} 0 1 = cc in omega arith
+
+  -- and it has the nodes of the graph.
+  pub index-checked : {count : ℕ} → r ≡ Accepted count → Checked s g starts words codes arity rules pairs nodes
+  index-checked {count} same =
+      let made = index-accepts s g words codes starts t r e same in
+      let both : took (length g) (made .nodes) ≡ took (length g) (f .nodes) = sym (made .read) ∙ for-sheet in
+      let alike : made .nodes ≡ f .nodes = cc in
+      let number : count ≡ nodes = sym (made .countIs) ∙ ap length alike ∙ f .countIs in
+      subst (Checked s g starts words codes arity rules pairs) number (record { sheet = t; graph = made })

@@ -1,0 +1,44 @@
+-- The record of a term that a list of bytes begins with, as the code hands it on, and what it is read as.
+use Prim.Native.Nat.{ℕ}
+use mathlib.Core.Bool.{Bool, true, false, cond}
+use mathlib.Core.List.{List}
+use lib.ListN.{length, getD}
+use lib.Dec.{leb, eqb}
+use Rattle.records.specs.Fields.{wideAt}
+use Rattle.records.specs.Reading.{Reading, took, refused}
+use Rattle.terms.specs.Term.{Term, unknown, symbol, number}
+use Rattle.piece.specs.declared.TermRecord.{TermRecord}
+use Rattle.piece.specs.declared.TermRecord.the-variants.{Unknown, Symbol, Number, Compound}
+use Rattle.piece.specs.declared.TermHead.{TermHead}
+use Rattle.piece.specs.declared.TermHead.the-variants.{Whole, Refused}
+
+-- "A record is one kind byte and a body whose length the kind fixes": whole where so many bytes are there.
+abbrev pub wholeIf : Bool → TermRecord → TermHead
+wholeIf true r = Whole r
+wholeIf false r = Refused 14
+
+-- "14 Is each term a whole record of kinds 30 to 33?"
+abbrev pub termHead : List ℕ → TermHead
+termHead s =
+    cond (eqb (length s) 0) (Refused 14)
+    (cond (eqb (getD s 0 0) 0x30) (Whole Unknown)
+    (cond (eqb (getD s 0 0) 0x31) (wholeIf (leb 3 (length s)) (Symbol (wideAt s 1)))
+    (cond (eqb (getD s 0 0) 0x32) (wholeIf (leb 3 (length s)) (Number (wideAt s 1)))
+    (cond (eqb (getD s 0 0) 0x33) (wholeIf (leb 4 (length s)) (Compound (wideAt s 1) (getD s 3 0)))
+    (Refused 14)))))
+
+-- The number of the question that a head got a no from, 0 for a whole record.
+abbrev pub headRefusal : TermHead → ℕ
+headRefusal (Whole r) = 0
+headRefusal (Refused q) = q
+
+-- A compound goes on by compoundOf.
+abbrev pub onRecord : (ℕ → ℕ → Reading Term) → TermRecord → Reading Term
+onRecord compoundOf Unknown = took 1 unknown
+onRecord compoundOf (Symbol a) = took 3 (symbol a)
+onRecord compoundOf (Number a) = took 3 (number a)
+onRecord compoundOf (Compound a n) = compoundOf a n
+
+abbrev pub onHead : (ℕ → ℕ → Reading Term) → TermHead → Reading Term
+onHead compoundOf (Whole r) = onRecord compoundOf r
+onHead compoundOf (Refused q) = refused q

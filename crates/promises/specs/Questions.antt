@@ -1,0 +1,52 @@
+-- The numbers that document 01 names: by which questions each call may refuse ("Questions at the counter").
+use Prim.Native.Nat.{ℕ}
+use mathlib.Core.Path.{_≡_}
+use mathlib.Core.Logic.{_⊎_}
+use mathlib.Core.List.{List}
+use Rattle.graph_check.specs.Rewritten.{Result}
+use Rattle.build.specs.BuildOutcome.{BuildOutcome}
+use Rattle.accepted.specs.Questions.{Between, SheetQuestion}
+
+-- "Piece": 12 to 17.
+abbrev pub PieceQuestion : ℕ → Type 0
+PieceQuestion = Between 12 17
+
+-- "21 to 25": those of a graph.
+abbrev pub GraphQuestion : ℕ → Type 0
+GraphQuestion = Between 21 25
+
+-- "At each switch or pair walked": 26 and 27.
+abbrev pub PathQuestion : ℕ → Type 0
+PathQuestion = Between 26 27
+
+-- "The plain answer asks the sheet's, the piece's, then 20."
+abbrev pub PlainQuestion : ℕ → Type 0
+PlainQuestion q = SheetQuestion q ⊎ (PieceQuestion q ⊎ (q ≡ 20))
+
+-- "Building, after the sheet": 18 and 19.
+abbrev pub BuildQuestion : ℕ → Type 0
+BuildQuestion q = SheetQuestion q ⊎ Between 18 19 q
+
+-- "Checking a graph alone asks the sheet's questions, then 21 to 25."
+abbrev pub CheckQuestion : ℕ → Type 0
+CheckQuestion q = SheetQuestion q ⊎ GraphQuestion q
+
+-- "Writing read nodes again asks the same, then 19."
+abbrev pub RewriteQuestion : ℕ → Type 0
+RewriteQuestion q = CheckQuestion q ⊎ (q ≡ 19)
+
+-- "Walking, after sheet and piece": 20, then the graph's, then those "at each switch or pair walked".
+abbrev pub WalkQuestion : ℕ → Type 0
+WalkQuestion q = PlainQuestion q ⊎ (GraphQuestion q ⊎ PathQuestion q)
+
+-- A call answers, with 0 for the refusal's number, or refuses by one of its questions.
+abbrev pub AnswersOr : (ℕ → Type 0) → ℕ → Type 0
+AnswersOr Question refusal = (refusal ≡ 0) ⊎ Question refusal
+
+-- "The first no, in order, gives its number. Every other result field is then 0 and no buffer changes": so it is with a build,
+abbrev pub BuildEnds : List ℕ → BuildOutcome → Type 0
+BuildEnds buffer x = (x .values .refusal ≡ 0) ⊎ (BuildQuestion (x .values .refusal) × (x .buffer ≡ buffer))
+
+-- and with read nodes that are written again.
+abbrev pub RewriteEnds : List ℕ → Result → Type 0
+RewriteEnds buffer x = (x .refusal ≡ 0) ⊎ (RewriteQuestion (x .refusal) × (x .buffer ≡ buffer))

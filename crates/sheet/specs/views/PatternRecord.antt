@@ -1,0 +1,68 @@
+-- The record of a pattern that a list of bytes begins with, as the code hands it on, and what it is read as.
+use Prim.Native.Nat.{ℕ}
+use mathlib.Core.Bool.{Bool, true, false, cond}
+use mathlib.Core.List.{List}
+use lib.ListN.{length, getD}
+use lib.Dec.{leb, eqb}
+use Rattle.records.specs.Fields.{wideAt}
+use Rattle.records.specs.Reading.{Reading, took, refused, ask}
+use Rattle.terms.specs.Pattern.{Pattern, anything, theSymbol, theRange, variable, rangedVariable}
+use Rattle.sheet.specs.declared.PatternRecord.{PatternRecord}
+use Rattle.sheet.specs.declared.PatternRecord.the-variants.{Anything, Symbol, Range, Compound, Variable, Ranged}
+use Rattle.sheet.specs.declared.PatternHead.{PatternHead}
+use Rattle.sheet.specs.declared.PatternHead.the-variants.{Whole, Refused}
+
+-- "A record is one kind byte and a body whose length the kind fixes": so many bytes.
+abbrev pub recordBytes : PatternRecord → ℕ
+recordBytes Anything = 1
+recordBytes (Symbol a) = 3
+recordBytes (Range l h) = 5
+recordBytes (Compound a n) = 4
+recordBytes (Variable v) = 2
+recordBytes (Ranged v l h) = 6
+
+-- Whole where its bytes are there.
+abbrev pub wholeIf : Bool → PatternRecord → PatternHead
+wholeIf true r = Whole r
+wholeIf false r = Refused 4
+
+-- A record of kind 22 or 25, by the bytes that are there.
+abbrev pub rangeHead : List ℕ → PatternHead
+rangeHead s = wholeIf (leb 5 (length s)) (Range (wideAt s 1) (wideAt s 3))
+
+abbrev pub rangedHead : List ℕ → PatternHead
+rangedHead s = wholeIf (leb 6 (length s)) (Ranged (getD s 1 0) (wideAt s 2) (wideAt s 4))
+
+-- "4 Is it a whole record of kinds 20 to 25?"
+abbrev pub patternHead : List ℕ → PatternHead
+patternHead s =
+    cond (eqb (length s) 0) (Refused 4)
+    (cond (eqb (getD s 0 0) 0x20) (Whole Anything)
+    (cond (eqb (getD s 0 0) 0x21) (wholeIf (leb 3 (length s)) (Symbol (wideAt s 1)))
+    (cond (eqb (getD s 0 0) 0x22) (rangeHead s)
+    (cond (eqb (getD s 0 0) 0x23) (wholeIf (leb 4 (length s)) (Compound (wideAt s 1) (getD s 3 0)))
+    (cond (eqb (getD s 0 0) 0x24) (wholeIf (leb 2 (length s)) (Variable (getD s 1 0)))
+    (cond (eqb (getD s 0 0) 0x25) (rangedHead s)
+    (Refused 4)))))))
+
+-- The number of the question that a head got a no from, 0 for a whole record.
+abbrev pub headRefusal : PatternHead → ℕ
+headRefusal (Whole r) = 0
+headRefusal (Refused q) = q
+
+-- "7 Is low at most high? 8 Is the variable 0 to 15?", asked in this order; a compound goes on by compoundOf.
+abbrev pub onRecord : (ℕ → ℕ → Reading Pattern) → PatternRecord → Reading Pattern
+onRecord compoundOf Anything = took 1 anything
+onRecord compoundOf (Symbol a) = took 3 (theSymbol a)
+onRecord compoundOf (Range l h) = ask 7 (leb l h) (took 5 (theRange l h))
+onRecord compoundOf (Compound a n) = compoundOf a n
+onRecord compoundOf (Variable v) = ask 8 (leb v 15) (took 2 (variable v))
+onRecord compoundOf (Ranged v l h) = ask 7 (leb l h) (ask 8 (leb v 15) (took 6 (rangedVariable v l h)))
+
+-- "5 If compound, is its depth at most 3?" It is 4 where no level is below.
+abbrev pub readLeaf : PatternRecord → Reading Pattern
+readLeaf what = onRecord (λ a n. refused 5) what
+
+abbrev pub onHead : (ℕ → ℕ → Reading Pattern) → PatternHead → Reading Pattern
+onHead compoundOf (Whole r) = onRecord compoundOf r
+onHead compoundOf (Refused q) = refused q

@@ -1,0 +1,264 @@
+-- What a rule means: a piece without unknowns meets a rule of an accepted sheet exactly when its arguments match the rule's
+-- patterns, with one term for each variable. For patterns and terms of any depth.
+use Prim.Native.Nat.{ℕ, zero, suc, pred, _+_, _-_, _≤_}
+use mathlib.Core.Path.{_≡_, ap, sym, subst, _∙_}
+use mathlib.Core.Bool.{cond}
+use mathlib.Core.Logic.{_↔_}
+use mathlib.Core.List.{List, [], _∷_}
+use mathlib.Core.Option.{Option, some, none}
+use native.Mathlib.Omega.{arith}
+use lib.Dec.{eqb, ltb, eqb→eq, eqb-refl}
+use Rattle.places.specs.Numbering.{stride}
+use Rattle.basics.specs.Lists.{All}
+use Rattle.basics.proofs.Booleans.{cond-by, cond-holds}
+use Rattle.basics.proofs.ListLaws.{all-split, all-join}
+use Rattle.terms.specs.Term.{Term, Terms, count, unknown, symbol, number, compound, nil, cons}
+use Rattle.terms.specs.Pattern.{Pattern, Patterns, countPatterns, anything, theSymbol, theRange, theCompound, variable, rangedVariable, pnil, pcons}
+use Rattle.terms.specs.RuleTests.{Want, aSymbol, aNumber, aCompound, at, both, Occurrence, Range, rangeTest, patternsRange}
+use Rattle.terms.specs.RuleTests.{patternVariables, patternsVariables, patternTests, patternsTests, pairsWith, pairsOf, ruleVariables}
+use Rattle.terms.specs.Lookup.{Found, lacking, found, find, finds, termAt}
+use Rattle.terms.specs.Outcome.{Holds, fits, atPlace, atPlaces, Meets}
+use Rattle.terms.specs.Filling.{Ground, Grounds, Filling}
+use Rattle.terms.specs.Accepted.{Sound, Sounds, AcceptedRule, AcceptedPiece}
+use Rattle.terms.proofs.TermPlaces.{IfFound, extent, Shows, Showss, shows-root, shows-arguments, shows-head, shows-tail, shows-row}
+use Rattle.terms.proofs.Stays.{puts-count}
+use Rattle.terms.proofs.Instances.{HoldsIn, InRange}
+use Rattle.terms.proofs.VariableTerms.{HoldsPair}
+use Rattle.terms.proofs.WellFormed.{equal-self, filling-ground}
+use Rattle.terms.proofs.PairTests.{pairs-with-at, pairs-each, all-variables-ascend}
+use Rattle.terms.proofs.CompareSentences.{holds-equal}
+use Rattle.terms.proofs.PlaceSentences.{Wanted, thatSymbol, thatCompound, inRange, fits-wanted, wanted-fits}
+use Rattle.terms.proofs.Matching.{Matches, AllMatch, asAnything, asSymbol, asRange, asCompound, asVariable, asRanged, asNil, asCons}
+use Rattle.terms.proofs.Matching.{match-count, match-ranges, range-in, Narrows, EachRanged, AllRanged, all-narrowed}
+
+-- A test that holds at a place where a term is shown holds of the term, and the other way.
+root-holds
+    : (look : ℕ → Found) (w : Want) (t : Term) (r b : ℕ) → 1 ≤ r → Shows look t r b → HoldsIn look (at b w) → Wanted w t
+root-holds look w t r b deep shown h =
+    fits-wanted w t (subst (λ x. Holds (atPlace (fits w) x)) (shows-root look t r b deep shown) h)
+
+holds-root
+    : (look : ℕ → Found) (w : Want) (t : Term) (r b : ℕ) → 1 ≤ r → Shows look t r b → Wanted w t → HoldsIn look (at b w)
+holds-root look w t r b deep shown h =
+    subst (λ x. Holds (atPlace (fits w) x)) (sym (shows-root look t r b deep shown)) (wanted-fits h)
+
+module _ (rangeOf : ℕ → Option Range) (σ : ℕ → Term) (look : ℕ → Found) where
+  -- What stands where a variable does is the variable's term,
+  abbrev SameTerm : Occurrence → Type 0
+  SameTerm o = (t : Term) → look (o .place) ≡ found t → t ≡ σ (o .name)
+
+  -- and the variable's term stands there.
+  abbrev HasTerm : Occurrence → Type 0
+  HasTerm o = look (o .place) ≡ found (σ (o .name))
+
+  -- The variable's range lies within that of each of its records.
+  abbrev Narrowed : ℕ → ℕ → ℕ → Type 0
+  Narrowed v l h = Narrows (rangeOf v) l h
+
+  -- A ranged variable's term is in the range of its record where the variable's range test holds.
+  ranged-match
+      : (v l h : ℕ) (t : Term) (r b : ℕ) → 1 ≤ r → Shows look t r b → (x : Option Range) → Narrows x l h → t ≡ σ v
+      → All (HoldsIn look) (rangeTest b x) → Matches σ (rangedVariable v l h) t
+  ranged-match v l h t r b deep shown none narrow e k = absurd narrow
+  ranged-match v l h t r b deep shown (some x) narrow e k =
+      let n = range-in (x .low) (x .high) (root-holds look (aNumber (x .low) (x .high)) t r b deep shown (k .0)) in
+      let low : l ≤ n .0 = omega (arith, n .2, narrow .0) in
+      let high : n .0 ≤ h = omega (arith, n .3, narrow .1) in
+      subst (Matches σ (rangedVariable v l h)) (sym (n .1)) (asRanged {n = n .0} (sym (n .1) ∙ e) low high)
+
+  mutual
+    -- Where the tests hold, the term matches,
+    tests-match
+        : (p : Pattern) (t : Term) (r b : ℕ) → Sound p r → Ground t → Shows look t r b → EachRanged Narrowed p
+        → All (HoldsIn look) (patternTests rangeOf p r b) → All SameTerm (patternVariables p r b) → Matches σ p t
+    tests-match anything t r b sound ground shown narrow h s = asAnything
+    tests-match (theSymbol a) t r b sound ground shown narrow h s =
+        as-symbol (root-holds look (aSymbol a) t r b (sound .0) shown (h .0))
+      where
+        as-symbol : {a : ℕ} {t : Term} → Wanted (aSymbol a) t → Matches σ (theSymbol a) t
+        as-symbol thatSymbol = asSymbol
+    tests-match (theRange l u) t r b sound ground shown narrow h s =
+        as-range (root-holds look (aNumber l u) t r b (sound .0) shown (h .0))
+      where
+        as-range : {l u : ℕ} {t : Term} → Wanted (aNumber l u) t → Matches σ (theRange l u) t
+        as-range (inRange p q) = asRange p q
+    tests-match (theCompound a ps) t r b sound ground shown narrow h s =
+        as-compound t ground shown (root-holds look (aCompound a (countPatterns ps)) t r b (sound .0) shown (h .0))
+        (λ ts below same e. all-tests-match ps ts (pred r) (suc b) (sound .4) below e same narrow (h .1) s)
+      where
+        as-compound
+            : (u : Term) → Ground u → Shows look u r b → Wanted (aCompound a (countPatterns ps)) u
+            → ((ts : Terms) → Grounds ts → Showss look ts (pred r) (suc b) → countPatterns ps ≡ count ts → AllMatch σ ps ts)
+            → Matches σ (theCompound a ps) u
+        as-compound u g shows (thatCompound {ts = ts} e) rest =
+            asCompound (rest ts (g .3) (shows-arguments look a ts r b (sound .0) (g .2) shows) e)
+    tests-match (variable v) t r b sound ground shown narrow h s =
+        asVariable (s .0 t (shows-root look t r b (sound .0) shown))
+    tests-match (rangedVariable v l u) t r b sound ground shown narrow h s =
+        ranged-match v l u t r b (sound .0) shown (rangeOf v) narrow (s .0 t (shows-root look t r b (sound .0) shown)) h
+
+    -- and so do the terms of a row.
+    all-tests-match
+        : (ps : Patterns) (ts : Terms) (r b : ℕ) → Sounds ps r → Grounds ts → countPatterns ps ≡ count ts
+        → Showss look ts r b → AllRanged Narrowed ps → All (HoldsIn look) (patternsTests rangeOf ps r b)
+        → All SameTerm (patternsVariables ps r b) → AllMatch σ ps ts
+    all-tests-match pnil nil r b sound ground same shown narrow h s = asNil
+    all-tests-match pnil (cons t ts) r b sound ground same shown narrow h s = absurd (omega arith)
+    all-tests-match (pcons p ps) nil r b sound ground same shown narrow h s = absurd (omega arith)
+    all-tests-match (pcons p ps) (cons t ts) r b sound ground same shown narrow h s =
+        let x = all-split (HoldsIn look) (patternTests rangeOf p r b) (patternsTests rangeOf ps r (b + stride r)) h in
+        let y = all-split SameTerm (patternVariables p r b) (patternsVariables ps r (b + stride r)) s in
+        let first = shows-head look t ts r b shown in
+        let rest = shows-tail look t ts r b shown in
+        asCons (tests-match p t r b (sound .0) (ground .0) first (narrow .0) (x .0) (y .0))
+        (all-tests-match ps ts r (b + stride r) (sound .1) (ground .1) (omega arith) rest (narrow .1) (x .1) (y .1))
+
+  -- A variable's range test, if there is one, holds where its term stands and is in the range.
+  range-holds
+      : (v : ℕ) (t : Term) (r b : ℕ) → 1 ≤ r → Shows look t r b → t ≡ σ v → (x : Option Range) → InRange x (σ v)
+      → All (HoldsIn look) (rangeTest b x)
+  range-holds v t r b deep shown e none inside = tt
+  range-holds v t r b deep shown e (some x) inside =
+      let w : Want = aNumber (x .low) (x .high) in
+      (holds-root look w t r b deep shown (fits-wanted w t (rw e inside)), tt)
+
+  module _ (inside : (v : ℕ) → InRange (rangeOf v) (σ v)) where
+    mutual
+      -- Where a term matches, the tests hold, and each variable's term stands where the variable does,
+      match-tests
+          : (p : Pattern) (r b : ℕ) {t : Term} → Sound p r → Shows look t r b → Matches σ p t
+          → All (HoldsIn look) (patternTests rangeOf p r b) × All HasTerm (patternVariables p r b)
+      match-tests anything r b sound shown m = (tt, tt)
+      match-tests (theSymbol a) r b sound shown asSymbol =
+          ((holds-root look (aSymbol a) (symbol a) r b (sound .0) shown thatSymbol, tt), tt)
+      match-tests (theRange l h) r b sound shown (asRange {n = n} p q) =
+          ((holds-root look (aNumber l h) (number n) r b (sound .0) shown (inRange p q), tt), tt)
+      match-tests (theCompound a ps) r b sound shown (asCompound {ts = ts} ms) =
+          let e = match-count ms in
+          let below = shows-arguments look a ts r b (sound .0) (omega (arith, sound .3)) shown in
+          let rest = all-match-tests ps (pred r) (suc b) (sound .4) below ms in
+          let here = holds-root look (aCompound a (countPatterns ps)) (compound a ts) r b (sound .0) shown
+          (thatCompound e) in
+          ((here, rest .0), rest .1)
+      match-tests (variable v) r b {t} sound shown (asVariable e) = (
+        range-holds v t r b (sound .0) shown e (rangeOf v) (inside v),
+        (shows-root look t r b (sound .0) shown ∙ ap found e, tt),
+      )
+      match-tests (rangedVariable v l h) r b sound shown (asRanged {n = n} e p q) = (
+        range-holds v (number n) r b (sound .0) shown e (rangeOf v) (inside v),
+        (shows-root look (number n) r b (sound .0) shown ∙ ap found e, tt),
+      )
+
+      -- and so for a row.
+      all-match-tests
+          : (ps : Patterns) (r b : ℕ) {ts : Terms} → Sounds ps r → Showss look ts r b → AllMatch σ ps ts
+          → All (HoldsIn look) (patternsTests rangeOf ps r b) × All HasTerm (patternsVariables ps r b)
+      all-match-tests pnil r b sound shown ms = (tt, tt)
+      all-match-tests (pcons p ps) r b sound shown (asCons {t = t} {ts = ts} m ms) =
+          let x = match-tests p r b (sound .0) (shows-head look t ts r b shown) m in
+          let xs = all-match-tests ps r (b + stride r) (sound .1) (shows-tail look t ts r b shown) ms in (
+            all-join (HoldsIn look) (patternTests rangeOf p r b) (patternsTests rangeOf ps r (b + stride r)) (x .0) (xs .0),
+            all-join HasTerm (patternVariables p r b) (patternsVariables ps r (b + stride r)) (x .1) (xs .1),
+          )
+
+-- The term at the first place of a variable.
+abbrev termIn : Found → Term
+termIn lacking = symbol 0
+termIn (found t) = t
+
+abbrev firstAt : (ℕ → Found) → List Occurrence → ℕ → Term
+firstAt look [] v = symbol 0
+firstAt look (o ∷ os) v = cond (eqb (o .name) v) (termIn (look (o .place))) (firstAt look os v)
+
+module _ (look : ℕ → Found) where
+  abbrev First : List Occurrence → Occurrence → Type 0
+  First os o = (t : Term) → look (o .place) ≡ found t → t ≡ firstAt look os (o .name)
+
+  -- The variable's first term is that of another place of it with which the pair holds.
+  beside
+      : (o x : Occurrence) (os : List Occurrence) → (o .name ≡ x .name → HoldsPair look (both (o .place) (x .place)))
+      → First os x → First (o ∷ os) x
+  beside o x os pair first t e =
+      cond-by (λ (u : Term). t ≡ u) (eqb (o .name) (x .name))
+      (λ k. same (look (o .place)) (subst (λ (y : Found). Holds (atPlaces (look (o .place)) y)) e
+      (pair (eqb→eq (o .name) (x .name) k))))
+      (λ k. first t e)
+    where
+      same : (y : Found) → Holds (atPlaces y (found t)) → t ≡ termIn y
+      same lacking h = absurd h
+      same (found u) h = sym (holds-equal u t h .0)
+
+  all-beside
+      : (o : Occurrence) (os later : List Occurrence)
+      → All (λ (x : Occurrence). o .name ≡ x .name → HoldsPair look (both (o .place) (x .place))) later
+      → All (First os) later → All (First (o ∷ os)) later
+  all-beside o os [] pairs firsts = tt
+  all-beside o os (x ∷ xs) pairs firsts = (beside o x os (pairs .0) (firsts .0), all-beside o os xs (pairs .1) (firsts .1))
+
+  -- Where the equality tests hold, what stands where a variable does is its first term.
+  all-first : (os : List Occurrence) → All (HoldsPair look) (pairsOf os) → All (First os) os
+  all-first [] h = tt
+  all-first (o ∷ os) h =
+      let s = all-split (HoldsPair look) (pairsWith (o .place) (o .name) os) (pairsOf os) h in
+      (own, all-beside o os os (pairs-with-at (HoldsPair look) (o .place) (o .name) os (s .0)) (all-first os (s .1)))
+    where
+      own : First (o ∷ os) o
+      own t e =
+          cond-by (λ (u : Term). t ≡ u) (eqb (o .name) (o .name)) (λ k. ap termIn (sym e)) (λ k. absurd (k (eqb-refl (o .name))))
+
+mutual
+  -- What stands in a term without unknowns is such a term,
+  find-ground : (t : Term) → Ground t → (r n : ℕ) → IfFound Ground (find t r n)
+  find-ground unknown ok r n = absurd ok
+  find-ground (symbol a) ok r zero = ok
+  find-ground (symbol a) ok r (suc n) = tt
+  find-ground (number a) ok r zero = ok
+  find-ground (number a) ok r (suc n) = tt
+  find-ground (compound a ts) ok r zero = ok
+  find-ground (compound a ts) ok r (suc n) = finds-ground ts (ok .3) (pred r) n
+
+  -- and so in a row of them.
+  finds-ground : (ts : Terms) → Grounds ts → (r n : ℕ) → IfFound Ground (finds ts r n)
+  finds-ground nil ok r n = tt
+  finds-ground (cons t ts) ok r n =
+      cond-holds (IfFound Ground) (ltb n (stride r)) (find t r n) (finds ts r (n - stride r))
+      (find-ground t (ok .0) r n) (finds-ground ts (ok .1) r (n - stride r))
+
+-- A piece without unknowns meets an accepted rule of its arity exactly when there is a term for each variable with which
+-- its arguments match the rule's patterns.
+pub meaning
+    : {arity : ℕ} {rule : Patterns} → AcceptedRule arity rule → (piece : Terms) → count piece ≡ arity → Grounds piece
+    → Meets rule piece ↔ ((σ : ℕ → Term) × AllMatch σ rule piece)
+meaning {arity} {rule} ok piece arguments ground = (forth, back)
+  where
+    look : ℕ → Found
+    look n = termAt piece n
+
+    forth : Meets rule piece → (σ : ℕ → Term) × AllMatch σ rule piece
+    forth met =
+        let σ : ℕ → Term = firstAt look (ruleVariables rule) in
+        let same : countPatterns rule ≡ count piece = ok .arguments ∙ sym arguments in (
+          σ,
+          all-tests-match (patternsRange rule) σ look rule piece 4 0 (ok .sound) ground same (shows-row piece 4)
+              (all-narrowed rule) (met .0) (all-first look (ruleVariables rule) (met .1)),
+        )
+
+    back : (σ : ℕ → Term) × AllMatch σ rule piece → Meets rule piece
+    back (σ, ms) =
+        let x = all-match-tests (patternsRange rule) σ look (match-ranges ms) rule 4 0 (ok .sound) (shows-row piece 4) ms in
+        let There : Occurrence → Type 0 = λ o. look (o .place) ≡ found (σ (o .name)) in
+        let pair : (o y : Occurrence) → o .name ≡ y .name → There o → There y → HoldsPair look (both (o .place) (y .place)) =
+        λ o y e p q.
+        let one : look (y .place) ≡ found (σ (o .name)) = q ∙ ap (λ (v : ℕ). found (σ v)) (sym e) in
+        rw (p, one) (equal-self (σ (o .name)) (subst (IfFound Ground) p (finds-ground piece ground 4 (o .place)))) in (
+          x .0,
+          pairs-each There (HoldsPair look) (λ o y before e p q. pair o y e p q) 0 (0 + extent (countPatterns rule) 4)
+              (ruleVariables rule) (all-variables-ascend rule 4 0 (ok .sound)) (x .1),
+        )
+
+-- So it is for each filling of an accepted piece.
+pub filling-meaning
+    : {arity : ℕ} {rule : Patterns} {piece filled : Terms} → AcceptedRule arity rule → AcceptedPiece arity piece
+    → Filling piece filled → Meets rule filled ↔ ((σ : ℕ → Term) × AllMatch σ rule filled)
+filling-meaning {filled = filled} ok accepted f =
+    meaning ok filled (sym (puts-count f) ∙ accepted .arguments) (filling-ground (accepted .wellFormed) f)

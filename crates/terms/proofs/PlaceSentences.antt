@@ -1,0 +1,119 @@
+-- What document 01 says of a place test, and that `fits` says exactly this; what it says of a place that the piece lacks;
+-- and that a rule has at most one test for each place.
+use Prim.Native.Nat.{ℕ, suc, _+_, _≤_}
+use mathlib.Core.Path.{_≡_, refl, ap, subst}
+use mathlib.Core.Bool.{_&&_}
+use mathlib.Core.Logic.{_↔_, _⊎_, inl, inr}
+use mathlib.Core.List.{List, [], _∷_}
+use native.Mathlib.Omega.{arith}
+use lib.Dec.{leb, eqb, leb→le, le→leb, eqb→eq}
+use Rattle.basics.specs.Lists.{Mem}
+use Rattle.basics.proofs.Booleans.{both-true, true-both}
+use Rattle.basics.proofs.ListLaws.{all-at, mem-cases, mem-none}
+use Rattle.basics.proofs.Numbers.{eq-true}
+use Rattle.terms.specs.Term.{Term, Terms, count, unknown, symbol, number, compound}
+use Rattle.terms.specs.Pattern.{Patterns, countPatterns}
+use Rattle.terms.specs.RuleTests.{Want, aSymbol, aNumber, aCompound, PlaceTest, patternsRange, placeTests}
+use Rattle.terms.specs.Lookup.{lacking, termAt}
+use Rattle.terms.specs.Outcome.{Holds, NotKnown, Contradicted, fits, placeOutcome}
+use Rattle.terms.specs.Accepted.{AcceptedRule}
+use Rattle.terms.proofs.Outcomes.{true-holds, known-decided}
+use Rattle.terms.proofs.KnownTests.{holds-true, numbers-equal, else-contradicted}
+use Rattle.terms.proofs.TermPlaces.{extent}
+use Rattle.terms.proofs.Ascending.{Ascends, ascends-from}
+use Rattle.terms.proofs.PreorderTests.{testPlace, all-tests-ascend}
+
+-- What is wanted: "that symbol, .. a compound of that id and arity, or .. a number in that range".
+pub data Wanted : Want → Term → Type 0 where
+  thatSymbol : {a : ℕ} → Wanted (aSymbol a) (symbol a)
+  thatCompound : {a n : ℕ} {ts : Terms} → n ≡ count ts → Wanted (aCompound a n) (compound a ts)
+  inRange : {l h n : ℕ} → l ≤ n → n ≤ h → Wanted (aNumber l h) (number n)
+
+-- "A place test holds at that symbol, at a compound of that id and arity, or at a number in that range",
+pub fits-wanted : (w : Want) (t : Term) → Holds (fits w t) → Wanted w t
+fits-wanted w unknown h = absurd h
+fits-wanted (aSymbol a) (symbol b) h =
+    subst (λ (x : ℕ). Wanted (aSymbol a) (symbol x)) (numbers-equal a b h) thatSymbol
+fits-wanted (aSymbol a) (number b) h = absurd h
+fits-wanted (aSymbol a) (compound b ts) h = absurd h
+fits-wanted (aNumber l k) (symbol b) h = absurd h
+fits-wanted (aNumber l k) (number b) h =
+    let s = both-true (leb l b) (leb b k) (holds-true (leb l b && leb b k) h) in inRange (leb→le l b (s .0)) (leb→le b k (s .1))
+fits-wanted (aNumber l k) (compound b ts) h = absurd h
+fits-wanted (aCompound a n) (symbol b) h = absurd h
+fits-wanted (aCompound a n) (number b) h = absurd h
+fits-wanted (aCompound a n) (compound b ts) h =
+    let s = both-true (eqb a b) (eqb n (count ts)) (holds-true (eqb a b && eqb n (count ts)) h) in
+    rw (eqb→eq a b (s .0)) (thatCompound (eqb→eq n (count ts) (s .1)))
+
+pub wanted-fits : {w : Want} {t : Term} → Wanted w t → Holds (fits w t)
+wanted-fits (thatSymbol {a = a}) = true-holds (eqb a a) (eq-true a a refl)
+wanted-fits (thatCompound {a = a} {n = n} {ts = ts} e) =
+    let m = count ts in
+    true-holds (eqb a a && eqb n m) (true-both (eqb a a) (eqb n m) (eq-true a a refl) (eq-true n m e))
+wanted-fits (inRange {l = l} {h = h} {n = n} p q) =
+    true-holds (leb l n && leb n h) (true-both (leb l n) (leb n h) (le→leb l n p) (le→leb n h q))
+
+-- "it is not known at an unknown"
+fits-unknown : (w : Want) (t : Term) → NotKnown (fits w t) → t ≡ unknown
+fits-unknown w unknown n = refl
+fits-unknown (aSymbol a) (symbol b) n = absurd (known-decided (eqb a b) n)
+fits-unknown (aSymbol a) (number b) n = absurd n
+fits-unknown (aSymbol a) (compound b ts) n = absurd n
+fits-unknown (aNumber l h) (symbol b) n = absurd n
+fits-unknown (aNumber l h) (number b) n = absurd (known-decided (leb l b && leb b h) n)
+fits-unknown (aNumber l h) (compound b ts) n = absurd n
+fits-unknown (aCompound a k) (symbol b) n = absurd n
+fits-unknown (aCompound a k) (number b) n = absurd n
+fits-unknown (aCompound a k) (compound b ts) n = absurd (known-decided (eqb a b && eqb k (count ts)) n)
+
+unknown-fits : (w : Want) {t : Term} → t ≡ unknown → NotKnown (fits w t)
+unknown-fits w e = rw e tt
+
+-- "and contradicted at anything else".
+pub record PlaceTested (w : Want) (t : Term) : Type 0 where
+  pub whenHolds : Holds (fits w t) ↔ Wanted w t
+  pub whenNotKnown : NotKnown (fits w t) ↔ (t ≡ unknown)
+  pub whenContradicted : Contradicted (fits w t) ↔ ((Wanted w t → ⊥) × (t ≡ unknown → ⊥))
+
+pub place-tested : (w : Want) (t : Term) → PlaceTested w t
+place-tested w t =
+    let other = else-contradicted (fits w t) in
+    record {
+      whenHolds = (fits-wanted w t, λ x. wanted-fits x);
+      whenNotKnown = (fits-unknown w t, unknown-fits w);
+      whenContradicted = (
+        λ c. let x = other .0 c in (λ y. x .0 (wanted-fits y), λ e. x .1 (unknown-fits w e)),
+        λ x. other .1 (λ h. x .0 (fits-wanted w t h), λ n. x .1 (fits-unknown w t n)),
+      );
+    }
+
+-- "A test at any other place that the piece lacks is contradicted."
+pub lacking-contradicted
+    : (piece : Terms) (x : PlaceTest) → termAt piece (x .place) ≡ lacking → Contradicted (placeOutcome piece x)
+lacking-contradicted piece x e = rw e tt
+
+-- Things at ascending places that stand at one place are the same.
+ascends-one
+    : {A : Type 0} (place : A → ℕ) (b e : ℕ) (xs : List A) → Ascends place b e xs → {x y : A} → Mem x xs → Mem y xs
+    → place x ≡ place y → x ≡ y
+ascends-one place b e [] up m n same = absurd (mem-none m)
+ascends-one {A} place b e (z ∷ xs) up {x} {y} m n same =
+    go (mem-cases m) (mem-cases n) (λ p q. ascends-one place (suc (place z)) e xs (up .1) p q same)
+  where
+    later : (u : A) → Mem u xs → suc (place z) ≤ place u
+    later u k = all-at (λ (v : A). suc (place z) ≤ place v) k (ascends-from place (suc (place z)) e xs (up .1))
+
+    go : (x ≡ z) ⊎ Mem x xs → (y ≡ z) ⊎ Mem y xs → (Mem x xs → Mem y xs → x ≡ y) → x ≡ y
+    go (inl p) (inl q) rest = cc
+    go (inl p) (inr q) rest = absurd (omega (arith, later y q, ap place p))
+    go (inr p) (inl q) rest = absurd (omega (arith, later x p, ap place q))
+    go (inr p) (inr q) rest = rest p q
+
+-- A rule of an accepted sheet has at most one place test for each place.
+pub one-test
+    : {arity : ℕ} {rule : Patterns} → AcceptedRule arity rule → {x y : PlaceTest} → Mem x (placeTests rule)
+    → Mem y (placeTests rule) → x .place ≡ y .place → x ≡ y
+one-test {rule = rule} ok m n same =
+    ascends-one testPlace 0 (0 + extent (countPatterns rule) 4) (placeTests rule)
+    (all-tests-ascend (patternsRange rule) rule 4 0 (ok .sound)) m n same

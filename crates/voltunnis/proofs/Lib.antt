@@ -1,0 +1,2 @@
+-- Laws of what the library hands back.
+pub mod Unpacked
