@@ -21,7 +21,8 @@ use Rattle.graph.specs.declared.CaseHead.{CaseHead}
 use Rattle.graph.specs.declared.CaseHead.the-variants.{Whole, Refused}
 use Rattle.graph.specs.views.NodeRecord.{wholeCase, caseHead}
 use Rattle.graph.specs.ReadGraph.{readCases, edge, allInside, readCase}
-use Rattle.node_check.specs.views.CaseCodes.{firstCode, lastCode, rangeOf, CasesFound, casesFound}
+use Rattle.decision.specs.views.CaseCodes.{caseLow, caseHigh}
+use Rattle.node_check.specs.views.CaseRanges.{rangeOf, CasesFound, casesFound}
 use Rattle.graph.proofs.Spelling.{Reads, GoodRow}
 use Rattle.graph.proofs.SpelledCases.{kind-holds, EdgeFields, cases-spelled}
 use Rattle.graph.proofs.AcceptedNodes.{fields-of}
@@ -83,11 +84,11 @@ module _ (nodes : ℕ) where
   resume-next
       : (at last : ℕ) (inside ascend : Bool) (a : ℕ) (c : CaseEdge ℕ) (r : Reading (List (CaseEdge ℕ)))
       → resume at last inside ascend (after a (_∷_ c) r)
-      ≡ resume (at + a) (lastCode (c .case)) (inside && ltb (c .target) nodes)
-      (ascend && (ltb last (firstCode (c .case)) && leb (firstCode (c .case)) (lastCode (c .case)))) r
+      ≡ resume (at + a) (caseHigh (c .case)) (inside && ltb (c .target) nodes)
+      (ascend && (ltb last (caseLow (c .case)) && leb (caseLow (c .case)) (caseHigh (c .case)))) r
   resume-next at last inside ascend a c (took b cs) =
-      let first = firstCode (c .case) in
-      let end = lastCode (c .case) in
+      let first = caseLow (c .case) in
+      let end = caseHigh (c .case) in
       let size : at + (a + b) ≡ at + a + b = sym (add-assoc at a b) in
       let in-range = sym (and-assoc inside (ltb (c .target) nodes) (allInside nodes cs)) in
       let in-order = sym (and-assoc ascend (ltb last first && leb first end) (ascendAfter end cs)) in
@@ -104,16 +105,16 @@ module _ (nodes : ℕ) where
     read-next
         : (a : ℕ) (c : CaseEdge ℕ) → readCase (drop at s) ≡ took a c
         → Going
-        (resume (at + a) (lastCode (c .case)) (inside && ltb (c .target) nodes)
-        (ascend && (ltb last (firstCode (c .case)) && leb (firstCode (c .case)) (lastCode (c .case))))
+        (resume (at + a) (caseHigh (c .case)) (inside && ltb (c .target) nodes)
+        (ascend && (ltb last (caseLow (c .case)) && leb (caseLow (c .case)) (caseHigh (c .case))))
         (readCases (count - (i + 1)) (drop (at + a) s)))
     read-next a c e =
         let fewer : count - i - 1 ≡ count - (i + 1) = omega arith in
         ap (resume at last inside ascend) (row-next [] _∷_ readCase (count - i) (drop at s) some-left e)
         ∙ resume-next at last inside ascend a c (readCases (count - i - 1) (drop a (drop at s)))
         ∙ (λ j.
-        resume (at + a) (lastCode (c .case)) (inside && ltb (c .target) nodes)
-        (ascend && (ltb last (firstCode (c .case)) && leb (firstCode (c .case)) (lastCode (c .case))))
+        resume (at + a) (caseHigh (c .case)) (inside && ltb (c .target) nodes)
+        (ascend && (ltb last (caseLow (c .case)) && leb (caseLow (c .case)) (caseHigh (c .case))))
         (readCases (fewer j) (drop-drop a at s j)))
 
     -- A whole case is passed.

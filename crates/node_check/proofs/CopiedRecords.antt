@@ -10,7 +10,7 @@ use Rattle.graph.specs.declared.CaseRecord.the-variants.{Symbol, Compound, Numb
 use Rattle.graph.specs.declared.CaseHead.the-variants.{Whole}
 use Rattle.graph.specs.views.NodeRecord.{caseHead}
 use Rattle.graph.specs.ReadGraph.{edge, readCase}
-use Rattle.node_check.specs.views.CaseCodes.{rangeOf}
+use Rattle.node_check.specs.views.CaseRanges.{rangeOf}
 use Rattle.graph.specs.views.WriteNode.{caseRecordBytes}
 use Rattle.graph.proofs.SpelledCases.{edgeBytes}
 use Rattle.graph.proofs.ByKinds.{case-read-by}

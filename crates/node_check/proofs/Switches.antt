@@ -22,7 +22,7 @@ use Rattle.graph.specs.declared.CaseHead.the-variants as head
 use Rattle.graph.specs.declared.CaseRecord.the-variants.{Symbol, Compound, Numbers}
 use Rattle.graph.specs.views.NodeRecord.{caseHead, onCase, onNode}
 use Rattle.graph.specs.ReadGraph.{readCases, allInside, casesAscend, askRangeAndOrder, readCase}
-use Rattle.node_check.specs.views.CaseCodes.{CasesFound, casesFound, checkedCases}
+use Rattle.node_check.specs.views.CaseRanges.{CasesFound, casesFound, checkedCases}
 use Rattle.node_check.specs.views.CheckNode.{checked, switchCheck}
 use Rattle.node_check.proofs.CasesPass.{HeadFits, head-fits}
 use Rattle.graph.proofs.ByKinds.{case-by-kind}

@@ -1,3 +1,3 @@
 -- How the code keeps things.
-pub mod CaseCodes
+pub mod CaseRanges
 pub mod CheckNode

@@ -9,7 +9,7 @@ ghost use mathlib.Core.Path.{_≡_};
 ghost use mathlib.Core.Bool.{_&&_};
 ghost use Rattle.records.specs.Reading.{mapReading};
 ghost use Rattle.graph.specs.ReadGraph.{readCases};
-ghost use Rattle.node_check.specs.views.CaseCodes.{rangeOf, casesFound, checkedCases, casesRefusal};
+ghost use Rattle.node_check.specs.views.CaseRanges.{rangeOf, casesFound, checkedCases, casesRefusal};
 
 // The range of a case.
 pub fn case_range(c: CaseRecord) -> CaseRange
@@ -17,7 +17,7 @@ pub fn case_range(c: CaseRecord) -> CaseRange
 {
     match c {
         CaseRecord::Symbol(a, node) => {
-            let code = 0x1000000 + (a as u32) * 256;
+            let code = codes::symbol_code(a);
             CaseRange {
                 first: code,
                 last: code,
@@ -26,7 +26,7 @@ pub fn case_range(c: CaseRecord) -> CaseRange
             }
         }
         CaseRecord::Compound(a, n, node) => {
-            let code = 0x2000000 + (a as u32) * 256 + (n as u32);
+            let code = codes::compound_code(a, n);
             CaseRange {
                 first: code,
                 last: code,
@@ -35,8 +35,8 @@ pub fn case_range(c: CaseRecord) -> CaseRange
             }
         }
         CaseRecord::Numbers(low, high, node) => CaseRange {
-            first: 0x3000000 + (low as u32) * 256,
-            last: 0x3000000 + (high as u32) * 256,
+            first: codes::number_code(low),
+            last: codes::number_code(high),
             node: node,
             bytes: 7,
         },

@@ -9,10 +9,11 @@ use Rattle.terms.specs.Term.{Term, count, unknown, symbol, number, compound}
 use Rattle.terms.specs.Lookup.{found}
 use Rattle.terms.specs.Outcome.{Outcome, holds, notKnown, contradicted, known, compare}
 use Rattle.terms.specs.Filling.{WellFormed}
-use Rattle.piece.specs.views.Cells.{symbolCode, numberCode, compoundCode, unknownCode, termCode}
+use Rattle.codes.specs.views.Codes.{symbolCode, numberCode, compoundCode, unknownCode, termCode}
+use Rattle.codes.proofs.CodeOrder.{same-of-sort, same-compound}
 use Rattle.outcomes.specs.views.CompareCells.{isCompound, compareCodes}
 use Rattle.outcomes.proofs.Hidden.{isUnknown}
-use Rattle.outcomes.proofs.Codes.{code-unknown, same-of-sort, same-compound, symbol-leaf, number-leaf, compound-code}
+use Rattle.outcomes.proofs.Codes.{code-unknown, symbol-leaf, number-leaf, compound-code}
 
 -- How two terms compare by their codes, where x is what their arguments say.
 abbrev pub byCodes : Term → Term → Outcome → Outcome
@@ -86,5 +87,5 @@ codes-compare (compound a ts) (number b) x ok ok-other =
     differ (compound a ts) (number b) x ok ok-other refl refl (λ e. omega (arith, ok .0, ok .2))
 codes-compare (compound a ts) (compound b us) x ok ok-other =
     by-tests (compoundCode a (count ts)) (compoundCode b (count us)) x (code-unknown (found (compound a ts)) ok)
-    (code-unknown (found (compound b us)) ok-other) (same-compound a b (count ts) (count us) (ok .2) (ok-other .2))
+    (code-unknown (found (compound b us)) ok-other) (same-compound a (count ts) b (count us) (omega (arith, ok .2)) (omega (arith, ok-other .2)))
     (compound-code a (count ts) (ok .0) (ok .2))

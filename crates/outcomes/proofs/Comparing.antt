@@ -6,12 +6,13 @@ use mathlib.Core.List.{List}
 use mathlib.Core.Logic.{_⊎_, inl, inr}
 use native.Mathlib.Omega.{arith}
 use lib.ListN.{getD}
-use lib.Dec.{leb, eqb}
+use lib.Dec.{T, leb, ltb, eqb, le→leb, lt→ltb}
 use borrow.Author.Tests.{le-leb, lt-leb, lt-ltb, le-ltb, eq-eqb, ne-eqb, leb-true, leb-false, eqb-true, eqb-false}
 use Rattle.places.specs.Numbering.{stride}
 use Rattle.terms.specs.Outcome.{Outcome, holds, notKnown, contradicted, _and_}
-use Rattle.piece.specs.views.Cells.{compoundCode, numberCode, unknownCode}
-use Rattle.outcomes.specs.views.CompareCells.{arityOf, compareCodes, compareRow, compareAt}
+use Rattle.codes.specs.views.Codes.{compoundCode, numberCode, unknownCode}
+use Rattle.outcomes.specs.views.CompareCells.{isCompound, arityOf, compareCodes, compareRow, compareAt}
+use Rattle.basics.proofs.Booleans.{true-both}
 use Rattle.outcomes.proofs.TwoTests.{one-is, none-is}
 
 module _ (a b : ℕ) (arguments : Outcome) where
@@ -41,6 +42,13 @@ module _ (a b : ℕ) (arguments : Outcome) where
           let below = leb-false (numberCode 0) a high in
           simp
           (none-is a b unknownCode known-a known-b, eq-eqb a b same, le-leb (compoundCode 0 0) a low, lt-ltb a (numberCode 0) below)
+
+-- A code from the first of compounds on and below the first of numbers is a compound's.
+pub a-compound : (a : ℕ) → compoundCode 0 0 ≤ a → leb (numberCode 0) a ≡ false → T (isCompound a)
+a-compound a low high =
+    let below = leb-false (numberCode 0) a high in
+    true-both (leb (compoundCode 0 0) a) (ltb a (numberCode 0)) (le→leb (compoundCode 0 0) a low)
+    (lt→ltb a (numberCode 0) below)
 
 -- What two compounds' arguments say, with so many levels below the one and the other.
 abbrev pub compareBelow : List ℕ → ℕ → ℕ → ℕ → ℕ → Outcome

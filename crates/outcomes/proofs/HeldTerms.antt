@@ -15,7 +15,8 @@ use Rattle.terms.specs.Filling.{WellFormed, WellFormeds}
 use Rattle.terms.specs.Accepted.{Shallow, Shallows}
 use Rattle.terms.proofs.TermPlaces.{extent}
 use Rattle.piece.proofs.Rooms.{no-arguments}
-use Rattle.piece.specs.views.Cells.{termCode, foundCode}
+use Rattle.codes.specs.views.Codes.{termCode}
+use Rattle.piece.specs.views.Cells.{foundCode}
 use Rattle.outcomes.specs.views.CompareCells.{arityOf, compareCodes, compareRow, compareAt}
 use Rattle.outcomes.proofs.Comparing.{compareBelow, by-codes}
 use Rattle.outcomes.proofs.FindWith.{findWith, findsWith, with-zero, with-here, with-there}

@@ -18,7 +18,8 @@ use Rattle.terms.specs.Accepted.{AcceptedPiece}
 use Rattle.terms.specs.Filling.{WellFormed}
 use Rattle.terms.proofs.TermPlaces.{extent, extent-le, IfFound}
 use Rattle.terms.proofs.WellFormed.{finds-well-formed}
-use Rattle.piece.specs.views.Cells.{unknownCode, foundCode}
+use Rattle.codes.specs.views.Codes.{unknownCode}
+use Rattle.piece.specs.views.Cells.{foundCode}
 use Rattle.piece.specs.views.LaidOut.{emptyCells, pieceCells}
 use Rattle.outcomes.specs.views.Look.{nearest, look}
 use Rattle.outcomes.specs.views.CompareCells.{Narrow}
@@ -214,5 +215,5 @@ module _ (arity : ℕ) (piece : Terms) (accepted : AcceptedPiece arity piece) (f
         | no outside ↦
             let size = terms-length piece 3 0 emptyCells ∙ length-replicate {A = ℕ} 680 0 in
             let beyond : length (pieceCells piece) ≤ i = omega arith in
-            rw (List·getD-eq-default (pieceCells piece) 0 beyond) (omega arith)
+            rw (List·getD-eq-default (pieceCells piece) 0 beyond) (λ h. omega arith)
       ]

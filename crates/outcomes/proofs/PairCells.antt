@@ -8,7 +8,7 @@ use lib.Dec.{eqb}
 use Rattle.places.specs.Numbering.{stride, levelsAt, depthAt}
 use Rattle.places.proofs.Levels.{levels-range, levels-fit-row}
 use Rattle.terms.specs.Outcome.{Outcome, notKnown, contradicted}
-use Rattle.piece.specs.views.Cells.{unknownCode}
+use Rattle.codes.specs.views.Codes.{unknownCode}
 use Rattle.outcomes.specs.views.CellOutcome.{codesOutcome}
 use Rattle.outcomes.proofs.TwoTests.{one-is, none-is}
 

@@ -15,7 +15,8 @@ use Rattle.terms.specs.Filling.{WellFormed}
 use Rattle.terms.specs.Accepted.{AcceptedPiece, Shallow}
 use Rattle.terms.proofs.TermPlaces.{IfFound}
 use Rattle.terms.proofs.WellFormed.{finds-well-formed}
-use Rattle.piece.specs.views.Cells.{unknownCode, termCode, foundCode}
+use Rattle.codes.specs.views.Codes.{unknownCode, termCode}
+use Rattle.piece.specs.views.Cells.{foundCode}
 use Rattle.piece.specs.views.LaidOut.{pieceCells}
 use Rattle.outcomes.specs.views.CompareCells.{compareAt}
 use Rattle.outcomes.specs.views.CellOutcome.{codesOutcome, pairCells}

@@ -15,7 +15,8 @@ use Rattle.terms.specs.Filling.{WellFormed, WellFormeds}
 use Rattle.terms.specs.Accepted.{Shallow, Shallows}
 use Rattle.terms.proofs.TermPlaces.{extent, extent-le}
 use Rattle.piece.proofs.Rooms.{no-arguments}
-use Rattle.piece.specs.views.Cells.{symbolCode, numberCode, compoundCode, unknownCode, foundCode, storeTerm, storeTerms}
+use Rattle.codes.specs.views.Codes.{symbolCode, numberCode, compoundCode, unknownCode}
+use Rattle.piece.specs.views.Cells.{foundCode, storeTerm, storeTerms}
 use Rattle.outcomes.proofs.FindWith.{findWith, findsWith, with-here, with-there}
 
 mutual

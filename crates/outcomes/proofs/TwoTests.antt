@@ -1,6 +1,6 @@
--- Laws of two tests: one of them is true, both are, or one exactly where the other is.
+-- Laws of two tests: one of them is true, or both are.
 use Prim.Native.Nat.{ℕ}
-use mathlib.Core.Path.{_≡_, refl, sym}
+use mathlib.Core.Path.{_≡_, refl}
 use mathlib.Core.Bool.{Bool, true, false, _&&_, _||_}
 use mathlib.Core.Logic.{_⊎_, inl, inr}
 use lib.Dec.{eqb}
@@ -25,9 +25,3 @@ one-is a b k (inr h) = either (eqb a k) (eqb b k) h
 -- or neither is.
 pub none-is : (a b k : ℕ) → (a ≡ k → ⊥) → eqb b k ≡ false → eqb a k || eqb b k ≡ false
 none-is a b k h other = rw (ne-eqb a k h, other)
-
--- Two truth values are the same where each follows from the other.
-pub same-truth : (x y : Bool) → (x ≡ true → y ≡ true) → (y ≡ true → x ≡ true) → x ≡ y
-same-truth true y h k = sym (h refl)
-same-truth false true h k = k refl
-same-truth false false h k = refl

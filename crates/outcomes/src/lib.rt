@@ -1,7 +1,7 @@
 // What stands at the places of a piece that is laid out by place, and the outcomes of tests there.
-use piece::COMPOUNDS;
-use piece::NUMBERS;
-use piece::UNKNOWN;
+use codes::COMPOUNDS;
+use codes::NUMBERS;
+use codes::UNKNOWN;
 ghost use mathlib.Core.Path.{_≡_};
 ghost use Prim.Native.Nat.{suc, _+_, _*_, _≤_, _<_};
 ghost use Rattle.places.specs.Numbering.{stride};

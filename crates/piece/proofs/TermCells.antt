@@ -18,7 +18,8 @@ use Rattle.piece.specs.declared.Taken.the-variants as taken
 use Rattle.piece.specs.declared.Taken.the-variants.{Bytes}
 use Rattle.piece.specs.views.TermRecord.{termHead, onHead}
 use Rattle.piece.specs.ReadPiece.{readTerm, readTerms}
-use Rattle.piece.specs.views.Cells.{compoundCode, storeTerm, storeTerms}
+use Rattle.codes.specs.views.Codes.{compoundCode}
+use Rattle.piece.specs.views.Cells.{storeTerm, storeTerms}
 use Rattle.piece.specs.views.LaidOut.{tookCells, termCells, termsCells}
 use Rattle.piece.proofs.Readings.{bytesOf, bytes-map, map-after, same-views, row-took}
 use Rattle.piece.proofs.TermsRead.{readCompound, by-head, too-deep, wrong-arity, with-arguments, term-within, terms-within}

@@ -1,4 +1,8 @@
 // Reads pieces: checks their bytes and lays their terms out by place, one number a place.
+use codes::UNKNOWN;
+use codes::compound_code;
+use codes::number_code;
+use codes::symbol_code;
 ghost use mathlib.Core.Path.{_≡_};
 ghost use Prim.Native.Nat.{suc, _+_, _*_, _≤_, _<_};
 ghost use lib.ListN.{length};
@@ -6,7 +10,6 @@ ghost use Rattle.places.specs.Numbering.{stride};
 ghost use Rattle.records.specs.Reading.{mapReading};
 ghost use Rattle.piece.specs.views.TermRecord.{termHead, headRefusal};
 ghost use Rattle.piece.specs.ReadPiece.{readArity, readPrefix, readPiece};
-ghost use Rattle.piece.specs.views.Cells.{symbolCode, compoundCode, numberCode};
 ghost use Rattle.piece.specs.views.LaidOut.{tookCells, termCells, termsCells, layOut};
 ghost use Rattle.piece.specs.views.LaidOut.{arityRead, prefixRead, prefixBytes, pieceRead};
 ghost use Rattle.piece.specs.CheckPiece.{pieceCheckValues, pieceValues};
@@ -42,36 +45,6 @@ pub enum Prefix {
 pub enum PieceCheck {
     Accepted(u8),
     Refused(u8),
-}
-
-// The cells of symbols, compounds and numbers begin here, and the cell of an unknown is this.
-pub const SYMBOLS: u32 = 0x100_0000;
-
-pub const COMPOUNDS: u32 = 0x200_0000;
-
-pub const NUMBERS: u32 = 0x300_0000;
-
-pub const UNKNOWN: u32 = 0x400_0000;
-
-// The cell of a symbol.
-pub fn symbol_code(id: u16) -> u32
-    ensures { λ r. ⌜ r ≡ symbolCode id ⌝ }
-{
-    SYMBOLS + (id as u32) * 256
-}
-
-// The cell of a compound.
-pub fn compound_code(id: u16, arity: u8) -> u32
-    ensures { λ r. ⌜ r ≡ compoundCode id arity ⌝ }
-{
-    COMPOUNDS + (id as u32) * 256 + (arity as u32)
-}
-
-// The cell of a number.
-pub fn number_code(value: u16) -> u32
-    ensures { λ r. ⌜ r ≡ numberCode value ⌝ }
-{
-    NUMBERS + (value as u32) * 256
 }
 
 // The record of a term that the input begins with.

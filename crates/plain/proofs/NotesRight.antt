@@ -31,8 +31,10 @@ use Rattle.sheet_tests.specs.declared.Name.the-variants.{Nameless, Of}
 use Rattle.sheet_tests.specs.views.NoteTests.{nameOf, occurrence, notesVariables, Placed}
 use Rattle.sheet_tests.proofs.NotedTests.{rule-varied}
 use Rattle.piece.specs.views.LaidOut.{pieceCells}
-use Rattle.outcomes.specs.views.CellOutcome.{wantLow, wantHigh, placeCells}
-use Rattle.outcomes.proofs.PlaceTestsAgree.{SoundWant, place-test-agrees}
+use Rattle.codes.specs.views.Codes.{wantLow, wantHigh}
+use Rattle.codes.proofs.FitCodes.{WantFields}
+use Rattle.outcomes.specs.views.CellOutcome.{placeCells}
+use Rattle.outcomes.proofs.PlaceTestsAgree.{place-test-agrees}
 use Rattle.outcomes.proofs.PairTestsAgree.{pair-test-agrees}
 use Rattle.plain.specs.views.NotesOutcome.{testedIf, rangeOutcome, recordOutcome, pairTestCells, placesOutcome, pairsOutcome, notesOutcome, cellsOutcome}
 use Rattle.plain.proofs.Gathering.{and-holds, together-append, together-same}
@@ -72,9 +74,9 @@ module _ {arity : ℕ} (piece : Terms) (ok : AcceptedPiece arity piece) (few : a
 
   -- One place test.
   one-test
-      : (p : ℕ) (w : Want) → p < 680 → SoundWant w
+      : (p : ℕ) (w : Want) → p < 680 → WantFields w
       → placeCells cells p (wantLow w) (wantHigh w) ≡ together (placeOutcome piece) (at p w ∷ [])
-  one-test p w h sound = place-test-agrees arity piece ok few w sound p h ∙ sym (and-holds (placeOutcome piece (at p w)))
+  one-test p w h fields = place-test-agrees arity piece ok few w fields p h ∙ sym (and-holds (placeOutcome piece (at p w)))
 
   -- The test of a common range.
   range-right

@@ -31,8 +31,8 @@ fn range_outcome(cells: &[u32; 680], place: usize, low: u16, high: u32) -> TestO
     place_outcome(
         cells,
         place,
-        piece::number_code(low),
-        piece::number_code(high as u16),
+        codes::number_code(low),
+        codes::number_code(high as u16),
     )
 }
 
@@ -49,19 +49,19 @@ fn record_outcome(
     match what {
         PatternRecord::Anything => TestOutcome::Holds,
         PatternRecord::Symbol(id) => {
-            let code = piece::symbol_code(id);
+            let code = codes::symbol_code(id);
             place_outcome(cells, place, code, code)
         }
         PatternRecord::Range(low, high) => {
             place_outcome(
                 cells,
                 place,
-                piece::number_code(low),
-                piece::number_code(high),
+                codes::number_code(low),
+                codes::number_code(high),
             )
         }
         PatternRecord::Compound(id, arity) => {
-            let code = piece::compound_code(id, arity);
+            let code = codes::compound_code(id, arity);
             place_outcome(cells, place, code, code)
         }
         PatternRecord::Variable(v) => {

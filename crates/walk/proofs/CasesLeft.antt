@@ -15,7 +15,7 @@ use Rattle.graph.specs.declared.CaseHead.the-variants.{Whole, Refused}
 use Rattle.graph.specs.views.NodeRecord.{caseHead}
 use Rattle.graph.specs.ReadGraph.{readCases, readCase}
 use Rattle.graph.specs.views.Rewriting.{IsTook, readOr}
-use Rattle.node_check.specs.views.CaseCodes.{rangeOf}
+use Rattle.node_check.specs.views.CaseRanges.{rangeOf}
 use Rattle.node_check.proofs.CasesPass.{case-fits, case-refused}
 use Rattle.node_check.proofs.CopiedRecords.{edgeOf, edge-read}
 use Rattle.walk.proofs.RowsLeft.{first-there, others-left, first-others}

@@ -17,7 +17,7 @@ use Rattle.decision.specs.Key.{failNode}
 use Rattle.decision.specs.Node.{Node, CaseEdge, end, switch, pairNode, edges}
 use Rattle.decision.specs.Path.{Step, stop, goTo, noWay, byComparison}
 use Rattle.node_check.specs.views.CheckNode.{keptTest}
-use Rattle.piece.specs.views.Cells.{unknownCode}
+use Rattle.codes.specs.views.Codes.{unknownCode}
 use Rattle.walk.specs.views.CodeSteps.{takesCode, followCode, stepCells, openCells, openIf, openAt, NearNode}
 use Rattle.sheet_tests.specs.views.TestsRead.{keptTests}
 use Rattle.walk.specs.views.TestNumbers.{KeptOpen}

@@ -12,7 +12,7 @@ use lib.Seq.{drop-drop}
 use Rattle.records.specs.Reading.{Reading, took, refused, ask, after}
 use Rattle.terms.specs.Outcome.{Outcome}
 use Rattle.sheet_tests.specs.SheetTests.{Test}
-use Rattle.piece.specs.views.Cells.{unknownCode}
+use Rattle.codes.specs.views.Codes.{unknownCode}
 use Rattle.outcomes.specs.views.CellOutcome.{codesOutcome}
 use Rattle.outcomes.proofs.TwoTests.{one-is, none-is}
 use Rattle.outcomes.proofs.PairCells.{one-lacking}

@@ -14,7 +14,8 @@ use Rattle.terms.specs.Accepted.{AcceptedPiece}
 use Rattle.terms.proofs.TermPlaces.{IfFound}
 use Rattle.terms.proofs.WellFormed.{finds-well-formed}
 use Rattle.sheet_tests.specs.SheetTests.{Test, place, pair}
-use Rattle.piece.specs.views.Cells.{unknownCode, termCode, foundCode}
+use Rattle.codes.specs.views.Codes.{unknownCode, termCode}
+use Rattle.piece.specs.views.Cells.{foundCode}
 use Rattle.piece.specs.views.LaidOut.{pieceCells}
 use Rattle.outcomes.proofs.Hidden as hidden
 use Rattle.outcomes.proofs.Codes.{code-some, code-unknown}

@@ -2,13 +2,13 @@
 use crate::Open;
 use crate::Step;
 use crate::cases::find_case;
+use codes::UNKNOWN;
 use graph::NodeHead;
 use graph::NodeRecord;
 use graph::node_head;
 use outcomes::TestOutcome;
 use outcomes::look;
 use outcomes::pair_outcome;
-use piece::UNKNOWN;
 ghost use Prim.Native.Nat.{_≤_, _<_};
 ghost use mathlib.Core.Path.{_≡_};
 ghost use mathlib.Core.List.{[]};

@@ -1,8 +1,8 @@
 // The set of the tests that are not known in a piece.
+use codes::UNKNOWN;
 use outcomes::TestOutcome;
 use outcomes::look;
 use outcomes::pair_outcome;
-use piece::UNKNOWN;
 ghost use Prim.Native.Nat.{ℕ, _+_, _≤_, _<_};
 ghost use mathlib.Core.Path.{_≡_};
 ghost use lib.ListN.{length};

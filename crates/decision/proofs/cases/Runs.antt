@@ -8,11 +8,12 @@ use mathlib.Core.Logic.{_↔_, Iff·trans, Iff·symm, _⊎_, inl, inr}
 use mathlib.Core.List.{List}
 use lib.Dec.{T, leb}
 use Rattle.basics.specs.Lists.{Mem, All, anyOf}
-use Rattle.terms.specs.Term.{number, Wide}
+use Rattle.terms.specs.Term.{number}
 use Rattle.terms.specs.RuleTests.{Want, aSymbol, aNumber, aCompound, Range}
 use Rattle.terms.specs.Outcome.{Holds, known, fits}
 use Rattle.basics.proofs.ListLaws.{all-at, all-from}
 use Rattle.terms.proofs.Outcomes.{true-holds}
+pub use Rattle.codes.specs.views.Codes.{SoundWant}
 use Rattle.decision.specs.Cases.{Case, symbolCase, compoundCase, numbersCase, takes, isWanted, cutsOf, runsOf}
 use Rattle.decision.specs.AcceptedGraph.{CaseBefore, LowAtMostHigh}
 use Rattle.decision.proofs.Truth.{holds-true}
@@ -25,12 +26,6 @@ use Rattle.decision.proofs.cases.WantedRanges.{numberRuns, wantedRanges
 use Rattle.decision.proofs.cases.WantedRanges.{cuts-are, number-runs-are, run-case, case-run, runs-all}
 use Rattle.basics.proofs.Booleans.{same-truth}
 use Rattle.basics.proofs.Sorted.{AscendingBy as Ascending}
-
--- What a rule of an accepted sheet can want: "Is its arity 1 to 4?", "Is low at most high?", and fields are wide.
-abbrev pub SoundWant : Want → Type 0
-SoundWant (aSymbol a) = Wide a
-SoundWant (aNumber l h) = (l ≤ h) × Wide h
-SoundWant (aCompound a n) = Wide a × (n ≤ 4)
 
 -- The want accepts the number.
 abbrev pub Accepts : Want → ℕ → Type 0

@@ -17,7 +17,7 @@ use Rattle.places.proofs.step.Reads as step-reads
 use Rattle.terms.specs.Outcome.{Outcome}
 use Rattle.piece.proofs.Rooms.{arguments-room, step-of}
 use Rattle.outcomes.specs.views.CompareCells.{arityOf, compareCodes, compareAt}
-use Rattle.outcomes.proofs.Comparing.{one-unknown, other-codes, same-leaf, same-compound, compareBelow, by-codes, no-level, some-level, no-pairs, first-pair}
+use Rattle.outcomes.proofs.Comparing.{one-unknown, other-codes, same-leaf, same-compound, a-compound, compareBelow, by-codes, no-level, some-level, no-pairs, first-pair}
 use Rattle.outcomes.proofs.both.Reads as both-reads
 use Rattle.outcomes.proofs.compare.Reads as compare
 use Rattle.outcomes.proofs.compare.Kinds as compare-kinds
@@ -127,7 +127,7 @@ compare-compare-args-requires : (t : ℕ) → compare-lts.Need-compare-args-requ
 compare-compare-args-requires t c κs =
     let m = compound-start (c .before .before) in
     let narrow = m .pre .1 .4 in
-    let most : arityOf (code m) ≤ 4 = narrow (m .args .p) in
+    let most : arityOf (code m) ≤ 4 = narrow (m .args .p) (a-compound (code m) (c .before .before .before .if4 .left) (c .before .before .if5 .left)) in
     let room = arguments-room (m .args .below) _ (c .before .if6 .left) most in
     let room-other = arguments-room (m .args .other) _ (eqb-false _ _ (c .if7 .left)) most in
     (omega arith, (omega arith, omega arith, omega arith, omega arith, narrow))

@@ -4,9 +4,8 @@ use mathlib.Core.Bool.{_&&_, _||_, cond}
 use mathlib.Core.List.{List}
 use lib.Dec.{leb, eqb}
 use Rattle.places.specs.Numbering.{levelsAt}
-use Rattle.terms.specs.RuleTests.{Want, aSymbol, aNumber, aCompound}
 use Rattle.terms.specs.Outcome.{Outcome, holds, notKnown, contradicted, known}
-use Rattle.piece.specs.views.Cells.{symbolCode, compoundCode, numberCode, unknownCode}
+use Rattle.codes.specs.views.Codes.{unknownCode}
 use Rattle.outcomes.specs.declared.TestOutcome.{TestOutcome}
 use Rattle.outcomes.specs.declared.TestOutcome.the-variants as test
 use Rattle.outcomes.specs.views.Look.{look}
@@ -18,18 +17,7 @@ outcomeOf test.Holds = holds
 outcomeOf test.NotKnown = notKnown
 outcomeOf test.Contradicted = contradicted
 
--- What a place test wants, as the lowest and the highest code that it holds at.
-abbrev pub wantLow : Want → ℕ
-wantLow (aSymbol a) = symbolCode a
-wantLow (aNumber l h) = numberCode l
-wantLow (aCompound a n) = compoundCode a n
-
-abbrev pub wantHigh : Want → ℕ
-wantHigh (aSymbol a) = symbolCode a
-wantHigh (aNumber l h) = numberCode h
-wantHigh (aCompound a n) = compoundCode a n
-
--- A place test at a code: "it is not known at an unknown and contradicted at anything else" than what it wants.
+-- A place test that holds at the codes from low to high, at a code: "it is not known at an unknown and contradicted at anything else" than what it wants.
 abbrev pub codeOutcome : ℕ → ℕ → ℕ → Outcome
 codeOutcome low high code = cond (eqb code unknownCode) notKnown (known (leb low code && leb code high))
 

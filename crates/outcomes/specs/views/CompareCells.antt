@@ -3,12 +3,12 @@ use Prim.Native.Nat.{ℕ, zero, suc, _+_, _%_, _≤_}
 use mathlib.Core.Bool.{Bool, _&&_, _||_, cond}
 use mathlib.Core.List.{List}
 use lib.ListN.{getD}
-use lib.Dec.{leb, ltb, eqb}
+use lib.Dec.{T, leb, ltb, eqb}
 use Rattle.places.specs.Numbering.{stride}
 use Rattle.terms.specs.Outcome.{Outcome, holds, notKnown, contradicted, _and_}
-use Rattle.piece.specs.views.Cells.{compoundCode, numberCode, unknownCode}
+use Rattle.codes.specs.views.Codes.{compoundCode, numberCode, unknownCode}
 
--- The codes of compounds stand between those of symbols and of numbers; the lowest byte is the arity.
+-- The codes of compounds stand between those of symbols and of numbers; the lowest byte of one is the arity.
 abbrev pub isCompound : ℕ → Bool
 isCompound code = leb (compoundCode 0 0) code && ltb code (numberCode 0)
 
@@ -17,7 +17,7 @@ arityOf code = code % 256
 
 -- No compound has more than 4 arguments.
 abbrev pub Narrow : List ℕ → Type 0
-Narrow cells = (i : ℕ) → arityOf (getD cells i 0) ≤ 4
+Narrow cells = (i : ℕ) → T (isCompound (getD cells i 0)) → arityOf (getD cells i 0) ≤ 4
 
 -- Two codes: not known where one is unknown, else contradicted where they differ. Where they do not, two symbols or two
 -- numbers are equal, and two compounds are as their arguments say.

@@ -5,7 +5,7 @@ use mathlib.Core.List.{List}
 use lib.ListN.{getD}
 use lib.Dec.{eqb}
 use Rattle.places.specs.Numbering.{parentAt}
-use Rattle.piece.specs.views.Cells.{unknownCode}
+use Rattle.codes.specs.views.Codes.{unknownCode}
 
 -- The cell of the nearest place that has one, of p and the places above it, so many in all; 0 where none has. The
 -- parents are those of the table, 680 where there is none.

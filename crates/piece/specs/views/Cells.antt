@@ -1,32 +1,13 @@
 -- A piece laid out by place: a number for what stands at each place.
-use Prim.Native.Nat.{ℕ, suc, pred, _+_, _*_}
+use Prim.Native.Nat.{ℕ, suc, pred, _+_}
 use mathlib.Core.List.{List}
 use lib.ListN.{set}
 use Rattle.places.specs.Numbering.{stride}
 use Rattle.terms.specs.Term.{Term, Terms, count, unknown, symbol, number, compound, nil, cons}
 use Rattle.terms.specs.Lookup.{Found, lacking, found}
+use Rattle.codes.specs.views.Codes.{symbolCode, compoundCode, numberCode, unknownCode, termCode}
 
--- The sort of a term in the highest byte, its id or number in the next two, its arity in the lowest. The sorts are in
--- the order of a switch's cases, so that one comparison of numbers finds a case. 0 stands where the piece lacks a
--- place.
-abbrev pub symbolCode : ℕ → ℕ
-symbolCode a = 0x1000000 + a * 256
-
-abbrev pub compoundCode : ℕ → ℕ → ℕ
-compoundCode a n = 0x2000000 + a * 256 + n
-
-abbrev pub numberCode : ℕ → ℕ
-numberCode a = 0x3000000 + a * 256
-
-abbrev pub unknownCode : ℕ
-unknownCode = 0x4000000
-
-abbrev pub termCode : Term → ℕ
-termCode unknown = unknownCode
-termCode (symbol a) = symbolCode a
-termCode (number a) = numberCode a
-termCode (compound a ts) = compoundCode a (count ts)
-
+-- The code of what stands at a place, 0 where the piece lacks it.
 abbrev pub foundCode : Found → ℕ
 foundCode lacking = 0
 foundCode (found t) = termCode t

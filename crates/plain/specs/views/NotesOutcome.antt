@@ -12,7 +12,7 @@ use Rattle.sheet.specs.declared.PatternRecord.the-variants.{Anything, Symbol, R
 use Rattle.sheet.specs.views.Noted.{Note, ruleNotes}
 use Rattle.sheet.specs.views.NoteRanges.{lowsOf, highsOf}
 use Rattle.sheet_tests.specs.views.NoteTests.{notesVariables}
-use Rattle.piece.specs.views.Cells.{symbolCode, compoundCode, numberCode}
+use Rattle.codes.specs.views.Codes.{symbolCode, compoundCode, numberCode}
 use Rattle.outcomes.specs.views.CellOutcome.{placeCells, pairCells}
 
 -- A test where there is one, else nothing to contradict.

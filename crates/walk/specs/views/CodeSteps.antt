@@ -6,14 +6,14 @@ use mathlib.Core.Option.{Option, some, none}
 use lib.Dec.{leb, eqb}
 use Rattle.terms.specs.Outcome.{Outcome}
 use Rattle.sheet_tests.specs.SheetTests.{Test, place, pair}
-use Rattle.piece.specs.views.Cells.{unknownCode}
+use Rattle.codes.specs.views.Codes.{unknownCode}
 use Rattle.outcomes.specs.views.Look.{look}
 use Rattle.outcomes.specs.views.CellOutcome.{pairCells}
 use Rattle.decision.specs.Cases.{Case}
 use Rattle.decision.specs.Node.{Node, CaseEdge, end, switch, pairNode}
 use Rattle.decision.specs.Path.{Step, stop, goTo, noWay, byComparison}
 use Rattle.decision.specs.Walk.{isNotKnown}
-use Rattle.node_check.specs.views.CaseCodes.{firstCode, lastCode}
+use Rattle.decision.specs.views.CaseCodes.{caseLow, caseHigh}
 use Rattle.walk.specs.declared.Step as step
 use Rattle.walk.specs.declared.Open as open-test
 use Rattle.graph.specs.views.NodeRecord.{leafOf}
@@ -21,7 +21,7 @@ use Rattle.graph.specs.views.NodeRecord.{leafOf}
 -- "44 symbol (wide id, ..), 45 compound (wide id, arity, ..), 46 numbers (wide low, wide high, ..)": a case takes the terms whose
 -- codes lie from its first to its last.
 abbrev pub takesCode : Case → ℕ → Bool
-takesCode c code = leb (firstCode c) code && leb code (lastCode c)
+takesCode c code = leb (caseLow c) code && leb code (caseHigh c)
 
 -- Where a code leads at a switch: by the first case that takes it, or by the "node for neither".
 abbrev pub followCode : List (CaseEdge ℕ) → ℕ → ℕ → ℕ

@@ -1,4 +1,4 @@
--- `graph::cases::case_range` meets its contract, for each case.
+-- `case_range` meets its contract, for each case.
 use borrow.Author.Needs.{needs}
 use Rattle.node_check.proofs.cases.case_range.Statement.{statement}
 use Rattle.node_check.proofs.cases.case_range.Tie as tie
@@ -6,84 +6,44 @@ use Rattle.node_check.proofs.cases.case_range.Tie as tie
 enum-known-c : tie.Need-enum-known-c
 enum-known-c c = search needs
 
-cast-code : tie.Need-cast-code
-cast-code c = search needs
-
-mul-code : tie.Need-mul-code
-mul-code c = search needs
-
-add-code : tie.Need-add-code
-add-code c = search needs
+symbol-code-requires : tie.Need-symbol-code-requires
+symbol-code-requires c κs = search needs
 
 enum-known-c-2 : tie.Need-enum-known-c-2
 enum-known-c-2 c = search needs
 
-cast-code-2 : tie.Need-cast-code-2
-cast-code-2 c = search needs
-
-mul-code-2 : tie.Need-mul-code-2
-mul-code-2 c = search needs
-
-add-code-2 : tie.Need-add-code-2
-add-code-2 c = search needs
-
-cast-code-3 : tie.Need-cast-code-3
-cast-code-3 c = search needs
-
-add-code-3 : tie.Need-add-code-3
-add-code-3 c = search needs
+compound-code-requires : tie.Need-compound-code-requires
+compound-code-requires c κs = search needs
 
 enum-known-c-3 : tie.Need-enum-known-c-3
 enum-known-c-3 c = search needs
 
-cast-t19 : tie.Need-cast-t19
-cast-t19 c = search needs
+number-code-requires : tie.Need-number-code-requires
+number-code-requires c κs = search needs
 
-mul-t20 : tie.Need-mul-t20
-mul-t20 c = search needs
-
-add-t21 : tie.Need-add-t21
-add-t21 c = search needs
-
-cast-t22 : tie.Need-cast-t22
-cast-t22 c = search needs
-
-mul-t23 : tie.Need-mul-t23
-mul-t23 c = search needs
-
-add-t24 : tie.Need-add-t24
-add-t24 c = search needs
+number-code-requires-2 : tie.Need-number-code-requires-2
+number-code-requires-2 c κs = search needs
 
 returns : tie.Need-returns
-returns c = rw (c .before .c .given .1)
+returns c = simp (c .before .before .c .given .1, c .symbol-code .ensures)
 
 returns-2 : tie.Need-returns-2
-returns-2 c = rw (c .before .c2 .given .1)
+returns-2 c = simp (c .before .before .c2 .given .1, c .compound-code .ensures)
 
 returns-3 : tie.Need-returns-3
-returns-3 c = rw (c .before .c3 .given .1)
+returns-3 c = simp (c .before .before .before .c3 .given .1, c .before .number-code .ensures, c .number-code2 .ensures)
 
 pub case-range-spec : {M : Type 1} → statement M
 case-range-spec =
     tie.close
     (tie.spec
     enum-known-c
-    cast-code
-    mul-code
-    add-code
+    symbol-code-requires
     enum-known-c-2
-    cast-code-2
-    mul-code-2
-    add-code-2
-    cast-code-3
-    add-code-3
+    compound-code-requires
     enum-known-c-3
-    cast-t19
-    mul-t20
-    add-t21
-    cast-t22
-    mul-t23
-    add-t24
+    number-code-requires
+    number-code-requires-2
     returns
     returns-2
     returns-3)

@@ -1,6 +1,6 @@
 -- `graph::cases::check_cases` meets its contract: what was found and what is still to be read give what all cases give.
 use Rattle.node_check.proofs.CasesPass.{resume, case-fits, pass-starts, pass-next, pass-refused, pass-ends}
-use Rattle.node_check.specs.views.CaseCodes.{casesFound}
+use Rattle.node_check.specs.views.CaseRanges.{casesFound}
 use Rattle.graph.specs.ReadGraph.{readCases}
 use Rattle.graph.specs.views.NodeRecord.{caseHead, caseRefusal}
 use Rattle.graph.specs.declared.CaseHead.the-variants.{Whole}

@@ -7,7 +7,7 @@ use mathlib.Core.Path.{sym, _∙_, ap}
 use borrow.Author.Needs.{needs}
 use Rattle.node_check.proofs.check.check_switch.Statement.{statement}
 use Rattle.node_check.proofs.check.check_switch.Tie as tie
-use Rattle.node_check.specs.views.CaseCodes.{casesRefusal}
+use Rattle.node_check.specs.views.CaseRanges.{casesRefusal}
 
 returns : tie.Need-returns
 returns c = switch-none (c .before .before .args .known) (c .before .before .args .count) (c .before .before .args .nodes) (now (c .before .before .args .s)) (c .if1 .taken)

@@ -23,10 +23,10 @@ use Rattle.piece.specs.views.LaidOut.{tookCells, termCells, termsCells}
 use Rattle.piece.proofs.Rooms.{step-of}
 use Rattle.piece.proofs.Heads.{record-within}
 use Rattle.piece.proofs.TermCells.{begins, later, arguments-read, others-read, term-fits, terms-fit}
-use Rattle.piece.proofs.compound_code.Reads as compound-code-reads
+use Rattle.codes.proofs.compound_code.Reads as compound-code-reads
 use Rattle.piece.proofs.head_refusal.Reads as head-refusal-reads
-use Rattle.piece.proofs.number_code.Reads as number-code-reads
-use Rattle.piece.proofs.symbol_code.Reads as symbol-code-reads
+use Rattle.codes.proofs.number_code.Reads as number-code-reads
+use Rattle.codes.proofs.symbol_code.Reads as symbol-code-reads
 use Rattle.piece.proofs.term_head.Reads as term-head-reads
 use Rattle.piece.proofs.term.Reads as term
 use Rattle.piece.proofs.term.Kinds as term-kinds

@@ -3,7 +3,7 @@ use mathlib.Core.Path.{sym, ap, _∙_}
 use mathlib.Core.Bool.{Bool}
 use denote.Ref.{now}
 use borrow.Author.Tests.{le-leb, lt-leb}
-use Rattle.piece.specs.views.Cells.{numberCode}
+use Rattle.codes.specs.views.Codes.{numberCode}
 use Rattle.outcomes.specs.views.CellOutcome.{placeCells}
 use Rattle.plain.specs.views.NotesOutcome.{testedIf}
 use borrow.Author.Needs.{needs}

@@ -7,7 +7,7 @@ use denote.Ref.{now}
 use lib.ListN.{drop}
 use borrow.Author.Tests.{eq-eqb, ne-eqb}
 use Rattle.decision.specs.Path.{goTo}
-use Rattle.piece.specs.views.Cells.{unknownCode}
+use Rattle.codes.specs.views.Codes.{unknownCode}
 use Rattle.sheet_tests.specs.SheetTests.{place}
 use Rattle.graph.specs.views.Rewriting.{readOr}
 use Rattle.graph.specs.ReadGraph.{readCases}

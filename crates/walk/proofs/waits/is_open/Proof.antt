@@ -4,7 +4,7 @@ use Rattle.walk.specs.views.TestNumbers.{NearTest}
 use Rattle.walk.specs.views.CodeSteps.{openCells}
 use Rattle.decision.specs.Walk.{isNotKnown}
 use Rattle.outcomes.specs.views.CellOutcome.{outcomeOf}
-use Rattle.piece.specs.views.Cells.{unknownCode}
+use Rattle.codes.specs.views.Codes.{unknownCode}
 use lib.Dec.{eqb}
 use denote.Ref.{now}
 use native.Mathlib.Omega.{arith}

@@ -6,7 +6,7 @@ use mathlib.Core.List.{List}
 use Rattle.records.specs.Reading.{Reading, took, refused}
 use Rattle.decision.specs.Cases.{Case, symbolCase, compoundCase, numbersCase}
 use Rattle.decision.specs.Node.{CaseEdge}
-use Rattle.piece.specs.views.Cells.{symbolCode, compoundCode, numberCode}
+use Rattle.decision.specs.views.CaseCodes.{caseLow, caseHigh}
 use Rattle.graph.specs.declared.CaseRecord.{CaseRecord}
 use Rattle.graph.specs.declared.CaseRecord.the-variants.{Symbol, Compound, Numbers}
 use Rattle.node_check.specs.declared.CaseRange.{CaseRange}
@@ -14,20 +14,9 @@ use Rattle.node_check.specs.declared.CasesCheck.{CasesCheck}
 use Rattle.node_check.specs.declared.CasesCheck.the-variants.{Used, Refused}
 use Rattle.graph.specs.ReadGraph.{allInside, casesAscend}
 
--- The first and the last code that a case takes.
-abbrev pub firstCode : Case → ℕ
-firstCode (symbolCase a) = symbolCode a
-firstCode (compoundCase a n) = compoundCode a n
-firstCode (numbersCase l h) = numberCode l
-
-abbrev pub lastCode : Case → ℕ
-lastCode (symbolCase a) = symbolCode a
-lastCode (compoundCase a n) = compoundCode a n
-lastCode (numbersCase l h) = numberCode h
-
 -- The range of a case's record, with the node that it leads to and its bytes.
 abbrev pub rangeTo : Case → ℕ → ℕ → CaseRange
-rangeTo c n bytes = record { first = firstCode c; last = lastCode c; node = n; bytes = bytes }
+rangeTo c n bytes = record { first = caseLow c; last = caseHigh c; node = n; bytes = bytes }
 
 abbrev pub rangeOf : CaseRecord → CaseRange
 rangeOf (Symbol a n) = rangeTo (symbolCase a) n 5

@@ -1,0 +1,83 @@
+-- What a place test wants fits a term exactly where its run of codes holds the term's code.
+use Prim.Native.Nat.{ℕ, _≤_, _<_}
+use mathlib.Core.Path.{_≡_, refl, ap}
+use mathlib.Core.Bool.{Bool, true, false, _&&_}
+use native.Mathlib.Omega.{arith}
+use lib.Dec.{T, leb, eqb, leb→le, le→leb, eqb→eq}
+use Rattle.terms.specs.Term.{Terms, count, symbol, number, compound, Wide}
+use Rattle.terms.specs.RuleTests.{Want, aSymbol, aNumber, aCompound}
+use Rattle.terms.specs.Outcome.{known, fits}
+use Rattle.basics.proofs.Booleans.{both-true, true-both, same-truth}
+use Rattle.basics.proofs.Numbers.{eq-true}
+use Rattle.codes.specs.views.Codes.{symbolCode, compoundCode, numberCode, wantLow, wantHigh}
+use Rattle.codes.proofs.CodeOrder.{in-order}
+
+-- A run holds a code exactly where b is true.
+within
+    : (b : Bool) (low high code : ℕ) → (T b → (low ≤ code) × (code ≤ high)) → (low ≤ code → code ≤ high → T b)
+    → leb low code && leb code high ≡ b
+within b low high code to from =
+    same-truth (leb low code && leb code high) b
+    (λ h. let s = both-true (leb low code) (leb code high) h in from (leb→le low code (s .0)) (leb→le code high (s .1)))
+    (λ h. let s = to h in true-both (leb low code) (leb code high) (le→leb low code (s .0)) (le→leb code high (s .1)))
+
+-- It does not hold a code below it,
+pub under : (low high code : ℕ) → code < low → leb low code && leb code high ≡ false
+under low high code h = within false low high code (λ f. absurd f) (λ l u. absurd (omega arith))
+
+-- nor one above it.
+pub over : (low high code : ℕ) → high < code → leb low code && leb code high ≡ false
+over low high code h = within false low high code (λ f. absurd f) (λ l u. absurd (omega arith))
+
+-- The id and the arity of a want fit a record.
+abbrev pub WantFields : Want → Type 0
+WantFields (aSymbol a) = Wide a
+WantFields (aNumber l h) = Unit
+WantFields (aCompound a n) = Wide a × (n < 256)
+
+-- A want at a symbol,
+pub symbol-fits
+    : (w : Want) (b : ℕ) → WantFields w → Wide b
+    → known (leb (wantLow w) (symbolCode b) && leb (symbolCode b) (wantHigh w)) ≡ fits w (symbol b)
+symbol-fits (aSymbol a) b f ok =
+    ap known
+    (within (eqb a b) (symbolCode a) (symbolCode a) (symbolCode b)
+    (λ t. let same = eqb→eq a b t in (omega arith, omega arith)) (λ l u. eq-true a b (omega arith)))
+symbol-fits (aNumber l h) b f ok = ap known (under (numberCode l) (numberCode h) (symbolCode b) (omega arith))
+symbol-fits (aCompound a n) b f ok = ap known (under (compoundCode a n) (compoundCode a n) (symbolCode b) (omega arith))
+
+-- at a number,
+pub number-fits
+    : (w : Want) (b : ℕ) → WantFields w
+    → known (leb (wantLow w) (numberCode b) && leb (numberCode b) (wantHigh w)) ≡ fits w (number b)
+number-fits (aSymbol a) b f = ap known (over (symbolCode a) (symbolCode a) (numberCode b) (omega arith))
+number-fits (aNumber l h) b f = rw (in-order 0x3000000 l b, in-order 0x3000000 b h)
+number-fits (aCompound a n) b f =
+    ap known (over (compoundCode a n) (compoundCode a n) (numberCode b) (omega (arith, f .0, f .1)))
+
+-- and at a compound.
+pub compound-fits
+    : (w : Want) (b : ℕ) (ts : Terms) → WantFields w → Wide b → count ts ≤ 4
+    → known (leb (wantLow w) (compoundCode b (count ts)) && leb (compoundCode b (count ts)) (wantHigh w))
+    ≡ fits w (compound b ts)
+compound-fits (aSymbol a) b ts f ok few =
+    ap known (over (symbolCode a) (symbolCode a) (compoundCode b (count ts)) (omega arith))
+compound-fits (aNumber l h) b ts f ok few =
+    ap known (under (numberCode l) (numberCode h) (compoundCode b (count ts)) (omega arith))
+compound-fits (aCompound a n) b ts f ok few =
+    let least = f .1 in
+    ap known
+    (within (eqb a b && eqb n (count ts)) (compoundCode a n) (compoundCode a n) (compoundCode b (count ts))
+    (λ t.
+    let both = both-true (eqb a b) (eqb n (count ts)) t in
+    let same = eqb→eq a b (both .0) in
+    let same-arity = eqb→eq n (count ts) (both .1) in
+    (omega arith, omega arith))
+    (λ l u. true-both (eqb a b) (eqb n (count ts)) (eq-true a b (omega arith)) (eq-true n (count ts) (omega arith))))
+
+-- A test is what its outcome says.
+pub same-known : (a b : Bool) → known a ≡ known b → a ≡ b
+same-known true true e = refl
+same-known true false e = cc
+same-known false true e = cc
+same-known false false e = refl

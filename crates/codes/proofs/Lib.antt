@@ -1,0 +1,3 @@
+-- The laws of codes.
+pub mod CodeOrder
+pub mod FitCodes

@@ -1,0 +1,2 @@
+-- The numbers that stand for terms.
+pub mod views
