@@ -5,47 +5,36 @@ use crate::Leaf;
 use crate::NodeHead;
 use crate::NodeRecord;
 ghost use mathlib.Core.Path.{_≡_};
-ghost use Rattle.graph.specs.views.NodeRecord.{nodeHead, executeHead, switchHead, pairHead, nodeRefusal};
+ghost use Prim.Native.Nat.{_≤_};
+ghost use lib.ListN.{length};
+ghost use Rattle.graph.specs.views.NodeRecord.{nodeHead, switchRecord, pairRecord, nodeRefusal};
 ghost use Rattle.graph.specs.views.NodeRecord.{caseHead, symbolHead, compoundHead, numbersHead, caseRefusal};
 
-// An execute that the input begins with.
-fn execute_head(s: &[u8]) -> NodeHead
-    ensures { λ r. ⌜ r ≡ executeHead (now (s .entry)) ⌝ }
+// The switch that the input begins with, whose bytes are there. Not with its unknown for its neither, nor the low byte of a field
+// before the high one.
+fn switch_record(s: &[u8]) -> NodeRecord
+    requires { ⌜ 8 ≤ length (now s) ⌝ }
+    ensures { λ r. ⌜ r ≡ switchRecord (now (s .entry)) ⌝ }
 {
-    if s.len() < 2 {
-        return NodeHead::Refused(22);
-    }
-    NodeHead::Whole(NodeRecord::End(Leaf::Execute(s[1])))
-}
-
-// A switch that the input begins with.
-fn switch_head(s: &[u8]) -> NodeHead
-    ensures { λ r. ⌜ r ≡ switchHead (now (s .entry)) ⌝ }
-{
-    if s.len() < 8 {
-        return NodeHead::Refused(22);
-    }
-    NodeHead::Whole(NodeRecord::Switch(
+    NodeRecord::Switch(
         records::wide(s[1], s[2]),
         s[3],
         records::wide(s[4], s[5]),
         records::wide(s[6], s[7]),
-    ))
+    )
 }
 
-// A pair that the input begins with.
-fn pair_head(s: &[u8]) -> NodeHead
-    ensures { λ r. ⌜ r ≡ pairHead (now (s .entry)) ⌝ }
+// The pair that the input begins with, whose bytes are there. Not with its places exchanged, nor its nodes.
+fn pair_record(s: &[u8]) -> NodeRecord
+    requires { ⌜ 9 ≤ length (now s) ⌝ }
+    ensures { λ r. ⌜ r ≡ pairRecord (now (s .entry)) ⌝ }
 {
-    if s.len() < 9 {
-        return NodeHead::Refused(22);
-    }
-    NodeHead::Whole(NodeRecord::Pair(
+    NodeRecord::Pair(
         records::wide(s[1], s[2]),
         records::wide(s[3], s[4]),
         records::wide(s[5], s[6]),
         records::wide(s[7], s[8]),
-    ))
+    )
 }
 
 // The node record that the input begins with. A reader that takes a switch's neither for its unknown, or the kind of a case for a
@@ -57,14 +46,32 @@ pub fn node_head(s: &[u8]) -> NodeHead
         return NodeHead::Refused(22);
     }
     let kind = s[0];
-    match kind {
-        0x40 => NodeHead::Whole(NodeRecord::End(Leaf::Fail)),
-        0x41 => NodeHead::Whole(NodeRecord::End(Leaf::Suspend)),
-        0x42 => execute_head(s),
-        0x43 => switch_head(s),
-        0x47 => pair_head(s),
-        0..=0x3f | 0x44..=0x46 | 0x48..=255 => NodeHead::Refused(22),
-    }
+    let node = match kind {
+        0x40 => NodeRecord::End(Leaf::Fail),
+        0x41 => NodeRecord::End(Leaf::Suspend),
+        0x42 => {
+            if s.len() < 2 {
+                return NodeHead::Refused(22);
+            }
+            NodeRecord::End(Leaf::Execute(s[1]))
+        }
+        0x43 => {
+            if s.len() < 8 {
+                return NodeHead::Refused(22);
+            }
+            switch_record(s)
+        }
+        0x47 => {
+            if s.len() < 9 {
+                return NodeHead::Refused(22);
+            }
+            pair_record(s)
+        }
+        0..=0x3f | 0x44..=0x46 | 0x48..=255 => {
+            return NodeHead::Refused(22);
+        }
+    };
+    NodeHead::Whole(node)
 }
 
 // A symbol case that the input begins with.

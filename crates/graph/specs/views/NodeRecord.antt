@@ -30,26 +30,23 @@ abbrev pub wholeCase : Bool → CaseRecord → CaseHead
 wholeCase true r = case.Whole r
 wholeCase false r = case.Refused 22
 
--- "42 execute (rule, from 1)", "43 switch (wide place, number of cases, wide node for neither, wide node for unknown)", "47 pair
--- (wide place p, wide place q, wide node for no, wide node for other)".
-abbrev pub executeHead : List ℕ → NodeHead
-executeHead s = wholeNode (leb 2 (length s)) (End (Execute (getD s 1 0)))
+-- "43 switch (wide place, number of cases, wide node for neither, wide node for unknown)", "47 pair (wide place p, wide place q,
+-- wide node for no, wide node for other)".
+abbrev pub switchRecord : List ℕ → NodeRecord
+switchRecord s = Switch (wideAt s 1) (getD s 3 0) (wideAt s 4) (wideAt s 6)
 
-abbrev pub switchHead : List ℕ → NodeHead
-switchHead s = wholeNode (leb 8 (length s)) (Switch (wideAt s 1) (getD s 3 0) (wideAt s 4) (wideAt s 6))
+abbrev pub pairRecord : List ℕ → NodeRecord
+pairRecord s = Pair (wideAt s 1) (wideAt s 3) (wideAt s 5) (wideAt s 7)
 
-abbrev pub pairHead : List ℕ → NodeHead
-pairHead s = wholeNode (leb 9 (length s)) (Pair (wideAt s 1) (wideAt s 3) (wideAt s 5) (wideAt s 7))
-
--- "The node of kind 40 to 43 or 47".
+-- "The node of kind 40 to 43 or 47": "40 fail", "41 suspend", "42 execute (rule, from 1)".
 abbrev pub nodeHead : List ℕ → NodeHead
 nodeHead s =
     cond (eqb (length s) 0) (Refused 22)
     (cond (eqb (getD s 0 0) 0x40) (Whole (End Fail))
     (cond (eqb (getD s 0 0) 0x41) (Whole (End Suspend))
-    (cond (eqb (getD s 0 0) 0x42) (executeHead s)
-    (cond (eqb (getD s 0 0) 0x43) (switchHead s)
-    (cond (eqb (getD s 0 0) 0x47) (pairHead s)
+    (cond (eqb (getD s 0 0) 0x42) (wholeNode (leb 2 (length s)) (End (Execute (getD s 1 0))))
+    (cond (eqb (getD s 0 0) 0x43) (wholeNode (leb 8 (length s)) (switchRecord s))
+    (cond (eqb (getD s 0 0) 0x47) (wholeNode (leb 9 (length s)) (pairRecord s))
     (Refused 22))))))
 
 -- "44 symbol (wide id, wide node), 45 compound (wide id, arity, wide node), 46 numbers (wide low, wide high, wide node)".
