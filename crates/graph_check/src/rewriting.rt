@@ -2,6 +2,7 @@
 use crate::GraphHeader;
 use crate::Rewrote;
 use crate::check::graph_header;
+use node_check::Copied;
 ghost use Prim.Native.Nat.{_+_, _≤_};
 ghost use mathlib.Core.Path.{_≡_};
 ghost use mathlib.Core.List.{[], _++_};
@@ -9,15 +10,16 @@ ghost use lib.ListN.{length, drop};
 ghost use Rattle.records.specs.Writing.{splice};
 ghost use Rattle.decision.specs.GraphBytes.{nodesBytes};
 ghost use Rattle.graph.specs.views.Rewriting.{IsTook, readOr, readRecords};
+ghost use Rattle.node_check.specs.declared.Copied.the-variants.{To};
 ghost use Rattle.graph_check.specs.Rewritten.{leftBy, rewritten};
 ghost use Rattle.graph_check.specs.views.Header.{headerBytes};
 
 // The header and the nodes of a graph at the front of a buffer that has room for them, and the position behind them.
-fn write_graph(g: &[u8], buffer: &mut [u8], arity: u8, rules: u8, nodes: u16) -> usize
+fn write_graph(g: &[u8], buffer: &mut [u8], arity: u8, rules: u8, nodes: u16) -> Copied
     requires { ⌜ (5 ≤ length (now g)) × (length (now g) ≤ length (now buffer)) × IsTook (readRecords nodes (drop 5 (now g))) ⌝ }
     ensures { λ r. ⌜ (r
-        ≡ length (headerBytes arity rules nodes
-        ++ nodesBytes (readOr [] (readRecords nodes (drop 5 (now (g .entry)))))))
+        ≡ To (length (headerBytes arity rules nodes
+        ++ nodesBytes (readOr [] (readRecords nodes (drop 5 (now (g .entry))))))))
         × (now (buffer .exit)
         ≡ splice (now (buffer .entry)) 0 (headerBytes arity rules nodes
         ++ nodesBytes (readOr [] (readRecords nodes (drop 5 (now (g .entry))))))) ⌝ }
@@ -48,8 +50,11 @@ pub fn rewrite(sheet: &[u8], graph: &[u8], buffer: &mut [u8]) -> Rewrote
             if buffer.len() < graph.len() {
                 return Rewrote::Refused(19);
             }
-            let end = write_graph(graph, buffer, arity, rules, nodes);
-            Rewrote::Written(end as u32)
+            let copied = write_graph(graph, buffer, arity, rules, nodes);
+            match copied {
+                Copied::Refused(q) => Rewrote::Refused(q),
+                Copied::To(end) => Rewrote::Written(end as u32),
+            }
         }
     }
 }

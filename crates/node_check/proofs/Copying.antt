@@ -13,8 +13,19 @@ use Rattle.records.proofs.Rows.{row-none, row-next, row-refused}
 use Rattle.records.proofs.Writing.{splice-none, splice-more, splice-length}
 use Rattle.basics.specs.Lists.{All}
 use Rattle.graph.specs.views.Rewriting.{IsTook, readOr}
+use Rattle.node_check.specs.declared.Copied.{Copied}
+use Rattle.node_check.specs.declared.Copied.the-variants.{To, Refused}
 use Rattle.graph.proofs.Spelling.{Spelled, begins-read, begins-length}
 use Rattle.records.proofs.ByteLists.{bytes-drop}
+
+-- Where a copy ends,
+abbrev pub endOf : Copied → ℕ
+endOf (To n) = n
+endOf (Refused q) = 0
+
+-- and one that ends somewhere is not refused.
+pub not-refused : {n q : ℕ} → To n ≡ Refused q → ⊥
+not-refused e = let z : _≡_ {A = ℕ} 0 1 = cc in absurd (omega arith)
 
 -- What was read behind something else.
 pub after-took : {A B : Type 0} (a : ℕ) (f : A → B) (r : Reading A) → IsTook (after a f r) → IsTook r
@@ -40,7 +51,7 @@ module _ {A : Type 0} (one : List ℕ → Reading A) (row : List A → List ℕ)
   bytesAt n at = row (readOr [] (readRow [] _∷_ one n (drop at s)))
 
   -- Of count things from start on i were written, up to a position: the rest, written there, completes them.
-  pub record Copied (start count : ℕ) (before buf : List ℕ) (at i : ℕ) : Type 0 where
+  pub record PartCopied (start count : ℕ) (before buf : List ℕ) (at i : ℕ) : Type 0 where
     pub fewer : i ≤ count
     pub there : at ≤ length s
     pub fits : length s ≤ length buf
@@ -51,7 +62,7 @@ module _ {A : Type 0} (one : List ℕ → Reading A) (row : List A → List ℕ)
   -- Before the first nothing was written.
   pub copied-starts
       : (start count : ℕ) (buf : List ℕ) → start ≤ length s → length s ≤ length buf
-      → IsTook (readRow [] _∷_ one count (drop start s)) → Copied start count buf buf start 0
+      → IsTook (readRow [] _∷_ one count (drop start s)) → PartCopied start count buf buf start 0
   copied-starts start count buf there fits left =
       let none : count ≡ count - 0 = omega arith in
       record {
@@ -68,7 +79,7 @@ module _
     (row : List A → List ℕ) (none : row [] ≡ []) (more : (x : A) (xs : List A) → row (x ∷ xs) ≡ bytes x ++ row xs)
     {s : List ℕ} (h : All IsByte s)
   where
-    module _ {start count : ℕ} {before buf : List ℕ} {at i : ℕ} (c : Copied one row s start count before buf at i) where
+    module _ {start count : ℕ} {before buf : List ℕ} {at i : ℕ} (c : PartCopied one row s start count before buf at i) where
       -- After the last all are written.
       pub copied-ends
           : count ≤ i → (at ≡ start + length (bytesAt one row s count start)) × (buf ≡ splice before start (bytesAt one row s count start))
@@ -124,7 +135,7 @@ module _
           -- One more is written.
           pub copied-next
               : {buf′ : List ℕ} {at′ : ℕ} → at′ ≡ at + length (bytes x) → buf′ ≡ splice buf at (bytes x)
-              → Copied one row s start count before buf′ at′ (i + 1)
+              → PartCopied one row s start count before buf′ at′ (i + 1)
           copied-next {buf′} {at′} e-at e-buf =
               let here : at + a ≡ at′ = sym (e-at ∙ ap (λ (n : ℕ). at + n) size-first) in
               let at-back = sym e-at in

@@ -23,6 +23,12 @@ pub enum CasesCheck {
     Refused(u8),
 }
 
+// The copy of records: it ends at this byte, or the number of the question that got a no.
+pub enum Copied {
+    To(usize),
+    Refused(u8),
+}
+
 // The check of nodes: they end at this byte, or the number of the question that got a no.
 pub enum NodeCheck {
     Used(usize),

@@ -4,6 +4,7 @@ use native.Mathlib.Omega.{arith}
 use denote.Ref.{now}
 use lib.ListN.{length}
 use Rattle.records.proofs.ByteLists.{bytes-all}
+use Rattle.node_check.proofs.Copying.{endOf, not-refused}
 use Rattle.graph_check.proofs.Headers.{header-of}
 use Rattle.graph_check.proofs.WrittenAgain.{rewrite-refused, rewrite-large, rewrite-written, graph-whole, graph-small, records-there, again-size}
 use borrow.Author.Needs.{needs}
@@ -40,15 +41,21 @@ write-graph-requires c κs =
     let h = header-of s g (sym (ap (fieldsRead (length g)) (c .before .before .before .header2 .given .1)) ∙ c .before .before .before .before .before .graph-header .ensures) in
     (graph-whole s g s-bytes g-bytes h, c .before .if1 .left, records-there s g s-bytes g-bytes h)
 
-cast-t16 : tie.Need-cast-t16
-cast-t16 c =
-    let a = c .before .before .before .before .before .before .before .before .before .before .before .before .args in
+enum-known-copied : tie.Need-enum-known-copied
+enum-known-copied c = search needs
+
+enum-known-copied-2 : tie.Need-enum-known-copied-2
+enum-known-copied-2 c = search needs
+
+cast-t19 : tie.Need-cast-t19
+cast-t19 c =
+    let a = c .before .before .before .before .before .before .before .before .before .before .before .before .before .before .before .args in
     let s = now (a .sheet) in
     let g = now (a .graph) in
-    let s-bytes = bytes-all s (λ i. omega (arith, c .before .before .before .before .before .before .before .before .before .before .before .shared-slice-known .given i)) in
-    let g-bytes = bytes-all g (λ i. omega (arith, c .before .before .before .before .before .before .before .before .before .before .shared-slice-known2 .given i)) in
-    let h = header-of s g (sym (ap (fieldsRead (length g)) (c .before .before .before .before .before .before .header2 .given .1)) ∙ c .before .before .before .before .before .before .before .before .graph-header .ensures) in
-    omega (arith, c .before .before .write-graph .ensures .0, again-size s g s-bytes g-bytes h, graph-small s g s-bytes g-bytes h)
+    let s-bytes = bytes-all s (λ i. omega (arith, c .before .before .before .before .before .before .before .before .before .before .before .before .before .before .shared-slice-known .given i)) in
+    let g-bytes = bytes-all g (λ i. omega (arith, c .before .before .before .before .before .before .before .before .before .before .before .before .before .shared-slice-known2 .given i)) in
+    let h = header-of s g (sym (ap (fieldsRead (length g)) (c .before .before .before .before .before .before .before .before .before .header2 .given .1)) ∙ c .before .before .before .before .before .before .before .before .before .before .before .graph-header .ensures) in
+    omega (arith, ap endOf (sym (c .before .copied2 .given .1) ∙ c .before .before .before .before .before .write-graph .ensures .0), again-size s g s-bytes g-bytes h, graph-small s g s-bytes g-bytes h)
 
 returns-2 : tie.Need-returns-2
 returns-2 c =
@@ -61,14 +68,20 @@ same-length : tie.Need-same-length
 same-length c = search needs
 
 returns-3 : tie.Need-returns-3
-returns-3 c =
-    let a = c .before .before .before .before .before .before .before .before .before .before .before .before .args in
+returns-3 c = absurd (not-refused (sym (c .before .before .before .before .before .write-graph .ensures .0) ∙ c .before .copied .given .1))
+
+same-length-2 : tie.Need-same-length-2
+same-length-2 c = search needs
+
+returns-4 : tie.Need-returns-4
+returns-4 c =
+    let a = c .before .before .before .before .before .before .before .before .before .before .before .before .before .before .before .args in
     let s = now (a .sheet) in
     let g = now (a .graph) in
-    let s-bytes = bytes-all s (λ i. omega (arith, c .before .before .before .before .before .before .before .before .before .before .before .shared-slice-known .given i)) in
-    let g-bytes = bytes-all g (λ i. omega (arith, c .before .before .before .before .before .before .before .before .before .before .shared-slice-known2 .given i)) in
-    let h = header-of s g (sym (ap (fieldsRead (length g)) (c .before .before .before .before .before .before .header2 .given .1)) ∙ c .before .before .before .before .before .before .before .before .graph-header .ensures) in
-    rewrite-written s g s-bytes g-bytes h (now (a .buffer)) (c .before .before .before .before .if1 .left) (c .before .before .write-graph .ensures .0) (c .before .before .write-graph .ensures .1)
+    let s-bytes = bytes-all s (λ i. omega (arith, c .before .before .before .before .before .before .before .before .before .before .before .before .before .before .shared-slice-known .given i)) in
+    let g-bytes = bytes-all g (λ i. omega (arith, c .before .before .before .before .before .before .before .before .before .before .before .before .before .shared-slice-known2 .given i)) in
+    let h = header-of s g (sym (ap (fieldsRead (length g)) (c .before .before .before .before .before .before .before .before .before .header2 .given .1)) ∙ c .before .before .before .before .before .before .before .before .before .before .before .graph-header .ensures) in
+    rewrite-written s g s-bytes g-bytes h (now (a .buffer)) (c .before .before .before .before .before .before .before .if1 .left) (ap endOf (sym (c .before .copied2 .given .1) ∙ c .before .before .before .before .before .write-graph .ensures .0)) (c .before .before .before .before .before .write-graph .ensures .1)
 
 pub rewrite-spec : {M : Type 1} → statement M
 rewrite-spec =
@@ -79,7 +92,11 @@ rewrite-spec =
     enum-known-header-2
     returns
     write-graph-requires
-    cast-t16
+    enum-known-copied
+    enum-known-copied-2
+    cast-t19
     returns-2
     same-length
-    returns-3)
+    returns-3
+    same-length-2
+    returns-4)

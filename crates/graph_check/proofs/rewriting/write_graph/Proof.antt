@@ -1,12 +1,13 @@
 -- The header, and behind it the nodes.
-use Prim.Native.Nat.{ℕ}
-use mathlib.Core.Path.{_≡_, sym, ap, subst}
+use Prim.Native.Nat.{ℕ, _+_}
+use mathlib.Core.Path.{_≡_, refl, sym, ap, subst, _∙_}
 use mathlib.Core.List.{List, [], _++_}
 use native.Mathlib.Omega.{arith}
 use denote.Ref.{now}
-use lib.ListN.{drop}
+use lib.ListN.{length, drop}
 use Rattle.decision.specs.GraphBytes.{nodesBytes}
 use Rattle.graph.specs.views.Rewriting.{IsTook, readOr, readRecords}
+use Rattle.node_check.specs.declared.Copied.the-variants.{To}
 use Rattle.node_check.proofs.CopiedNodes.{both-written}
 use borrow.Author.Needs.{needs}
 use Rattle.graph_check.proofs.rewriting.write_graph.Statement.{statement}
@@ -46,8 +47,9 @@ returns c =
     let first = headerBytes (a .arity) (a .rules) (a .nodes) in
     let nodes : ℕ → List ℕ = λ n. nodesBytes (readOr [] (readRecords (a .nodes) (drop n g))) in
     let header = simp (c .before .before .before .before .before .before .before .before .before .high .ensures, c .before .before .before .before .before .before .before .before .low .ensures) at (c .before .before .before .before .before .before .put .ensures) in
-    let both = both-written (now (a .buffer)) 0 first (nodes (c .before .before .before .before .before .before .put .result)) (omega (arith, c .before .before .before .before .before .before .before .before .before .before .before .before .before .pre .0, c .before .before .before .before .before .before .before .before .before .before .before .before .before .pre .1)) (header .0) (header .1) (c .before .before .copy-nodes .ensures .0) (c .before .before .copy-nodes .ensures .1) (ap (λ (n : ℕ). first ++ nodes n) at) in
-    (omega (arith, both .0), both .1)
+    let both = both-written (now (a .buffer)) 0 first (nodes (c .before .before .before .before .before .before .put .result)) (omega (arith, c .before .before .before .before .before .before .before .before .before .before .before .before .before .pre .0, c .before .before .before .before .before .before .before .before .before .before .before .before .before .pre .1)) (header .0) (header .1) refl (c .before .before .copy-nodes .ensures .1) (ap (λ (n : ℕ). first ++ nodes n) at) in
+    let size : c .before .before .before .before .before .before .put .result + length (nodes (c .before .before .before .before .before .before .put .result)) ≡ length (first ++ nodes 5) = omega (arith, both .0) in
+    (c .before .before .copy-nodes .ensures .0 ∙ ap To size, both .1)
 
 pub write-graph-spec : {M : Type 1} → statement M
 write-graph-spec =

@@ -1,6 +1,7 @@
 -- `graph::rewrite::copy_cases` meets its contract: the cases that are left, written behind those that were, complete them.
+use Rattle.node_check.specs.declared.Copied.the-variants.{To}
 use Rattle.node_check.proofs.CopiedRecords.{edge-read, edge-bytes}
-use Rattle.node_check.proofs.Copying.{Copied, copied-starts, copied-first, copied-fits, copied-next, copied-ends}
+use Rattle.node_check.proofs.Copying.{PartCopied, copied-starts, copied-first, copied-fits, copied-next, copied-ends}
 use Rattle.node_check.proofs.CasesPass.{case-refused}
 use Rattle.graph.proofs.SpelledCases.{edgeBytes, EdgeFields, case-spelled}
 use Rattle.graph.specs.views.NodeRecord.{caseHead}
@@ -21,7 +22,7 @@ use Rattle.records.proofs.ByteLists.{bytes-all}
 
 abbrev Inv-loop : tie.InvT-loop
 Inv-loop s buf₀ start count at₀ i₀ buf at i =
-    (length buf ≡ length buf₀) × Copied readCase casesBytes s start count buf₀ buf at i
+    (length buf ≡ length buf₀) × PartCopied readCase casesBytes s start count buf₀ buf at i
 
 abbrev μ-loop : tie.MeasureT-loop
 μ-loop s buf₀ start count at₀ i₀ buf at i = count - i
@@ -49,17 +50,20 @@ enum-known-head c = search needs
 enum-told : tie.Need-enum-told Inv-loop μ-loop
 enum-told c = search needs
 
+case-refusal-requires : tie.Need-case-refusal-requires Inv-loop μ-loop
+case-refusal-requires c κs = search needs
+
 same-length : tie.Need-same-length Inv-loop μ-loop
-same-length c = c .before .before .before .before .before .loop .inv .0
+same-length c = c .before .before .before .before .before .before .loop .inv .0
 
 returns : tie.Need-returns Inv-loop μ-loop
 returns c =
-    let a = c .before .before .before .before .before .before .before .before .args in
+    let a = c .before .before .before .before .before .before .before .before .before .args in
     let s = now (a .s) in
-    let loop = c .before .before .before .before .before .loop in
-    let h = bytes-all s (λ i. omega (arith, c .before .before .before .before .before .before .before .shared-slice-known .given i)) in
+    let loop = c .before .before .before .before .before .before .loop in
+    let h = bytes-all s (λ i. omega (arith, c .before .before .before .before .before .before .before .before .shared-slice-known .given i)) in
     let copied = loop .inv .1 in
-    absurd (copied-first edgeBytes EdgeFields readCase case-spelled casesBytes refl (λ c cs. refl) h copied (c .before .before .before .before .loop-test .taken) (case-refused (drop (loop .at) s) (ap caseHead (sym (rest s (loop .at))) ∙ sym (c .before .before .case-head .ensures) ∙ c .enum-told .given .1)))
+    absurd (copied-first edgeBytes EdgeFields readCase case-spelled casesBytes refl (λ c cs. refl) h copied (c .before .before .before .before .before .loop-test .taken) (case-refused (drop (loop .at) s) (ap caseHead (sym (rest s (loop .at))) ∙ sym (c .before .before .before .case-head .ensures) ∙ c .before .enum-told .given .1)))
 
 put-case-requires : tie.Need-put-case-requires Inv-loop μ-loop
 put-case-requires c κs =
@@ -104,7 +108,8 @@ returns-2 c =
     let loop = c .before .loop in
     let h = bytes-all s (λ i. omega (arith, c .before .before .before .shared-slice-known .given i)) in
     let copied = loop .inv .1 in
-    copied-ends edgeBytes EdgeFields readCase case-spelled casesBytes refl (λ c cs. refl) h copied (c .loop-test .left)
+    let ends = copied-ends edgeBytes EdgeFields readCase case-spelled casesBytes refl (λ c cs. refl) h copied (c .loop-test .left) in
+    (ap To (ends .0), ends .1)
 
 pub copy-cases-spec : {M : Type 1} → statement M
 copy-cases-spec =
@@ -119,6 +124,7 @@ copy-cases-spec =
     case-head-requires
     enum-known-head
     enum-told
+    case-refusal-requires
     same-length
     returns
     put-case-requires

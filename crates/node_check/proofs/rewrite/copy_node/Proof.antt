@@ -1,4 +1,5 @@
 -- `graph::rewrite::copy_node` meets its contract, for each kind of node.
+use Rattle.node_check.specs.declared.Copied.the-variants.{To}
 use Rattle.node_check.proofs.CopiedNodes.{both-written, node-there, leaf-bytes, pair-bytes, cases-there, switch-bytes}
 use Rattle.node_check.proofs.NodeHeads.{node-fits}
 use Rattle.decision.specs.GraphBytes.{casesBytes}
@@ -16,7 +17,7 @@ use lib.ListN.{length, drop, length-drop}
 use Prim.Native.Nat.{_+_}
 use denote.Ref.{now}
 use native.Mathlib.Omega.{arith}
-use mathlib.Core.Path.{_≡_, sym, ap, subst, _∙_}
+use mathlib.Core.Path.{_≡_, refl, sym, ap, subst, _∙_}
 use borrow.Author.Needs.{needs}
 use Rattle.node_check.proofs.rewrite.copy_node.Statement.{statement}
 use Rattle.node_check.proofs.rewrite.copy_node.Tie as tie
@@ -40,11 +41,14 @@ enum-known-head c = search needs
 enum-told : tie.Need-enum-told
 enum-told c = search needs
 
+node-refusal-requires : tie.Need-node-refusal-requires
+node-refusal-requires c κs = search needs
+
 returns : tie.Need-returns
 returns c =
-    let a = c .before .before .before .before .before .before .args in
+    let a = c .before .before .before .before .before .before .before .args in
     let s = drop (a .start) (now (a .s)) in
-    absurd (node-there s (c .before .before .before .before .before .before .pre .2) (ap nodeHead (sym (rest (now (a .s)) (a .start))) ∙ sym (c .before .before .node-head .ensures) ∙ c .enum-told .given .1))
+    absurd (node-there s (c .before .before .before .before .before .before .before .pre .2) (ap nodeHead (sym (rest (now (a .s)) (a .start))) ∙ sym (c .before .before .before .node-head .ensures) ∙ c .before .enum-told .given .1))
 
 put-node-requires : tie.Need-put-node-requires
 put-node-requires c κs =
@@ -86,7 +90,7 @@ returns-2 c =
     let s = drop (a .start) (now (a .s)) in
     let same = leaf-bytes s (c .enum-told2 .given .0 .0) (ap nodeHead (sym (rest (now (a .s)) (a .start))) ∙ sym (c .before .before .before .before .before .before .before .before .before .node-head .ensures) ∙ c .before .before .before .before .before .before .before .head .given .1 ∙ ap Whole (c .enum-told2 .given .1)) in
     let bytes = ap nodeRecordBytes (c .enum-told2 .given .1) ∙ same in
-    (c .before .before .before .before .put-node .ensures .0 ∙ ap (λ l. a .start + length l) bytes, c .before .before .before .before .put-node .ensures .1 ∙ ap (splice (now (a .buf)) (a .start)) bytes)
+    (ap To (c .before .before .before .before .put-node .ensures .0 ∙ ap (λ l. a .start + length l) bytes), c .before .before .before .before .put-node .ensures .1 ∙ ap (splice (now (a .buf)) (a .start)) bytes)
 
 same-length-2 : tie.Need-same-length-2
 same-length-2 c = c .before .buf2 .given ∙ c .before .before .before .before .before .before .before .before .buf .given
@@ -104,11 +108,12 @@ returns-3 c =
     let h = bytes-drop (a .start) (now (a .s)) (bytes-all (now (a .s)) (λ i. omega (arith, c .before .before .before .before .before .before .before .before .before .before .before .before .before .before .before .before .before .shared-slice-known .given i))) in
     let record-bytes = ap nodeRecordBytes (c .before .before .before .before .before .node .given .1) in
     let cases = ap (λ l. casesBytes (readOr [] (readCases (g .1 .0) l))) (sym behind) in
-    both-written (now (a .buf)) (a .start) (nodeRecordBytes (Switch (g .0) (g .1 .0) (g .1 .1 .0) (g .1 .1 .1 .0))) (casesBytes (readOr [] (readCases (g .1 .0) (drop 8 s))))
+    let both = both-written (now (a .buf)) (a .start) (nodeRecordBytes (Switch (g .0) (g .1 .0) (g .1 .1 .0) (g .1 .1 .1 .0))) (casesBytes (readOr [] (readCases (g .1 .0) (drop 8 s))))
     (omega (arith, fits, length-drop (a .start) (now (a .s)), c .before .before .before .before .before .before .before .before .before .before .before .before .before .before .before .before .before .before .pre .0, c .before .before .before .before .before .before .before .before .before .before .before .before .before .before .before .before .before .before .pre .1)) at
     (c .before .before .before .before .before .before .before .before .before .put-node .ensures .1 ∙ ap (splice (now (a .buf)) (a .start)) record-bytes)
-    (c .before .before .copy-cases .ensures .0 ∙ ap (λ l. c .before .before .before .before .before .before .before .before .before .put-node .result + length l) cases)
-    (c .before .before .copy-cases .ensures .1 ∙ ap (splice (c .before .before .before .before .before .before .before .before .before .put-node .last .0) (c .before .before .before .before .before .before .before .before .before .put-node .result)) cases) (switch-bytes s told (c .before .before .before .before .before .before .before .before .before .before .before .before .before .before .before .before .before .before .pre .2) h)
+    refl
+    (c .before .before .copy-cases .ensures .1 ∙ ap (splice (c .before .before .before .before .before .before .before .before .before .put-node .last .0) (c .before .before .before .before .before .before .before .before .before .put-node .result)) cases) (switch-bytes s told (c .before .before .before .before .before .before .before .before .before .before .before .before .before .before .before .before .before .before .pre .2) h) in
+    (c .before .before .copy-cases .ensures .0 ∙ ap To (ap (λ l. c .before .before .before .before .before .before .before .before .before .put-node .result + length l) cases ∙ both .0), both .1)
 
 same-length-3 : tie.Need-same-length-3
 same-length-3 c = c .before .before .before .buf .given
@@ -119,7 +124,7 @@ returns-4 c =
     let s = drop (a .start) (now (a .s)) in
     let same = pair-bytes s (ap nodeHead (sym (rest (now (a .s)) (a .start))) ∙ sym (c .before .before .before .before .before .before .before .before .before .node-head .ensures) ∙ c .before .before .before .before .before .before .before .head .given .1 ∙ ap Whole (c .enum-told3 .given .1)) in
     let bytes = ap nodeRecordBytes (c .enum-told3 .given .1) ∙ same in
-    (c .before .before .before .before .put-node .ensures .0 ∙ ap (λ l. a .start + length l) bytes, c .before .before .before .before .put-node .ensures .1 ∙ ap (splice (now (a .buf)) (a .start)) bytes)
+    (ap To (c .before .before .before .before .put-node .ensures .0 ∙ ap (λ l. a .start + length l) bytes), c .before .before .before .before .put-node .ensures .1 ∙ ap (splice (now (a .buf)) (a .start)) bytes)
 
 pub copy-node-spec : {M : Type 1} → statement M
 copy-node-spec =
@@ -131,6 +136,7 @@ copy-node-spec =
     node-head-requires
     enum-known-head
     enum-told
+    node-refusal-requires
     returns
     put-node-requires
     enum-told-2
