@@ -4,7 +4,7 @@ use mathlib.Core.Path.{_≡_, refl, sym, ap, subst, _∙_}
 use mathlib.Core.Bool.{Bool, true, false, cond}
 use mathlib.Core.Logic.{_⊎_}
 use mathlib.Core.List.{List, []}
-use mathlib.Core.Option.{none}
+use mathlib.Core.Option.{some, none}
 use native.Mathlib.Omega.{arith}
 use lib.Dec.{leb, eqb}
 use lib.ListN.{length, drop, length-drop}
@@ -18,7 +18,7 @@ use Rattle.outcomes.proofs.TwoTests.{one-is, none-is}
 use Rattle.outcomes.proofs.PairCells.{one-lacking}
 use Rattle.decision.specs.Key.{failNode}
 use Rattle.decision.specs.Node.{Node, CaseEdge, end, switch, pairNode}
-use Rattle.decision.specs.Path.{noWay, goTo, byComparison}
+use Rattle.decision.specs.Path.{Step, noWay, goTo, byComparison}
 use Rattle.decision.specs.Walk.{isNotKnown}
 use Rattle.graph.specs.declared.Leaf.{Leaf}
 use Rattle.graph.specs.declared.Leaf.the-variants.{Fail, Suspend, Execute}
@@ -29,36 +29,51 @@ use Rattle.graph.specs.ReadGraph.{readCases, readRecord}
 use Rattle.graph.specs.views.Rewriting.{IsTook, readOr}
 use Rattle.node_check.proofs.NodeHeads.{node-fits}
 use Rattle.node_check.proofs.CopiedNodes.{cases-there}
+use Rattle.walk.specs.declared.Led.{Led}
+use Rattle.walk.specs.declared.Led.the-variants.{To, Refused}
 use Rattle.walk.specs.views.CodeSteps.{followCode, codeStep, codesStep, openIf}
 use Rattle.graph.proofs.ByKinds.{node-read-by}
+
+-- A step that is handed back is the one that happens,
+pub same-step : {s t : Step ℕ} → some s ≡ some t → s ≡ t
+same-step e = cc
+
+-- and no record is refused where one happens.
+pub no-step : {s : Step ℕ} → none ≡ some s → ⊥
+no-step e = let z : _≡_ {A = ℕ} 0 1 = cc in absurd (omega arith)
+
+-- The node that the cases of a switch lead to.
+abbrev pub ledTo : Led → ℕ
+ledTo (To n) = n
+ledTo (Refused q) = 0
 
 -- A switch whose place is lacking, unknown or known.
 module _ (cs : List (CaseEdge ℕ)) (neither unknownEdge : ℕ) (t : Test) (code : ℕ) where
   abbrev Switched : ℕ → Bool → Type 0
-  Switched n b = (goTo n ≡ codeStep cs neither unknownEdge code) × (openIf b t ≡ openIf (eqb code unknownCode) t)
+  Switched n b = (some (goTo n) ≡ some (codeStep cs neither unknownEdge code)) × (openIf b t ≡ openIf (eqb code unknownCode) t)
 
   pub switch-lacking : eqb code 0 ≡ true → eqb code unknownCode ≡ false
-      → (noWay ≡ codeStep cs neither unknownEdge code) × (none ≡ openIf (eqb code unknownCode) t)
+      → (some noWay ≡ some (codeStep cs neither unknownEdge code)) × (none ≡ openIf (eqb code unknownCode) t)
   switch-lacking e f = (rw e, ap (λ (b : Bool). openIf b t) (sym f))
 
   pub switch-on
       : (b : Bool) → eqb code 0 ≡ false → eqb code unknownCode ≡ b → Switched (cond b unknownEdge (followCode cs neither code)) b
   switch-on b e f =
-      ((λ i. cond (sym e i) noWay (goTo (cond (sym f i) unknownEdge (followCode cs neither code)))), ap (λ (x : Bool). openIf x t) (sym f))
+      ((λ i. some (cond (sym e i) noWay (goTo (cond (sym f i) unknownEdge (followCode cs neither code))))), ap (λ (x : Bool). openIf x t) (sym f))
 
 -- A pair of which a place is lacking, or none.
 module _ (a b differ other : ℕ) (compared : Outcome) (t : Test) where
   pub pair-lacking
       : (a ≡ 0) ⊎ (eqb b 0 ≡ true)
-      → (noWay ≡ codesStep differ other a b (codesOutcome a b compared))
+      → (some noWay ≡ some (codesStep differ other a b (codesOutcome a b compared)))
       × (none ≡ openIf (isNotKnown (codesOutcome a b compared)) t)
   pair-lacking h = (rw (one-is a b 0 h), ap (λ (o : Outcome). openIf (isNotKnown o) t) (one-lacking a b compared h))
 
 pub pair-there
     : (a b differ other : ℕ) {o outcome : Outcome} (t : Test) → (a ≡ 0 → ⊥) → eqb b 0 ≡ false → o ≡ outcome
-    → (byComparison differ other o ≡ codesStep differ other a b outcome) × (openIf (isNotKnown o) t ≡ openIf (isNotKnown outcome) t)
+    → (some (byComparison differ other o) ≡ some (codesStep differ other a b outcome)) × (openIf (isNotKnown o) t ≡ openIf (isNotKnown outcome) t)
 pair-there a b differ other t h k e =
-    (rw (none-is a b 0 h k) (ap (byComparison differ other) e), ap (λ (x : Outcome). openIf (isNotKnown x) t) e)
+    (rw (none-is a b 0 h k) (ap (λ (x : Outcome). some (byComparison differ other x)) e), ap (λ (x : Outcome). openIf (isNotKnown x) t) e)
 
 -- The node of a record that s begins with.
 module _ (s : List ℕ) where

@@ -30,12 +30,19 @@ pub enum Open {
     Pair(u16, u16),
 }
 
-// What happens at a node: the walk ends at a leaf; it goes on to a node, with the test met if that is not known; or question 27
-// gets a no.
+// Where the cases of a switch lead: to this node, or the number of the question that got a no.
+pub enum Led {
+    To(u16),
+    Refused(u8),
+}
+
+// What happens at a node: the walk ends at a leaf; it goes on to a node, with the test met if that is not known; question 27 gets a
+// no; or a record gets a no from the question with this number.
 pub enum Step {
     Stop(Leaf),
     GoTo(u16, Open),
     NoWay,
+    Refused(u8),
 }
 
 // Where following the edges ended: at a leaf, with the edges walked and the set of tests met not known, or by the number of the

@@ -1,4 +1,5 @@
 // What happens at a node, by its record and the cells of a piece.
+use crate::Led;
 use crate::Open;
 use crate::Step;
 use crate::cases::find_case;
@@ -6,12 +7,14 @@ use codes::UNKNOWN;
 use graph::NodeHead;
 use graph::NodeRecord;
 use graph::node_head;
+use graph::node_refusal;
 use outcomes::TestOutcome;
 use outcomes::look;
 use outcomes::pair_outcome;
 ghost use Prim.Native.Nat.{_≤_, _<_};
 ghost use mathlib.Core.Path.{_≡_};
 ghost use mathlib.Core.List.{[]};
+ghost use mathlib.Core.Option.{some};
 ghost use lib.ListN.{length, drop};
 ghost use Rattle.sheet_tests.specs.SheetTests.{place, pair};
 ghost use Rattle.outcomes.specs.views.Look.{look};
@@ -37,8 +40,8 @@ fn switch_step(
 ) -> Step
     requires { ⌜ (start ≤ length (now graph)) × IsTook (readCases count (drop start (now graph))) × (tested < 680) ⌝ }
     ensures { λ r. ⌜ stepOf r
-        ≡ codeStep (readOr [] (readCases count (drop start (now (graph .entry))))) neither unknown
-        (look (now (cells .entry)) tested) ⌝ }
+        ≡ some (codeStep (readOr [] (readCases count (drop start (now (graph .entry))))) neither unknown
+        (look (now (cells .entry)) tested)) ⌝ }
     ensures { λ r. ⌜ openIn r ≡ openIf (openCells (now (cells .entry)) (place tested)) (place tested) ⌝ }
 {
     let code = look(cells, tested as usize);
@@ -48,15 +51,19 @@ fn switch_step(
     if code == UNKNOWN {
         return Step::GoTo(unknown, Open::Place(tested));
     }
-    Step::GoTo(find_case(graph, start, count, code, neither), Open::Nothing)
+    let led = find_case(graph, start, count, code, neither);
+    match led {
+        Led::To(node) => Step::GoTo(node, Open::Nothing),
+        Led::Refused(q) => Step::Refused(q),
+    }
 }
 
 // The step at a pair: by differ only where its test is contradicted, and no way where a place is lacking.
 fn pair_step(cells: &[u32; 680], p: u16, q: u16, differ: u16, other: u16) -> Step
     requires { ⌜ (p < 680) × (q < 680) × Narrow (now cells) ⌝ }
     ensures { λ r. ⌜ stepOf r
-        ≡ codesStep differ other (look (now (cells .entry)) p) (look (now (cells .entry)) q)
-        (pairCells (now (cells .entry)) p q) ⌝ }
+        ≡ some (codesStep differ other (look (now (cells .entry)) p) (look (now (cells .entry)) q)
+        (pairCells (now (cells .entry)) p q)) ⌝ }
     ensures { λ r. ⌜ openIn r ≡ openIf (openCells (now (cells .entry)) (pair p q)) (pair p q) ⌝ }
 {
     if look(cells, p as usize) == 0 {
@@ -78,12 +85,12 @@ fn pair_step(cells: &[u32; 680], p: u16, q: u16, differ: u16, other: u16) -> Ste
 pub fn step_at(graph: &[u8], at: usize, cells: &[u32; 680]) -> Step
     requires { ⌜ NodeStands (now graph) at × Narrow (now cells) ⌝ }
     ensures { λ r. ⌜ stepOf r
-        ≡ stepCells (now (cells .entry)) (readOr (end failNode) (readRecord (drop at (now (graph .entry))))) ⌝ }
+        ≡ some (stepCells (now (cells .entry)) (readOr (end failNode) (readRecord (drop at (now (graph .entry)))))) ⌝ }
     ensures { λ r. ⌜ openIn r ≡ openAt (now (cells .entry)) (readOr (end failNode) (readRecord (drop at (now (graph .entry))))) ⌝ }
 {
     let head = node_head(&graph[at..]);
     let NodeHead::Whole(node) = head else {
-        return Step::NoWay;
+        return Step::Refused(node_refusal(head));
     };
     match node {
         NodeRecord::End(leaf) => Step::Stop(leaf),

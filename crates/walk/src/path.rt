@@ -39,6 +39,7 @@ pub fn follow_path(
                 node = next;
             }
             Step::NoWay => return Followed::Refused(27),
+            Step::Refused(q) => return Followed::Refused(q),
         }
         edges += 1;
     }
@@ -47,5 +48,6 @@ pub fn follow_path(
         Step::Stop(leaf) => Followed::Reached(leaf, edges, waits),
         Step::GoTo(_, _) => Followed::Refused(26),
         Step::NoWay => Followed::Refused(26),
+        Step::Refused(q) => Followed::Refused(q),
     }
 }

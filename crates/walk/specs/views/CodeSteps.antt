@@ -67,11 +67,12 @@ NearNode (end l) = Unit
 NearNode (switch n cs x y) = n < 680
 NearNode (pairNode p q x y) = (p < 680) × (q < 680)
 
--- The step that is handed back, and the test met there that is not known.
-abbrev pub stepOf : step.Step → Step ℕ
-stepOf (step.the-variants.Stop l) = stop (leafOf l)
-stepOf (step.the-variants.GoTo n o) = goTo n
-stepOf step.the-variants.NoWay = noWay
+-- The step that is handed back, none where a record was refused, and the test met there that is not known.
+abbrev pub stepOf : step.Step → Option (Step ℕ)
+stepOf (step.the-variants.Stop l) = some (stop (leafOf l))
+stepOf (step.the-variants.GoTo n o) = some (goTo n)
+stepOf step.the-variants.NoWay = some noWay
+stepOf (step.the-variants.Refused q) = none
 
 abbrev pub openOf : open-test.Open → Option Test
 openOf open-test.the-variants.Nothing = none
@@ -82,3 +83,4 @@ abbrev pub openIn : step.Step → Option Test
 openIn (step.the-variants.Stop l) = none
 openIn (step.the-variants.GoTo n o) = openOf o
 openIn step.the-variants.NoWay = none
+openIn (step.the-variants.Refused q) = none

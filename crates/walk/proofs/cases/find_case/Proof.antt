@@ -10,6 +10,7 @@ use Rattle.records.proofs.Parts.{rest}
 use Rattle.node_check.specs.declared.CaseRange.{CaseRange}
 use Rattle.graph.specs.declared.CaseHead.the-variants.{Whole}
 use Rattle.graph.specs.views.NodeRecord.{caseHead}
+use Rattle.walk.specs.declared.Led.the-variants.{To}
 use Rattle.walk.proofs.CasesLeft.{Passed, passed-starts, passed-ends, passed-whole, passed-inside, passed-takes, passed-next, range-takes, range-leads}
 use borrow.Author.Needs.{needs}
 use Rattle.walk.proofs.cases.find_case.Statement.{statement}
@@ -43,13 +44,16 @@ enum-known-head c = search needs
 enum-told : tie.Need-enum-told Inv-loop μ-loop
 enum-told c = search needs
 
+case-refusal-requires : tie.Need-case-refusal-requires Inv-loop μ-loop
+case-refusal-requires c κs = search needs
+
 returns : tie.Need-returns Inv-loop μ-loop
 returns c =
-    let a = c .before .before .before .before .before .before .before .args in
+    let a = c .before .before .before .before .before .before .before .before .args in
     let s = now (a .graph) in
     absurd
-    (passed-whole s (a .neither) (a .code) (c .before .before .before .before .before .loop .inv) (c .before .before .before .before .loop-test .taken)
-    (ap caseHead (sym (rest s (c .before .before .before .before .before .loop .at))) ∙ sym (c .before .before .case-head .ensures) ∙ c .enum-told .given .1))
+    (passed-whole s (a .neither) (a .code) (c .before .before .before .before .before .before .loop .inv) (c .before .before .before .before .before .loop-test .taken)
+    (ap caseHead (sym (rest s (c .before .before .before .before .before .before .loop .at))) ∙ sym (c .before .before .before .case-head .ensures) ∙ c .before .enum-told .given .1))
 
 case-range-requires : tie.Need-case-range-requires Inv-loop μ-loop
 case-range-requires c κs = search needs
@@ -64,9 +68,10 @@ returns-2 c =
     let c' = c .before .before .before .before .before .before .head .given .0 .0 in
     let told : caseHead (drop (c .before .before .before .before .before .before .before .before .before .before .before .loop .at) s) ≡ Whole c' = ap caseHead (sym (rest s (c .before .before .before .before .before .before .before .before .before .before .before .loop .at))) ∙ sym (c .before .before .before .before .before .before .before .before .case-head .ensures) ∙ c .before .before .before .before .before .before .head .given .1 in
     let takes = range-takes c' (a .code) ∙ ap (λ (r : CaseRange). leb (r .first) (a .code) && leb (a .code) (r .last)) (sym (c .before .before .before .before .case-range .ensures)) ∙ sym (c .before .both .ensures) in
-    ap (λ (r : CaseRange). r .node) (c .before .before .before .before .case-range .ensures)
+    ap To
+    (ap (λ (r : CaseRange). r .node) (c .before .before .before .before .case-range .ensures)
     ∙ range-leads c'
-    ∙ passed-takes s (a .neither) (a .code) (c .before .before .before .before .before .before .before .before .before .before .before .loop .inv) (c .before .before .before .before .before .before .before .before .before .before .loop-test .taken) c' told (takes ∙ c .if1 .taken)
+    ∙ passed-takes s (a .neither) (a .code) (c .before .before .before .before .before .before .before .before .before .before .before .loop .inv) (c .before .before .before .before .before .before .before .before .before .before .loop-test .taken) c' told (takes ∙ c .if1 .taken))
 
 add-at : tie.Need-add-at Inv-loop μ-loop
 add-at c =
@@ -94,7 +99,8 @@ loop-again c =
 
 returns-3 : tie.Need-returns-3 Inv-loop μ-loop
 returns-3 c =
-    let a = c .before .before .before .args in passed-ends (now (a .graph)) (a .neither) (a .code) (c .before .loop .inv) (c .loop-test .left)
+    let a = c .before .before .before .args in
+    ap To (passed-ends (now (a .graph)) (a .neither) (a .code) (c .before .loop .inv) (c .loop-test .left))
 
 pub find-case-spec : {M : Type 1} → statement M
 find-case-spec =
@@ -109,6 +115,7 @@ find-case-spec =
     case-head-requires
     enum-known-head
     enum-told
+    case-refusal-requires
     returns
     case-range-requires
     both-requires

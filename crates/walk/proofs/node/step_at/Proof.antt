@@ -2,6 +2,7 @@
 use Prim.Native.Nat.{ℕ}
 use mathlib.Core.Path.{_≡_, sym, ap, subst, _∙_}
 use mathlib.Core.List.{List, []}
+use mathlib.Core.Option.{some}
 use denote.Ref.{now}
 use lib.ListN.{drop}
 use Rattle.outcomes.specs.views.Look.{look}
@@ -36,13 +37,16 @@ enum-known-head c = search needs
 enum-told : tie.Need-enum-told
 enum-told c = search needs
 
+node-refusal-requires : tie.Need-node-refusal-requires
+node-refusal-requires c κs = search needs
+
 returns : tie.Need-returns
 returns c =
-    let a = c .before .before .before .before .before .args in
+    let a = c .before .before .before .before .before .before .args in
     let s = now (a .graph) in
     let cells = now (a .cells) in
-    let read = ap nodeHead (sym (rest s (a .at))) ∙ sym (c .before .before .node-head .ensures) in
-    absurd (node-there (drop (a .at) s) (c .before .before .before .before .before .pre .0 .whole) (read ∙ c .enum-told .given .1))
+    let read = ap nodeHead (sym (rest s (a .at))) ∙ sym (c .before .before .before .node-head .ensures) in
+    absurd (node-there (drop (a .at) s) (c .before .before .before .before .before .before .pre .0 .whole) (read ∙ c .before .enum-told .given .1))
 
 enum-known-node : tie.Need-enum-known-node
 enum-known-node c = search needs
@@ -85,7 +89,7 @@ returns-2 c =
     let cells = now (a .cells) in
     let read = ap nodeHead (sym (rest s (a .at))) ∙ sym (c .before .before .before .before .before .before .node-head .ensures) in
     let leaf = leaf-node (drop (a .at) s) (c .before .node .given .0 .0) (read ∙ c .before .before .before .before .head .given .1 ∙ ap Whole (c .before .node .given .1)) in
-    (ap (stepCells cells) leaf, ap (openAt cells) leaf)
+    (ap (λ n. some (stepCells cells n)) leaf, ap (openAt cells) leaf)
 
 returns-3 : tie.Need-returns-3
 returns-3 c =
@@ -96,7 +100,7 @@ returns-3 c =
     let switching : nodeHead (drop (a .at) s) ≡ Whole (Switch (c .before .before .node2 .given .0 .0) (c .before .before .node2 .given .0 .1 .0) (c .before .before .node2 .given .0 .1 .1 .0) (c .before .before .node2 .given .0 .1 .1 .1 .0)) = read ∙ c .before .before .before .before .before .head .given .1 ∙ ap Whole (c .before .before .node2 .given .1) in
     let node = switch-node (drop (a .at) s) switching (c .before .before .before .before .before .before .before .before .before .before .pre .0 .whole) in
     let same = ap (λ (l : List ℕ). codeStep (readOr [] (readCases (c .before .before .node2 .given .0 .1 .0) l)) (c .before .before .node2 .given .0 .1 .1 .0) (c .before .before .node2 .given .0 .1 .1 .1 .0) (look cells (c .before .before .node2 .given .0 .0))) (sym (cases-begin s (a .at) (c .before .before .before .before .before .before .before .before .before .before .pre .0 .begins) switching)) in
-    (c .switch-step .ensures .0 ∙ same ∙ ap (stepCells cells) node, c .switch-step .ensures .1 ∙ ap (openAt cells) node)
+    (c .switch-step .ensures .0 ∙ ap some (same ∙ ap (stepCells cells) node), c .switch-step .ensures .1 ∙ ap (openAt cells) node)
 
 returns-4 : tie.Need-returns-4
 returns-4 c =
@@ -106,7 +110,7 @@ returns-4 c =
     let read = ap nodeHead (sym (rest s (a .at))) ∙ sym (c .before .before .before .before .before .before .before .node-head .ensures) in
     let pairing : nodeHead (drop (a .at) s) ≡ Whole (Pair (c .before .before .node3 .given .0 .0) (c .before .before .node3 .given .0 .1 .0) (c .before .before .node3 .given .0 .1 .1 .0) (c .before .before .node3 .given .0 .1 .1 .1 .0)) = read ∙ c .before .before .before .before .before .head .given .1 ∙ ap Whole (c .before .before .node3 .given .1) in
     let node = pair-node (drop (a .at) s) pairing in
-    (c .pair-step .ensures .0 ∙ ap (stepCells cells) node, c .pair-step .ensures .1 ∙ ap (openAt cells) node)
+    (c .pair-step .ensures .0 ∙ ap (λ n. some (stepCells cells n)) node, c .pair-step .ensures .1 ∙ ap (openAt cells) node)
 
 pub step-at-spec : {M : Type 1} → statement M
 step-at-spec =
@@ -118,6 +122,7 @@ step-at-spec =
     node-head-requires
     enum-known-head
     enum-told
+    node-refusal-requires
     returns
     enum-known-node
     enum-known-node-2

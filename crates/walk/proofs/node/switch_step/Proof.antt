@@ -1,6 +1,7 @@
 -- `walk::node::switch_step` meets its contract: a place that is lacking, unknown or known.
 use mathlib.Core.Path.{sym, ap, _∙_}
 use mathlib.Core.List.{[]}
+use mathlib.Core.Option.{some}
 use mathlib.Core.Bool.{true, false}
 use native.Mathlib.Omega.{arith}
 use denote.Ref.{now}
@@ -11,7 +12,7 @@ use Rattle.codes.specs.views.Codes.{unknownCode}
 use Rattle.sheet_tests.specs.SheetTests.{place}
 use Rattle.graph.specs.views.Rewriting.{readOr}
 use Rattle.graph.specs.ReadGraph.{readCases}
-use Rattle.walk.proofs.NodeSteps.{switch-lacking, switch-on}
+use Rattle.walk.proofs.NodeSteps.{ledTo, switch-lacking, switch-on}
 use borrow.Author.Needs.{needs}
 use Rattle.walk.proofs.node.switch_step.Statement.{statement}
 use Rattle.walk.proofs.node.switch_step.Tie as tie
@@ -41,15 +42,24 @@ returns-2 c =
 find-case-requires : tie.Need-find-case-requires
 find-case-requires c κs = search needs
 
+enum-known-led : tie.Need-enum-known-led
+enum-known-led c = search needs
+
+enum-known-led-2 : tie.Need-enum-known-led-2
+enum-known-led-2 c = search needs
+
 returns-3 : tie.Need-returns-3
 returns-3 c =
-    let a = c .before .before .before .before .before .args in
+    let a = c .before .before .before .before .before .before .before .before .args in
     let cs = readOr [] (readCases (a .count) (drop (a .start) (now (a .graph)))) in
-    let code = c .before .before .before .look .result in
-    let at = c .before .before .before .look .ensures in
-    let right = switch-on cs (a .neither) (a .unknown) (place (a .tested)) code false (ne-eqb code 0 (c .before .before .if1 .left)) (ne-eqb code unknownCode (c .before .if2 .left)) in
-    rw (sym at) (ap goTo (c .find-case .ensures) ∙ right .0, right .1)
+    let code = c .before .before .before .before .before .before .look .result in
+    let at = c .before .before .before .before .before .before .look .ensures in
+    let right = switch-on cs (a .neither) (a .unknown) (place (a .tested)) code false (ne-eqb code 0 (c .before .before .before .before .before .if1 .left)) (ne-eqb code unknownCode (c .before .before .before .before .if2 .left)) in
+    rw (sym at) (ap (λ l. some (goTo (ledTo l))) (sym (c .before .led .given .1) ∙ c .before .before .before .find-case .ensures) ∙ right .0, right .1)
+
+returns-4 : tie.Need-returns-4
+returns-4 c = search needs
 
 pub switch-step-spec : {M : Type 1} → statement M
 switch-step-spec =
-    tie.close (tie.spec look-requires returns returns-2 find-case-requires returns-3)
+    tie.close (tie.spec look-requires returns returns-2 find-case-requires enum-known-led enum-known-led-2 returns-3 returns-4)
