@@ -1,4 +1,5 @@
 -- The laws of the walk, for the proofs of this crate and of those that use it.
+pub mod HandedBack
 pub mod CodeCases
 pub mod RowsLeft
 pub mod CasesLeft

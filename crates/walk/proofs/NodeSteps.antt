@@ -18,7 +18,7 @@ use Rattle.outcomes.proofs.TwoTests.{one-is, none-is}
 use Rattle.outcomes.proofs.PairCells.{one-lacking}
 use Rattle.decision.specs.Key.{failNode}
 use Rattle.decision.specs.Node.{Node, CaseEdge, end, switch, pairNode}
-use Rattle.decision.specs.Path.{Step, noWay, goTo, byComparison}
+use Rattle.decision.specs.Path.{noWay, goTo, byComparison}
 use Rattle.decision.specs.Walk.{isNotKnown}
 use Rattle.graph.specs.declared.Leaf.{Leaf}
 use Rattle.graph.specs.declared.Leaf.the-variants.{Fail, Suspend, Execute}
@@ -33,14 +33,6 @@ use Rattle.walk.specs.declared.Led.{Led}
 use Rattle.walk.specs.declared.Led.the-variants.{To, Refused}
 use Rattle.walk.specs.views.CodeSteps.{followCode, codeStep, codesStep, openIf}
 use Rattle.graph.proofs.ByKinds.{node-read-by}
-
--- A step that is handed back is the one that happens,
-pub same-step : {s t : Step ℕ} → some s ≡ some t → s ≡ t
-same-step e = cc
-
--- and no record is refused where one happens.
-pub no-step : {s : Step ℕ} → none ≡ some s → ⊥
-no-step e = let z : _≡_ {A = ℕ} 0 1 = cc in absurd (omega arith)
 
 -- The node that the cases of a switch lead to.
 abbrev pub ledTo : Led → ℕ

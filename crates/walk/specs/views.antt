@@ -3,5 +3,6 @@ pub mod CodeSteps
 pub mod TestNumbers
 pub mod Following
 pub mod Course
+pub mod TakenNotes
 pub mod LeafAnswers
 pub mod Ready

@@ -48,7 +48,7 @@ fn walk_nodes(
     match followed {
         Followed::Refused(q) => Walked::Refused(q),
         Followed::Reached(leaf, edges, met) => {
-            Walked::Answered(at_leaf(
+            at_leaf(
                 s,
                 arity as usize,
                 count,
@@ -59,7 +59,7 @@ fn walk_nodes(
                 codes,
                 pairs,
                 cells,
-            ))
+            )
         }
     }
 }

@@ -6,7 +6,6 @@ use Rattle.walk.specs.views.Following.{endedOf, nodesAt}
 use Rattle.graph.specs.views.Rewriting.{readOr}
 use Rattle.sheet_tests.specs.views.TestsRead.{keptTests}
 use Rattle.sheet.specs.ReadSheet.{readRules}
-use Rattle.records.specs.Reading.{took}
 use denote.Ref.{now}
 use native.Mathlib.Omega.{arith}
 use mathlib.Core.List.{[]}
@@ -77,7 +76,7 @@ returns-2 c =
     let words = now (a .words) in
     let codes = now (a .codes) in
     let cells = now (a .cells) in
-    ap (took 0) (c .at-leaf .ensures) ∙ ap (endWalk (readOr [] (readRules (a .arity) (a .count) (now (a .s)))) words codes (a .pairs) cells) (sym (ap endedOf (c .before .before .followed2 .given .1)) ∙ c .before .before .before .before .follow-path .ensures)
+    c .at-leaf .ensures ∙ ap (endWalk (readOr [] (readRules (a .arity) (a .count) (now (a .s)))) words codes (a .pairs) cells) (sym (ap endedOf (c .before .before .followed2 .given .1)) ∙ c .before .before .before .before .follow-path .ensures)
 
 pub walk-nodes-spec : {M : Type 1} → statement M
 walk-nodes-spec =

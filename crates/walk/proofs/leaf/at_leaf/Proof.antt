@@ -3,6 +3,7 @@ use Rattle.walk.specs.views.LeafAnswers.{leafWalk, LeafIn}
 use Rattle.graph.specs.views.Rewriting.{readOr}
 use Rattle.graph.specs.declared.Leaf.{Leaf}
 use Rattle.sheet.specs.ReadSheet.{readRules}
+use Rattle.records.specs.Reading.{took}
 use denote.Ref.{now}
 use mathlib.Core.List.{[]}
 use mathlib.Core.Path.{sym, ap, subst, _∙_}
@@ -31,19 +32,19 @@ returns : tie.Need-returns
 returns c =
     let a = c .before .before .before .args in
     let rules = readOr [] (readRules (a .arity) (a .count) (now (a .s))) in
-    ap (λ (l : Leaf). leafWalk rules (now (a .words)) (now (a .codes)) (a .pairs) (now (a .cells)) (leafOf l) (a .edges) (a .met)) (sym (c .enum-told .given .1))
+    ap (λ (l : Leaf). took 0 (leafWalk rules (now (a .words)) (now (a .codes)) (a .pairs) (now (a .cells)) (leafOf l) (a .edges) (a .met))) (sym (c .enum-told .given .1))
 
 returns-2 : tie.Need-returns-2
 returns-2 c =
     let a = c .before .before .before .args in
     let rules = readOr [] (readRules (a .arity) (a .count) (now (a .s))) in
-    ap (λ (l : Leaf). leafWalk rules (now (a .words)) (now (a .codes)) (a .pairs) (now (a .cells)) (leafOf l) (a .edges) (a .met)) (sym (c .enum-told2 .given .1))
+    ap (λ (l : Leaf). took 0 (leafWalk rules (now (a .words)) (now (a .codes)) (a .pairs) (now (a .cells)) (leafOf l) (a .edges) (a .met))) (sym (c .enum-told2 .given .1))
 
 returns-3 : tie.Need-returns-3
 returns-3 c =
     let a = c .before .before .before .before .before .args in
     let rules = readOr [] (readRules (a .arity) (a .count) (now (a .s))) in
-    c .at-rule .ensures ∙ ap (λ (l : Leaf). leafWalk rules (now (a .words)) (now (a .codes)) (a .pairs) (now (a .cells)) (leafOf l) (a .edges) (a .met)) (sym (c .before .before .leaf .given .1))
+    c .at-rule .ensures ∙ ap (λ (l : Leaf). took 0 (leafWalk rules (now (a .words)) (now (a .codes)) (a .pairs) (now (a .cells)) (leafOf l) (a .edges) (a .met))) (sym (c .before .before .leaf .given .1))
 
 pub at-leaf-spec : {M : Type 1} → statement M
 at-leaf-spec =

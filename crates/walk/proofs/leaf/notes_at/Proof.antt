@@ -9,6 +9,7 @@ use denote.Ref.{now}
 use native.Mathlib.Omega.{arith}
 use Prim.Native.Nat.{pred, _-_}
 use mathlib.Core.Path.{_≡_, ap, _∙_}
+use mathlib.Core.Option.{some}
 use borrow.Author.Needs.{needs}
 use Rattle.walk.proofs.leaf.notes_at.Statement.{statement}
 use Rattle.walk.proofs.leaf.notes_at.Tie as tie
@@ -65,7 +66,7 @@ returns-2 c =
     let read = c .before .before .before .before .read-rule .ensures in
     let bytes = bytes-known s (λ i. omega (arith, c .before .before .before .before .before .before .before .before .before .shared-slice-known .given i)) in
     let rule = rule-read (a .arity) at s codes (c .before .before .before .before .read-rule .result) (read .0) (c .before .before .before .before .before .before .before .before .before .before .pre .0 .fewArguments) bytes (c .before .before .read .given .1) (read .1) in (
-      rule .noted ∙ ap ruleNotes (seeking-found (readRule (a .arity)) pnil s (c .before .before .before .before .before .before .before .before .loop .inv .1) (rule .read) (omega (arith, c .if1 .taken))),
+      ap some (rule .noted ∙ ap ruleNotes (seeking-found (readRule (a .arity)) pnil s (c .before .before .before .before .before .before .before .before .loop .inv .1) (rule .read) (omega (arith, c .if1 .taken)))),
       (rule .made, read .1 .entries, rule .placed),
     )
 

@@ -8,7 +8,7 @@ use Rattle.sheet_tests.specs.views.TestsRead.{keptTests}
 use Rattle.walk.specs.views.Following.{nodesAt}
 use Rattle.walk.specs.views.CodeSteps.{stepOf, openIn}
 use Rattle.walk.proofs.GoingOn.{Going}
-use Rattle.walk.proofs.NodeSteps.{same-step, no-step}
+use Rattle.walk.proofs.HandedBack.{same-thing, something}
 use borrow.Author.Needs.{needs}
 use Rattle.walk.proofs.path.follow_path.Statement.{statement}
 use Rattle.walk.proofs.path.follow_path.Tie as tie
@@ -78,7 +78,7 @@ returns c =
     let pre = c .before .before .before .before .before .before .before .before .pre .0 in
     let course = c .before .before .before .before .before .before .before .before .pre .1 in
     let cells = now (a .cells) in
-    stands-end course cells (c .before .before .before .before .before .before .loop .inv) (same-step (sym (ap stepOf (c .before .met .given .1)) ∙ c .before .before .before .step-at .ensures .0))
+    stands-end course cells (c .before .before .before .before .before .before .loop .inv) (same-thing (sym (ap stepOf (c .before .met .given .1)) ∙ c .before .before .before .step-at .ensures .0))
     (sym (ap openIn (c .before .met .given .1)) ∙ c .before .before .before .step-at .ensures .1)
 
 enum-known-met-2 : tie.Need-enum-known-met-2 Inv-loop μ-loop
@@ -103,13 +103,13 @@ returns-2 c =
     let pre = c .before .before .before .before .before .before .before .pre .0 in
     let course = c .before .before .before .before .before .before .before .pre .1 in
     let cells = now (a .cells) in
-    stands-stuck course cells (c .before .before .before .before .before .loop .inv) (c .before .before .before .before .loop-test .taken) (same-step (sym (ap stepOf (c .enum-told .given .1)) ∙ c .before .before .step-at .ensures .0))
+    stands-stuck course cells (c .before .before .before .before .before .loop .inv) (c .before .before .before .before .loop-test .taken) (same-thing (sym (ap stepOf (c .enum-told .given .1)) ∙ c .before .before .step-at .ensures .0))
 
 enum-known-met-3 : tie.Need-enum-known-met-3 Inv-loop μ-loop
 enum-known-met-3 c = search needs
 
 returns-3 : tie.Need-returns-3 Inv-loop μ-loop
-returns-3 c = absurd (no-step (sym (ap stepOf (c .before .met3 .given .1)) ∙ c .before .before .before .step-at .ensures .0))
+returns-3 c = absurd (something (sym (ap stepOf (c .before .met3 .given .1)) ∙ c .before .before .before .step-at .ensures .0))
 
 add-edges : tie.Need-add-edges Inv-loop μ-loop
 add-edges c = search needs
@@ -123,7 +123,7 @@ loop-again c =
     let pre = c .before .before .before .before .before .before .before .before .before .pre .0 in
     let course = c .before .before .before .before .before .before .before .before .before .pre .1 in
     let cells = now (a .cells) in
-    stands-on course cells (c .before .before .before .before .before .before .before .loop .inv) (c .before .before .before .before .before .before .loop-test .taken) (same-step (sym (ap stepOf (c .before .before .met2 .given .1)) ∙ c .before .before .before .before .step-at .ensures .0))
+    stands-on course cells (c .before .before .before .before .before .before .before .loop .inv) (c .before .before .before .before .before .before .loop-test .taken) (same-thing (sym (ap stepOf (c .before .before .met2 .given .1)) ∙ c .before .before .before .before .step-at .ensures .0))
     (sym (ap openIn (c .before .before .met2 .given .1)) ∙ c .before .before .before .before .step-at .ensures .1) (c .with-open .ensures)
 
 cast-step-at : tie.Need-cast-step-at Inv-loop μ-loop
@@ -185,7 +185,7 @@ returns-4 c =
     let pre = c .before .before .before .before .before .before .before .before .pre .0 in
     let course = c .before .before .before .before .before .before .before .before .pre .1 in
     let cells = now (a .cells) in
-    stands-end course cells (c .before .before .before .before .before .before .loop .inv) (same-step (sym (ap stepOf (c .before .last .given .1)) ∙ c .before .before .before .step-at2 .ensures .0))
+    stands-end course cells (c .before .before .before .before .before .before .loop .inv) (same-thing (sym (ap stepOf (c .before .last .given .1)) ∙ c .before .before .before .step-at2 .ensures .0))
     (sym (ap openIn (c .before .last .given .1)) ∙ c .before .before .before .step-at2 .ensures .1)
 
 returns-5 : tie.Need-returns-5 Inv-loop μ-loop
@@ -194,7 +194,7 @@ returns-5 c =
     let pre = c .before .before .before .before .before .before .before .pre .0 in
     let course = c .before .before .before .before .before .before .before .pre .1 in
     let cells = now (a .cells) in
-    stands-out course cells (c .before .before .before .before .before .loop .inv) (c .before .before .before .before .loop-test .left) (same-step (sym (ap stepOf (c .enum-told2 .given .1)) ∙ c .before .before .step-at2 .ensures .0)) refl
+    stands-out course cells (c .before .before .before .before .before .loop .inv) (c .before .before .before .before .loop-test .left) (same-thing (sym (ap stepOf (c .enum-told2 .given .1)) ∙ c .before .before .step-at2 .ensures .0)) refl
 
 returns-6 : tie.Need-returns-6 Inv-loop μ-loop
 returns-6 c =
@@ -202,10 +202,10 @@ returns-6 c =
     let pre = c .before .before .before .before .before .before .before .pre .0 in
     let course = c .before .before .before .before .before .before .before .pre .1 in
     let cells = now (a .cells) in
-    stands-out course cells (c .before .before .before .before .before .loop .inv) (c .before .before .before .before .loop-test .left) (same-step (sym (ap stepOf (c .enum-told3 .given .1)) ∙ c .before .before .step-at2 .ensures .0)) refl
+    stands-out course cells (c .before .before .before .before .before .loop .inv) (c .before .before .before .before .loop-test .left) (same-thing (sym (ap stepOf (c .enum-told3 .given .1)) ∙ c .before .before .step-at2 .ensures .0)) refl
 
 returns-7 : tie.Need-returns-7 Inv-loop μ-loop
-returns-7 c = absurd (no-step (sym (ap stepOf (c .before .last2 .given .1)) ∙ c .before .before .before .step-at2 .ensures .0))
+returns-7 c = absurd (something (sym (ap stepOf (c .before .last2 .given .1)) ∙ c .before .before .before .step-at2 .ensures .0))
 
 pub follow-path-spec : {M : Type 1} → statement M
 follow-path-spec =

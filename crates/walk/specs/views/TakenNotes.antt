@@ -1,0 +1,18 @@
+-- The notes of a rule that was read again, as they are handed back.
+use Prim.Native.Nat.{ℕ}
+use mathlib.Core.List.{List}
+use mathlib.Core.Option.{Option, some, none}
+use Rattle.sheet.specs.declared.Took.{Took}
+use Rattle.sheet.specs.declared.Took.the-variants.{Used, Refused}
+use Rattle.sheet.specs.views.Noted.{Note}
+use Rattle.sheet.specs.views.NoteArray.{notesIn}
+
+-- How many notes the rule made.
+abbrev pub countOf : Took → ℕ
+countOf (Used bytes n) = n
+countOf (Refused q) = 0
+
+-- The notes, where the rule was not refused.
+abbrev pub takenNotes : List ℕ → Took → Option (List Note)
+takenNotes notes (Used bytes n) = some (notesIn notes n)
+takenNotes notes (Refused q) = none
