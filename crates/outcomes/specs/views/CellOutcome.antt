@@ -17,7 +17,8 @@ outcomeOf test.Holds = holds
 outcomeOf test.NotKnown = notKnown
 outcomeOf test.Contradicted = contradicted
 
--- A place test that holds at the codes from low to high, at a code: "it is not known at an unknown and contradicted at anything else" than what it wants.
+-- A place test that holds at the codes from low to high, at a code: "it is not known at an unknown and contradicted at anything
+-- else".
 abbrev pub codeOutcome : ℕ → ℕ → ℕ → Outcome
 codeOutcome low high code = cond (eqb code unknownCode) notKnown (known (leb low code && leb code high))
 
