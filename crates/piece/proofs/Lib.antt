@@ -5,6 +5,7 @@ pub mod Heads
 pub mod RecordKinds
 pub mod TermsRead
 pub mod TermCells
+pub mod RowCells
 pub mod PiecesRead
 pub mod HeadSpelled
 pub mod TermSpelled

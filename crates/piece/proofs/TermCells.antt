@@ -6,8 +6,8 @@ use mathlib.Core.Logic.{_⊎_}
 use native.Mathlib.Numerals.{sub-one}
 use native.Mathlib.Omega.{arith}
 use lib.ListN.{length, drop, set}
-use Rattle.places.specs.Numbering.{stride}
-use Rattle.records.specs.Reading.{Reading, took, refused, mapReading, after, andThen, readRow}
+use Rattle.records.specs.Reading.{Reading, took, refused, mapReading}
+use Rattle.records.proofs.RowSoFar.{later}
 use Rattle.terms.specs.Term.{Term, Terms, count, compound, nil, cons}
 use Rattle.piece.specs.declared.TermRecord.{TermRecord}
 use Rattle.piece.specs.declared.TermRecord.the-variants.{Compound}
@@ -37,10 +37,6 @@ same-count
 same-count below n s f g h =
     same-views (λ ts. count ts ≡ n) f g h (readTerms below n s)
     (row-took (λ k ts. count ts ≡ k) nil cons (readTerm below) refl (λ k t ts e. ap suc e) n s)
-
--- A reading into the cells with a bytes before it.
-abbrev pub later : ℕ → Reading (List ℕ) → Reading (List ℕ)
-later a r = after a (λ cells. cells) r
 
 module _ (a : ℕ) (then : List ℕ) (r : Taken) {whole : Reading (List ℕ)} (read : later a (tookCells then r) ≡ whole) where
   -- Where more was read after a bytes, the whole took the bytes of both;
@@ -82,48 +78,6 @@ module _ (below : ℕ) (s : List ℕ) (p : ℕ) (cells : List ℕ) where
           (sym (by-record head) ∙ ap (mapReading stored) (with-arguments below s a n some least most)
           ∙ map-after 4 (compound a) stored (readTerms (below - 1) n (drop 4 s))
           ∙ ap (later 4) (same-count (below - 1) n (drop 4 s) _ _ (λ ts e. rw (sub-one below, e))))
-
-  -- No terms take no bytes.
-  pub none-read : (n : ℕ) → n ≡ 0 → took 0 cells ≡ termsCells below n p cells s
-  unfolding readRow
-  none-read n none = rw none
-
-  -- One term is stored, and then the others from the next place on.
-  one-more
-      : (n : ℕ)
-      → termsCells below (suc n) p cells s
-      ≡ andThen (termCells below p cells s) (λ a then. later a (termsCells below n (p + stride (suc below)) then (drop a s)))
-  unfolding readRow
-  one-more n = first (readTerm below s)
-    where
-      first
-          : (r : Reading Term)
-          → mapReading (λ ts. storeTerms ts below p cells)
-          (andThen r (λ a t. after a (cons t) (readTerms below n (drop a s))))
-          ≡ andThen (mapReading (λ t. storeTerm t below p cells) r)
-          (λ a then. later a (termsCells below n (p + stride (suc below)) then (drop a s)))
-      first (took a t) = map-after a (cons t) (λ ts. storeTerms ts below p cells) (readTerms below n (drop a s))
-      first (refused q) = refl
-
-  module _ (n : ℕ) (some : n ≡ 0 → ⊥) (r : Taken) (then : List ℕ) (read : tookCells then r ≡ termCells below p cells s) where
-    -- The same where the first term was read or refused.
-    one-then
-        : andThen (tookCells then r) (λ a then. later a (termsCells below (n - 1) (p + stride (suc below)) then (drop a s)))
-        ≡ termsCells below n p cells s
-    one-then =
-        let counted : n ≡ suc (n - 1) = omega arith in
-        sym (ap (λ (k : ℕ). termsCells below k p cells s) counted ∙ one-more (n - 1) ∙ (rw read))
-
-    -- Where the first term was refused, so is the row;
-    pub first-refused : {q : ℕ} → r ≡ taken.Refused q → tookCells then r ≡ termsCells below n p cells s
-    first-refused told = (rw told) ∙ one-then
-
-    -- where it was read, the others follow it.
-    pub others-read
-        : {a : ℕ} → r ≡ Bytes a → {others : Reading (List ℕ)}
-        → others ≡ termsCells below (n - 1) (p + stride (suc below)) then (drop a s)
-        → later a others ≡ termsCells below n p cells s
-    others-read {a} told others = ap (later a) others ∙ (rw told at one-then)
 
 -- What was read into the cells took no more bytes than there are: a term,
 pub term-fits

@@ -133,24 +133,20 @@ fn terms(s: &[u8], below: usize, n: usize, p: usize, cells: &mut [u32; 680]) -> 
     requires { ⌜ (below < 4) × (p + n * stride (suc below) ≤ 680) ⌝ }
     ensures { λ r. ⌜ tookCells (now (cells .exit)) r ≡ termsCells below n p (now (cells .entry)) (now (s .entry)) ⌝ }
 {
-    if n == 0 {
-        return Taken::Bytes(0);
+    let step = places::step(3 - below);
+    let mut at: usize = 0;
+    let mut here = p;
+    let mut i: usize = 0;
+    while i < n {
+        let read = term(&s[at..], below, here, cells);
+        let Taken::Bytes(bytes) = read else {
+            return read;
+        };
+        at += bytes;
+        here += step;
+        i += 1;
     }
-    let first = term(s, below, p, cells);
-    let Taken::Bytes(bytes) = first else {
-        return first;
-    };
-    let others = terms(
-        &s[bytes..],
-        below,
-        n - 1,
-        p + places::step(3 - below),
-        cells,
-    );
-    let Taken::Bytes(more) = others else {
-        return others;
-    };
-    Taken::Bytes(bytes + more)
+    Taken::Bytes(at)
 }
 
 // The record that a piece begins with: its arity, in 2 bytes.

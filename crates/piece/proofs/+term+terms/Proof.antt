@@ -1,7 +1,7 @@
 -- `term` and `terms` meet their contracts: each return by a law of reading terms into cells.
 mod Places
-use Prim.Native.Nat.{ℕ, suc, _≤_}
-use mathlib.Core.Path.{sym, ap, _∙_}
+use Prim.Native.Nat.{ℕ, suc, _+_, _-_, _*_, _≤_}
+use mathlib.Core.Path.{_≡_, sym, ap, _∙_}
 use mathlib.Core.Logic.{inl, inr, ⊎-elim}
 use native.Mathlib.Omega.{arith}
 use lib.ListN.{set}
@@ -10,17 +10,18 @@ use borrow.Author.Needs.{needs}
 use borrow.Author.Tests.{ltb-true, ltb-false}
 use Rattle.places.specs.Numbering.{stride}
 use Rattle.records.specs.Reading.{took, refused}
+use Rattle.records.proofs.RowSoFar.{row-begun, row-ended}
 use Rattle.piece.specs.views.TermRecord.{headRefusal}
-use Rattle.piece.proofs.Rooms.{arguments-room, step-of}
-use Rattle.piece.proofs.TermCells.{went-on, stopped, by-record, deep-refused, arity-refused, none-read, first-refused}
+use Rattle.piece.proofs.Rooms.{arguments-room}
+use Rattle.piece.proofs.TermCells.{went-on, stopped, by-record, deep-refused, arity-refused}
+use Rattle.piece.proofs.RowCells.{termRow}
 use Rattle.piece.proofs.term.Reads as term
 use Rattle.piece.proofs.terms.Reads as terms
 use Rattle.piece.proofs.+term+terms.Lts-term as term-lts
 use Rattle.piece.proofs.+term+terms.Lts-terms as terms-lts
 use Rattle.piece.proofs.+term+terms.Tie.{close}
 use Rattle.piece.proofs.+term+terms.{statement}
-use Rattle.piece.proofs.+term+terms.Proof.Places.{μ-term, μ-terms, term-at, terms-at, term-calls, terms-calls, head-start, whole-head, compound-start, id, arity, compound-head, compound-there, arguments-start, compound-read, arguments-fit, row-start, first-fits, row-fits, others-start, row-read, others-fit}
-use Rattle.basics.proofs.Numbers.{row-room}
+use Rattle.piece.proofs.+term+terms.Proof.Places.{μ-term, μ-terms, Inv-loop, μ-loop, term-at, terms-at, term-calls, terms-calls, head-start, whole-head, compound-start, id, arity, compound-head, compound-there, arguments-start, compound-read, arguments-fit, row-fits, row-step, turn, row-refuses, row-continues, bytes-there}
 
 term-returns : (t : ℕ) → term-lts.Need-returns (term-calls t) (term-at t) term.Post
 term-returns t c =
@@ -62,7 +63,8 @@ term-returns-4 t c = stopped 4 _ _ (compound-read (c .before .before)) (c .enum-
 
 term-add-t30 : (t : ℕ) → term-lts.Need-add-t30 (term-calls t) (term-at t) term.Post
 term-add-t30 t c =
-    let m = c .before .before .before in omega (arith, arguments-fit m (c .before .arguments .given .1), arguments-start m .good .0 .0)
+    let m = c .before .before .before in
+    omega (arith, arguments-fit m (c .before .arguments .given .1), arguments-start m .good .0 .0)
 
 term-returns-5 : (t : ℕ) → term-lts.Need-returns-5 (term-calls t) (term-at t) term.Post
 term-returns-5 t c =
@@ -86,47 +88,37 @@ term-returns-7 t c =
 term-returns-8 : (t : ℕ) → term-lts.Need-returns-8 (term-calls t) (term-at t) term.Post
 term-returns-8 t c = went-on 4 _ _ (compound-read (c .before .before .before)) (c .before .arguments .given .1)
 
-terms-returns : (t : ℕ) → terms-lts.Need-returns (terms-calls t) (terms-at t) terms.Post
-terms-returns t c =
-    let a = c .before .before .args in none-read (a .below) (now (a .s)) (a .p) (now (a .cells)) (a .n) (c .if1 .taken)
+terms-loop-holds : (t : ℕ) → terms-lts.Need-loop-holds (terms-calls t) (terms-at t) terms.Post Inv-loop μ-loop
+terms-loop-holds t c =
+    let a = c .before .before .args in
+    let all : a .n - 0 ≡ a .n = omega arith in
+    let room = ap (λ (k : ℕ). k * stride (suc (a .below))) all in
+    let begun = row-begun (termRow (a .below)) (now (a .s)) (a .n) (a .n - 0) (a .p) (now (a .cells)) all in
+    (omega arith, omega arith, omega (arith, room), begun)
 
-terms-term-requires : (t : ℕ) → terms-lts.Need-term-requires (terms-calls t) (terms-at t) terms.Post
-terms-term-requires t c κs =
-    let a = c .before .before .before .args in
-    omega (arith, row-room (a .n) (stride (suc (a .below))) (c .before .if1 .left))
+terms-term-requires : (t : ℕ) → terms-lts.Need-term-requires (terms-calls t) (terms-at t) terms.Post Inv-loop μ-loop
+terms-term-requires t c κs = omega (arith, row-fits (c .before .before))
 
-terms-returns-2 : (t : ℕ) → terms-lts.Need-returns-2 (terms-calls t) (terms-at t) terms.Post
+terms-returns : (t : ℕ) → terms-lts.Need-returns (terms-calls t) (terms-at t) terms.Post Inv-loop μ-loop
+terms-returns t c = row-refuses (c .before .before) (c .enum-told .given .1)
+
+terms-add-at : (t : ℕ) → terms-lts.Need-add-at (terms-calls t) (terms-at t) terms.Post Inv-loop μ-loop
+terms-add-at t c = omega (arith, bytes-there (c .before .before .before) (c .before .read .given .1))
+
+terms-add-here : (t : ℕ) → terms-lts.Need-add-here (terms-calls t) (terms-at t) terms.Post Inv-loop μ-loop
+terms-add-here t c = let now = turn (c .before .before .before) in omega (arith, row-fits now, row-step now)
+
+terms-loop-again : (t : ℕ) → terms-lts.Need-loop-again (terms-calls t) (terms-at t) terms.Post Inv-loop μ-loop
+terms-loop-again t c =
+    let m = c .before .before .before in
+    let told = c .before .read .given .1 in
+    (omega arith, bytes-there m told, omega (arith, row-fits (turn m), row-step (turn m)), row-continues m told)
+
+terms-returns-2 : (t : ℕ) → terms-lts.Need-returns-2 (terms-calls t) (terms-at t) terms.Post Inv-loop μ-loop
 terms-returns-2 t c =
-    let a = c .before .before .before .before .before .before .args in
-    first-refused (a .below) (now (a .s)) (a .p) (now (a .cells)) (a .n) (c .before .before .before .before .if1 .left)
-    (c .before .before .term .result)
-    (c .before .before .term .last .1 .1 .1 .0) (c .before .before .term .ensures) (c .enum-told .given .1)
-
-terms-sub-terms : (t : ℕ) → terms-lts.Need-sub-terms (terms-calls t) (terms-at t) terms.Post
-terms-sub-terms t c = omega (arith, first-fits c)
-
-terms-part-terms-start : (t : ℕ) → terms-lts.Need-part-terms-start (terms-calls t) (terms-at t) terms.Post
-terms-part-terms-start t c = omega (arith, first-fits c)
-
-terms-add-terms : (t : ℕ) → terms-lts.Need-add-terms (terms-calls t) (terms-at t) terms.Post
-terms-add-terms t c =
-    let k = c .before .before in
-    omega (arith, row-fits k, step-of (row-start k .args .below) (search needs) (c .step .ensures))
-
-terms-terms-requires : (t : ℕ) → terms-lts.Need-terms-requires (terms-calls t) (terms-at t) terms.Post
-terms-terms-requires t c κs =
-    let k = c .before .before .before in
-    omega (arith, row-fits k, step-of (row-start k .args .below) (search needs) (c .before .step .ensures))
-
-terms-returns-3 : (t : ℕ) → terms-lts.Need-returns-3 (terms-calls t) (terms-at t) terms.Post
-terms-returns-3 t c = stopped _ _ _ (row-read (c .before .before)) (c .enum-told2 .given .1)
-
-terms-add-t13 : (t : ℕ) → terms-lts.Need-add-t13 (terms-calls t) (terms-at t) terms.Post
-terms-add-t13 t c =
-    let m = c .before .before .before in omega (arith, others-fit m (c .before .others .given .1), others-start m .good .0 .0)
-
-terms-returns-4 : (t : ℕ) → terms-lts.Need-returns-4 (terms-calls t) (terms-at t) terms.Post
-terms-returns-4 t c = went-on _ _ _ (row-read (c .before .before .before)) (c .before .others .given .1)
+    let own = c .before .loop in
+    let a = c .before .before .before .before .args in
+    row-ended (termRow (a .below)) (now (a .s)) (own .at) (a .n - own .i) (own .here) (own .cells) (omega arith) ∙ own .inv .3
 
 pub +term+terms-spec : {M : Type 1} → statement M
 +term+terms-spec = close μ-term μ-terms (λ t. term-lts.spec (term-calls t)
@@ -172,21 +164,21 @@ pub +term+terms-spec : {M : Type 1} → statement M
     λ t. terms-lts.spec (terms-calls t)
     (terms-at t)
     terms.Post
-    (terms-returns t)
+    Inv-loop
+    μ-loop
+    (λ c. search needs)
+    (λ c κs. search needs)
+    (terms-loop-holds t)
+    (λ c. search needs)
+    (λ c. search needs)
+    (λ c. search needs)
     (terms-term-requires t)
     (λ c. search needs)
     (λ c. search needs)
+    (terms-returns t)
+    (terms-add-at t)
+    (terms-add-here t)
+    (λ c. search needs)
+    (λ c. search needs)
+    (terms-loop-again t)
     (terms-returns-2 t)
-    (terms-sub-terms t)
-    (terms-part-terms-start t)
-    (λ c. search needs)
-    (λ c. search needs)
-    (λ c. search needs)
-    (λ c κs. search needs)
-    (terms-add-terms t)
-    (terms-terms-requires t)
-    (λ c. search needs)
-    (λ c. search needs)
-    (terms-returns-3 t)
-    (terms-add-t13 t)
-    (terms-returns-4 t)

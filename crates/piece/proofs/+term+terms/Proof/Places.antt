@@ -1,11 +1,10 @@
--- What is known at the places of `term` and `terms`. The levels below fall from a term to its arguments, and the number
--- of terms along a row: a compound has at most 4 arguments, so 6 for each level and 1 for each term still to come are
--- enough.
+-- What is known at the places of `term` and `terms`. The levels below fall from a term to its arguments, so 2 for each level
+-- and 1 for a row are enough.
 use Prim.Native.Nat.{ℕ, suc, _+_, _-_, _*_, _≤_, _<_}
 use mathlib.Core.Path.{_≡_, _∙_}
 use mathlib.Core.List.{List}
 use native.Mathlib.Omega.{arith}
-use lib.ListN.{length}
+use lib.ListN.{length, drop}
 use denote.Ref.{now}
 use borrow.Author.Needs.{needs}
 use borrow.Author.Tests.{ltb-false}
@@ -14,7 +13,9 @@ use borrow.Fn.PlainCycle.{Measures, is, falls, and}
 use Rattle.places.specs.Numbering.{stride}
 use Rattle.places.proofs.step.Reads as step-reads
 use Rattle.records.proofs.Parts.{rest, rest-length}
-use Rattle.piece.specs.declared.Taken.the-variants.{Bytes}
+use Rattle.records.proofs.RowSoFar.{later, one-to-come, turn-room, rowFrom}
+use Rattle.records.specs.Reading.{Reading}
+use Rattle.piece.specs.declared.Taken.the-variants.{Bytes, Refused}
 use Rattle.piece.specs.declared.TermRecord.{TermRecord}
 use Rattle.piece.specs.declared.TermRecord.the-variants.{Compound}
 use Rattle.piece.specs.declared.TermHead.the-variants.{Whole}
@@ -22,7 +23,8 @@ use Rattle.piece.specs.views.TermRecord.{termHead}
 use Rattle.piece.specs.views.LaidOut.{tookCells, termCells, termsCells}
 use Rattle.piece.proofs.Rooms.{step-of}
 use Rattle.piece.proofs.Heads.{record-within}
-use Rattle.piece.proofs.TermCells.{begins, later, arguments-read, others-read, term-fits, terms-fit}
+use Rattle.piece.proofs.TermCells.{begins, arguments-read, terms-fit}
+use Rattle.piece.proofs.RowCells.{termRow, term-stops, term-goes-on, term-there}
 use Rattle.codes.proofs.compound_code.Reads as compound-code-reads
 use Rattle.piece.proofs.head_refusal.Reads as head-refusal-reads
 use Rattle.codes.proofs.number_code.Reads as number-code-reads
@@ -34,13 +36,12 @@ use Rattle.piece.proofs.terms.Reads as terms
 use Rattle.piece.proofs.terms.Kinds as terms-kinds
 use Rattle.piece.proofs.+term+terms.Lts-term as term-lts
 use Rattle.piece.proofs.+term+terms.Lts-terms as terms-lts
-use Rattle.basics.proofs.Numbers.{row-room}
 
 abbrev pub μ-term : Measures 2 term-kinds.ps ℕ
-μ-term κs a = 6 * a .1 .0
+μ-term κs a = 2 * a .1 .0
 
 abbrev pub μ-terms : Measures 2 terms-kinds.ps ℕ
-μ-terms κs a = 6 * a .1 .0 + a .1 .1 .0 + 1
+μ-terms κs a = 2 * a .1 .0 + 1
 
 abbrev pub term-at : ℕ → In 2 term-kinds.ps
 term-at t = and 2 term-kinds.ps (is 2 term-kinds.ps μ-term t) term.Pre
@@ -71,7 +72,16 @@ term-calls t = (
 )
 
 abbrev pub terms-calls : ℕ → terms-lts.Claims
-terms-calls t = (term-below t, term.Post, step-reads.Asked, step-reads.Learnt, terms-below t, terms.Post)
+terms-calls t = (step-reads.Asked, step-reads.Learnt, term-below t, term.Post)
+
+-- The loop of `terms`: what is read and the n - i terms still to come are the whole row, and there is room for them.
+abbrev pub Inv-loop : terms-lts.InvT-loop
+Inv-loop s below n p cells₀ step at₀ here₀ i₀ cells at here i =
+    (i ≤ n) × (at ≤ length s) × (here + (n - i) * stride (suc below) ≤ 680)
+    × (rowFrom (termRow below) s at (n - i) here cells ≡ termsCells below n p cells₀ s)
+
+abbrev pub μ-loop : terms-lts.MeasureT-loop
+μ-loop s below n p cells₀ step at₀ here₀ i₀ cells at here i = n - i
 
 -- Where `term` begins, where the head is known to be whole, where its record is known to be a compound's, and where the
 -- compound's arguments were read or refused.
@@ -87,15 +97,15 @@ CompoundKnown t = term-lts.After-known-told4 (term-calls t) (term-at t) term.Pos
 abbrev ArgumentsRead : ℕ → Type 0
 ArgumentsRead t = term-lts.After-terms (term-calls t) (term-at t) term.Post
 
--- Where `terms` begins, where its first term was read, and where the others were read or refused.
+-- Where `terms` begins, where a turn of its loop does, and where the turn's term was read or refused.
 abbrev RowBegun : ℕ → Type 0
-RowBegun t = terms-lts.Start (terms-calls t) (terms-at t) terms.Post
+RowBegun t = terms-lts.Start (terms-calls t) (terms-at t) terms.Post Inv-loop μ-loop
 
-abbrev FirstRead : ℕ → Type 0
-FirstRead t = terms-lts.After-known-told (terms-calls t) (terms-at t) terms.Post
+abbrev TurnBegun : ℕ → Type 0
+TurnBegun t = terms-lts.In-loop (terms-calls t) (terms-at t) terms.Post Inv-loop μ-loop
 
-abbrev OthersRead : ℕ → Type 0
-OthersRead t = terms-lts.After-terms (terms-calls t) (terms-at t) terms.Post
+abbrev TermTried : ℕ → Type 0
+TermTried t = terms-lts.After-term (terms-calls t) (terms-at t) terms.Post Inv-loop μ-loop
 
 module _ {t : ℕ} where
   module _ (c : HeadKnown t) where
@@ -142,7 +152,9 @@ module _ {t : ℕ} where
         let a = arguments-start .args in
         let s = now (a .s) in
         arguments-read (a .below) s (a .p) (now (a .cells)) (id known) (arity known) (compound-head known)
-        (c .before .before .before .before .before .before .if1 .left) (c .before .before .before .before .before .if2 .left) (ltb-false _ _ (c .before .before .before .before .if3 .left))
+        (c .before .before .before .before .before .before .if1 .left)
+        (c .before .before .before .before .before .if2 .left)
+        (ltb-false _ _ (c .before .before .before .before .if3 .left))
         (c .terms .ensures ∙ (simp (rest s 4, c .before .before .before .compound-code .ensures)))
 
     pub arguments-fit : {k : ℕ} → c .terms .result ≡ Bytes k → 4 + k ≤ length (now (arguments-start .args .s))
@@ -150,54 +162,68 @@ module _ {t : ℕ} where
         let fits = terms-fit _ _ _ _ _ arguments-cells (c .terms .result) (c .terms .ensures) told in
         omega (arith, fits, rest-length (now (arguments-start .args .s)) 4, compound-there known)
 
-  module _ (c : FirstRead t) where
+  -- The whole row's reading.
+  abbrev row : RowBegun t → Reading (List ℕ)
+  row c = let a = c .args in termsCells (a .below) (a .n) (a .p) (now (a .cells)) (now (a .s))
+
+  module _ (c : TurnBegun t) where
     abbrev pub row-start : RowBegun t
-    row-start = c .before .before .before .before .before .before .before
+    row-start = c .before .before .before .before
 
-    -- The bytes of the first term, which are there.
-    abbrev pub first-bytes : ℕ
-    first-bytes = c .before .first .given .0 .0
+    -- Another term is to come, and the row has room for it and the others.
+    next-comes : let a = row-start .args in let i = c .before .loop .i in a .n - i ≡ suc (a .n - (i + 1))
+    next-comes = one-to-come (row-start .args .n) (c .before .loop .i) (c .loop-test .taken)
 
-    pub first-fits : first-bytes ≤ length (now (row-start .args .s))
-    first-fits =
-        let a = row-start .args in
-        let m = c .before .before .before in
-        term-fits (a .below) (now (a .s)) (a .p) (now (a .cells)) (m .term .last .1 .1 .1 .0) (m .term .result)
-        (m .term .ensures) (c .before .first .given .1)
-
-    -- The row has room for the first term and the others.
     pub row-fits
         : let a = row-start .args in
-        let z = stride (suc (a .below)) in a .n * z ≡ z + (a .n - 1) * z
-    row-fits = row-room (row-start .args .n) (stride (suc (row-start .args .below))) (c .before .before .before .before .before .if1 .left)
+        let i = c .before .loop .i in
+        let size = stride (suc (a .below)) in (a .n - i) * size ≡ size + (a .n - (i + 1)) * size
+    row-fits = turn-room (row-start .args .n) (c .before .loop .i) (stride (suc (row-start .args .below))) (c .loop-test .taken)
 
-  module _ (c : OthersRead t) where
-    abbrev first-read : FirstRead t
-    first-read = c .before .before .before .before
+    pub row-step : c .before .before .step .result ≡ stride (suc (row-start .args .below))
+    row-step = step-of (row-start .args .below) (search needs) (c .before .before .step .ensures)
 
-    abbrev pub others-start : RowBegun t
-    others-start = row-start first-read
+  module _ (c : TermTried t) where
+    abbrev pub turn : TurnBegun t
+    turn = c .before .before .before
 
-    abbrev others-cells : List ℕ
-    others-cells = c .terms .last .1 .1 .1 .1 .0
+    abbrev then : List ℕ
+    then = c .term .last .1 .1 .1 .0
 
-    -- What the others' reading says of the row's.
-    pub row-read
-        : let a = others-start .args in
-        later (first-bytes first-read) (tookCells others-cells (c .terms .result))
-        ≡ termsCells (a .below) (a .n) (a .p) (now (a .cells)) (now (a .s))
-    row-read =
-        let a = others-start .args in
-        let s = now (a .s) in
-        let m = first-read .before .before .before in
-        let step = step-of (a .below) (search needs) (c .before .before .step .ensures) in
-        others-read (a .below) s (a .p) (now (a .cells)) (a .n) (m .before .before .if1 .left) (m .term .result)
-        (m .term .last .1 .1 .1 .0) (m .term .ensures) (first-read .before .first .given .1)
-        (c .terms .ensures ∙ (simp (rest s (first-bytes first-read), step)))
+    -- The turn's term, read or refused, is the one that the rest of the bytes begins with.
+    term-tried
+        : let a = row-start turn .args in
+        let own = turn .before .loop in
+        tookCells then (c .term .result) ≡ termCells (a .below) (own .here) (own .cells) (drop (own .at) (now (a .s)))
+    term-tried = c .term .ensures ∙ (rw (rest (now (row-start turn .args .s)) (turn .before .loop .at)))
 
-    pub others-fit
-        : {k : ℕ} → c .terms .result ≡ Bytes k → first-bytes first-read + k ≤ length (now (others-start .args .s))
-    others-fit told =
-        let fits = terms-fit _ _ _ _ _ others-cells (c .terms .result) (c .terms .ensures) told in
-        let s = now (others-start .args .s) in
-        omega (arith, fits, rest-length s (first-bytes first-read), first-fits first-read)
+    -- Where it was refused, so is the row;
+    pub row-refuses : {q : ℕ} → c .term .result ≡ Refused q → tookCells then (c .term .result) ≡ row (row-start turn)
+    row-refuses told =
+        let a = row-start turn .args in
+        let own = turn .before .loop in
+        term-stops (a .below) (now (a .s)) (own .at) _ (own .here) (own .cells) _ (next-comes turn) (c .term .result) then
+        term-tried told
+        ∙ own .inv .3
+
+    module _ {bytes : ℕ} (told : c .term .result ≡ Bytes bytes) where
+      -- where it was read, the others are to come after it,
+      pub row-continues
+          : let a = row-start turn .args in
+          let own = turn .before .loop in
+          let next = own .here + turn .before .before .step .result in
+          rowFrom (termRow (a .below)) (now (a .s)) (own .at + bytes) (a .n - (own .i + 1)) next then ≡ row (row-start turn)
+      row-continues =
+          let a = row-start turn .args in
+          let own = turn .before .loop in
+          term-goes-on (a .below) (now (a .s)) (own .at) _ (own .here) (own .cells) _ (next-comes turn) (c .term .result) then
+          term-tried told (row-step turn)
+          ∙ own .inv .3
+
+      -- and its bytes are there.
+      pub bytes-there : turn .before .loop .at + bytes ≤ length (now (row-start turn .args .s))
+      bytes-there =
+          let a = row-start turn .args in
+          let own = turn .before .loop in
+          term-there (a .below) (now (a .s)) (own .at) _ (own .here) (own .cells) _ (next-comes turn) (c .term .result) then
+          term-tried told (own .inv .1)
