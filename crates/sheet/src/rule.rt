@@ -122,16 +122,22 @@ fn patterns(
         ≡ rowBehind below count place (notesIn (now (notes .entry)) n) (now (s .entry)) ⌝ }
     ensures { λ r. ⌜ TookWithin (length (now (s .entry))) (place + count * stride (suc below)) (now (notes .exit)) r ⌝ }
 {
-    if count == 0 {
-        return Took::Used(0, n);
+    let step = places::step(3 - below);
+    let mut at: usize = 0;
+    let mut here = place;
+    let mut made = n;
+    let mut i: usize = 0;
+    while i < count {
+        let read = pattern(&s[at..], below, here, made, notes);
+        let Took::Used(bytes, more) = read else {
+            return read;
+        };
+        at += bytes;
+        here += step;
+        made = more;
+        i += 1;
     }
-    let first = pattern(s, below, place, n, notes);
-    let Took::Used(bytes, made) = first else {
-        return first;
-    };
-    let next = place + places::step(3 - below);
-    let rest = patterns(&s[bytes..], below, count - 1, next, made, notes);
-    after(bytes, rest)
+    Took::Used(at, made)
 }
 
 // The rule that the input begins with, of so many arguments: questions 4 to 9. Its notes are the first of the array. A

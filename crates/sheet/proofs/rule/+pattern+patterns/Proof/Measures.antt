@@ -1,7 +1,15 @@
--- What falls from call to call: six times the levels below, with the patterns that are left of a row.
-use Prim.Native.Nat.{ℕ, _+_, _*_, _<_}
+-- What falls from call to call, and what the loop keeps. The levels below fall from a pattern to its arguments, so 2 for each
+-- level and 1 for a row are enough.
+use Prim.Native.Nat.{ℕ, suc, _+_, _-_, _*_, _≤_, _<_}
+use mathlib.Core.Path.{_≡_}
+use lib.ListN.{length}
 use borrow.Fn.Kinds.{In}
 use borrow.Fn.PlainCycle.{Measures, is, falls, and}
+use Rattle.places.specs.Numbering.{stride}
+use Rattle.records.proofs.RowSoFar.{rowFrom}
+use Rattle.sheet.specs.views.NoteArray.{notesIn}
+use Rattle.sheet.specs.views.NotesBehind.{rowBehind}
+use Rattle.sheet.proofs.Rows.{patternRow}
 use Rattle.sheet.proofs.rule.pattern.Reads as pattern
 use Rattle.sheet.proofs.rule.pattern.Kinds as pattern-kinds
 use Rattle.sheet.proofs.rule.+pattern+patterns.Lts-pattern as pattern-lts
@@ -16,10 +24,10 @@ use Rattle.sheet.proofs.rule.after.Reads as after-reads
 use Rattle.places.proofs.step.Reads as step-reads
 
 abbrev pub μ-pattern : Measures 2 pattern-kinds.ps ℕ
-μ-pattern κs a = 6 * a .1 .0
+μ-pattern κs a = 2 * a .1 .0
 
 abbrev pub μ-patterns : Measures 2 patterns-kinds.ps ℕ
-μ-patterns κs a = 6 * a .1 .0 + a .1 .1 .0 + 1
+μ-patterns κs a = 2 * a .1 .0 + 1
 
 abbrev pub pattern-at : ℕ → In 2 pattern-kinds.ps
 pattern-at t = and 2 pattern-kinds.ps (is 2 pattern-kinds.ps μ-pattern t) pattern.Pre
@@ -50,13 +58,16 @@ pattern-calls t = (
 )
 
 abbrev pub patterns-calls : ℕ → patterns-lts.Claims
-patterns-calls t = (
-  pattern-below t,
-  pattern.Post,
-  step-reads.Asked,
-  step-reads.Learnt,
-  patterns-below t,
-  patterns.Post,
-  after-reads.Asked,
-  after-reads.Learnt,
-)
+patterns-calls t = (step-reads.Asked, step-reads.Learnt, pattern-below t, pattern.Post)
+
+-- The loop of `patterns`: what is noted and the count - i patterns still to come are the whole row, from a place that leaves
+-- them their room and is behind the notes made.
+abbrev pub Inv-loop : patterns-lts.InvT-loop
+Inv-loop s below count place n notes₀ step at₀ here₀ made₀ i₀ notes at here made i =
+    (i ≤ count) × (at ≤ length s) × (made ≤ here)
+    × (here + (count - i) * stride (suc below) ≡ place + count * stride (suc below)) × (length notes ≡ 680)
+    × (rowFrom (patternRow below) s at (count - i) here (notesIn notes made)
+    ≡ rowBehind below count place (notesIn notes₀ n) s)
+
+abbrev pub μ-loop : patterns-lts.MeasureT-loop
+μ-loop s below count place n notes₀ step at₀ here₀ made₀ i₀ notes at here made i = count - i

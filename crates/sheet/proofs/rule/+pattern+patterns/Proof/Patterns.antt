@@ -1,128 +1,146 @@
--- A row of patterns: its first, then the others.
-use Prim.Native.Nat.{ℕ, suc, _+_, _-_}
-use mathlib.Core.Path.{refl, ap, _∙_}
+-- A row of patterns: one pattern a turn.
+use Prim.Native.Nat.{ℕ, suc, _+_, _-_, _*_, _≤_}
+use mathlib.Core.Path.{_≡_, ap, _∙_}
+use mathlib.Core.List.{List}
 use native.Mathlib.Omega.{arith}
+use lib.ListN.{length, drop}
 use denote.Ref.{now}
 use Rattle.places.specs.Numbering.{stride}
-use Rattle.records.proofs.Parts.{rest-length}
+use Rattle.records.proofs.Parts.{rest, rest-length}
+use Rattle.records.proofs.RowSoFar.{one-to-come, turn-room, rowFrom, row-begun, row-ended, row-stops, row-goes-on}
+use Rattle.sheet.specs.declared.Took.the-variants.{Used, Refused}
 use Rattle.sheet.specs.views.NoteArray.{notesIn, tookNotes, bytesUsed, notesMade}
-use Rattle.sheet.proofs.NoteArrays.{was-used, was-refused, was-after, after-used, after-made}
-use Rattle.sheet.proofs.Rows.{row-step, part-read, none-read, first-no, others-yes, others-no}
+use Rattle.sheet.specs.views.NotesBehind.{patternBehind, rowBehind}
+use Rattle.sheet.proofs.NoteArrays.{was-used, was-refused}
+use Rattle.sheet.proofs.Rows.{row-step, patternRow}
 use Rattle.sheet.proofs.rule.patterns.Reads as patterns
 use Rattle.sheet.proofs.rule.+pattern+patterns.Lts-patterns as lts
-use Rattle.sheet.proofs.rule.+pattern+patterns.Proof.Measures.{patterns-at, patterns-calls}
-use Rattle.basics.proofs.Numbers.{row-room}
+use Rattle.sheet.proofs.rule.+pattern+patterns.Proof.Measures.{patterns-at, patterns-calls, Inv-loop, μ-loop}
 
-pub returns : (t : ℕ) → lts.Need-returns (patterns-calls t) (patterns-at t) patterns.Post
+-- Where a turn of the loop begins, and where its pattern was read or refused.
+abbrev TurnBegun : ℕ → Type 0
+TurnBegun t = lts.In-loop (patterns-calls t) (patterns-at t) patterns.Post Inv-loop μ-loop
+
+abbrev PatternTried : ℕ → Type 0
+PatternTried t = lts.After-pattern (patterns-calls t) (patterns-at t) patterns.Post Inv-loop μ-loop
+
+module _ {t : ℕ} where
+  module _ (c : TurnBegun t) where
+    abbrev start : lts.Start (patterns-calls t) (patterns-at t) patterns.Post Inv-loop μ-loop
+    start = c .before .before .before .before
+
+    -- The row has room for this pattern and for those that come after it.
+    row-fits
+        : let a = start .args in
+        let i = c .before .loop .i in
+        let size = stride (suc (a .below)) in (a .count - i) * size ≡ size + (a .count - (i + 1)) * size
+    row-fits = turn-room (start .args .count) (c .before .loop .i) (stride (suc (start .args .below))) (c .loop-test .taken)
+
+    step-is : c .before .before .step .result ≡ stride (suc (start .args .below))
+    step-is = c .before .before .step .ensures ∙ row-step (start .args .below) (start .pre .1 .0)
+
+  module _ (c : PatternTried t) where
+    abbrev turn : TurnBegun t
+    turn = c .before .before .before
+
+    abbrev then : List ℕ
+    then = c .pattern .last .1 .1 .1 .1 .0
+
+    -- The turn's pattern, read or refused, is the one that the rest of the bytes begins with.
+    pattern-tried
+        : let a = start turn .args in
+        let own = turn .before .loop in
+        tookNotes then (c .pattern .result)
+        ≡ patternBehind (a .below) (own .here) (notesIn (own .notes) (own .made)) (drop (own .at) (now (a .s)))
+    pattern-tried = c .pattern .ensures .0 ∙ (rw (rest (now (start turn .args .s)) (turn .before .loop .at)))
+
+    -- Where it was refused, so is the row;
+    row-refuses
+        : {q : ℕ} → c .pattern .result ≡ Refused q
+        → let a = start turn .args in
+        tookNotes then (c .pattern .result)
+        ≡ rowBehind (a .below) (a .count) (a .place) (notesIn (now (a .notes)) (a .n)) (now (a .s))
+    row-refuses told =
+        let a = start turn .args in
+        let own = turn .before .loop in
+        let comes = one-to-come (a .count) (own .i) (turn .loop-test .taken) in
+        was-refused then told pattern-tried
+        (row-stops (patternRow (a .below)) (now (a .s)) (own .at) _ (own .here) (notesIn (own .notes) (own .made)) _ comes)
+        ∙ own .inv .5
+
+    module _ {bytes more : ℕ} (told : c .pattern .result ≡ Used bytes more) where
+      -- where it was read, the others are to come after it.
+      row-continues
+          : let a = start turn .args in
+          let own = turn .before .loop in
+          let next = own .here + turn .before .before .step .result in
+          rowFrom (patternRow (a .below)) (now (a .s)) (own .at + bytes) (a .count - (own .i + 1)) next (notesIn then more)
+          ≡ rowBehind (a .below) (a .count) (a .place) (notesIn (now (a .notes)) (a .n)) (now (a .s))
+      row-continues =
+          let a = start turn .args in
+          let own = turn .before .loop in
+          let comes = one-to-come (a .count) (own .i) (turn .loop-test .taken) in
+          row-goes-on (patternRow (a .below)) (now (a .s)) (own .at) _ (own .here) (notesIn (own .notes) (own .made)) _ comes
+          (was-used then told pattern-tried) (step-is turn)
+          ∙ own .inv .5
+
+      -- Its bytes are there, and its notes are among those that the row has room for so far.
+      bytes-there : turn .before .loop .at + bytes ≤ length (now (start turn .args .s))
+      bytes-there =
+          omega (
+            arith,
+            c .pattern .ensures .1,
+            ap bytesUsed told,
+            rest-length (now (start turn .args .s)) (turn .before .loop .at),
+            turn .before .loop .inv .1,
+          )
+
+      notes-there : more ≤ turn .before .loop .here + turn .before .before .step .result
+      notes-there = omega (arith, c .pattern .ensures .1, ap notesMade told, step-is turn)
+
+pub loop-holds : (t : ℕ) → lts.Need-loop-holds (patterns-calls t) (patterns-at t) patterns.Post Inv-loop μ-loop
+loop-holds t c =
+    let start = c .before .before in
+    let a = start .args in
+    let all : a .count - 0 ≡ a .count = omega arith in
+    let room = ap (λ (k : ℕ). a .place + k * stride (suc (a .below))) all in
+    let before = notesIn (now (a .notes)) (a .n) in
+    let begun = row-begun (patternRow (a .below)) (now (a .s)) (a .count) (a .count - 0) (a .place) before all in
+    (omega arith, omega arith, start .pre .1 .2, room, start .pre .1 .3, begun)
+
+pub pattern-requires : (t : ℕ) → lts.Need-pattern-requires (patterns-calls t) (patterns-at t) patterns.Post Inv-loop μ-loop
+pattern-requires t c κs = omega (arith, row-fits (c .before .before))
+
+pub returns : (t : ℕ) → lts.Need-returns (patterns-calls t) (patterns-at t) patterns.Post Inv-loop μ-loop
 returns t c =
-    let a = c .before .before .args in
-    let s = now (a .s) in
-    let before = notesIn (now (a .notes)) (a .n) in
-    (none-read (a .below) (a .count) (a .place) before s (c .if1 .taken), omega arith)
+    let m = c .before .before in
+    let told = c .enum-told .given .1 in
+    (row-refuses m told, omega (arith, m .pattern .ensures .1, ap bytesUsed told, ap notesMade told))
 
-pub pattern-requires : (t : ℕ) → lts.Need-pattern-requires (patterns-calls t) (patterns-at t) patterns.Post
-pattern-requires t c κs =
-    let at-if1 = c .before in
-    let a = at-if1 .before .before .args in
-    omega (arith, row-room (a .count) (stride (suc (a .below))) (at-if1 .if1 .left))
+pub add-at : (t : ℕ) → lts.Need-add-at (patterns-calls t) (patterns-at t) patterns.Post Inv-loop μ-loop
+add-at t c = omega (arith, bytes-there (c .before .before .before) (c .before .read .given .1))
 
-pub returns-2 : (t : ℕ) → lts.Need-returns-2 (patterns-calls t) (patterns-at t) patterns.Post
+pub add-here : (t : ℕ) → lts.Need-add-here (patterns-calls t) (patterns-at t) patterns.Post Inv-loop μ-loop
+add-here t c =
+    let now = turn (c .before .before .before) in omega (arith, row-fits now, step-is now, start now .pre .1 .1)
+
+pub loop-again : (t : ℕ) → lts.Need-loop-again (patterns-calls t) (patterns-at t) patterns.Post Inv-loop μ-loop
+loop-again t c =
+    let m = c .before .before .before in
+    let told = c .before .read .given .1 in (
+      omega arith,
+      bytes-there m told,
+      notes-there m told,
+      omega (arith, row-fits (turn m), step-is (turn m)),
+      m .pattern .ensures .1 .entries,
+      row-continues m told,
+    )
+
+pub returns-2 : (t : ℕ) → lts.Need-returns-2 (patterns-calls t) (patterns-at t) patterns.Post Inv-loop μ-loop
 returns-2 t c =
-    let at-pattern = c .before .before in
-    let at-if1 = at-pattern .before .before in
-    let a = at-if1 .before .before .args in
-    let s = now (a .s) in
-    let before = notesIn (now (a .notes)) (a .n) in
-    let first = at-pattern .pattern .last .1 .1 .1 .1 .0 in
-    let stop = c .enum-told .given .1 in (
-      was-refused first stop (at-pattern .pattern .ensures .0)
-          (first-no (a .below) (a .count) (a .place) before s (at-if1 .if1 .left)),
-      omega (arith, at-pattern .pattern .ensures .1, ap bytesUsed stop, ap notesMade stop),
-    )
-
-pub add-next : (t : ℕ) → lts.Need-add-next (patterns-calls t) (patterns-at t) patterns.Post
-add-next t c =
-    let at-if1 = c .before .before .before .before .before .before in
-    let start = at-if1 .before .before in
-    let a = start .args in
-    let room = row-room (a .count) (stride (suc (a .below))) (at-if1 .if1 .left) in
-    let step = c .step .ensures ∙ row-step (a .below) (start .pre .1 .0) in
-    omega arith
-
-pub sub-patterns : (t : ℕ) → lts.Need-sub-patterns (patterns-calls t) (patterns-at t) patterns.Post
-sub-patterns t c =
-    let at-first = c .before .before in
-    let at-pattern = at-first .before .before in
-    let used = at-first .first .given .1 in
-    omega (arith, at-pattern .pattern .ensures .1, ap bytesUsed used, ap notesMade used)
-
-pub patterns-requires : (t : ℕ) → lts.Need-patterns-requires (patterns-calls t) (patterns-at t) patterns.Post
-patterns-requires t c κs =
-    let at-step = c .before .before in
-    let at-first = at-step .before .before in
-    let at-pattern = at-first .before .before in
-    let at-if1 = at-pattern .before .before in
-    let start = at-if1 .before .before in
-    let a = start .args in
-    let room = row-room (a .count) (stride (suc (a .below))) (at-if1 .if1 .left) in
-    let step = at-step .step .ensures ∙ row-step (a .below) (start .pre .1 .0) in
-    let used = at-first .first .given .1 in
-    omega (arith, at-pattern .pattern .ensures .1, ap bytesUsed used, ap notesMade used)
-
-pub after-requires : (t : ℕ) → lts.Need-after-requires (patterns-calls t) (patterns-at t) patterns.Post
-after-requires t c κs =
-    let at-first = c .before .before .before .before .before in
-    let at-pattern = at-first .before .before in
-    let start = at-pattern .before .before .before .before in
-    let used = at-first .first .given .1 in
-    omega (
-      arith,
-      at-pattern .pattern .ensures .1,
-      ap bytesUsed used,
-      ap notesMade used,
-      c .patterns .ensures .1,
-      rest-length (now (start .args .s)) (at-first .first .given .0 .0),
-      start .good .0 .0,
-    )
-
-pub returns-3 : (t : ℕ) → lts.Need-returns-3 (patterns-calls t) (patterns-at t) patterns.Post
-returns-3 t c =
-    let at-patterns = c .before in
-    let at-step = at-patterns .before .before .before in
-    let at-first = at-step .before .before in
-    let at-pattern = at-first .before .before in
-    let at-if1 = at-pattern .before .before in
-    let start = at-if1 .before .before in
-    let a = start .args in
-    let s = now (a .s) in
-    let before = notesIn (now (a .notes)) (a .n) in
-    let first = at-pattern .pattern .last .1 .1 .1 .1 .0 in
-    let used = at-first .first .given .1 in
-    let readFirst = was-used first used (at-pattern .pattern .ensures .0) in
-    let bytes = at-first .first .given .0 .0 in
-    let step = at-step .step .ensures ∙ row-step (a .below) (start .pre .1 .0) in
-    let others = at-patterns .patterns .last .1 .1 .1 .1 .1 .0 in
-    let read =
-    part-read (a .below) (a .count - 1) bytes s {notes = notesIn first (at-first .first .given .0 .1 .0)}
-    (at-patterns .patterns .ensures .0) refl (ap (a .place +_) step) in
-    let end = c .after .ensures in (
-      ap (tookNotes others) end
-          ∙ was-after bytes (at-patterns .patterns .result) others read
-          (λ b notes e. others-yes (a .below) (a .count) (a .place) before s (at-if1 .if1 .left) readFirst e)
-          (λ q e. others-no (a .below) (a .count) (a .place) before s (at-if1 .if1 .left) readFirst e),
-      omega (
-        arith,
-        at-pattern .pattern .ensures .1,
-        ap bytesUsed used,
-        ap notesMade used,
-        at-patterns .patterns
-            .ensures .1,
-        ap bytesUsed end,
-        after-used bytes (at-patterns .patterns .result),
-        ap notesMade end,
-        after-made bytes
-            (at-patterns .patterns .result),
-        rest-length s bytes,
-        row-room (a .count) (stride (suc (a .below))) (at-if1 .if1 .left),
-      ),
+    let own = c .before .loop in
+    let a = c .before .before .before .before .args in
+    let noted = notesIn (own .notes) (own .made) in (
+      row-ended (patternRow (a .below)) (now (a .s)) (own .at) (a .count - own .i) (own .here) noted (omega arith) ∙ own .inv .5,
+      omega arith,
     )
