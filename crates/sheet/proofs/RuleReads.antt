@@ -1,10 +1,11 @@
 -- A rule, read as a row of patterns and then asked question 9 of its notes.
-use Prim.Native.Nat.{ℕ}
+use Prim.Native.Nat.{ℕ, _-_}
 use mathlib.Core.Path.{_≡_, refl, sym, ap, _∙_}
 use mathlib.Core.Bool.{Bool, true, false}
 use mathlib.Core.List.{List}
 use mathlib.Core.Option.{Option, some, none}
 use lib.Dec.{leb}
+use lib.ListN.{length, take, drop}
 use Rattle.records.specs.Reading.{Reading, took, refused, ask, mapReading, andThen}
 use Rattle.records.proofs.Rows.{took-view, refused-view}
 use Rattle.terms.specs.Pattern.{Patterns}
@@ -18,6 +19,7 @@ use Rattle.sheet.proofs.NoteArrays.{notes-none}
 use Rattle.basics.proofs.AllBelow.{all-same}
 use Rattle.sheet.proofs.CommonRanges.{rule-range}
 use Rattle.sheet.proofs.RangeArrays.{variable-at}
+use Rattle.sheet.proofs.Rows.{part-read}
 
 in-common-ends : (x : Option Range) → leb (lowEnd x) (highEnd x) ≡ inCommon x
 in-common-ends none = refl
@@ -44,10 +46,11 @@ module _ (arity : ℕ) (s : List ℕ) where
   abbrev pub ruleRead : Reading (List Note)
   ruleRead = mapReading ruleNotes (readRule arity s)
 
-  -- With no notes before them, the notes are the rule's.
+  -- With no notes before them, the notes of the part that begins at 0 are the rule's.
   pub from-none
-      : (codes : List ℕ) {r : Reading (List Note)} → r ≡ rowBehind 3 arity 0 (notesIn codes 0) s → r ≡ patternsRead
-  from-none codes e = e ∙ ap (λ (l : List Note). rowBehind 3 arity 0 l s) (notes-none codes)
+      : (codes : List ℕ) {r : Reading (List Note)}
+      → r ≡ rowBehind 3 arity 0 (notesIn codes 0) (take (length s - 0) (drop 0 s)) → r ≡ patternsRead
+  from-none codes e = part-read 3 arity 0 s e (notes-none codes) refl
 
   abbrev asked : ℕ → Patterns → Reading Patterns
   asked a rule = ask 9 (rangesMeet rule) (took a rule)
