@@ -24,6 +24,10 @@ le-or-lt m n = go (leb m n) (leb→le m n) (nleb→lt m n)
     go true f g = inl (f tt)
     go false f g = inr (g tt)
 
+-- Numbers that are neither below nor above one another are equal.
+pub not-apart : (m n : ℕ) → (m < n → ⊥) → (n < m → ⊥) → m ≡ n
+not-apart m n h k = omega arith
+
 -- Equal numbers pass the test.
 pub eq-true : (a b : ℕ) → a ≡ b → T (eqb a b)
 eq-true a b e = rw e (eqb-refl b)

@@ -26,20 +26,14 @@ use Rattle.outcomes.proofs.Codes.{code-some, code-unknown}
 use Rattle.outcomes.proofs.FoundShallow.{ShallowFound, finds-shallow}
 use Rattle.outcomes.proofs.LookFinds.{cell-stored, look-finds}
 use Rattle.outcomes.proofs.HeldTerms.{Held, terms-compare}
-
--- What is no unknown is compared with an unknown, and nothing is known.
-with-unknown : (t : Term) → compare t unknown ≡ notKnown
-with-unknown unknown = refl
-with-unknown (symbol a) = refl
-with-unknown (number a) = refl
-with-unknown (compound a ts) = refl
+use Rattle.terms.proofs.CompareSentences.{compare-unknown}
 
 module _ (x : Outcome) where
   -- The outcome is not known where the second of two terms is unknown, and else x,
   second-agrees
       : (t u : Term) → (isUnknown (found u) ≡ false → x ≡ compare t u)
       → cond (isUnknown (found u)) notKnown x ≡ compare t u
-  second-agrees t unknown known = sym (with-unknown t)
+  second-agrees t unknown known = sym (compare-unknown t)
   second-agrees t (symbol b) known = known refl
   second-agrees t (number b) known = known refl
   second-agrees t (compound b us) known = known refl

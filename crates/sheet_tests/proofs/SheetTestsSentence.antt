@@ -7,7 +7,7 @@ use mathlib.Core.List.{List, [], _∷_, _++_, map}
 use lib.Dec.{T, ltb→lt}
 use Rattle.basics.specs.Lists.{Mem, here, there, All}
 use Rattle.basics.proofs.Clash.{clash}
-use Rattle.basics.proofs.ListLaws.{all-join, all-at, all-from, mem-cases, mem-none}
+use Rattle.basics.proofs.ListLaws.{mem-cases, mem-none, mem-join}
 use Rattle.basics.proofs.Filters.{mem-left, mem-right, mem-map, map-mem}
 use Rattle.basics.proofs.Sorted.{AscendingBy, Ascending, pair-before}
 use Rattle.terms.specs.Pattern.{Patterns}
@@ -112,19 +112,13 @@ pair-in (pair p q ∷ ts) x = (
   ],
 )
 
--- What stands in two joined lists stands in one of them.
-mem-either : {A : Type 0} {x : A} (xs ys : List A) → Mem x (xs ++ ys) → Mem x xs ⊎ Mem x ys
-mem-either {A} xs ys m =
-    let Either : A → Type 0 = λ y. Mem y xs ⊎ Mem y ys in
-    all-at Either m (all-join Either xs ys (all-from Either xs (λ y k. inl k)) (all-from Either ys (λ y k. inr k)))
-
 -- The tests of all rules are those of each.
 all-of-rules
     : (rules : List Patterns) (t : Test)
     → Mem t (allTests rules) ↔ ((rule : Patterns) × Mem rule rules × Mem t (ruleTests rule))
 all-of-rules [] t = (λ m. absurd (mem-none m), λ x. absurd (mem-none (x .1)))
 all-of-rules (rule ∷ rules) t = (
-  λ m. elim (mem-either (ruleTests rule) (allTests rules) m) [
+  λ m. elim (mem-join (ruleTests rule) (allTests rules) m) [
     | inl k ↦ (rule, here, k)
     | inr k ↦ (let x = all-of-rules rules t .0 k in (x .0, there (x .1), x .2))
   ],
@@ -145,7 +139,7 @@ module _ (rule : Patterns) where
   -- A rule tests a place where it has a place test,
   rule-place : (n : ℕ) → Mem (place n) (ruleTests rule) ↔ ((w : Want) × Mem (at n w) (placeTests rule))
   rule-place n = (
-    λ m. elim (mem-either placesOf pairsOf m) [
+    λ m. elim (mem-join placesOf pairsOf m) [
       | inl k ↦
           let r = map-mem (λ (x : PlaceTest). place (x .place)) (placeTests rule) k in
           let e : n ≡ r .0 .place = cc (r .2) in
@@ -158,7 +152,7 @@ module _ (rule : Patterns) where
   -- and a pair where it has an equality test.
   rule-pair : (x : PairTest) → Mem (pairTest x) (ruleTests rule) ↔ Mem x (pairTests rule)
   rule-pair x = (
-    λ m. elim (mem-either placesOf pairsOf m) [
+    λ m. elim (mem-join placesOf pairsOf m) [
       | inl k ↦ (let r = map-mem (λ (y : PlaceTest). place (y .place)) (placeTests rule) k in clash (cc (r .2)))
       | inr k ↦
           let r = map-mem pairTest (pairTests rule) k in

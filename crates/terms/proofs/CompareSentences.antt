@@ -7,10 +7,17 @@ use native.Mathlib.Omega.{arith}
 use Rattle.basics.proofs.Clash.{clash}
 use Rattle.terms.specs.Term.{Term, Terms, count, unknown, symbol, number, compound, nil, cons}
 use Rattle.terms.specs.Lookup.{found}
-use Rattle.terms.specs.Outcome.{Holds, NotKnown, Contradicted, known, compare, compares}
+use Rattle.terms.specs.Outcome.{notKnown, Holds, NotKnown, Contradicted, known, compare, compares}
 use Rattle.terms.proofs.Outcomes.{and-holds, holds-and, and-contradicted, contradicted-left, contradicted-right}
 use Rattle.terms.proofs.KnownTests.{numbers-equal, equal-numbers, numbers-differ, differ-numbers, neither}
 use Rattle.terms.proofs.Arguments.{argumentOf}
+
+-- Beside an unknown nothing is known.
+pub compare-unknown : (t : Term) → compare t unknown ≡ notKnown
+compare-unknown unknown = refl
+compare-unknown (symbol a) = refl
+compare-unknown (number a) = refl
+compare-unknown (compound a ts) = refl
 
 -- The term holds no unknown.
 abbrev mutual

@@ -3,7 +3,7 @@ use Prim.Native.Nat.{ℕ}
 use mathlib.Core.Path.{_≡_, refl, ap, sym, subst, _∙_}
 use mathlib.Core.List.{List}
 use native.Mathlib.Decide.{ℕ-discrete}
-use Rattle.terms.specs.Term.{Terms, symbol}
+use Rattle.terms.specs.Term.{Terms}
 use Rattle.terms.specs.Pattern.{Patterns}
 use Rattle.terms.specs.Outcome.{Outcome, holds, notKnown, contradicted, Holds, Contradicted, ruleOutcome, Meets}
 use Rattle.terms.specs.Filling.{Filling}
@@ -11,12 +11,8 @@ use Rattle.terms.specs.Answer.{Answer, commit, execute, suspend, fail, r
 use Rattle.terms.specs.Right.{IsRule, EveryMeets, SomeMeets, NoneMeets, NoneMeetsAnother}
 use Rattle.terms.specs.Right.{Commits, Executes, Fails, Suspends, Right}
 use Rattle.terms.proofs.Outcomes.{Open}
-use Rattle.terms.proofs.ConstantFilling.{fillAllWith, fill-all-with, zero-ground}
 use Rattle.terms.proofs.Says.{Says}
-
--- Every piece has a filling.
-a-filling : (piece : Terms) → (filled : Terms) × Filling piece filled
-a-filling piece = (fillAllWith piece (symbol 0), fill-all-with piece (symbol 0) zero-ground)
+use Rattle.terms.proofs.FillingSentences.{has-filling}
 
 module _ (rules : List Patterns) (piece : Terms) where
   -- The sentence of demand 3 for an answer.
@@ -28,7 +24,7 @@ module _ (rules : List Patterns) (piece : Terms) where
 
   -- A rule that every filling meets is met by one.
   every-some : (i : ℕ) → EveryMeets rules piece i → SomeMeets rules piece i
-  every-some i every = let f = a-filling piece in (f .0, f .1, every (f .0) (f .1))
+  every-some i every = let f = has-filling piece in (f .0, f .1, every (f .0) (f .1))
 
   -- Where no filling meets a rule other than j, a rule that some filling meets is rule j.
   met-only : (i j : ℕ) → IsRule rules piece i → SomeMeets rules piece i → NoneMeetsAnother rules piece j → i ≡ j
@@ -91,11 +87,11 @@ module _ (rule : Patterns) (piece : Terms) where
   every-holds : (o : Outcome) → Says o rule piece → Says holds rule piece → Holds o
   every-holds holds says every = tt
   every-holds notKnown says every = let miss = says .1 in miss .2 (every (miss .0) (miss .1))
-  every-holds contradicted says every = let f = a-filling piece in says (f .0) (f .1) (every (f .0) (f .1))
+  every-holds contradicted says every = let f = has-filling piece in says (f .0) (f .1) (every (f .0) (f .1))
 
   -- A rule that no filling meets is contradicted.
   none-contradicted : (o : Outcome) → Says o rule piece → Says contradicted rule piece → Contradicted o
-  none-contradicted holds says none = let f = a-filling piece in none (f .0) (f .1) (says (f .0) (f .1))
+  none-contradicted holds says none = let f = has-filling piece in none (f .0) (f .1) (says (f .0) (f .1))
   none-contradicted notKnown says none = let met = says .0 in none (met .0) (met .1) (met .2)
   none-contradicted contradicted says none = tt
 
@@ -107,7 +103,7 @@ module _ (rule : Patterns) (piece : Terms) where
 
   -- Some filling meets an open rule.
   open-some : (o : Outcome) → Says o rule piece → Open o → (filled : Terms) × Filling piece filled × Meets rule filled
-  open-some holds says c = let f = a-filling piece in (f .0, f .1, says (f .0) (f .1))
+  open-some holds says c = let f = has-filling piece in (f .0, f .1, says (f .0) (f .1))
   open-some notKnown says c = says .0
   open-some contradicted says c = absurd c
 

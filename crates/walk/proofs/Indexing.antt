@@ -12,7 +12,7 @@ use Rattle.records.specs.Fields.{IsByte}
 use Rattle.records.specs.Reading.{took}
 use Rattle.basics.specs.Lists.{All, Mem, countFrom}
 use Rattle.basics.proofs.Booleans.{true-both, is-true}
-use Rattle.basics.proofs.ListLaws.{all-map, all-at, all-join}
+use Rattle.basics.proofs.ListLaws.{all-map, all-at, all-join, mem-join}
 use Rattle.sheet_tests.specs.SheetTests.{Test, place, pair, sheetTests}
 use Rattle.sheet_tests.specs.views.TestedPlaces.{hasPlace, placesIn}
 use Rattle.sheet_tests.specs.views.KeptPairs.{codePair}
@@ -22,7 +22,6 @@ use Rattle.decision.specs.Key.{failNode, suspendNode, executeNode}
 use Rattle.decision.specs.Node.{Node, CaseEdge, end, switch, pairNode}
 use Rattle.decision.specs.GraphBytes.{nodeBytes, nodesBytes}
 use Rattle.decision.specs.AcceptedGraph.{AcceptedNode, AcceptedGraph}
-use Rattle.decision.proofs.exploring.BreadthFirst.{mem-join}
 use Rattle.basics.proofs.Filters.{map-mem, mem-any, all-mapped}
 use Rattle.graph.specs.ReadGraph.{readGraph, readRecord}
 use Rattle.graph.specs.views.Rewriting.{IsTook, readOr}

@@ -14,7 +14,7 @@ use borrow.Author.Tests.{le-leb}
 use Rattle.basics.specs.Lists.{All}
 use Rattle.terms.specs.Answer.{Answer, commit, execute, suspend, fail, wordOf, ruleOf}
 use Rattle.window.specs.LastThousand.{Given, given, isCommit, isTaken, refusalOf, taken, lastOf, lastThousand, countOf, commitCount, executeCount, suspendCount, failCount, commitsOf}
-use Rattle.window.specs.Cells.{freshCells, fedCells, fedAll, fedFresh, commitsIn}
+use Rattle.window.specs.Cells.{fedCells, fedAll, fedFresh, commitsIn}
 use Rattle.window.specs.Handed.{wordsIn}
 use Rattle.window.specs.views.Keeps.{countedAt, Keeps}
 use Rattle.window.specs.declared.WordCounts.{WordCounts}

@@ -20,7 +20,8 @@ use Rattle.decision.specs.Cases.{Case, symbolCase, compoundCase, numbers
 use Rattle.decision.specs.Cases.{symbolsOf, Functor, functorsOf, casesOf}
 use Rattle.decision.specs.Node.{CaseEdge, follow}
 use Rattle.decision.specs.Edges.{caseKeeps, gatherWants}
-use Rattle.decision.proofs.Truth.{holds-true, known-contradicted, open-known}
+use Rattle.terms.proofs.KnownTests.{holds-true}
+use Rattle.decision.proofs.Truth.{known-contradicted, open-known}
 use Rattle.decision.proofs.cases.WantedRanges.{numberRuns, runs-all}
 use Rattle.decision.proofs.cases.Runs.{run-uncut, in-run}
 use Rattle.decision.proofs.rules.LiveWants.{mem-gather}

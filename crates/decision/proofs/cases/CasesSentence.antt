@@ -1,7 +1,7 @@
 -- "A switch has a case for each symbol and compound that a live rule wants there, and one for each maximal run of numbers
 -- accepted by the same non-empty set of those rules", in the order of the records: one theorem on `casesOf`.
 use Prim.Native.Nat.{ℕ, suc, pred, _≤_, _<_}
-use mathlib.Core.Path.{_≡_, sym, subst, _∙_}
+use mathlib.Core.Path.{sym, subst, _∙_}
 use mathlib.Core.Logic.{_↔_, inl, inr}
 use mathlib.Core.List.{List}
 use native.Mathlib.Omega.{arith}
@@ -21,6 +21,7 @@ use Rattle.decision.proofs.cases.WantedRanges.{numberRuns, runs-all}
 use Rattle.decision.proofs.cases.Runs.{SoundWant, Accepts, Parted, in-run, run-uncut, run-wanted, run-maximal, runs-ordered}
 use Rattle.decision.proofs.cases.CaseList.{cases-all, symbol-listed, compound-listed, run-listed}
 use Rattle.decision.proofs.cases.CasesAccepted.{cases-ascend}
+use Rattle.basics.proofs.Numbers.{not-apart}
 
 -- The same of the wants accept the one number and the other.
 abbrev pub SameAccept : List Want → ℕ → ℕ → Type 0
@@ -77,9 +78,6 @@ module _ (ws : List Want) (sound : All SoundWant ws) where
   ends-last l h x y v a b xv vh after =
       a .maximalAbove (b .sameSet h (suc h) (omega arith) (omega arith) (omega arith) (omega arith))
 
-  equal : (m n : ℕ) → (m < n → ⊥) → (n < m → ⊥) → m ≡ n
-  equal m n h k = omega arith
-
   -- So each run has its case: the one that takes its low is its own,
   run-is-case : (l h : ℕ) → MaximalRun ws l h → Mem (numbersCase l h) (numberRuns ws)
   run-is-case l h a =
@@ -94,9 +92,9 @@ module _ (ws : List Want) (sound : All SoundWant ws) where
       own x y m k =
           let b = case-is-run x y m in
           let inside = both-le x l l y .0 k in
-          let low = equal l x (λ d. begins-first x y l h l b a (inside .0) (a .ordered) d)
+          let low = not-apart l x (λ d. begins-first x y l h l b a (inside .0) (a .ordered) d)
           (λ d. begins-first l h x y l a b (omega arith) (inside .1) d) in
-          let high = equal h y (λ d. ends-last l h x y l a b (inside .0) (a .ordered) d)
+          let high = not-apart h y (λ d. ends-last l h x y l a b (inside .0) (a .ordered) d)
           (λ d. ends-last x y l h l b a (omega arith) (inside .1) d) in
           rw (low, high) m
 

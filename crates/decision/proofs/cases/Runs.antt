@@ -16,7 +16,7 @@ use Rattle.terms.proofs.Outcomes.{true-holds}
 pub use Rattle.codes.specs.views.Codes.{SoundWant}
 use Rattle.decision.specs.Cases.{Case, symbolCase, compoundCase, numbersCase, takes, isWanted, cutsOf, runsOf}
 use Rattle.decision.specs.AcceptedGraph.{CaseBefore, LowAtMostHigh}
-use Rattle.decision.proofs.Truth.{holds-true}
+use Rattle.terms.proofs.KnownTests.{holds-true}
 use Rattle.basics.proofs.Filters.{filter-mem, any-mem}
 use Rattle.basics.proofs.Ascent.{ascending-map}
 use Rattle.decision.proofs.cases.Intervals.{both-le, Contains, in-one-only}

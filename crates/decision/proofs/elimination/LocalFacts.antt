@@ -2,7 +2,7 @@
 -- pair, when both its terms are there: then the rule is dead. A dead rule has a firm test, a test whose place is
 -- missing has a firm one that must be asked before it, and what an unknown settles is not firm.
 use Prim.Native.Nat.{ℕ}
-use mathlib.Core.Path.{_≡_}
+use mathlib.Core.Path.{_≡_, subst}
 use mathlib.Core.Logic.{_⊎_, inl, inr}
 use mathlib.Core.Option.{some}
 use lib.Dec.{T}
@@ -25,6 +25,7 @@ use Rattle.decision.specs.AskingOrder.{MustPrecede}
 use Rattle.decision.proofs.rules.TestsOfRules.{HasTest, want-test, want-has, has-want}
 use Rattle.decision.proofs.rules.TestsOfRules.{place-wanted, pair-has, has-pair}
 use Rattle.basics.proofs.Booleans.{either-true}
+use Rattle.terms.proofs.CompareSentences.{compare-unknown}
 
 -- The piece lacks the place.
 abbrev pub Lacks : Found → Type 0
@@ -72,17 +73,14 @@ unknown-left (found (number a)) y u d = u
 unknown-left (found (compound a ts)) y u d = u
 
 -- and nothing differs from it.
-compare-unknown : (t : Term) → Contradicted (compare t unknown) → ⊥
-compare-unknown unknown c = c
-compare-unknown (symbol a) c = c
-compare-unknown (number a) c = c
-compare-unknown (compound a ts) c = c
+not-contradicted : (t : Term) → Contradicted (compare t unknown) → ⊥
+not-contradicted t c = subst Contradicted (compare-unknown t) c
 
 -- So nothing differs from what is unknown at a place.
 unknown-right : (x y : Found) → IsUnknown y → Differ x y → ⊥
 unknown-right lacking y u d = d
 unknown-right (found t) lacking u d = d
-unknown-right (found t) (found unknown) u d = compare-unknown t d
+unknown-right (found t) (found unknown) u d = not-contradicted t d
 unknown-right (found t) (found (symbol a)) u d = u
 unknown-right (found t) (found (number a)) u d = u
 unknown-right (found t) (found (compound a ts)) u d = u

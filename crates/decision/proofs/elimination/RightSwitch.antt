@@ -2,11 +2,10 @@
 -- exactly the rules that the term does not contradict.
 use Prim.Native.Nat.{ℕ, suc}
 use mathlib.Core.Path.{_≡_, refl, sym, subst, _∙_}
-use mathlib.Core.Bool.{Bool, true, false, _&&_, not}
+use mathlib.Core.Bool.{Bool, _&&_, not}
 use mathlib.Core.Logic.{inl, inr}
 use mathlib.Core.List.{List, map}
 use mathlib.Core.Option.{Option, some, none}
-use native.Mathlib.Omega.{arith}
 use lib.Dec.{T, not-T}
 use lib.ListN.{length}
 use Rattle.masks.specs.Mask.{has, members}
@@ -29,13 +28,12 @@ use Rattle.decision.specs.Node.{follow}
 use Rattle.decision.specs.Edges.{settledByUnknown, caseKeeps, liveWants, leadsTo, butTest, byCase, byNone, byUnknown}
 use Rattle.basics.proofs.Filters.{mem-map}
 use Rattle.decision.proofs.cases.CasesLaws.{openAt, wantsNothing, edgesTo, edge-keeps}
-use Rattle.decision.proofs.rules.TestsOfRules.{HasTest, want-has, has-want}
 use Rattle.decision.proofs.elimination.LocalFacts.{Firm, firm-dead, settled-not-firm}
 use Rattle.decision.proofs.elimination.FirmTests.{DeadRule, FirmTest}
 use Rattle.decision.proofs.keys.Sets.{in-members}
 use Rattle.decision.proofs.keys.Vertices.{Live}
 use Rattle.decision.proofs.elimination.RightKeys.{RightKey, RightVertex, drop-right, keep-right}
-use Rattle.decision.proofs.rules.SoundWants.{rule-accepted}
+use Rattle.decision.proofs.rules.TheWant.{without-want}
 
 -- What is open is not contradicted.
 open-not : (o : Outcome) → T (isOpen o) → Contradicted o → ⊥
@@ -67,21 +65,8 @@ module _ (arity : ℕ) (rules : List Patterns) (piece : Terms)
       mem-map (λ (j : ℕ). wantAt rules j n) (in-members (length rules) (key .live) i (right .invariant .inside i m) m)
 
   -- A live rule wants nothing there exactly if it does not have the test.
-  without-want : (i : ℕ) → Live key i → not (hasTest rules i t) ≡ wantsNothing (wantAt rules i n)
-  without-want i m = go (hasTest rules i t) (wantAt rules i n) refl refl
-    where
-      rule : Patterns
-      rule = ruleAt rules (suc i)
-
-      go : (b : Bool) (x : Option Want) → hasTest rules i t ≡ b → wantAt rules i n ≡ x → not b ≡ wantsNothing x
-      go true none d e =
-          let a = rule-accepted arity rules accepted i (right .invariant .inside i m) in
-          let owned : HasTest rule (place n) = subst (HasTest rule) at (subst T (sym d) tt) in
-          let w = has-want rule (a .sound) n owned in
-          absurd (let z : _≡_ {A = ℕ} 0 1 = cc (w .1) in let y : ⊥ = omega arith in y)
-      go true (some w) d e = refl
-      go false none d e = refl
-      go false (some w) d e = absurd (subst T d (subst (HasTest rule) (sym at) (want-has rule n w e)))
+  live-without : (i : ℕ) → Live key i → not (hasTest rules i t) ≡ wantsNothing (wantAt rules i n)
+  live-without i m = without-want arity rules accepted t n at i (right .invariant .inside i m)
 
   module _ (u : Term) (there-is : termAt piece n ≡ found u) where
     -- A rule is dead if the term contradicts what it wants there,
@@ -123,6 +108,6 @@ module _ (arity : ℕ) (rules : List Patterns) (piece : Terms)
               subst (RightVertex rules piece) (sym (r .1)) (open-right (λ i. caseKeeps (r .0) (wantAt rules i n)) same)
           | inr r ↦
               let same : (i : ℕ) → Live key i → not (hasTest rules i t) ≡ openAt u (wantAt rules i n) =
-              λ i m. without-want i m ∙ r .1 (wantAt rules i n) (option-there i m) in
+              λ i m. live-without i m ∙ r .1 (wantAt rules i n) (option-there i m) in
               subst (RightVertex rules piece) (sym (r .0)) (open-right (λ i. not (hasTest rules i t)) same)
         ]

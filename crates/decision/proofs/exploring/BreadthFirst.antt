@@ -9,18 +9,9 @@ use mathlib.Core.Option.{Option, some, none}
 use native.Mathlib.Omega.{arith}
 use lib.Dec.{T}
 use Rattle.basics.specs.Lists.{Mem, here, there, anyOf}
-use Rattle.basics.proofs.ListLaws.{mem-cases, mem-none}
+use Rattle.basics.proofs.ListLaws.{mem-cases, mem-none, mem-join}
 use Rattle.decision.specs.Graph as graph
 use Rattle.basics.proofs.Filters.{mem-left, mem-right, any-mem}
-
--- A member of two joined lists is a member of one of them.
-pub mem-join : {A : Type 0} {x : A} (xs ys : List A) → Mem x (xs ++ ys) → Mem x xs ⊎ Mem x ys
-mem-join [] ys m = inr m
-mem-join {x = x} (y ∷ xs) ys m =
-    elim (mem-cases m) [
-      | inl e ↦ inl (subst (λ z. Mem z (y ∷ xs)) (sym e) here)
-      | inr k ↦ elim (mem-join xs ys k) [ inl a ↦ inl (there a) | inr b ↦ inr b ]
-    ]
 
 pub some-none : {A B : Type 0} {x : A} → _≡_ {A = Option A} none (some x) → B
 some-none e = let z : _≡_ {A = ℕ} 0 1 = cc in absurd (let y : ⊥ = omega arith in y)

@@ -11,10 +11,10 @@ use native.Mathlib.Omega.{arith}
 use lib.Dec.{T}
 use lib.ListN.{length, length-append}
 use Rattle.basics.specs.Lists.{Mem, here, there}
-use Rattle.basics.proofs.ListLaws.{mem-cases, mem-none}
-use Rattle.basics.proofs.Filters.{mem-left, mem-right}
+use Rattle.basics.proofs.ListLaws.{mem-cases, mem-none, mem-join}
+use Rattle.basics.proofs.Filters.{mem-right}
 use Rattle.decision.specs.Graph.{newOnes, explore}
-use Rattle.decision.proofs.exploring.BreadthFirst.{mem-join, some-none, new-from, explore-closed}
+use Rattle.decision.proofs.exploring.BreadthFirst.{some-none, new-from, explore-closed}
 use Rattle.decision.proofs.exploring.MetOnce.{Distinct, new-distinct, explore-few, explore-first}
 
 -- A list without one of its things.

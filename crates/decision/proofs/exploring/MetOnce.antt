@@ -10,10 +10,10 @@ use native.Mathlib.Omega.{arith}
 use lib.Dec.{T}
 use lib.ListN.{length, getD, length-append}
 use Rattle.basics.specs.Lists.{Mem, here, there, anyOf}
-use Rattle.basics.proofs.ListLaws.{mem-cases, mem-none}
+use Rattle.basics.proofs.ListLaws.{mem-cases, mem-none, mem-join}
 use Rattle.decision.specs.Graph as graph
 use Rattle.basics.proofs.Filters.{mem-left, mem-right, mem-any}
-use Rattle.decision.proofs.exploring.BreadthFirst.{mem-join, some-none, new-from}
+use Rattle.decision.proofs.exploring.BreadthFirst.{some-none, new-from}
 
 -- No thing stands twice in the list.
 abbrev pub Distinct : {A : Type 0} → List A → Type 0

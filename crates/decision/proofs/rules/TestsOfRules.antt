@@ -12,12 +12,11 @@ use Rattle.terms.specs.Pattern.{Patterns}
 use Rattle.terms.specs.RuleTests.{Want, PlaceTest, PairTest, at, both, placeTests, pairTests, patternsRange}
 use Rattle.terms.specs.Accepted.{Sounds}
 use Rattle.basics.proofs.Booleans.{both-true, true-both}
-use Rattle.basics.proofs.ListLaws.{mem-cases, mem-none, all-at}
+use Rattle.basics.proofs.ListLaws.{mem-cases, mem-none, all-at, mem-join}
 use Rattle.terms.proofs.Ascending.{Ascends, ascends-from}
 use Rattle.terms.proofs.PreorderTests.{testPlace, all-tests-ascend}
 use Rattle.sheet_tests.specs.SheetTests.{Test, place, pair, ruleTests}
 use Rattle.decision.specs.Rules.{sameTest, wantIn}
-use Rattle.decision.proofs.exploring.BreadthFirst.{mem-join}
 use Rattle.basics.proofs.Filters.{mem-map, map-mem, any-mem, mem-any, mem-left, mem-right}
 
 -- Tests that are the same are equal,

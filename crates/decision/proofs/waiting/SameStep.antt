@@ -16,6 +16,7 @@ use Rattle.decision.specs.Cases.{Case, symbolCase, compoundCase, numbers
 use Rattle.decision.specs.Node.{Node, CaseEdge, end, switch, pairNode, follow}
 use Rattle.decision.specs.Path.{goTo, switchStep, byComparison, pairStep, stepAt}
 use Rattle.decision.specs.Walk.{isNotKnown, isUnknown, testNotKnown}
+use Rattle.terms.proofs.CompareSentences.{compare-unknown}
 
 -- If the test is not known in the piece, it is still not known in the piece filled in further.
 abbrev pub StillNotKnown : Terms → Terms → Test → Type 0
@@ -36,13 +37,6 @@ not-known-before notKnown y s h = tt
 not-known-before contradicted holds s h = h
 not-known-before contradicted notKnown s h = s
 not-known-before contradicted contradicted s h = h
-
--- Beside an unknown nothing is known.
-compare-unknown : (t : Term) → compare t unknown ≡ notKnown
-compare-unknown unknown = refl
-compare-unknown (symbol a) = refl
-compare-unknown (number a) = refl
-compare-unknown (compound a ts) = refl
 
 module _ {A : Type 0} (differ other : A) where
   -- A comparison that stays, and is still not known if it was, leads by the same edge.

@@ -2,7 +2,7 @@
 -- the test, if they have it, is not contradicted. For every piece.
 use Prim.Native.Nat.{ℕ, suc, _<_}
 use mathlib.Core.Path.{_≡_, refl, sym, subst, _∙_}
-use mathlib.Core.Bool.{Bool, true, false, _&&_, not}
+use mathlib.Core.Bool.{Bool, _&&_, not}
 use mathlib.Core.Logic.{_↔_, inl, inr}
 use mathlib.Core.List.{List, map}
 use mathlib.Core.Option.{Option, some, none}
@@ -12,11 +12,9 @@ use Rattle.masks.specs.Mask.{has, members}
 use Rattle.basics.specs.Lists.{Mem, All}
 use Rattle.basics.proofs.Booleans.{both-true, true-both}
 use Rattle.basics.proofs.Clash.{clash}
-use Rattle.basics.proofs.ListLaws.{all-at}
 use Rattle.basics.proofs.Filters.{mem-map}
-use Rattle.basics.proofs.Positions.{mem-at}
 use Rattle.terms.specs.Term.{Term, Terms, unknown, symbol, number, compound}
-use Rattle.terms.specs.Pattern.{Patterns, pnil}
+use Rattle.terms.specs.Pattern.{Patterns}
 use Rattle.terms.specs.RuleTests.{Want}
 use Rattle.terms.specs.Lookup.{Found, lacking, found, termAt}
 use Rattle.terms.specs.Outcome.{Outcome, holds, notKnown, contradicted, fits, compare}
@@ -32,30 +30,12 @@ use Rattle.decision.specs.Edges.{settledByUnknown, caseKeeps, liveWants,
 use Rattle.decision.specs.Path.{goTo, switchStep, byComparison, pairStep, stepAt}
 use Rattle.decision.specs.Walk.{testOutcome, isContradicted}
 use Rattle.decision.proofs.keys.Sets.{in-where, where-in, in-members}
-use Rattle.decision.proofs.cases.CasesLaws.{openAt, wantsNothing, edgesTo, edge-keeps}
-use Rattle.decision.proofs.rules.TestsOfRules.{HasTest, want-has, has-want}
+use Rattle.decision.proofs.cases.CasesLaws.{openAt, edgesTo, edge-keeps}
+use Rattle.decision.proofs.rules.TestsOfRules.{HasTest, want-has}
 use Rattle.decision.proofs.keys.Vertices.{pending-in}
+use Rattle.decision.proofs.rules.TheWant.{without-want}
 
 module _ (arity : ℕ) (rules : List Patterns) (accepted : All (AcceptedRule arity) rules) (piece : Terms) where
-  -- A rule wants nothing at a place exactly if it does not have the place's test.
-  without-want
-      : (t n : ℕ) → testAt rules t ≡ place n → (i : ℕ) → i < length rules
-      → not (hasTest rules i t) ≡ wantsNothing (wantAt rules i n)
-  without-want t n at i l = go (hasTest rules i t) (wantAt rules i n) refl refl
-    where
-      rule : Patterns
-      rule = ruleAt rules (suc i)
-
-      go : (b : Bool) (x : Option Want) → hasTest rules i t ≡ b → wantAt rules i n ≡ x → not b ≡ wantsNothing x
-      go true none d e =
-          let owned : HasTest rule (place n) = subst (HasTest rule) at (subst T (sym d) tt) in
-          let ok : AcceptedRule arity rule = all-at (AcceptedRule arity) (mem-at pnil rules i l) accepted in
-          let w = has-want rule (ok .sound) n owned in
-          clash (cc (w .1))
-      go true (some w) d e = refl
-      go false none d e = refl
-      go false (some w) d e = absurd (subst T d (subst (HasTest rule) (sym at) (want-has rule n w e)))
-
   module _ (nodes : List (Node ℕ)) where
     -- The test of rule i is contradicted.
     abbrev pub Against : ℕ → Test → Type 0
@@ -166,7 +146,7 @@ module _ (arity : ℕ) (rules : List Patterns) (accepted : All (AcceptedRule ari
                   subst (KeptRules key t) (sym (r .0))
                   (open-kept u there-is (butTest key t) (λ i. not (hasTest rules i t)) (λ i l m.
                   let e = r .1 (wantAt rules i n) (option-there i l m) in
-                  let same = without-want t n at i l in
+                  let same = without-want arity rules accepted t n at i l in
                   (λ k. subst T (same ∙ e) k, λ k. subst T (sym (same ∙ e)) k)))
             ]
 

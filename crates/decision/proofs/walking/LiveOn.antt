@@ -25,7 +25,7 @@ use Rattle.decision.specs.Edges.{firstIn, askNode, askFirst, nodeOf}
 use Rattle.decision.specs.Graph.{vertices, numbered}
 use Rattle.records.specs.Reading.{took, refused}
 use Rattle.decision.specs.Path.{Step, stop, goTo, noWay, stepAt}
-use Rattle.decision.specs.Path.{Path, Way, ends, through, nodeAt, lastStep, nextStep, pathBy, pathFrom, path, mostEdges}
+use Rattle.decision.specs.Path.{Path, ends, through, nodeAt, lastStep, nextStep, pathFrom, path, mostEdges}
 use Rattle.decision.specs.Walk.{asksTest, isMet, testOutcome, isContradicted, liveOn}
 use Rattle.decision.proofs.keys.Sets.{in-where, in-any, any-in}
 use Rattle.decision.proofs.rules.TestsOfRules.{HasTest, same-test, test-same}
