@@ -9,6 +9,7 @@
 
 pub mod both;
 pub mod cells;
+pub mod fast;
 pub mod fillings;
 pub mod reference;
 pub mod results;

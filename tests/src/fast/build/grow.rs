@@ -1,0 +1,104 @@
+//! The first pass: all nodes numbered breadth first, and their bytes counted.
+
+use super::items;
+use super::keys::{Key, Keys};
+use super::tests::Tests;
+
+/// How much of the graph is known.
+#[derive(Clone, Copy)]
+pub struct Grown {
+    pub bytes: usize,
+    pub nodes: usize,
+    edges: usize,
+}
+
+impl Grown {
+    /// Takes the edge to the node with this key; none if there is no room for the node.
+    #[inline(always)]
+    fn edge(self, key: Key, keys: &mut Keys, edges: &mut [u16]) -> Option<Grown> {
+        let mut grown = self;
+        let node = keys.number(key, grown.nodes);
+        if node == grown.nodes {
+            grown.nodes += 1;
+            if grown.nodes > keys.room() {
+                return None;
+            }
+        }
+        if grown.edges < edges.len() {
+            edges[grown.edges] = node as u16;
+        }
+        grown.edges += 1;
+        Some(grown)
+    }
+}
+
+/// Numbers all nodes; none if there is no room for them.
+pub fn all(tests: &Tests, keys: &mut Keys, edges: &mut [u16]) -> Option<Grown> {
+    let sheet = tests.sheet;
+    let count = u32::from(sheet.places) + u32::from(sheet.pair_count);
+    let live = if sheet.rules == 0 { 0 } else { u32::MAX >> (32 - sheet.rules) };
+    let pending = if count == 0 { 0 } else { u64::MAX >> (64 - count) };
+    keys.number(tests.key(live, pending, tests.cover(live, pending)), 0);
+    let mut grown = Grown { bytes: 5, nodes: 1, edges: 0 };
+    let mut node = 0;
+    while node < grown.nodes {
+        let key = keys.get(node);
+        if key.is_leaf() {
+            grown.bytes += 1 + key.live.count_ones() as usize;
+        } else {
+            let test = key.pending.trailing_zeros() as usize & 63;
+            grown = if test < usize::from(sheet.places) {
+                switch(tests, key, test, grown, keys, edges)?
+            } else {
+                pair(tests, key, test, grown, keys, edges)?
+            };
+        }
+        node += 1;
+    }
+    Some(grown)
+}
+
+/// Numbers the nodes that a switch leads to.
+fn switch(
+    tests: &Tests,
+    key: Key,
+    test: usize,
+    mut grown: Grown,
+    keys: &mut Keys,
+    edges: &mut [u16],
+) -> Option<Grown> {
+    let unsettled = key.pending & !(1 << test);
+    let cover = tests.cover(key.live, unsettled);
+    let others = key.live & !tests.having[test];
+    let items = tests.items(test);
+    let mut marked = tests.marked(test, key.live & tests.having[test]);
+    grown.bytes += 8;
+    while marked != 0 {
+        let item = items[1 + marked.trailing_zeros() as usize];
+        marked &= marked - 1;
+        let kept = item as u32 & key.live;
+        if kept != 0 {
+            grown = grown.edge(tests.key(others | kept, unsettled, cover), keys, edges)?;
+            grown.bytes += 5 + items::kind(item) as usize;
+        }
+    }
+    grown = grown.edge(tests.key(others, unsettled, cover), keys, edges)?;
+    let unsettled = unsettled & !tests.settled[test];
+    grown.edge(tests.key(key.live, unsettled, tests.cover(key.live, unsettled)), keys, edges)
+}
+
+/// Numbers the nodes that a pair leads to.
+fn pair(
+    tests: &Tests,
+    key: Key,
+    test: usize,
+    mut grown: Grown,
+    keys: &mut Keys,
+    edges: &mut [u16],
+) -> Option<Grown> {
+    let unsettled = key.pending & !(1 << test);
+    let cover = tests.cover(key.live, unsettled);
+    grown.bytes += 9;
+    grown = grown.edge(tests.key(key.live & !tests.having[test], unsettled, cover), keys, edges)?;
+    grown.edge(tests.key(key.live, unsettled, cover), keys, edges)
+}

@@ -1,0 +1,78 @@
+//! Terms of a piece compared: the equality test of two places.
+
+use super::piece::{Piece, LACKING, NOT_KNOWN};
+use super::places::step_of_children;
+use super::records::{COMPOUND, UNKNOWN};
+
+/// What a piece says about a test.
+#[derive(Clone, Copy, PartialEq, Eq)]
+pub enum Truth {
+    Holds,
+    NotKnown,
+    Contradicted,
+}
+
+/// The equality test of two places.
+pub fn equal(piece: &Piece, p: usize, q: usize) -> Truth {
+    let a = piece.find(p);
+    let b = piece.find(q);
+    if a == LACKING || b == LACKING {
+        return Truth::Contradicted;
+    }
+    if a == NOT_KNOWN || b == NOT_KNOWN {
+        return Truth::NotKnown;
+    }
+    if piece.bytes[a] != COMPOUND {
+        return if same_head(piece.bytes, a, b) { Truth::Holds } else { Truth::Contradicted };
+    }
+    same(piece, p, q, step_of_children(p), step_of_children(q), 3)
+}
+
+/// Whether the records at two offsets have the same kind and the same wide field.
+#[inline(always)]
+fn same_head(bytes: &[u8], a: usize, b: usize) -> bool {
+    bytes[a] == bytes[b] && bytes[a + 1] == bytes[b + 1] && bytes[a + 2] == bytes[b + 2]
+}
+
+/// Compares the terms at two places where terms stand, so many depths above the deepest. The steps are
+/// those between the children of each.
+fn same(piece: &Piece, p: usize, q: usize, step_p: usize, step_q: usize, left: usize) -> Truth {
+    let bytes = piece.bytes;
+    let a = usize::from(piece.offsets[p]);
+    let b = usize::from(piece.offsets[q]);
+    let kind = bytes[a];
+    if kind == UNKNOWN || bytes[b] == UNKNOWN {
+        return Truth::NotKnown;
+    }
+    if !same_head(bytes, a, b) {
+        return Truth::Contradicted;
+    }
+    if kind != COMPOUND {
+        return Truth::Holds;
+    }
+    if bytes[a + 3] != bytes[b + 3] || left == 0 {
+        return Truth::Contradicted;
+    }
+    same_arguments(piece, p + 1, q + 1, step_p, step_q, usize::from(bytes[a + 3]), left - 1)
+}
+
+/// Compares so many arguments in turn, the first ones at these places.
+fn same_arguments(
+    piece: &Piece,
+    p: usize,
+    q: usize,
+    step_p: usize,
+    step_q: usize,
+    count: usize,
+    left: usize,
+) -> Truth {
+    let mut all = Truth::Holds;
+    for j in 0..count {
+        match same(piece, p + j * step_p, q + j * step_q, step_p / 4, step_q / 4, left) {
+            Truth::Contradicted => return Truth::Contradicted,
+            Truth::NotKnown => all = Truth::NotKnown,
+            Truth::Holds => {}
+        }
+    }
+    all
+}

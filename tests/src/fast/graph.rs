@@ -1,0 +1,109 @@
+//! A graph's questions, 21 to 25, and where its nodes stand.
+
+use super::pairs::{self, pair};
+use super::places;
+use super::records::{self, wide, Case, Node};
+use super::sheet::Sheet;
+use crate::results::Refusal;
+
+/// The most nodes that a graph may have.
+pub const MOST_NODES: usize = 1024;
+
+/// The first byte of each node.
+pub type NodeStarts = [u32; MOST_NODES];
+
+/// Asks the questions and notes where each node stands; gives the number of nodes.
+pub fn read(graph: &[u8], sheet: &Sheet, starts: &mut NodeStarts) -> Result<u16, Refusal> {
+    if graph.len() < 5 || graph[0] != 0x12 || graph[1] != sheet.arity || graph[2] != sheet.rules {
+        return Err(21);
+    }
+    let count = wide(graph, 3);
+    if !(1..=MOST_NODES).contains(&usize::from(count)) {
+        return Err(21);
+    }
+    let mut at = 5;
+    for start in &mut starts[..usize::from(count)] {
+        *start = at as u32;
+        at += node(&graph[at..], sheet, count)?;
+    }
+    if at != graph.len() {
+        return Err(25);
+    }
+    Ok(count)
+}
+
+/// Asks a node's questions, 22 to 24; gives how many bytes it has.
+#[inline(always)]
+fn node(bytes: &[u8], sheet: &Sheet, count: u16) -> Result<usize, Refusal> {
+    match records::node(bytes) {
+        None => Err(22),
+        Some(Node::Fail | Node::Suspend) => Ok(1),
+        Some(Node::Execute(rule)) => {
+            if rule < 1 || rule > sheet.rules {
+                return Err(23);
+            }
+            Ok(2)
+        }
+        Some(Node::Switch { place, cases, neither, unknown }) => {
+            if cases == 0 {
+                return Err(22);
+            }
+            let cases = self::cases(&bytes[8..], cases).ok_or(22)?;
+            let nodes_in_range = neither < count && unknown < count && cases.highest < count;
+            if !nodes_in_range || !places::holds(&sheet.tested, place) {
+                return Err(23);
+            }
+            if !cases.in_order {
+                return Err(24);
+            }
+            Ok(8 + cases.used)
+        }
+        Some(Node::Pair { p, q, no, other }) => {
+            let known = |pair| pairs::holds(&sheet.pairs, usize::from(sheet.pair_count), pair);
+            if no >= count || other >= count || !known(pair(p, q)) {
+                return Err(23);
+            }
+            Ok(9)
+        }
+    }
+}
+
+/// The cases of a switch: how many bytes they have, the highest node named, and question 24's answer.
+#[derive(Clone, Copy)]
+struct Cases {
+    used: usize,
+    highest: u16,
+    in_order: bool,
+}
+
+/// Reads so many cases; none if one is cut or of another kind. What a case takes is a run of codes,
+/// symbols before compounds before numbers, so that cases are in order where each run begins after the
+/// last one.
+fn cases(bytes: &[u8], count: u8) -> Option<Cases> {
+    let mut cases = Cases { used: 0, highest: 0, in_order: true };
+    let mut least = 0;
+    for _ in 0..count {
+        let (first, last, node, used);
+        match records::case(&bytes[cases.used..])? {
+            Case::Symbol(id, to) => {
+                first = u32::from(id) << 8;
+                (last, node, used) = (first, to, 5);
+            }
+            Case::Compound(id, arity, to) => {
+                first = 1 << 24 | u32::from(id) << 8 | u32::from(arity);
+                (last, node, used) = (first, to, 6);
+            }
+            Case::Numbers(low, high, to) => {
+                first = 2 << 24 | u32::from(low);
+                (last, node, used) = (2 << 24 | u32::from(high), to, 7);
+            }
+        }
+        cases.used += used;
+        cases.in_order &= first >= least && first <= last;
+        least = last + 1;
+        if node > cases.highest {
+            cases.highest = node;
+        }
+    }
+    Some(cases)
+}

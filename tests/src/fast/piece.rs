@@ -1,0 +1,159 @@
+//! A piece's questions, 12 to 17, and where its terms stand.
+
+use super::places::{PARENT, PLACES, STEP};
+use super::records::{self, Term, UNKNOWN};
+use crate::results::Refusal;
+
+/// A piece: its bytes, and for each place the offset of the term there, 0 where there is none.
+pub struct Piece<'a> {
+    pub bytes: &'a [u8],
+    pub offsets: [u16; PLACES],
+}
+
+/// What `find` gives for a place that the piece lacks.
+pub const LACKING: usize = 0;
+/// What `find` gives for an unknown, and for a place below one.
+pub const NOT_KNOWN: usize = 1;
+
+/// Questions 12 and 13; gives the arity.
+#[inline(always)]
+fn header(bytes: &[u8]) -> Result<u8, Refusal> {
+    if bytes.len() < 2 || bytes[0] != 0x11 {
+        return Err(12);
+    }
+    if !(1..=8).contains(&bytes[1]) {
+        return Err(13);
+    }
+    Ok(bytes[1])
+}
+
+/// Asks a piece's questions and notes nothing; gives its arity.
+pub fn check(bytes: &[u8]) -> Result<u8, Refusal> {
+    let arity = header(bytes)?;
+    let used = lengths(&bytes[2..], usize::from(arity), 1)?;
+    if used + 2 != bytes.len() {
+        return Err(17);
+    }
+    Ok(arity)
+}
+
+/// How many bytes a term has.
+fn length(bytes: &[u8], depth: usize) -> Result<usize, Refusal> {
+    match records::term(bytes) {
+        None => Err(14),
+        Some(Term::Unknown) => Ok(1),
+        Some(Term::SymbolOrNumber) => Ok(3),
+        Some(Term::Compound(arity)) => {
+            if depth > 3 {
+                return Err(15);
+            }
+            if !(1..=4).contains(&arity) {
+                return Err(16);
+            }
+            Ok(lengths(&bytes[4..], usize::from(arity), depth + 1)? + 4)
+        }
+    }
+}
+
+/// How many bytes so many terms have.
+fn lengths(bytes: &[u8], count: usize, depth: usize) -> Result<usize, Refusal> {
+    let mut at = 0;
+    for _ in 0..count {
+        at += length(&bytes[at..], depth)?;
+    }
+    Ok(at)
+}
+
+impl<'a> Piece<'a> {
+    #[inline(always)]
+    pub fn unread(bytes: &'a [u8]) -> Self {
+        Piece { bytes, offsets: [0; PLACES] }
+    }
+
+    /// Asks the questions and notes where each term stands; gives the arity.
+    pub fn read(&mut self) -> Result<u8, Refusal> {
+        let bytes = self.bytes;
+        let arity = header(bytes)?;
+        let used = terms(&bytes[2..], 2, usize::from(arity), 0, 1, &mut self.offsets)?;
+        if used + 2 != bytes.len() {
+            return Err(17);
+        }
+        Ok(arity)
+    }
+
+    /// The offset of the known term at a place, else `LACKING` or `NOT_KNOWN`.
+    #[inline(always)]
+    pub fn find(&self, place: usize) -> usize {
+        let offset = usize::from(self.offsets[place]);
+        if offset == 0 {
+            return self.find_above(place);
+        }
+        if self.bytes[offset] == UNKNOWN {
+            NOT_KNOWN
+        } else {
+            offset
+        }
+    }
+
+    /// What `find` gives for a place at which no term stands: it depends on the next term above.
+    fn find_above(&self, place: usize) -> usize {
+        let mut above = usize::from(PARENT[place]);
+        while above < PLACES {
+            let offset = usize::from(self.offsets[above]);
+            if offset != 0 {
+                return if self.bytes[offset] == UNKNOWN { NOT_KNOWN } else { LACKING };
+            }
+            above = usize::from(PARENT[above]);
+        }
+        LACKING
+    }
+}
+
+/// Notes a term, whose first byte is at offset `from` of the piece; gives how many bytes it has.
+fn term(
+    bytes: &[u8],
+    from: usize,
+    place: usize,
+    depth: usize,
+    offsets: &mut [u16; PLACES],
+) -> Result<usize, Refusal> {
+    match records::term(bytes) {
+        None => Err(14),
+        Some(Term::Unknown) => {
+            offsets[place] = from as u16;
+            Ok(1)
+        }
+        Some(Term::SymbolOrNumber) => {
+            offsets[place] = from as u16;
+            Ok(3)
+        }
+        Some(Term::Compound(arity)) => {
+            if depth > 3 {
+                return Err(15);
+            }
+            if !(1..=4).contains(&arity) {
+                return Err(16);
+            }
+            offsets[place] = from as u16;
+            Ok(terms(&bytes[4..], from + 4, usize::from(arity), place + 1, depth + 1, offsets)? + 4)
+        }
+    }
+}
+
+/// Notes so many terms side by side, the first at this place; gives how many bytes they have.
+fn terms(
+    bytes: &[u8],
+    from: usize,
+    count: usize,
+    first: usize,
+    depth: usize,
+    offsets: &mut [u16; PLACES],
+) -> Result<usize, Refusal> {
+    let mut at = 0;
+    let mut place = first;
+    for _ in 0..count {
+        at += term(&bytes[at..], from + at, place, depth, offsets)?;
+        place += STEP[depth - 1];
+    }
+    Ok(at)
+}

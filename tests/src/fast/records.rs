@@ -1,0 +1,133 @@
+//! Records at the start of bytes, read in place: none where the record is cut or of another kind.
+
+/// The wide field at this byte.
+#[inline(always)]
+pub fn wide(bytes: &[u8], at: usize) -> u16 {
+    u16::from(bytes[at]) << 8 | u16::from(bytes[at + 1])
+}
+
+/// Writes the wide field at this byte, its last byte first, so that its bounds are checked once.
+#[inline(always)]
+pub fn put_wide(bytes: &mut [u8], at: usize, field: u16) {
+    bytes[at + 1] = field as u8;
+    bytes[at] = (field >> 8) as u8;
+}
+
+/// A pattern of kinds 20 to 25.
+#[derive(Clone, Copy)]
+pub enum Pattern {
+    Anything,
+    Symbol(u16),
+    Range(u16, u16),
+    Compound(u16, u8),
+    Variable(u8),
+    Ranged(u8, u16, u16),
+}
+
+#[inline(always)]
+pub fn pattern(bytes: &[u8]) -> Option<Pattern> {
+    let len = bytes.len();
+    if len == 0 {
+        return None;
+    }
+    match bytes[0] {
+        0x20 => Some(Pattern::Anything),
+        0x21 if len >= 3 => Some(Pattern::Symbol(wide(bytes, 1))),
+        0x22 if len >= 5 => Some(Pattern::Range(wide(bytes, 1), wide(bytes, 3))),
+        0x23 if len >= 4 => Some(Pattern::Compound(wide(bytes, 1), bytes[3])),
+        0x24 if len >= 2 => Some(Pattern::Variable(bytes[1])),
+        0x25 if len >= 6 => Some(Pattern::Ranged(bytes[1], wide(bytes, 2), wide(bytes, 4))),
+        _ => None,
+    }
+}
+
+/// The kinds of terms.
+pub const UNKNOWN: u8 = 0x30;
+pub const SYMBOL: u8 = 0x31;
+pub const NUMBER: u8 = 0x32;
+pub const COMPOUND: u8 = 0x33;
+
+/// A term of kinds 30 to 33, as far as reading on depends on it.
+#[derive(Clone, Copy)]
+pub enum Term {
+    Unknown,
+    SymbolOrNumber,
+    Compound(u8),
+}
+
+#[inline(always)]
+pub fn term(bytes: &[u8]) -> Option<Term> {
+    let len = bytes.len();
+    if len == 0 {
+        return None;
+    }
+    match bytes[0] {
+        UNKNOWN => Some(Term::Unknown),
+        SYMBOL | NUMBER if len >= 3 => Some(Term::SymbolOrNumber),
+        COMPOUND if len >= 4 => Some(Term::Compound(bytes[3])),
+        _ => None,
+    }
+}
+
+/// A node of kinds 40 to 43 and 47; a switch's cases follow as records of their own.
+#[derive(Clone, Copy)]
+pub enum Node {
+    Fail,
+    Suspend,
+    Execute(u8),
+    Switch { place: u16, cases: u8, neither: u16, unknown: u16 },
+    Pair { p: u16, q: u16, no: u16, other: u16 },
+}
+
+#[inline(always)]
+pub fn node(bytes: &[u8]) -> Option<Node> {
+    let len = bytes.len();
+    if len == 0 {
+        return None;
+    }
+    match bytes[0] {
+        0x40 => Some(Node::Fail),
+        0x41 => Some(Node::Suspend),
+        0x42 if len >= 2 => Some(Node::Execute(bytes[1])),
+        0x43 if len >= 8 => Some(Node::Switch {
+            place: wide(bytes, 1),
+            cases: bytes[3],
+            neither: wide(bytes, 4),
+            unknown: wide(bytes, 6),
+        }),
+        0x47 if len >= 9 => Some(Node::Pair {
+            p: wide(bytes, 1),
+            q: wide(bytes, 3),
+            no: wide(bytes, 5),
+            other: wide(bytes, 7),
+        }),
+        _ => None,
+    }
+}
+
+/// The kinds of cases.
+pub const SYMBOL_CASE: u8 = 0x44;
+pub const COMPOUND_CASE: u8 = 0x45;
+pub const NUMBERS_CASE: u8 = 0x46;
+
+/// A case of kinds 44 to 46; the last field is its node.
+#[derive(Clone, Copy)]
+pub enum Case {
+    Symbol(u16, u16),
+    Compound(u16, u8, u16),
+    Numbers(u16, u16, u16),
+}
+
+#[inline(always)]
+pub fn case(bytes: &[u8]) -> Option<Case> {
+    let len = bytes.len();
+    if len < 5 {
+        return None;
+    }
+    match bytes[0] {
+        SYMBOL_CASE => Some(Case::Symbol(wide(bytes, 1), wide(bytes, 3))),
+        COMPOUND_CASE if len >= 6 => Some(Case::Compound(wide(bytes, 1), bytes[3], wide(bytes, 4))),
+        NUMBERS_CASE if len >= 7 => Some(Case::Numbers(wide(bytes, 1), wide(bytes, 3), wide(bytes, 5))),
+        _ => None,
+    }
+}

@@ -1,0 +1,150 @@
+//! The tests of one rule made on a piece, from the rule's bytes.
+
+use super::compare::{equal, Truth};
+use super::piece::{Piece, LACKING, NOT_KNOWN};
+use super::places::STEP;
+use super::records::{self, wide, Pattern, COMPOUND, NUMBER, SYMBOL};
+use super::sheet::Sheet;
+use super::variables::Variables;
+
+/// What tests said of which none is contradicted: how many bytes were read, and those not known.
+#[derive(Clone, Copy)]
+pub struct Made {
+    used: usize,
+    pub not_known: u64,
+}
+
+/// Makes all tests of the rule whose patterns begin these bytes; none if one is contradicted.
+pub fn make(bytes: &[u8], sheet: &Sheet, piece: &Piece, variables: &mut Variables) -> Option<Made> {
+    variables.clear();
+    let mut made = patterns(bytes, usize::from(sheet.arity), 0, 1, sheet, piece, variables)?;
+    let mut left = variables.met();
+    while left != 0 {
+        let number = left.trailing_zeros() as usize;
+        left &= left - 1;
+        made.not_known |= variable(variables, number, sheet, piece)?;
+    }
+    Some(made)
+}
+
+/// A test at a place: bytes read, and the test itself if it is not known.
+#[inline(always)]
+fn place_test(sheet: &Sheet, place: usize, offset: usize, holds: bool, used: usize) -> Option<Made> {
+    if offset == NOT_KNOWN {
+        return Some(Made { used, not_known: 1 << sheet.place_test(place) });
+    }
+    holds.then_some(Made { used, not_known: 0 })
+}
+
+/// Whether a number from low to high stands at this offset.
+#[inline(always)]
+fn is_in_range(piece: &Piece, offset: usize, low: u16, high: u16) -> bool {
+    offset > NOT_KNOWN
+        && piece.bytes[offset] == NUMBER
+        && low <= wide(piece.bytes, offset + 1)
+        && wide(piece.bytes, offset + 1) <= high
+}
+
+/// Whether this symbol stands at this offset.
+#[inline(always)]
+fn is_symbol(piece: &Piece, offset: usize, id: u16) -> bool {
+    offset > NOT_KNOWN && piece.bytes[offset] == SYMBOL && wide(piece.bytes, offset + 1) == id
+}
+
+/// Whether a compound of this id and arity stands at this offset.
+#[inline(always)]
+fn is_compound(piece: &Piece, offset: usize, id: u16, arity: u8) -> bool {
+    offset != LACKING
+        && piece.bytes[offset] == COMPOUND
+        && wide(piece.bytes, offset + 1) == id
+        && piece.bytes[offset + 3] == arity
+}
+
+/// Makes the place tests of a pattern.
+fn pattern(
+    bytes: &[u8],
+    place: usize,
+    depth: usize,
+    sheet: &Sheet,
+    piece: &Piece,
+    variables: &mut Variables,
+) -> Option<Made> {
+    match records::pattern(bytes)? {
+        Pattern::Anything => Some(Made { used: 1, not_known: 0 }),
+        Pattern::Symbol(id) => {
+            let offset = piece.find(place);
+            place_test(sheet, place, offset, is_symbol(piece, offset, id), 3)
+        }
+        Pattern::Range(low, high) => {
+            let offset = piece.find(place);
+            place_test(sheet, place, offset, is_in_range(piece, offset, low, high), 5)
+        }
+        Pattern::Compound(id, arity) => {
+            let offset = piece.find(place);
+            let mut not_known = 0;
+            if offset == NOT_KNOWN {
+                not_known = 1 << sheet.place_test(place);
+            } else if !is_compound(piece, offset, id, arity) {
+                return None;
+            }
+            let arity = usize::from(arity);
+            let made = patterns(&bytes[4..], arity, place + 1, depth + 1, sheet, piece, variables)?;
+            Some(Made { used: made.used + 4, not_known: not_known | made.not_known })
+        }
+        Pattern::Variable(number) => {
+            variables.meet(number, place);
+            Some(Made { used: 2, not_known: 0 })
+        }
+        Pattern::Ranged(number, low, high) => {
+            variables.meet_ranged(number, place, low, high);
+            Some(Made { used: 6, not_known: 0 })
+        }
+    }
+}
+
+/// Makes the place tests of so many patterns side by side, the first at this place.
+fn patterns(
+    bytes: &[u8],
+    count: usize,
+    first: usize,
+    depth: usize,
+    sheet: &Sheet,
+    piece: &Piece,
+    variables: &mut Variables,
+) -> Option<Made> {
+    let mut all = Made { used: 0, not_known: 0 };
+    let mut place = first;
+    for _ in 0..count {
+        let made = pattern(&bytes[all.used..], place, depth, sheet, piece, variables)?;
+        all.used += made.used;
+        all.not_known |= made.not_known;
+        place += STEP[depth - 1];
+    }
+    Some(all)
+}
+
+/// Makes the tests of a variable; gives those not known.
+fn variable(variables: &Variables, number: usize, sheet: &Sheet, piece: &Piece) -> Option<u64> {
+    let count = variables.count(number);
+    let mut not_known = 0;
+    for i in 0..count {
+        let p = variables.place(number, i);
+        if variables.is_ranged(number) {
+            let offset = piece.find(usize::from(p));
+            if offset == NOT_KNOWN {
+                not_known |= 1 << sheet.place_test(usize::from(p));
+            } else if !is_in_range(piece, offset, variables.low(number), variables.high(number)) {
+                return None;
+            }
+        }
+        for j in i + 1..count {
+            let q = variables.place(number, j);
+            match equal(piece, usize::from(p), usize::from(q)) {
+                Truth::Contradicted => return None,
+                Truth::NotKnown => not_known |= 1 << sheet.pair_test(p, q),
+                Truth::Holds => {}
+            }
+        }
+    }
+    Some(not_known)
+}
