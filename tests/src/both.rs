@@ -53,7 +53,7 @@ const BEYOND: usize = 64;
 
 /// Lends a call a buffer of this length; gives its result and the buffer. No byte beyond it changes.
 #[inline]
-fn lend<T>(len: usize, call: impl FnOnce(&mut [u8]) -> T) -> (T, Vec<u8>) {
+pub fn lend<T>(len: usize, call: impl FnOnce(&mut [u8]) -> T) -> (T, Vec<u8>) {
     let mut bytes = lent(len + BEYOND);
     let result = call(&mut bytes[..len]);
     assert!(bytes[len..] == lent(len + BEYOND)[len..], "a byte beyond {len} changed");

@@ -2,10 +2,10 @@
 //!
 //! `reference` is a second implementation, written from document 01 alone. `voltunnis` calls the
 //! static library through the crate of that name. Both hand back the types of `results`, so that a
-//! test compares them by `==`; `both` makes a call of each and does so. `generate` is the package that
-//! makes sheets, pieces and graphs, good and damaged. `fillings` answers by trying fillings. `vectors`
-//! reads the shared vectors. `window` calls the library's windows, and `cells` says what becomes of a
-//! window's cells.
+//! test compares them by `==`; `both` makes a call of each and does so. `fast` is the fastest plain code
+//! for most of the calls, an anchor for speed. `generate` is the package that makes sheets, pieces and
+//! graphs, good and damaged. `fillings` answers by trying fillings. `vectors` reads the shared vectors.
+//! `window` calls the library's windows, and `cells` says what becomes of a window's cells.
 
 pub mod both;
 pub mod cells;

@@ -2,6 +2,7 @@
 
 use voltunnis_tests::bytes::from_hex;
 use voltunnis_tests::generate::known::{self, coins};
+use voltunnis_tests::generate::random::Random;
 use voltunnis_tests::generate::trees::{piece_bytes, Pattern, SheetTree, Term};
 
 /// A sheet and a piece of the same arity.
@@ -56,6 +57,41 @@ fn pairs_64() -> SheetTree {
     SheetTree { arity: 8, rules: vec![rule; 32] }
 }
 
+/// So many rules that want a range at random at each place, up to this wide.
+fn random_ranges(name: &'static str, rules: usize, places: usize, widest: usize) -> Case {
+    at_random(name, rules, places, |random| {
+        let low = random.below(1000);
+        (low, low + random.below(widest))
+    })
+}
+
+/// So many rules that want the number 0 or 1 at random at each of 8 places.
+fn random_bits(name: &'static str, rules: usize) -> Case {
+    at_random(name, rules, 8, |random| {
+        let bit = random.below(2);
+        (bit, bit)
+    })
+}
+
+/// So many rules that want one of these ranges at each place, and a piece that the rule in the middle
+/// takes, one reading not taken yet.
+fn at_random(
+    name: &'static str,
+    rules: usize,
+    places: usize,
+    range: impl Fn(&mut Random) -> (usize, usize),
+) -> Case {
+    let mut random = Random::new(1);
+    let mut ranges = || (0..places).map(|_| range(&mut random)).collect();
+    let rules: Vec<Vec<(usize, usize)>> = (0..rules).map(|_| ranges()).collect();
+    let mut terms: Vec<Term> =
+        rules[rules.len() / 2].iter().map(|(low, _)| Term::Number(*low as u16)).collect();
+    terms[places - 1] = Term::Unknown;
+    let pattern = |(low, high): &(usize, usize)| Pattern::Range(*low as u16, *high as u16);
+    let rules = rules.iter().map(|rule| rule.iter().map(pattern).collect()).collect();
+    case(name, SheetTree { arity: places as u8, rules }.bytes(), piece_bytes(&terms))
+}
+
 fn case(name: &'static str, sheet: Vec<u8>, piece: Vec<u8>) -> Case {
     Case { name, sheet, piece }
 }
@@ -72,7 +108,12 @@ pub fn for_graphs() -> Vec<Case> {
         example(),
         case("8 rules of 4 readings", coins(8), coin(8)),
         case("32 rules of 4 readings", coins(32), coin(32)),
+        random_bits("8 rules of zeros and ones", 8),
+        random_bits("16 rules of zeros and ones", 16),
         open("32 rules of zeros and ones", known::zeros_and_ones()),
+        random_ranges("8 rules of random ranges", 8, 4, 300),
+        random_ranges("16 rules of random ranges", 16, 6, 300),
+        random_ranges("32 rules of random ranges", 32, 4, 300),
         open("nested ranges at 8 places", known::nested_8()),
         open("nested ranges at 16 places", known::nested_16()),
         open("most nodes", known::nodes_1024()),

@@ -1,46 +1,62 @@
 //! The calls that build, check, write again and walk the graph of a case.
 
 use crate::cases::Case;
-use crate::timing::against;
-use crate::{outcome, row};
+use crate::table::{outcome, Table};
+use crate::timing::{against, against_both};
 use voltunnis_tests::results::Built;
-use voltunnis_tests::{reference, voltunnis};
+use voltunnis_tests::{fast, reference, voltunnis};
 
 /// More bytes than any graph has.
 const ENOUGH: usize = 460_000;
 
 /// The rows of one case; none but the build's where the sheet has no graph.
-pub fn rows(case: &Case) {
+pub fn rows(table: &mut Table, case: &Case) {
     let mut buffer = vec![0; ENOUGH];
     let built = reference::build(&case.sheet, &mut buffer);
     let size = match built {
         Ok(Built { nodes, bytes }) => format!("{nodes} nodes, {bytes} bytes"),
         Err(_) => outcome(&built),
     };
-    build_row(case, &size);
+    build_row(table, case, &size);
     let Ok(built) = built else { return };
     buffer.truncate(built.bytes as usize);
-    written_rows(case, &buffer, &size);
-    walk_row(case, &buffer, &size);
+    written_rows(table, case, &buffer, &size);
+    walk_row(table, case, &buffer, &size);
 }
 
-fn build_row(Case { name, sheet, .. }: &Case, size: &str) {
-    let (one, two) = (&mut vec![0; ENOUGH], &mut vec![0; ENOUGH]);
-    let times = against(|| voltunnis::build(sheet, one), || reference::build(sheet, two));
-    row(name, "vt_build", size, times);
+fn build_row(table: &mut Table, Case { name, sheet, .. }: &Case, size: &str) {
+    let (one, two, three) = (&mut vec![0; ENOUGH], &mut vec![0; ENOUGH], &mut vec![0; ENOUGH]);
+    let times = against_both(
+        || voltunnis::build(sheet, one),
+        || reference::build(sheet, two),
+        || fast::build(sheet, three),
+    );
+    table.row(name, "vt_build", size, times);
 }
 
-fn written_rows(Case { name, sheet, .. }: &Case, graph: &[u8], size: &str) {
+fn written_rows(table: &mut Table, Case { name, sheet, .. }: &Case, graph: &[u8], size: &str) {
     let (one, two) = (&mut vec![0; ENOUGH], &mut vec![0; ENOUGH]);
-    let times = against(|| voltunnis::check_graph(sheet, graph), || reference::check_graph(sheet, graph));
-    row(name, "vt_check_graph", size, times);
+    let times = against_both(
+        || voltunnis::check_graph(sheet, graph),
+        || reference::check_graph(sheet, graph),
+        || fast::check_graph(sheet, graph),
+    );
+    table.row(name, "vt_check_graph", size, times);
     let times = against(|| voltunnis::rewrite(sheet, graph, one), || reference::rewrite(sheet, graph, two));
-    row(name, "vt_rewrite", size, times);
+    table.row(name, "vt_rewrite", size, times);
 }
 
-fn walk_row(Case { name, sheet, piece }: &Case, graph: &[u8], size: &str) {
+fn walk_row(table: &mut Table, Case { name, sheet, piece }: &Case, graph: &[u8], size: &str) {
     let walked = reference::walk(sheet, graph, piece);
-    let times = against(|| voltunnis::walk(sheet, graph, piece), || reference::walk(sheet, graph, piece));
-    let edges = walked.map_or_else(|_| outcome(&walked), |answer| format!("{} edges", answer.walk.edges));
-    row(name, "vt_walk", &format!("{size}, {edges}"), times);
+    let times = against_both(
+        || voltunnis::walk(sheet, graph, piece),
+        || reference::walk(sheet, graph, piece),
+        || fast::walk(sheet, graph, piece),
+    );
+    let edges = match walked {
+        Ok(answer) if answer.walk.edges == 1 => "1 edge".into(),
+        Ok(answer) => format!("{} edges", answer.walk.edges),
+        Err(_) => outcome(&walked),
+    };
+    table.row(name, "vt_walk", &format!("{size}, {edges}"), times);
 }

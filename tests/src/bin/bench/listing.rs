@@ -1,7 +1,7 @@
 //! The listing program against the reference as a program: both read sheet.bin and standard input, and print.
 
 use crate::cases::Case;
-use crate::row;
+use crate::table::Table;
 use crate::timing::against;
 use std::env;
 use std::fs::{self, File};
@@ -33,7 +33,7 @@ fn run(program: &Path, words: &[&str], folder: &Path) {
 }
 
 /// The row of one case: as many copies of its piece as an input takes, 10,000 at most.
-pub fn rows(Case { name, sheet, piece }: &Case) {
+pub fn row(table: &mut Table, Case { name, sheet, piece }: &Case) {
     let program: PathBuf = Path::new(env!("CARGO_MANIFEST_DIR")).join("../target/bin/listing");
     let Ok(program) = program.canonicalize() else { return };
     let folder = env::temp_dir().join("voltunnis-bench");
@@ -43,6 +43,6 @@ pub fn rows(Case { name, sheet, piece }: &Case) {
     fs::write(folder.join("pieces"), piece.repeat(count)).expect("a file");
     let this = env::current_exe().expect("a path");
     let times = against(|| run(&program, &[], &folder), || run(&this, &[WORD], &folder));
-    row(name, "listing", &format!("{count} pieces"), times);
+    table.row(name, "listing", &format!("{count} pieces"), times);
     fs::remove_dir_all(&folder).expect("a folder to remove");
 }

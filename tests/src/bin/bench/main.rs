@@ -1,53 +1,50 @@
-//! Times the library against the reference, call by call in the same run, and prints a table.
+//! Times the library against the reference and the fast code, call by call in the same run, and prints a
+//! table; then for each call the geometric mean and the worst of its ratios to the fast code.
 //!
-//! `cargo run --release --bin bench`, after `rt staticlib voltunnis` and `rt check listing`. A ratio above 1 says that the library
-//! is slower.
+//! `cargo run --release --bin bench`, after `rt staticlib voltunnis` and `rt check listing`. A ratio above 1
+//! says that the library is slower.
 
 mod cases;
 mod graphs;
 mod listing;
+mod table;
 mod timing;
 mod window;
 
 use cases::Case;
-use timing::{against, Times};
-use voltunnis_tests::results::Refusal;
-use voltunnis_tests::{reference, voltunnis};
+use table::{outcome, Table};
+use timing::against_both;
+use voltunnis_tests::{fast, reference, voltunnis};
 
-/// What a result says in the table.
-fn outcome<T>(result: &Result<T, Refusal>) -> String {
-    match result {
-        Ok(_) => "accepted".into(),
-        Err(refusal) => format!("refused {refusal}"),
-    }
-}
-
-fn row(case: &str, call: &str, outcome: &str, times: Times) {
-    println!(
-        "| {case} | {call} | {outcome} | {:.3} | {:.3} | {:.2} |",
-        times.library.as_nanos() as f64 / 1e3 / times.calls,
-        times.reference.as_nanos() as f64 / 1e3 / times.calls,
-        times.library.as_secs_f64() / times.reference.as_secs_f64(),
+fn rows(table: &mut Table, Case { name, sheet, piece }: &Case) {
+    let times = against_both(
+        || voltunnis::check_sheet(sheet),
+        || reference::check_sheet(sheet),
+        || fast::check_sheet(sheet),
     );
-}
-
-fn rows(Case { name, sheet, piece }: &Case) {
-    let times = against(|| voltunnis::check_sheet(sheet), || reference::check_sheet(sheet));
-    row(name, "vt_check_sheet", &outcome(&reference::check_sheet(sheet)), times);
-    let times = against(|| voltunnis::check_piece(piece), || reference::check_piece(piece));
-    row(name, "vt_check_piece", &outcome(&reference::check_piece(piece)), times);
-    let times = against(|| voltunnis::plain(sheet, piece), || reference::plain(sheet, piece));
-    row(name, "vt_plain", &outcome(&reference::plain(sheet, piece)), times);
+    table.row(name, "vt_check_sheet", &outcome(&reference::check_sheet(sheet)), times);
+    let times = against_both(
+        || voltunnis::check_piece(piece),
+        || reference::check_piece(piece),
+        || fast::check_piece(piece),
+    );
+    table.row(name, "vt_check_piece", &outcome(&reference::check_piece(piece)), times);
+    let times = against_both(
+        || voltunnis::plain(sheet, piece),
+        || reference::plain(sheet, piece),
+        || fast::plain(sheet, piece),
+    );
+    table.row(name, "vt_plain", &outcome(&reference::plain(sheet, piece)), times);
 }
 
 fn main() {
     if std::env::args().nth(1).as_deref() == Some(listing::WORD) {
         return listing::print();
     }
-    println!("| case | call | result | library, µs | reference, µs | ratio |");
-    println!("|---|---|---|---|---|---|");
-    cases::all().iter().for_each(rows);
-    cases::for_graphs().iter().for_each(graphs::rows);
-    cases::for_graphs().iter().for_each(listing::rows);
-    window::rows();
+    let table = &mut Table::new();
+    cases::all().iter().for_each(|case| rows(table, case));
+    cases::for_graphs().iter().for_each(|case| graphs::rows(table, case));
+    cases::for_graphs().iter().for_each(|case| listing::row(table, case));
+    window::rows(table);
+    table.print_means();
 }

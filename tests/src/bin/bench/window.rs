@@ -1,6 +1,6 @@
 //! The calls of a window, against plain Rust that does the same few steps.
 
-use crate::row;
+use crate::table::Table;
 use crate::timing::against;
 use std::hint::black_box;
 use voltunnis_tests::generate::random::Random;
@@ -87,7 +87,7 @@ fn asked<T>(question: impl Fn(u8) -> T) {
 }
 
 /// A thousand feeds, and a thousand questions.
-pub fn rows() {
+pub fn rows(table: &mut Table) {
     for (case, share) in [("answers of all words", 0), ("mostly commits", 95)] {
         let answers = answers(&mut Random::new(12), share);
         let (mut window, mut ring) = ([0; CELLS], Ring::new());
@@ -101,14 +101,14 @@ pub fn rows() {
             || one.next().map(|part| fed(part, |word, rule| feed(&mut window, word, rule))),
             || two.next().map(|part| fed(part, |word, rule| ring_feed(&mut ring, word, rule))),
         );
-        row(case, "vt_window_feed", "1000 times", times);
+        table.row(case, "vt_window_feed", "1000 times", times);
         let times =
             against(|| asked(|_| words(black_box(&window))), || asked(|_| ring_words(black_box(&ring))));
-        row(case, "vt_window_words", "1000 times", times);
+        table.row(case, "vt_window_words", "1000 times", times);
         let times = against(
             || asked(|i| commits(black_box(&window), i)),
             || asked(|i| ring_commits(black_box(&ring), i)),
         );
-        row(case, "vt_window_commits", "1000 times", times);
+        table.row(case, "vt_window_commits", "1000 times", times);
     }
 }
