@@ -48,19 +48,25 @@ pub fn walk(
                 }
             }
             Some(Node::Pair { p, q, no, other }) => {
-                if piece.find(usize::from(p)) == LACKING || piece.find(usize::from(q)) == LACKING {
-                    return Err(27);
-                }
-                node = other;
-                match equal(piece, usize::from(p), usize::from(q)) {
-                    Truth::Contradicted => node = no,
-                    Truth::NotKnown => not_known |= 1 << sheet.pair_test(p, q),
-                    Truth::Holds => {}
+                let truth = pair(piece, p, q)?;
+                node = if truth == Truth::Contradicted { no } else { other };
+                if truth == Truth::NotKnown {
+                    not_known |= 1 << sheet.pair_test(p, q);
                 }
             }
         }
         edges += 1;
     }
+}
+
+/// What the piece says about a pair; question 27 is asked first.
+#[inline(always)]
+fn pair(piece: &Piece, p: u16, q: u16) -> Result<Truth, Refusal> {
+    let (p, q) = (usize::from(p), usize::from(q));
+    if piece.find(p) == LACKING || piece.find(q) == LACKING {
+        return Err(27);
+    }
+    Ok(equal(piece, p, q))
 }
 
 #[inline(always)]

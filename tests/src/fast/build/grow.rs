@@ -2,7 +2,7 @@
 
 use super::items;
 use super::keys::{Key, Keys};
-use super::tests::Tests;
+use super::rules::Tests;
 
 /// How much of the graph is known.
 #[derive(Clone, Copy)]

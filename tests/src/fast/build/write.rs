@@ -3,7 +3,7 @@
 use super::super::records::{put_wide, COMPOUND_CASE, NUMBERS_CASE, SYMBOL_CASE};
 use super::items;
 use super::keys::{Key, Keys};
-use super::tests::Tests;
+use super::rules::Tests;
 
 /// The most edges of a switch.
 const MOST_EDGES: usize = 66;
@@ -52,7 +52,7 @@ fn leaf(bytes: &mut [u8], key: Key) -> usize {
     2
 }
 
-/// The node of an edge: kept from the first pass, or that of the key.
+/// The node of an edge: stored by the first pass, or that of the key.
 #[inline(always)]
 fn target(edges: &[u16], edge: usize, key: Key, keys: &Keys) -> u16 {
     if edge < edges.len() {
@@ -72,8 +72,8 @@ fn switch(
     first: usize,
 ) -> Written {
     let unsettled = key.pending & !(1 << test);
-    let kept_edges = first + MOST_EDGES <= edges.len();
-    let cover = if kept_edges { 0 } else { tests.cover(key.live, unsettled) };
+    let are_stored = first + MOST_EDGES <= edges.len();
+    let cover = if are_stored { 0 } else { tests.cover(key.live, unsettled) };
     let others = key.live & !tests.having[test];
     let items = tests.items(test);
     let mut marked = tests.marked(test, key.live & tests.having[test]);
@@ -84,7 +84,7 @@ fn switch(
         marked &= marked - 1;
         let kept = item as u32 & key.live;
         if kept != 0 {
-            let node = if kept_edges {
+            let node = if are_stored {
                 edges[edge]
             } else {
                 target(edges, edge, tests.key(others | kept, unsettled, cover), keys)
@@ -95,19 +95,26 @@ fn switch(
             edge += 1;
         }
     }
-    bytes[0] = 0x43;
-    put_wide(bytes, 1, tests.places[test]);
-    bytes[3] = (edge - first) as u8;
-    if kept_edges {
-        put_wide(bytes, 4, edges[edge]);
-        put_wide(bytes, 6, edges[edge + 1]);
+    let (neither, unknown) = if are_stored {
+        (edges[edge], edges[edge + 1])
     } else {
         let left = unsettled & !tests.settled[test];
         let unknown = tests.key(key.live, left, tests.cover(key.live, left));
-        put_wide(bytes, 4, target(edges, edge, tests.key(others, unsettled, cover), keys));
-        put_wide(bytes, 6, target(edges, edge + 1, unknown, keys));
-    }
+        let neither = tests.key(others, unsettled, cover);
+        (target(edges, edge, neither, keys), target(edges, edge + 1, unknown, keys))
+    };
+    header(bytes, tests.places[test], edge - first, neither, unknown);
     Written { bytes: at, edges: edge + 2 }
+}
+
+/// Writes a switch's record, its cases apart.
+#[inline(always)]
+fn header(bytes: &mut [u8], place: u16, cases: usize, neither: u16, unknown: u16) {
+    put_wide(bytes, 6, unknown);
+    put_wide(bytes, 4, neither);
+    bytes[3] = cases as u8;
+    put_wide(bytes, 1, place);
+    bytes[0] = 0x43;
 }
 
 /// Writes a pair.
