@@ -2,6 +2,7 @@
 pub mod Elimination
 pub mod LocalFacts
 pub mod FirmTests
+pub mod SeenTests
 pub mod RightKeys
 pub mod RightLeaves
 pub mod RightSwitch

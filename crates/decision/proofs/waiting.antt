@@ -3,3 +3,5 @@ pub mod SameStep
 pub mod SamePath
 pub mod Waits
 pub mod WaitSentence
+pub mod KeptOpen
+pub mod WaitSentenceKept

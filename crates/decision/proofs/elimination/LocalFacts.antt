@@ -44,7 +44,7 @@ found-lacks lacking f l = f
 found-lacks (found t) f l = l
 
 -- Terms that differ contradict the pair,
-differ-contradicted : (x y : Found) → Differ x y → Contradicted (atPlaces x y)
+pub differ-contradicted : (x y : Found) → Differ x y → Contradicted (atPlaces x y)
 differ-contradicted lacking y d = absurd d
 differ-contradicted (found t) lacking d = absurd d
 differ-contradicted (found t) (found u) d = d

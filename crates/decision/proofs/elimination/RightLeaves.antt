@@ -31,7 +31,9 @@ module _ (arity : ℕ) (rules : List Patterns) (piece : Terms)
   outcome i = ruleOutcome (ruleAt rules i) piece
 
   -- A settled rule of a right key is open.
-  settled-open : (key : Key) → RightKey rules piece key → (i : ℕ) → Settled rules key i → Open (outcome (suc i))
+  pub settled-open
+      : {Seen : ℕ → Type 0} (key : Key) → RightKey rules piece Seen key → (i : ℕ) → Settled rules key i
+      → Open (outcome (suc i))
   settled-open key right i s =
       elim (open-or-contradicted (outcome (suc i))) [
         | inl o ↦ o
@@ -47,7 +49,7 @@ module _ (arity : ℕ) (rules : List Patterns) (piece : Terms)
   -- The answer at a right leaf is right: where no rule is live, where two rules are settled, and where one rule is
   -- live.
   pub right-leaf
-      : (nodes : List (Node ℕ)) (walked : List ℕ) (l : Leaf) → RightVertex rules piece (leaf l)
+      : {Seen : ℕ → Type 0} (nodes : List (Node ℕ)) (walked : List ℕ) (l : Leaf) → RightVertex rules piece Seen (leaf l)
       → Right rules piece (atLeaf rules nodes piece walked l .answer)
   right-leaf nodes walked failNode v =
       right-fail rules piece (rules-say arity rules piece accepted ok) (λ i isRule. dead (pred i) (omega arith))

@@ -1,11 +1,12 @@
--- From a right vertex that asks, the piece takes an edge, is never refused, and comes to a right vertex with fewer
--- edges left, in every asking order.
+-- From a right vertex that asks, the piece takes an edge, is never refused, and comes to a vertex with fewer edges left
+-- that is right with the test asked seen, in every asking order.
 use Prim.Native.Nat.{ℕ, suc, _<_}
 use mathlib.Core.Path.{_≡_, refl, ap, sym, subst, _∙_}
-use mathlib.Core.Logic.{inl, inr}
+use mathlib.Core.Logic.{_⊎_, inl, inr}
 use mathlib.Core.List.{List}
-use mathlib.Core.Option.{Option}
+use mathlib.Core.Option.{Option, some}
 use lib.Dec.{T}
+use lib.ListN.{length}
 use Rattle.basics.specs.Lists.{All}
 use Rattle.terms.specs.Term.{Term, Terms, unknown, symbol, number, compound}
 use Rattle.terms.specs.Pattern.{Patterns}
@@ -14,11 +15,11 @@ use Rattle.terms.specs.Outcome.{Outcome, holds, notKnown, contradicted, Contrad
 use Rattle.terms.specs.Accepted.{AcceptedRule, AcceptedPiece}
 use Rattle.terms.specs.Answer.{ruleAt}
 use Rattle.basics.proofs.ListLaws.{all-at}
-use Rattle.sheet_tests.specs.SheetTests.{Test, place, pair}
+use Rattle.sheet_tests.specs.SheetTests.{Test, place, pair, sheetTests}
 use Rattle.decision.specs.Rules.{testAt, hasTest}
 use Rattle.decision.specs.Key.{Key, Vertex, asking}
 use Rattle.decision.specs.Cases.{Case, casesOf}
-use Rattle.decision.specs.Edges.{liveWants, byCase, byNone, byUnknown, byOther, askNode, askFirst, nodeOf}
+use Rattle.decision.specs.Edges.{firstIn, liveWants, byCase, byNone, byUnknown, byOther, askNode, askFirst, nodeOf}
 use Rattle.decision.specs.AskingOrder.{MustPrecede, AskingOrder}
 use Rattle.decision.specs.Path.{Step, goTo, switchStep, byComparison, pairStep, stepAt}
 use Rattle.decision.proofs.elimination.Elimination.{present}
@@ -28,7 +29,7 @@ use Rattle.decision.proofs.elimination.FirmTests.{IsRule, DeadRule, Fir
 use Rattle.decision.proofs.keys.Vertices.{Pending, held-by, asking-pending}
 use Rattle.decision.proofs.keys.AskedFirst.{First, first-found}
 use Rattle.decision.proofs.keys.EdgesLeft.{edgesLeft, pendingCount, edges-fewer}
-use Rattle.decision.proofs.elimination.RightKeys.{RightKey, RightVertex, none-right, settle-right}
+use Rattle.decision.proofs.elimination.RightKeys.{RightKey, RightVertex, key-more, none-right, settle-right}
 use Rattle.decision.proofs.elimination.RightSwitch.{unknown-right, known-right}
 use Rattle.decision.proofs.walking.StepEdges.{step-edge}
 
@@ -36,10 +37,11 @@ module _ (arity : ℕ) (rules : List Patterns) (piece : Terms)
     (accepted : All (AcceptedRule arity) rules) (ok : AcceptedPiece arity piece)
     (order : List ℕ) (asks : AskingOrder rules order) where
   -- The step goes on to a right vertex.
-  abbrev GoesRight : Step Vertex → Type 0
-  GoesRight s = (v : Vertex) × (s ≡ goTo v) × RightVertex rules piece v
+  abbrev GoesRight : (ℕ → Type 0) → Step Vertex → Type 0
+  GoesRight Seen s = (v : Vertex) × (s ≡ goTo v) × RightVertex rules piece Seen v
 
-  module _ (key : Key) (right : RightKey rules piece key) (t : ℕ) (first : First rules (key .pending) order t) where
+  module _ {Seen : ℕ → Type 0} (key : Key) (right : RightKey rules piece Seen key)
+      (t : ℕ) (first : First rules (key .pending) order t) (seen : Seen t) where
     -- No place of the test that is asked is missing.
     asked-present : Missing piece (testAt rules t) → ⊥
     asked-present =
@@ -50,7 +52,7 @@ module _ (arity : ℕ) (rules : List Patterns) (piece : Terms)
         (λ u p. first .1 u (asks .whole u (right .held u p .0)) p) (holder .0) (holder .2) (holder .3)
 
     -- The step at a switch goes on to a right vertex,
-    at-place : (n : ℕ) → testAt rules t ≡ place n → GoesRight (stepAt piece (askNode rules key t (place n)))
+    at-place : (n : ℕ) → testAt rules t ≡ place n → GoesRight Seen (stepAt piece (askNode rules key t (place n)))
     at-place n at = go (termAt piece n) refl
       where
         cases : List Case
@@ -58,20 +60,20 @@ module _ (arity : ℕ) (rules : List Patterns) (piece : Terms)
 
         go
             : (x : Found) → termAt piece n ≡ x
-            → GoesRight
+            → GoesRight Seen
             (switchStep (edgesTo (byCase rules key t n) cases) (byNone rules key t) (byUnknown rules key n) x)
         go lacking e = absurd (asked-present (rw (at, e) tt))
         go (found unknown) e =
-            (_, refl, unknown-right arity rules piece accepted ok key right t n at (rw e tt))
+            (_, refl, unknown-right arity rules piece accepted ok key right t n at seen (rw e tt))
         go (found (symbol a)) e =
-            (_, refl, known-right arity rules piece accepted ok key right t n at (symbol a) e (λ k. k))
+            (_, refl, known-right arity rules piece accepted ok key right t n at seen (symbol a) e (λ k. k))
         go (found (number a)) e =
-            (_, refl, known-right arity rules piece accepted ok key right t n at (number a) e (λ k. k))
+            (_, refl, known-right arity rules piece accepted ok key right t n at seen (number a) e (λ k. k))
         go (found (compound a ts)) e =
-            (_, refl, known-right arity rules piece accepted ok key right t n at (compound a ts) e (λ k. k))
+            (_, refl, known-right arity rules piece accepted ok key right t n at seen (compound a ts) e (λ k. k))
 
     -- so does the step at a pair,
-    at-pair : (p q : ℕ) → testAt rules t ≡ pair p q → GoesRight (stepAt piece (askNode rules key t (pair p q)))
+    at-pair : (p q : ℕ) → testAt rules t ≡ pair p q → GoesRight Seen (stepAt piece (askNode rules key t (pair p q)))
     at-pair p q at = go (termAt piece p) (termAt piece q) refl refl
       where
         -- Where the terms do not differ, the test is not firm.
@@ -85,30 +87,30 @@ module _ (arity : ℕ) (rules : List Patterns) (piece : Terms)
 
         compared
             : (x y : Term) → termAt piece p ≡ found x → termAt piece q ≡ found y → (o : Outcome) → compare x y ≡ o
-            → GoesRight (byComparison (byNone rules key t) (byOther rules key t) o)
+            → GoesRight Seen (byComparison (byNone rules key t) (byOther rules key t) o)
         compared x y d e holds c =
-            (_, refl, settle-right rules piece key right t (soft x y d e (λ k. subst Contradicted c k)))
+            (_, refl, settle-right rules piece key right t seen (soft x y d e (λ k. subst Contradicted c k)))
         compared x y d e notKnown c =
-            (_, refl, settle-right rules piece key right t (soft x y d e (λ k. subst Contradicted c k)))
+            (_, refl, settle-right rules piece key right t seen (soft x y d e (λ k. subst Contradicted c k)))
         compared x y d e contradicted c = (
           _,
           refl,
-          none-right rules piece key right t (λ i m h.
+          none-right rules piece key right t seen (λ i m h.
               firm-dead (ruleAt rules (suc i)) piece (pair p q) (rw at at h, rw (d, e, c) tt)),
         )
 
         go
             : (x y : Found) → termAt piece p ≡ x → termAt piece q ≡ y
-            → GoesRight (pairStep (byNone rules key t) (byOther rules key t) x y)
+            → GoesRight Seen (pairStep (byNone rules key t) (byOther rules key t) x y)
         go lacking y d e = absurd (asked-present (rw at (inl (rw d tt))))
         go (found x) lacking d e = absurd (asked-present (rw at (inr (rw e tt))))
         go (found x) (found y) d e = compared x y d e (compare x y) refl
 
     -- and so the step at the node that asks the test.
-    at-test : GoesRight (stepAt piece (askNode rules key t (testAt rules t)))
+    at-test : GoesRight Seen (stepAt piece (askNode rules key t (testAt rules t)))
     at-test = go (testAt rules t) refl
       where
-        go : (x : Test) → testAt rules t ≡ x → GoesRight (stepAt piece (askNode rules key t x))
+        go : (x : Test) → testAt rules t ≡ x → GoesRight Seen (stepAt piece (askNode rules key t x))
         go (place n) e = at-place n e
         go (pair p q) e = at-pair p q e
 
@@ -121,17 +123,34 @@ module _ (arity : ℕ) (rules : List Patterns) (piece : Terms)
         (step-edge piece (askNode rules key t (testAt rules t)) e)
         (edges-fewer rules key t (right .held t (first .0) .0) (first .0))
 
-  -- From a right vertex that asks, the piece takes an edge to a right vertex with fewer edges left.
-  pub right-step
-      : (key : Key) → RightVertex rules piece (asking key)
-      → (v : Vertex) × (stepAt piece (nodeOf rules order (asking key)) ≡ goTo v) × RightVertex rules piece v
-      × (edgesLeft rules v < edgesLeft rules (asking key))
-  right-step key v =
+  -- What a vertex that asks, where so many tests are seen, leads the piece to: a vertex with fewer edges left that is
+  -- right with the test asked seen too.
+  pub record StepsRight (Seen : ℕ → Type 0) (key : Key) : Type 0 where
+    pub next : Vertex
+    pub goes : stepAt piece (nodeOf rules order (asking key)) ≡ goTo next
+    pub test : ℕ
+    pub asked : firstIn (key .pending) order ≡ some test
+    pub numbered : test < length (sheetTests rules)
+    pub right : RightVertex rules piece (λ u. Seen u ⊎ (u ≡ test)) next
+    pub fewer : edgesLeft rules next < edgesLeft rules (asking key)
+
+  -- From a right vertex that asks, the piece takes an edge to such a vertex.
+  pub right-step : {Seen : ℕ → Type 0} (key : Key) → RightVertex rules piece Seen (asking key) → StepsRight Seen key
+  right-step {Seen} key v =
       let same : key ≡ v .key = v .means .0 in
-      let right : RightKey rules piece key = subst (RightKey rules piece) (sym same) (v .right) in
+      let before : RightKey rules piece Seen key = subst (RightKey rules piece Seen) (sym same) (v .right) in
       let u = asking-pending rules (v .key) (v .means) in
       let pending : Pending key (u .0) = subst (λ (k : Key). Pending k (u .0)) (sym same) (u .2) in
       let t = first-found rules (key .pending) order (asks .ordered) (u .0) (asks .whole (u .0) (u .1)) pending in
-      let asked = ap (λ (o : Option ℕ). stepAt piece (askFirst rules key o)) (t .1) in
-      let goes = at-test key right (t .0) (t .2) in
-      (goes .0, asked ∙ goes .1, goes .2, test-fewer key right (t .0) (t .2) (goes .0) (goes .1))
+      let Now : ℕ → Type 0 = λ u. Seen u ⊎ (u ≡ t .0) in
+      let after : RightKey rules piece Now key = key-more rules piece (λ u h. inl h) before in
+      let on = at-test key after (t .0) (t .2) (inr refl) in
+      record {
+        next = on .0;
+        goes = ap (λ (o : Option ℕ). stepAt piece (askFirst rules key o)) (t .1) ∙ on .1;
+        test = t .0;
+        asked = t .1;
+        numbered = before .held (t .0) (t .2 .0) .0;
+        right = on .2;
+        fewer = test-fewer key after (t .0) (t .2) (inr refl) (on .0) (on .1);
+      }

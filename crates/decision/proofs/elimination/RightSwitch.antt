@@ -32,7 +32,7 @@ use Rattle.decision.proofs.elimination.LocalFacts.{Firm, firm-dead, set
 use Rattle.decision.proofs.elimination.FirmTests.{DeadRule, FirmTest}
 use Rattle.decision.proofs.keys.Sets.{in-members}
 use Rattle.decision.proofs.keys.Vertices.{Live}
-use Rattle.decision.proofs.elimination.RightKeys.{RightKey, RightVertex, drop-right, keep-right}
+use Rattle.decision.proofs.elimination.RightKeys.{true-or-not, RightKey, RightVertex, drop-right, keep-right}
 use Rattle.decision.proofs.rules.TheWant.{without-want}
 
 -- What is open is not contradicted.
@@ -43,14 +43,20 @@ open-not contradicted h c = h
 
 module _ (arity : ℕ) (rules : List Patterns) (piece : Terms)
     (accepted : All (AcceptedRule arity) rules) (ok : AcceptedPiece arity piece)
-    (key : Key) (right : RightKey rules piece key) (t n : ℕ) (at : testAt rules t ≡ place n) where
+    {Seen : ℕ → Type 0} (key : Key) (right : RightKey rules piece Seen key)
+    (t n : ℕ) (at : testAt rules t ≡ place n) (seen : Seen t) where
   -- The edge of an unknown is right.
-  pub unknown-right : IsUnknown (termAt piece n) → RightVertex rules piece (byUnknown rules key n)
+  pub unknown-right : IsUnknown (termAt piece n) → RightVertex rules piece Seen (byUnknown rules key n)
   unknown-right unknown =
       keep-right rules piece key right (λ u. has (key .pending) u && not (isSettled u)) (λ i u f p.
       let soft : T (isSettled u) → ⊥ =
       λ s. settled-not-firm (ruleAt rules (suc i)) piece n (testAt rules u) unknown s (f .1) in
       true-both (has (key .pending) u) (not (isSettled u)) p (not-T (isSettled u) soft))
+      (λ u p. elim (true-or-not (isSettled u)) [
+        | inl s ↦
+            inr (inr (record { above = t; spot = n; seen = seen; asks = at; unknown = unknown; settles = s }))
+        | inr s ↦ inl (true-both (has (key .pending) u) (not (isSettled u)) p (not-T (isSettled u) s))
+      ])
     where
       isSettled : ℕ → Bool
       isSettled u = settledByUnknown n (testAt rules u)
@@ -88,26 +94,26 @@ module _ (arity : ℕ) (rules : List Patterns) (piece : Terms)
     -- So an edge is right that keeps the rules of which the term does not contradict what they want there.
     open-right
         : (stays : ℕ → Bool) → ((i : ℕ) → Live key i → stays i ≡ openAt u (wantAt rules i n))
-        → RightVertex rules piece
+        → RightVertex rules piece Seen
         (leadsTo rules (rulesWhere rules (λ i. has (key .live) i && stays i)) (butTest key t))
     open-right stays same =
-        drop-right rules piece key right t stays
+        drop-right rules piece key right t stays seen
         (λ i m dropped. closed-dead i (λ o. dropped (rw (same i m) o)))
         (λ i m stayed f. open-soft i (subst T (same i m) stayed) f)
 
     -- Where a known term leads is right.
     pub known-right
         : (IsUnknown (found u) → ⊥)
-        → RightVertex rules piece
+        → RightVertex rules piece Seen
         (follow (edgesTo (byCase rules key t n) (casesOf (liveWants rules (key .live) n))) (byNone rules key t) u)
     known-right known =
         elim (edge-keeps liveOptions u (byCase rules key t n) (byNone rules key t) known) [
           | inl r ↦
               let same : (i : ℕ) → Live key i → caseKeeps (r .0) (wantAt rules i n) ≡ openAt u (wantAt rules i n) =
               λ i m. r .2 (wantAt rules i n) (option-there i m) in
-              subst (RightVertex rules piece) (sym (r .1)) (open-right (λ i. caseKeeps (r .0) (wantAt rules i n)) same)
+              subst (RightVertex rules piece Seen) (sym (r .1)) (open-right (λ i. caseKeeps (r .0) (wantAt rules i n)) same)
           | inr r ↦
               let same : (i : ℕ) → Live key i → not (hasTest rules i t) ≡ openAt u (wantAt rules i n) =
               λ i m. live-without i m ∙ r .1 (wantAt rules i n) (option-there i m) in
-              subst (RightVertex rules piece) (sym (r .0)) (open-right (λ i. not (hasTest rules i t)) same)
+              subst (RightVertex rules piece Seen) (sym (r .0)) (open-right (λ i. not (hasTest rules i t)) same)
         ]

@@ -23,7 +23,7 @@ refusal-no-end : {C : Type 0} {q : ℕ} {walked : List ℕ} {l : Leaf} → refus
 refusal-no-end e = clash (cc)
 
 -- Two ways to a leaf that are the same path have the same nodes and the same leaf.
-way-same
+pub way-same
     : {a : ℕ} {w : Way} {walked : List ℕ} {l : Leaf} → took a w ≡ ends walked l
     → (a ≡ 0) × (w .walked ≡ walked) × (w .last ≡ l)
 way-same {a} {w} {walked} {l} e =
@@ -73,7 +73,8 @@ module _ {P : Term → Type 0} (nodes : List (Node ℕ)) {piece further : Terms}
               let (none, whole, end) = way-same q in
               let ns = w .walked in
               let same : onward m ≡ ends ns l =
-              f m ns (λ j h. still j (subst (Mem j) whole (there h))) (c ∙ (λ i. took (none i) (record { walked = ns; last = end i }))) in
+              f m ns (λ j h. still j (subst (Mem j) whole (there h)))
+              (c ∙ (λ i. took (none i) (record { walked = ns; last = end i }))) in
               ap (nextStep onward n) (same-first n ns walked whole still ∙ d)
               ∙ ap (through n) same
               ∙ ap (λ (ms : List ℕ). ends ms l) whole

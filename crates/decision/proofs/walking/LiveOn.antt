@@ -17,11 +17,11 @@ use Rattle.terms.specs.Term.{Terms}
 use Rattle.terms.specs.Pattern.{Patterns}
 use Rattle.terms.specs.Accepted.{AcceptedRule}
 use Rattle.terms.specs.Answer.{ruleAt}
-use Rattle.sheet_tests.specs.SheetTests.{Test, place, pair, sheetTests}
+use Rattle.sheet_tests.specs.SheetTests.{sheetTests}
 use Rattle.decision.specs.Rules.{sameTest, testAt, hasTest, rulesWhere}
 use Rattle.decision.specs.Key.{Key, Leaf, Vertex, leaf, asking, rootKey, vertexOf}
-use Rattle.decision.specs.Node.{Node, mapNode}
-use Rattle.decision.specs.Edges.{firstIn, askNode, askFirst, nodeOf}
+use Rattle.decision.specs.Node.{Node}
+use Rattle.decision.specs.Edges.{firstIn, askFirst, nodeOf}
 use Rattle.decision.specs.Graph.{vertices, numbered}
 use Rattle.records.specs.Reading.{took, refused}
 use Rattle.decision.specs.Path.{Step, stop, goTo, noWay, stepAt}
@@ -30,8 +30,9 @@ use Rattle.decision.specs.Walk.{asksTest, isMet, testOutcome, isContradi
 use Rattle.decision.proofs.keys.Sets.{in-where, in-any, any-in}
 use Rattle.decision.proofs.rules.TestsOfRules.{HasTest, same-test, test-same}
 use Rattle.decision.proofs.keys.Vertices.{Means, pending-in, vertex-means}
-use Rattle.decision.proofs.walking.StepEdges.{mapStep, step-map, step-edge}
-use Rattle.decision.proofs.built.BuiltNodes.{rootVertex, numberOf, edges-met, node-at, root-met, root-number}
+use Rattle.decision.proofs.walking.StepEdges.{mapStep, step-edge}
+use Rattle.decision.proofs.built.BuiltNodes.{rootVertex, numberOf, edges-met, root-met, root-number}
+use Rattle.decision.proofs.walking.BuiltSteps.{step-at, asked-is}
 use Rattle.decision.proofs.walking.LiveEdges.{Against, KeptRules, asked-kept}
 
 -- The nodes walked on a path, and the bytes that it takes as a reading.
@@ -54,13 +55,6 @@ first-in set (x ∷ xs) {t} e = go (has set x) refl (λ d. first-in set xs d) e
     go true d rest k =
         let same : x ≡ t = cc in subst (λ (y : ℕ). T (has set y)) same (subst T (sym d) tt)
     go false d rest k = rest k
-
--- A node that asks a test asks that test alone.
-asks-test
-    : (rules : List Patterns) (f : Vertex → ℕ) (key : Key) (t : ℕ) (x y : Test)
-    → asksTest x (mapNode f (askNode rules key t y)) ≡ sameTest x y
-asks-test rules f key t x (place n) = refl
-asks-test rules f key t x (pair p q) = refl
 
 module _ (arity : ℕ) (rules : List Patterns) (accepted : All (AcceptedRule arity) rules) (piece : Terms) where
   module _ (nodes : List (Node ℕ)) where
@@ -134,23 +128,15 @@ module _ (arity : ℕ) (rules : List Patterns) (accepted : All (AcceptedRule ari
       abbrev after : List ℕ
       after = before ++ numberAt (asking k) ∷ []
 
-      -- The node asks test t.
-      asked-is
-          : (u : ℕ)
-          → asksTest (testAt rules u) (nodeAt nodes (numberAt (asking k))) ≡ sameTest (testAt rules u) (testAt rules t)
-      asked-is u =
-          ap (asksTest (testAt rules u)) (node-at rules order vs built piece (asking k) m)
-          ∙ ap (λ (o : Option ℕ). asksTest (testAt rules u) (mapNode numberAt (askFirst rules k o))) first
-          ∙ asks-test rules numberAt k t (testAt rules u) (testAt rules t)
-
-      -- So what is met with it is what was met before, and test t.
+      -- The node asks test t, so what is met with it is what was met before, and test t.
       met-is
           : (u : ℕ)
           → isMet rules nodes after u
           ≡ isMet rules nodes before u || (sameTest (testAt rules u) (testAt rules t) || false)
       met-is u =
           any-join (λ (n : ℕ). asksTest (testAt rules u) (nodeAt nodes n)) before (numberAt (asking k) ∷ [])
-          ∙ ap (λ (b : Bool). isMet rules nodes before u || (b || false)) (asked-is u)
+          ∙ ap (λ (b : Bool). isMet rules nodes before u || (b || false))
+          (asked-is rules order vs built piece k m t first (testAt rules u))
 
       -- A step keeps the live rules right.
       step-live : LiveAt before (asking k) → (w : Vertex) → KeptRules arity rules accepted piece nodes k t w → LiveAt after w
@@ -205,13 +191,6 @@ module _ (arity : ℕ) (rules : List Patterns) (accepted : All (AcceptedRule ari
         go none d s = clash (cc)
         go (some t) d s = step-live before k m t d here w (asked-kept arity rules accepted piece nodes k t w s)
 
-    -- The step at a vertex's number goes as the one at the vertex.
-    step-at
-        : (v : Vertex) → Mem v vs
-        → stepAt piece (nodeAt nodes (numberAt v)) ≡ mapStep numberAt (stepAt piece (nodeOf rules order v))
-    step-at v m =
-        ap (stepAt piece) (node-at rules order vs built piece v m) ∙ step-map numberAt piece (nodeOf rules order v)
-
     -- The node of that number is a vertex with such a key.
     abbrev pub LiveNode : List ℕ → ℕ → Type 0
     LiveNode before n = (v : Vertex) × Mem v vs × (n ≡ numberAt v) × LiveAt before v
@@ -248,7 +227,7 @@ module _ (arity : ℕ) (rules : List Patterns) (accepted : All (AcceptedRule ari
 
     path-live : (more : ℕ) (v : Vertex) → Mem v vs → (before : List ℕ) → LiveAt before v → AllLive more (numberAt v) before
     path-live zero v m before here walked l e front n back d =
-        go (stepAt piece (nodeOf rules order v)) (sym (ap (lastStep (numberAt v)) (step-at v m)) ∙ e)
+        go (stepAt piece (nodeOf rules order v)) (sym (ap (lastStep (numberAt v)) (step-at rules order vs built piece v m)) ∙ e)
       where
         go
             : (s : Step Vertex) → lastStep (numberAt v) (mapStep numberAt s) ≡ ends walked l
@@ -258,7 +237,7 @@ module _ (arity : ℕ) (rules : List Patterns) (accepted : All (AcceptedRule ari
         go noWay k = clash (cc)
     path-live (suc more) v m before here walked l e front n back d =
         go (stepAt piece (nodeOf rules order v)) refl
-        (sym (ap (nextStep (pathFrom nodes piece more) (numberAt v)) (step-at v m)) ∙ e)
+        (sym (ap (nextStep (pathFrom nodes piece more) (numberAt v)) (step-at rules order vs built piece v m)) ∙ e)
         (λ w k b h. path-live more w k b h)
       where
         Later : Type 0
