@@ -32,6 +32,7 @@ pub mod Monotone
 pub mod Below
 pub mod Above
 pub mod Tested
+pub mod OwnAbove
 pub mod Plain
 pub mod MarkedPlain
 pub mod Matching

@@ -41,7 +41,7 @@ use Rattle.decision.proofs.elimination.SeenTests.{Accounted}
 use Rattle.decision.proofs.elimination.RightKeys.{RightVertex}
 use Rattle.decision.proofs.elimination.RightLeaves.{settled-open}
 
--- What is unknown is found so.
+-- What is unknown passes the walk's test for it,
 is-unknown : (x : Found) → IsUnknown x → T (isUnknown x)
 is-unknown lacking h = h
 is-unknown (found unknown) h = h
@@ -49,6 +49,7 @@ is-unknown (found (symbol a)) h = h
 is-unknown (found (number a)) h = h
 is-unknown (found (compound a ts)) h = h
 
+-- and so does what is not known.
 is-not-known : (x : Outcome) → NotKnown x → T (isNotKnown x)
 is-not-known holds h = h
 is-not-known notKnown h = h

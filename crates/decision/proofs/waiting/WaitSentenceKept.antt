@@ -39,7 +39,7 @@ use Rattle.decision.proofs.waiting.SamePath.{way-same}
 use Rattle.decision.proofs.waiting.Waits.{Suspended, suspended, met-listed}
 use Rattle.decision.proofs.waiting.KeptOpen.{suspend-still}
 
--- What is unknown is one thing.
+-- What passes the walk's test for unknown is the unknown,
 found-unknown : (x : Found) → T (isUnknown x) → x ≡ found unknown
 found-unknown lacking h = absurd h
 found-unknown (found unknown) h = refl
@@ -47,6 +47,7 @@ found-unknown (found (symbol a)) h = absurd h
 found-unknown (found (number a)) h = absurd h
 found-unknown (found (compound a ts)) h = absurd h
 
+-- and what passes that for not known is not known.
 not-known-is : (x : Outcome) → T (isNotKnown x) → NotKnown x
 not-known-is holds h = h
 not-known-is notKnown h = h
