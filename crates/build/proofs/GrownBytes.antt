@@ -1,94 +1,121 @@
--- From the keys that were met to what building answers and leaves.
-use Prim.Native.Nat.{ℕ, _+_, _*_, _≤_, _<_}
-use mathlib.Core.Path.{_≡_, sym, ap, _∙_}
+-- From the keys that are grown to what building answers and leaves.
+use Prim.Native.Nat.{ℕ, _+_, _≤_, _<_}
+use mathlib.Core.Path.{_≡_, refl, sym, ap, _∙_, subst}
 use mathlib.Core.Bool.{Bool, true, false}
 use mathlib.Core.List.{List}
-use mathlib.Core.Option.{Option, some}
+use mathlib.Core.Option.{Option, some, none}
 use native.Mathlib.Omega.{arith}
 use lib.Dec.{leb}
-use lib.ListN.{length}
+use lib.ListN.{length, length-map}
 use borrow.Author.Tests.{le-leb, lt-leb}
 use Rattle.terms.specs.Pattern.{Patterns}
-use Rattle.basics.proofs.ListLaws.{all-map}
-use Rattle.sheet.specs.Sheet.{Sheet}
-use Rattle.sheet_tests.specs.CheckSheet.{AcceptedSheet}
-use Rattle.decision.specs.Node.{Node}
+use Rattle.terms.specs.Accepted.{AcceptedRule}
+use Rattle.basics.specs.Lists.{All, countFrom}
+use Rattle.basics.proofs.Counting.{count-length}
+use Rattle.decision.specs.Key.{Key}
+use Rattle.decision.specs.Node.{Node, mapNode}
 use Rattle.decision.specs.Graph.{graphOf, lowestFirst}
 use Rattle.decision.specs.GraphBytes.{nodesBytes, graphBytes}
-use Rattle.decision.specs.AcceptedGraph.{AcceptedNode}
-use Rattle.decision.proofs.built.BuiltGraph.{built-graph-accepted}
-use Rattle.graph.proofs.SpelledNodes.{NodeFields}
-use Rattle.graph.proofs.TestedPlaces.{tests-near}
-use Rattle.graph.proofs.AcceptedNodes.{accepted-asked}
-use Rattle.graph_check.proofs.AcceptedBytes.{nodes-size}
-use Rattle.edges.specs.views.Compiled.{RowTable}
-use Rattle.keys.specs.views.KeysMet.{keysIn}
-use Rattle.keys.specs.views.KeyGraph.{keyedNodes}
-use Rattle.keys.specs.views.Grown.{Grown}
-use Rattle.keys.proofs.GrownGraph.{grown-graph, grown-none, grown-bytes}
+use Rattle.tables.specs.views.Planes.{rulesIn, placeTestsIn}
+use Rattle.cuts.specs.views.Cuts.{Parted}
+use Rattle.edges.specs.views.NodeIn.{nodeIn}
+use Rattle.edges.proofs.EdgeKeys.{root-is}
+use Rattle.edges.proofs.Nodes.{node-is}
+use Rattle.compiled.specs.views.Compiling.{Compiled}
+use Rattle.compiled.proofs.SoundCodes.{rules-sound}
+use Rattle.met.specs.views.KeysMet.{keyNumber, keyAt, countIn, keysIn}
+use Rattle.keys.specs.declared.Measured.{Measured}
+use Rattle.keys.specs.declared.Measured.the-variants.{Bytes, TooMany}
+use Rattle.keys.specs.views.Expanded.{AtMost}
+use Rattle.keys.specs.views.Grown.{keysFrom, nodesFrom, Grown}
+use Rattle.keys.proofs.GraphGrown.{graph-grown, graph-none}
 use Rattle.emit.specs.views.Written.{Wrote}
 use Rattle.build.specs.BuildOutcome.{notBuilt, writtenIf, graphWritten, leftBy}
 use Rattle.build.specs.declared.Built.the-variants.{Written}
+use Rattle.build.specs.views.Tabled.{nodesIf, graphIn}
 
--- A sheet has at most 32 rules.
-pub few-rules : {rules : List Patterns} {rows : List ℕ} → RowTable rules rows → length rules ≤ 64
-few-rules t = omega (arith, t .fewRules)
+-- What is grown from the tables and cuts of accepted rules is their graph.
+pub graph-is
+    : (arity : ℕ) (rules : List Patterns) (s c : List ℕ) → All (AcceptedRule arity) rules → Compiled rules s c
+    → graphIn s c ≡ graphOf rules
+graph-is arity rules s c accepted t = go (keysFrom s c) refl
+  where
+    order : List ℕ
+    order = lowestFirst rules
 
--- The graph of an accepted sheet is small: a node's record has at most 8 bytes and 255 cases of 7.
-pub graph-small
-    : (sheet : Sheet) → AcceptedSheet sheet → (nodes : List (Node ℕ)) → graphOf (sheet .rules) ≡ some nodes
-    → length (nodesBytes nodes) ≤ 1793 * 1024
-graph-small sheet accepted nodes e =
-    let graph = built-graph-accepted sheet accepted (lowestFirst (sheet .rules)) nodes e in
-    let fields =
-    all-map (AcceptedNode (sheet .rules) (length nodes)) NodeFields
-    (λ node ok.
-    accepted-asked (sheet .rules) (length nodes) (tests-near sheet (accepted .sound)) (graph .fewNodes) node ok .fields)
-    nodes (graph .acceptedNodes) in
-    omega (arith, nodes-size nodes fields, graph .fewNodes)
+    go : (x : Option (List Key)) → keysFrom s c ≡ x → nodesIf s c x ≡ graphOf rules
+    go none e =
+        sym
+        (graph-none rules (t .tablesAre .fewRules) order s c
+        (node-is rules order s c (t .tablesAre) (t .cutsAre) (rules-sound arity rules accepted))
+        (root-is rules order s (t .tablesAre)) e)
+    go (some keys) e =
+        sym
+        (graph-grown rules (t .tablesAre .fewRules) order s c
+        (node-is rules order s c (t .tablesAre) (t .cutsAre) (rules-sound arity rules accepted))
+        (root-is rules order s (t .tablesAre)) e)
 
-module _ (sheet : Sheet) (few : length (sheet .rules) ≤ 64) (arity rules : ℕ) (buffer lives pendings : List ℕ) (count : ℕ)
-    {bytes : ℕ} (grown : Grown (sheet .rules) count bytes lives pendings) where
+-- So are its bytes.
+pub compiled-written
+    : (arity : ℕ) {rules : List Patterns} {s c : List ℕ} (buffer : List ℕ) → All (AcceptedRule arity) rules → Compiled rules s c
+    → graphWritten arity (rulesIn s) (graphIn s c) buffer ≡ graphWritten arity (length rules) (graphOf rules) buffer
+compiled-written arity {rules} {s} {c} buffer accepted t =
+    λ i. graphWritten arity (t .tablesAre .rulesAre i) (graph-is arity rules s c accepted t i) buffer
+
+pub compiled-parted
+    : {rules : List Patterns} {s c : List ℕ} → Compiled rules s c → Parted (rulesIn s) (placeTestsIn s) c
+compiled-parted {rules} {s} {c} t = subst (λ (r : ℕ). Parted r (placeTestsIn s) c) (sym (t .tablesAre .rulesAre)) (t .parted)
+
+-- What growing says where it met all keys, and where there are too many.
+module _ (s c t : List ℕ) (r : Measured) (grown : Grown s c r t) where
+  pub grown-none : r ≡ TooMany → keysFrom s c ≡ none
+  grown-none e = subst (λ (x : Measured). Grown s c x t) e grown
+
+  pub grown-some
+      : {n : ℕ} → r ≡ Bytes n → (keysFrom s c ≡ some (keysIn t)) × (n ≡ length (nodesBytes (nodesFrom s c (keysIn t))))
+  grown-some e = subst (λ (x : Measured). Grown s c x t) e grown
+
+pub grown-most : (most : ℕ) (r : Measured) {n : ℕ} → AtMost most r → r ≡ Bytes n → n ≤ most
+grown-most most r h e = subst (AtMost most) e h
+
+module _ (arity rules : ℕ) (s c buffer : List ℕ) where
   -- Question 18: there are too many keys.
-  pub built-many : 1024 < count → notBuilt 18 buffer ≡ graphWritten arity rules (graphOf (sheet .rules)) buffer
-  built-many h =
-      sym (ap (λ (g : Option (List (Node ℕ))). graphWritten arity rules g buffer)
-      (grown-none (sheet .rules) few lives pendings count grown h))
+  pub built-many : keysFrom s c ≡ none → notBuilt 18 buffer ≡ graphWritten arity rules (graphIn s c) buffer
+  built-many e = sym (ap (λ (x : Option (List Key)). graphWritten arity rules (nodesIf s c x) buffer) e)
 
-  module _ (small : count ≤ 1024) where
-    abbrev pub nodes : List (Node ℕ)
-    nodes = keyedNodes (sheet .rules) (keysIn lives pendings count)
+  module _ (t : List ℕ) (bytes : ℕ) (all : keysFrom s c ≡ some (keysIn t)) (size : bytes ≡ length (nodesBytes (nodesFrom s c (keysIn t)))) where
+    abbrev nodes : List (Node ℕ)
+    nodes = nodesFrom s c (keysIn t)
 
     abbrev graph : List ℕ
     graph = graphBytes arity rules nodes
 
-    size : length graph ≡ bytes + 5
-    size = grown-bytes (sheet .rules) few lives pendings count grown small arity rules
-
-    pub is-graph : graphOf (sheet .rules) ≡ some nodes
-    is-graph = grown-graph (sheet .rules) few lives pendings count grown small .0
+    pub graph-size : length graph ≡ 5 + bytes
+    graph-size = omega (arith, size)
 
     fits-as
         : (b : Bool) → leb (length graph) (length buffer) ≡ b
-        → graphWritten arity rules (graphOf (sheet .rules)) buffer ≡ writtenIf b (length nodes) graph buffer
+        → graphWritten arity rules (graphIn s c) buffer ≡ writtenIf b (length nodes) graph buffer
     fits-as b e =
-        ap (λ (g : Option (List (Node ℕ))). graphWritten arity rules g buffer) is-graph
+        ap (λ (x : Option (List Key)). graphWritten arity rules (nodesIf s c x) buffer) all
         ∙ ap (λ (x : Bool). writtenIf x (length nodes) graph buffer) e
 
     -- Question 19: the graph does not fit.
-    pub built-short : length buffer < 5 + bytes → notBuilt 19 buffer ≡ graphWritten arity rules (graphOf (sheet .rules)) buffer
-    built-short h = sym (fits-as false (lt-leb (length graph) (length buffer) (omega (arith, size))))
+    pub built-short : length buffer < 5 + bytes → notBuilt 19 buffer ≡ graphWritten arity rules (graphIn s c) buffer
+    built-short h = sym (fits-as false (lt-leb (length graph) (length buffer) (omega (arith, graph-size))))
+
+    count-is : length nodes ≡ countIn t
+    count-is =
+        length-map (keysIn t) (λ (key : Key). mapNode (keyNumber (keysIn t)) (nodeIn s c key))
+        ∙ length-map (countFrom 0 (countIn t)) (keyAt t)
+        ∙ count-length 0 (countIn t)
 
     -- The graph fits and was written.
     pub built-whole
-        : (end : ℕ) (after : List ℕ) → 5 + bytes ≤ length buffer → Wrote buffer 0 graph end after
-        → leftBy (Written count end) after ≡ graphWritten arity rules (graphOf (sheet .rules)) buffer
-    built-whole end after h wrote =
-        let many = grown-graph (sheet .rules) few lives pendings count grown small .1 in
+        : (count end : ℕ) (after : List ℕ) → 5 + bytes ≤ length buffer → count ≡ countIn t → Wrote buffer 0 graph end after
+        → leftBy (Written count end) after ≡ graphWritten arity rules (graphIn s c) buffer
+    built-whole count end after h many wrote =
+        let nodesAre : count ≡ length nodes = many ∙ sym count-is in
         let bytesAre : end ≡ length graph = omega (arith, wrote .0) in
-        (λ i. record { values = record { refusal = 0; nodes = sym many i; bytes = bytesAre i }; buffer = wrote .1 i })
-        ∙ sym (fits-as true (le-leb (length graph) (length buffer) (omega (arith, size))))
-
-    -- Its length fits 32 bits.
-    pub bytes-small : AcceptedSheet sheet → length graph ≤ 1793 * 1024 + 5
-    bytes-small accepted = omega (arith, graph-small sheet accepted nodes is-graph)
+        (λ i. record { values = record { refusal = 0; nodes = nodesAre i; bytes = bytesAre i }; buffer = wrote .1 i })
+        ∙ sym (fits-as true (le-leb (length graph) (length buffer) (omega (arith, graph-size))))

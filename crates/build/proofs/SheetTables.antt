@@ -1,40 +1,38 @@
--- From the tests of a sheet to its tables.
-use Prim.Native.Nat.{ℕ, _+_, _≤_}
+-- From the tests of a sheet to what compiling its rules asks.
+use Prim.Native.Nat.{ℕ, _+_, _*_, _≤_}
 use mathlib.Core.Path.{_≡_, sym, subst, ap, _∙_}
 use mathlib.Core.List.{List}
+use native.Mathlib.Nat.{mul-le-mul}
 use native.Mathlib.Omega.{arith}
-use lib.ListN.{length, drop}
+use lib.ListN.{length, getD, take, drop, set, replicate, length-set, length-replicate}
+use lib.Seq.{length-take-le, getD-set-same, getD-set-other}
 use Rattle.records.specs.Fields.{IsByte}
-use Rattle.records.specs.Reading.{Reading, took, refused}
+use Rattle.records.specs.Reading.{Reading, refused}
 use Rattle.basics.specs.Lists.{All}
-use Rattle.terms.specs.Pattern.{Patterns}
 use Rattle.terms.specs.Accepted.{AcceptedRule}
 use Rattle.sheet.specs.Sheet.{Sheet}
 use Rattle.sheet.specs.ReadSheet.{readRules}
-use Rattle.sheet_tests.specs.SheetTests.{sheetTests}
 use Rattle.sheet_tests.specs.views.TestedPlaces.{placesIn}
 use Rattle.sheet_tests.specs.declared.TestsRead.{TestsRead}
 use Rattle.sheet_tests.specs.declared.TestsRead.the-variants.{Accepted}
 use Rattle.sheet_tests.specs.CheckSheet.{acceptSheet}
-use Rattle.sheet_tests.specs.views.TestsRead.{keptTests, Held}
-use Rattle.sheet_tests.proofs.Checking.{kept-count, read-counted}
+use Rattle.sheet_tests.specs.views.TestsRead.{Held}
+use Rattle.sheet_tests.proofs.Checking.{read-counted}
 use Rattle.accepted.proofs.Acceptance.{sheet-accepted}
 use Rattle.accepted.specs.views.AcceptedAs.{AcceptedTests}
 use Rattle.decision.specs.Graph.{graphOf}
-use Rattle.edges.specs.views.Compiled.{Compiled}
+use Rattle.tables.specs.views.Planes.{rulesIn, placeTestsIn}
+use Rattle.cuts.specs.views.Cuts.{partAt}
+use Rattle.rows.specs.views.Numbers.{numberAll}
+use Rattle.rows.specs.views.Tests.{testsPut, underPut}
+use Rattle.rows.specs.views.TestsOf.{TestsOf}
+use Rattle.rows.proofs.SheetRows.{zeros}
+use Rattle.rows.proofs.TestsListed.{under-rows}
+use Rattle.rows.proofs.TestsRight.{tests-listed}
+use Rattle.compiled.specs.views.Compiling.{Compiling}
 use Rattle.build.specs.declared.Built.the-variants.{Refused}
 use Rattle.build.specs.BuildOutcome.{graphWritten, sheetBuilt, buildOutcome, leftBy}
-use Rattle.build.specs.views.Tabled.{SheetHeld, Tabled}
-
--- What compiling promises of the tables that it fills.
-abbrev Compiles : ℕ → ℕ → List ℕ → List ℕ → List ℕ → ℕ → List ℕ → List ℕ → List ℕ → List ℕ → ℕ → Type 0
-Compiles arity count s words codes pairs rows low high places placeTests =
-    (bytes : ℕ) (all : List Patterns) → readRules arity count s ≡ took bytes all → All (AcceptedRule arity) all
-    → sheetTests all ≡ keptTests words codes pairs → Compiled all rows low high places codes placeTests
-
--- The pairs kept are entries of the array.
-pub pairs-within : (codes : List ℕ) (places pairs : ℕ) → length codes ≡ 65 → places + pairs ≤ 64 → pairs ≤ length codes
-pairs-within codes places pairs all few = omega arith
+use Rattle.build.specs.views.Tabled.{SheetHeld}
 
 module _ (s words codes : List ℕ) (arity count pairs : ℕ) (sheet : Sheet) (k : SheetHeld s words codes arity count pairs sheet) where
   pub accepted-rules : All (AcceptedRule arity) (sheet .rules)
@@ -46,17 +44,63 @@ module _ (s words codes : List ℕ) (arity count pairs : ℕ) (sheet : Sheet) (k
       let sound = k .known .accepted .sound in
       (omega (arith, sound .fewArguments, k .known .arityIs), omega (arith, sound .fewRules, k .known .countIs))
 
-  -- The tables are those of the sheet.
-  pub kept-tabled
-      : (rows low high places : List ℕ) (placeTests : ℕ) → pairs ≤ length codes
-      → Compiles arity count s words codes pairs rows low high places placeTests → placeTests ≡ length (placesIn words)
-      → Tabled arity count (placeTests + pairs) rows low high places codes placeTests sheet
-  kept-tabled rows low high places placeTests within compiles counted =
-      record {
-        known = k .known;
-        testsAre = omega (arith, ap length (k .tests), kept-count words codes pairs within, counted);
-        compiled = compiles (k .bytes) (sheet .rules) (k .rulesRead) accepted-rules (k .tests);
-      }
+  -- The tests that are listed are the sheet's, and its rules are put in where there is room for their cuts.
+  module _ (entries : length codes ≡ 65) (few : length (placesIn words) + pairs ≤ 64) {numbers s′ : List ℕ}
+      (made : numbers ≡ numberAll (placesIn words) 0 (replicate 680 0))
+      (listed : s′ ≡ underPut (testsPut (placesIn words) (take pairs codes) (set (replicate 260 0) 0 count))) where
+    abbrev blank : List ℕ
+    blank = set (replicate 260 0) 0 count
+
+    long : length blank ≡ 260
+    long = length-set (replicate {A = ℕ} 260 0) 0 count ∙ length-replicate {A = ℕ} 260 0
+
+    kept : length (take pairs codes) ≡ pairs
+    kept = length-take-le pairs codes (omega arith)
+
+    enough : length (placesIn words) + length (take pairs codes) ≤ 64
+    enough = omega (arith, kept)
+
+    rules-in : rulesIn blank ≡ count
+    rules-in = getD-set-same (replicate {A = ℕ} 260 0) 0 count 0 (omega (arith, length-replicate {A = ℕ} 260 0))
+
+    pub kept-listed : TestsOf (sheet .rules) numbers s′
+    kept-listed =
+        tests-listed (sheet .rules) (placesIn words) (take pairs codes) blank (k .tests) enough long
+        (rules-in ∙ sym (k .known .countIs)) made listed
+
+    pub kept-compiling
+        : (size : ℕ) → partAt (rulesIn s′) (placeTestsIn s′) ≤ size → Compiling arity s numbers s′ (replicate size 0) (sheet .rules)
+    kept-compiling size room =
+        let rules : rulesIn s′ ≡ count = kept-listed .rulesAre ∙ k .known .countIs in
+        record {
+          arguments = small-sheet .0;
+          bytes = k .bytes;
+          read = ap (λ (n : ℕ). readRules arity n s) rules ∙ k .rulesRead;
+          accepted = accepted-rules;
+          fewRules = omega (arith, rules, small-sheet .1);
+          listed = kept-listed;
+          noRows = λ i l h.
+              ap (λ (x : List ℕ). getD x i 0) listed
+              ∙ under-rows (placesIn words) (take pairs codes) blank long enough i l h
+              ∙ getD-set-other (replicate {A = ℕ} 260 0) 0 i count 0 (λ e. let z : ⊥ = omega arith in z)
+              ∙ zeros 260 i;
+          room = omega (arith, room, length-replicate {A = ℕ} size 0);
+          noCuts = zeros size;
+        }
+
+    -- Room by what was worked out,
+    pub small-room
+        : {size p t : ℕ} → t ≡ placeTestsIn s′ → p ≡ partAt count t → p ≤ size → partAt (rulesIn s′) (placeTestsIn s′) ≤ size
+    small-room {size} tests part h =
+        let rules : rulesIn s′ ≡ count = kept-listed .rulesAre ∙ k .known .countIs in
+        subst (λ (x : ℕ). x ≤ size) (part ∙ (λ j. partAt (sym rules j) (tests j))) h
+
+    -- and for every sheet in 8,256.
+    pub large-room : partAt (rulesIn s′) (placeTestsIn s′) ≤ 8256
+    large-room =
+        let rules : rulesIn s′ ≡ count = kept-listed .rulesAre ∙ k .known .countIs in
+        mul-le-mul {n₁ = 1 + 4 * rulesIn s′} {m₁ = placeTestsIn s′} {n₂ = 129} {m₂ = 64} (omega (arith, rules, small-sheet .1))
+        (omega (arith, kept-listed .counted .places, kept-listed .counted .few))
 
 -- There are few tests.
 pub few-tests

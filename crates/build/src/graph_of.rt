@@ -1,80 +1,87 @@
-// A sheet's graph: its tests are read, its rules compiled to tables, all keys found with the graph's size, and only then are bytes
-// written (document 01, "Nodes", "Questions at the counter", 18 and 19).
+// A sheet's graph: its tests are read, its rules put into tables and cuts, all keys found with the graph's size, and only then are
+// bytes written (document 01, "Nodes", "Questions at the counter", 18 and 19).
 use crate::Built;
 use emit::row::put_graph;
+use keys::Measured;
 use keys::grow::grow;
-use keys::grow::root_key;
 use sheet_tests::TestsRead;
+use tables::Tables;
 ghost use mathlib.Core.Path.{_≡_};
+ghost use mathlib.Core.List.{List};
 ghost use Prim.Native.Nat.{_+_, _≤_};
-ghost use lib.ListN.{length};
+ghost use lib.ListN.{length, replicate};
+ghost use Rattle.terms.specs.Pattern.{Patterns};
 ghost use Rattle.sheet.specs.Sheet.{Sheet};
 ghost use Rattle.sheet_tests.specs.views.TestedPlaces.{placesIn};
 ghost use Rattle.decision.specs.Graph.{graphOf};
+ghost use Rattle.tables.specs.views.Planes.{rulesIn, placeTestsIn};
+ghost use Rattle.cuts.specs.views.Cuts.{Parted};
+ghost use Rattle.compiled.specs.views.Compiling.{Compiling};
 ghost use Rattle.build.specs.BuildOutcome.{graphWritten, buildOutcome, leftBy};
-ghost use Rattle.build.specs.views.Tabled.{SheetHeld, Tabled};
+ghost use Rattle.build.specs.views.Tabled.{SheetHeld, graphIn};
 
-// The graph of the sheet whose tables these are: questions 18 and 19.
-fn build_tables(
-    arity: u8,
-    rules: u8,
-    tests: usize,
-    rows: &[u64; 64],
-    low: &[u32; 4096],
-    high: &[u32; 4096],
-    place: &[u16; 64],
-    pairs: &[u32; 65],
-    places: usize,
-    buf: &mut [u8],
-) -> Built
-    requires { ⌜ ((sheet : Sheet)
-        × Tabled arity rules tests (now rows) (now low) (now high) (now place) (now pairs) places sheet) ⌝ }
-    ensures { λ r. ⌜ ((sheet : Sheet)
-        → Tabled arity rules tests (now (rows .entry)) (now (low .entry)) (now (high .entry)) (now (place .entry))
-        (now (pairs .entry)) places sheet
-        → leftBy r (now (buf .exit)) ≡ graphWritten arity rules (graphOf (sheet .rules)) (now (buf .entry))) ⌝ }
+// The graph that is grown from tables and cuts: questions 18 and 19. Not a graph of other tables, nor a byte changed behind it.
+fn build_tables(arity: u8, s: &Tables, c: &[u64], buf: &mut [u8]) -> Built
+    requires { ⌜ Parted (rulesIn (now s)) (placeTestsIn (now s)) (now c) ⌝ }
+    ensures { λ r. ⌜ leftBy r (now (buf .exit))
+        ≡ graphWritten arity (rulesIn (now (s .entry))) (graphIn (now (s .entry)) (now (c .entry))) (now (buf .entry)) ⌝ }
 {
-    let mut lives = [0u64; 1024];
-    let mut pendings = [0u64; 1024];
-    let root = root_key(rows, rules as usize, tests);
-    let grown = grow(
-        &mut lives,
-        &mut pendings,
-        root,
-        rows,
-        low,
-        high,
-        place,
-        pairs,
-        places,
-    );
-    let count = grown.count;
-    if 1024 < count {
+    let mut keys = [0u64; 4097];
+    let mut runs = [0u64; 384];
+    let grown = grow(&mut keys, s, c, &mut runs);
+    let Measured::Bytes(bytes) = grown else {
         return Built::Refused(18);
-    }
-    if buf.len() < 5 + grown.bytes {
+    };
+    if buf.len() < 5 + bytes {
         return Built::Refused(19);
     }
-    let end = put_graph(
-        buf,
-        arity,
-        rules,
-        rows,
-        low,
-        high,
-        place,
-        pairs,
-        places,
-        &lives,
-        &pendings,
-        count,
-    );
-    Built::Written(count as u16, end as u32)
+    let end = put_graph(buf, arity, s, c, &mut runs, &keys);
+    Built::Written(met::count(&keys) as u16, end as u32)
+}
+
+// The graph of the rules that the input begins with, whose tests are listed: the rules are put into tables and cuts.
+fn build_cut(
+    b: &[u8],
+    arity: u8,
+    numbers: &[u8; 680],
+    s: &mut Tables,
+    c: &mut [u64],
+    buf: &mut [u8],
+) -> Built
+    requires { ⌜ ((all : List Patterns) × Compiling arity (now b) (now numbers) (now s) (now c) all) ⌝ }
+    ensures { λ r. ⌜ ((all : List Patterns)
+        → Compiling arity (now (b .entry)) (now (numbers .entry)) (now (s .entry)) (now (c .entry)) all
+        → leftBy r (now (buf .exit)) ≡ graphWritten arity (length all) (graphOf all) (now (buf .entry))) ⌝ }
+{
+    compiled::table_rules(b, arity as usize, numbers, s, c);
+    build_tables(arity, s, c, buf)
+}
+
+// The same in room for the cuts of a small sheet: a large array takes longer to clear than a small graph to build.
+fn build_small(b: &[u8], arity: u8, numbers: &[u8; 680], s: &mut Tables, buf: &mut [u8]) -> Built
+    requires { ⌜ ((all : List Patterns) × Compiling arity (now b) (now numbers) (now s) (replicate 320 0) all) ⌝ }
+    ensures { λ r. ⌜ ((all : List Patterns)
+        → Compiling arity (now (b .entry)) (now (numbers .entry)) (now (s .entry)) (replicate 320 0) all
+        → leftBy r (now (buf .exit)) ≡ graphWritten arity (length all) (graphOf all) (now (buf .entry))) ⌝ }
+{
+    let mut c = [0u64; 320];
+    build_cut(b, arity, numbers, s, &mut c, buf)
+}
+
+// The same in room for the cuts of every sheet.
+fn build_large(b: &[u8], arity: u8, numbers: &[u8; 680], s: &mut Tables, buf: &mut [u8]) -> Built
+    requires { ⌜ ((all : List Patterns) × Compiling arity (now b) (now numbers) (now s) (replicate 8256 0) all) ⌝ }
+    ensures { λ r. ⌜ ((all : List Patterns)
+        → Compiling arity (now (b .entry)) (now (numbers .entry)) (now (s .entry)) (replicate 8256 0) all
+        → leftBy r (now (buf .exit)) ≡ graphWritten arity (length all) (graphOf all) (now (buf .entry))) ⌝ }
+{
+    let mut c = [0u64; 8256];
+    build_cut(b, arity, numbers, s, &mut c, buf)
 }
 
 // The graph of a sheet whose rules follow its first record and whose tests the arrays hold.
 fn build_rules(
-    s: &[u8],
+    b: &[u8],
     arity: u8,
     rules: u8,
     words: &[u64; 11],
@@ -83,39 +90,19 @@ fn build_rules(
     buf: &mut [u8],
 ) -> Built
     requires { ⌜ (length (now words) ≡ 11) × (length (now codes) ≡ 65) × (length (placesIn (now words)) + pairs ≤ 64) ⌝ }
-    requires { ⌜ ((sheet : Sheet) × SheetHeld (now s) (now words) (now codes) arity rules pairs sheet) ⌝ }
+    requires { ⌜ ((sheet : Sheet) × SheetHeld (now b) (now words) (now codes) arity rules pairs sheet) ⌝ }
     ensures { λ r. ⌜ ((sheet : Sheet)
-        → SheetHeld (now (s .entry)) (now (words .entry)) (now (codes .entry)) arity rules pairs sheet
+        → SheetHeld (now (b .entry)) (now (words .entry)) (now (codes .entry)) arity rules pairs sheet
         → leftBy r (now (buf .exit)) ≡ graphWritten arity rules (graphOf (sheet .rules)) (now (buf .entry))) ⌝ }
 {
-    let mut places = [0u16; 64];
-    let mut rows = [0u64; 64];
-    let mut low = [0u32; 4096];
-    let mut high = [0u32; 4096];
-    let count = compiled::compile_rules(
-        s,
-        arity as usize,
-        rules as usize,
-        words,
-        codes,
-        pairs,
-        &mut places,
-        &mut rows,
-        &mut low,
-        &mut high,
-    );
-    build_tables(
-        arity,
-        rules,
-        count + pairs,
-        &rows,
-        &low,
-        &high,
-        &places,
-        codes,
-        count,
-        buf,
-    )
+    let mut s = [0u64; 260];
+    let mut numbers = [0u8; 680];
+    s[0] = rules as u64;
+    rows::list_tests(words, codes, pairs, &mut s, &mut numbers);
+    if cuts::part(rules as usize, tables::place_tests(&s)) <= 320 {
+        return build_small(b, arity, &numbers, &mut s, buf);
+    }
+    build_large(b, arity, &numbers, &mut s, buf)
 }
 
 // Builds the graph of a sheet: the sheet's questions, then 18, then 19. Not a root that always suspends, one stored graph for every

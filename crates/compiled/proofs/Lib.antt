@@ -1,13 +1,11 @@
--- The laws of tables, for the proofs of this crate and of those that use it.
-pub mod WordPlaces
-pub mod AscendingLists
-pub mod TestNumbers
-pub mod PlaceNumbers
-pub mod NotesWanted
-pub mod RowTurns
+-- The laws of tables and cuts, for the proofs of this crate and of those that use it.
+pub mod PartReads
+pub mod TurnedCuts
+pub mod ColumnTurns
+pub mod NoteTurns
+pub mod SoundCodes
+pub mod RuleWants
+pub mod FirstLowest
+pub mod Filling
+pub mod FilledTables
 pub mod RulesTabled
-pub mod NotesRight
-pub mod RowRight
-pub mod TablesRight
-pub mod CodesRight
-pub mod CompiledRight

@@ -1,95 +1,83 @@
--- The rules of a sheet put into the tables one after another, as they are read.
-use Prim.Native.Nat.{ℕ, _+_, _-_, _≤_, _<_}
-use mathlib.Core.Path.{_≡_, refl, sym, ap, _∙_}
+-- The rules of a sheet put into the tables and the cuts one after another, as they are read.
+use Prim.Native.Nat.{ℕ, suc, _+_, _-_, _<_}
+use mathlib.Core.Path.{_≡_, refl, sym, ap, _∙_, subst}
 use mathlib.Core.List.{List, [], _∷_}
-use native.Mathlib.Numerals.{add-one}
 use native.Mathlib.Omega.{arith}
-use lib.ListN.{length, drop, length-set}
-use lib.Seq.{drop-drop}
-use Rattle.records.specs.Reading.{took, refused}
-use Rattle.records.proofs.Rows.{row-none, row-refused, row-next, after-took}
-use Rattle.terms.specs.Pattern.{Patterns}
-use Rattle.sheet.specs.views.Noted.{Note, ruleNotes}
-use Rattle.sheet.specs.views.NoteRanges.{lowsOf, highsOf}
-use Rattle.sheet.specs.ReadSheet.{readRule, readRules}
+use lib.ListN.{getD, drop}
+use lib.Seq.{drop-drop, getD-drop}
 use Rattle.basics.proofs.Clash.{clash}
-use Rattle.edges.specs.views.Codes.{wantLow, wantHigh}
-use Rattle.compiled.specs.views.Wants.{notesTests}
-use Rattle.compiled.specs.views.RuleTables.{Tables, notesRow, ruleTables, allTables}
-use Rattle.compiled.proofs.NotesWanted.{store-length}
+use Rattle.records.specs.Reading.{took, refused}
+use Rattle.records.proofs.Rows.{row-refused, row-next, after-took}
+use Rattle.terms.specs.Pattern.{Patterns, pnil}
+use Rattle.terms.specs.Answer.{ruleAt}
+use Rattle.sheet.specs.ReadSheet.{readRule, readRules}
+use Rattle.tables.specs.views.Planes.{rulesIn}
+use Rattle.compiled.specs.views.Compiling.{Compiling, Compiled}
+use Rattle.compiled.proofs.Filling.{Filled, filled-start}
+use Rattle.compiled.proofs.FilledTables.{filled-done}
 
--- The tables have their entries.
-pub record Sized (t : Tables) : Type 0 where
-  pub allRows : length (t .rows) ≡ 64
-  pub allLow : length (t .low) ≡ 4096
-  pub allHigh : length (t .high) ≡ 4096
+module _ (arity : ℕ) (b numbers s₀ c₀ : List ℕ) where
+  -- Behind the first i rules, which take so many bytes: these are left, and the first are in the tables and the cuts.
+  pub record Left (all : List Patterns) (g : Compiling arity b numbers s₀ c₀ all) (i at : ℕ) (s c : List ℕ) : Type 0 where
+    pub used : ℕ
+    pub left : List Patterns
+    pub read : readRules arity (rulesIn s₀ - i) (drop at b) ≡ took used left
+    pub rest : drop i all ≡ left
+    pub filled : Filled g i s c
 
-module _ (numbers : List ℕ) (count : ℕ) (kept : List ℕ) where
-  -- They keep them with a rule more.
-  pub sized-turn : (i : ℕ) (notes : List Note) (t u : Tables) → u ≡ ruleTables numbers count kept i notes t → Sized t → Sized u
-  unfolding ruleTables
-  sized-turn i notes t u e s =
-      let tests = notesTests (lowsOf notes) (highsOf notes) notes in
+  abbrev pub Tabling : ℕ → ℕ → List ℕ → List ℕ → Type 0
+  Tabling i at s c = (all : List Patterns) (g : Compiling arity b numbers s₀ c₀ all) → Left all g i at s c
+
+  -- Before the first rule all are left,
+  pub tabling-start : Tabling 0 0 s₀ c₀
+  tabling-start all g =
+      let whole : rulesIn s₀ - 0 ≡ rulesIn s₀ = omega arith in
       record {
-        allRows = ap (λ (x : Tables). length (x .rows)) e
-            ∙ length-set (t .rows) i (notesRow numbers count kept notes)
-            ∙ s .allRows;
-        allLow = ap (λ (x : Tables). length (x .low)) e ∙ store-length wantLow numbers i tests (t .low) ∙ s .allLow;
-        allHigh = ap (λ (x : Tables). length (x .high)) e ∙ store-length wantHigh numbers i tests (t .high) ∙ s .allHigh;
+        used = g .bytes;
+        left = all;
+        read = ap (λ (k : ℕ). readRules arity k b) whole ∙ g .read;
+        rest = refl;
+        filled = filled-start g;
       }
 
-  module _ (arity rules : ℕ) (s : List ℕ) (t₀ : Tables) where
-    -- Behind the first i of all rules, which take so many bytes: with the rules left the tables are those of all.
-    pub record Left (all : List Patterns) (i at : ℕ) (t : Tables) : Type 0 where
-      pub used : ℕ
-      pub left : List Patterns
-      pub read : readRules arity (rules - i) (drop at s) ≡ took used left
-      pub same : allTables numbers count kept i left t ≡ allTables numbers count kept 0 all t₀
+  module _ (i at : ℕ) (s c : List ℕ) (tabling : Tabling i at s c) (all : List Patterns) (g : Compiling arity b numbers s₀ c₀ all) where
+    -- and after the last all are in.
+    pub tabling-end : i ≡ rulesIn s₀ → Compiled all s c
+    tabling-end e = filled-done g s c (subst (λ (k : ℕ). Filled g k s c) e (tabling all g .filled))
 
-    abbrev pub Tabling : ℕ → ℕ → Tables → Type 0
-    Tabling i at t = (bytes : ℕ) (all : List Patterns) → readRules arity rules s ≡ took bytes all → Left all i at t
+    module _ (h : i < rulesIn s₀) where
+      -- Where a rule is refused, so are all.
+      pub tabling-refused : {C : Type 0} {q : ℕ} → readRule arity (drop at b) ≡ refused q → C
+      tabling-refused no-rule =
+          let d = sym (tabling all g .read) ∙ row-refused [] _∷_ (readRule arity) (rulesIn s₀ - i) (drop at b) (omega arith) no-rule in
+          clash (cc)
 
-    -- Before the first rule all are left.
-    pub tabling-start : Tabling 0 0 t₀
-    tabling-start bytes all e =
-        let whole : rules - 0 ≡ rules = omega arith in
-        record { used = bytes; left = all; read = ap (λ (k : ℕ). readRules arity k s) whole ∙ e; same = refl }
+      module _ {k : ℕ} (rule : Patterns) (one : readRule arity (drop at b) ≡ took k rule) where
+        others : (used : ℕ) × (rs : List Patterns) × (readRules arity (rulesIn s₀ - i - 1) (drop k (drop at b)) ≡ took used rs)
+            × (drop i all ≡ rule ∷ rs)
+        others =
+            let l = tabling all g in
+            let next = sym (row-next [] _∷_ (readRule arity) (rulesIn s₀ - i) (drop at b) (omega arith) one) ∙ l .read in
+            let (used, rs, read, sum, joined) = after-took k (λ (rs : List Patterns). rule ∷ rs) _ next in
+            (used, rs, read, l .rest ∙ joined)
 
-    module _ (i at : ℕ) (t : Tables) (tabling : Tabling i at t) where
-      -- After the last rule none is left.
-      pub tabling-end
-          : rules ≤ i → (bytes : ℕ) (all : List Patterns) → readRules arity rules s ≡ took bytes all
-          → t ≡ allTables numbers count kept 0 all t₀
-      tabling-end h bytes all e =
-          let l = tabling bytes all e in
-          let none = sym (l .read) ∙ row-none [] _∷_ (readRule arity) (rules - i) (drop at s) (omega arith) in
-          let empty : l .left ≡ [] = cc in
-          sym (ap (λ (rs : List Patterns). allTables numbers count kept i rs t) empty) ∙ l .same
+        -- The rule that is read is the next.
+        pub tabling-rule : rule ≡ ruleAt all (suc i)
+        tabling-rule =
+            let zero-more : i + 0 ≡ i = omega arith in
+            sym (ap (λ (rs : List Patterns). getD rs 0 pnil) (others .3))
+            ∙ getD-drop i all 0 pnil
+            ∙ ap (λ (j : ℕ). getD all j pnil) zero-more
 
-      module _ (h : i < rules) where
-        -- Where a rule is refused, so are all.
-        pub tabling-refused
-            : {C : Type 0} {q : ℕ} → readRule arity (drop at s) ≡ refused q → (bytes : ℕ) (all : List Patterns)
-            → readRules arity rules s ≡ took bytes all → C
-        tabling-refused no-rule bytes all e =
-            let l = tabling bytes all e in
-            let d = sym (l .read) ∙ row-refused [] _∷_ (readRule arity) (rules - i) (drop at s) (omega arith) no-rule in
-            clash (cc)
-
-        -- A rule that is read is put in, and the others are left.
-        pub tabling-turn
-            : {b : ℕ} (rule : Patterns) → readRule arity (drop at s) ≡ took b rule → (u : Tables)
-            → u ≡ ruleTables numbers count kept i (ruleNotes rule) t → Tabling (i + 1) (at + b) u
-        tabling-turn {b} rule one u put bytes all e =
-            let l = tabling bytes all e in
-            let next = sym (row-next [] _∷_ (readRule arity) (rules - i) (drop at s) (omega arith) one) ∙ l .read in
-            let (used, others, read, sum, joined) = after-took b (λ (rs : List Patterns). rule ∷ rs) _ next in
-            let less : rules - (i + 1) ≡ rules - i - 1 = omega arith in
+        -- With it one less is left.
+        pub tabling-turn : {s′ c′ : List ℕ} → Filled g (i + 1) s′ c′ → Left all g (i + 1) (at + k) s′ c′
+        tabling-turn f =
+            let less : rulesIn s₀ - (i + 1) ≡ rulesIn s₀ - i - 1 = omega arith in
+            let next : i + 1 ≡ i + 1 = refl in
             record {
-              used = used;
-              left = others;
-              read = (λ j. readRules arity (less j) (sym (drop-drop b at s) j)) ∙ read;
-              same = (λ j. allTables numbers count kept (add-one i j) others (put j))
-                  ∙ sym (ap (λ (rs : List Patterns). allTables numbers count kept i rs t) joined)
-                  ∙ l .same;
+              used = others .0;
+              left = others .1;
+              read = (λ j. readRules arity (less j) (sym (drop-drop k at b) j)) ∙ others .2;
+              rest = sym (drop-drop 1 i all) ∙ ap (drop 1) (others .3);
+              filled = f;
             }

@@ -1,5 +1,4 @@
 -- How the code keeps things.
-pub mod Numbers
-pub mod Wants
-pub mod Row
-pub mod RuleTables
+pub mod Columns
+pub mod CutRules
+pub mod Compiling

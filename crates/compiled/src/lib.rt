@@ -1,55 +1,6 @@
-// An accepted sheet as tables: its tested places, the numbers of its tests, and of each rule the set of its tests and the
-// codes of what it wants.
-pub mod codes; // what a rule wants, as codes
-pub mod numbers; // the numbers of places and pairs
-pub mod row; // the tests of a rule as a set
+// An accepted sheet as tables: of each rule the set of its tests, of each test the set of its rules, and the cuts of each place
+// test.
+pub mod cut; // where a rule turns
 pub mod rules; // the tables of all rules
 
-pub use row::rule_row;
-pub use rules::compile_rules;
-ghost use mathlib.Core.Path.{_≡_};
-ghost use mathlib.Core.List.{_++_, map};
-ghost use Prim.Native.Nat.{ℕ, _+_, _≤_};
-ghost use lib.ListN.{length, take};
-ghost use Rattle.masks.specs.Mask.{members};
-ghost use Rattle.sheet_tests.specs.views.TestedPlaces.{placesIn};
-
-// What a record wants at its place, as lowest and highest code, or nothing.
-pub enum Wanted {
-    Nothing,
-    Codes(u32, u32),
-}
-
-// Lists the members of a word, counted from a base, behind those that are listed, and answers how many there are now.
-fn list_word(word: u64, base: usize, places: &mut [u16; 64], count: usize) -> usize
-    requires { ⌜ (base ≤ 640) × (count + length (members 64 word) ≤ 64) × (length (now places) ≡ 64) ⌝ }
-    ensures { λ r. ⌜ take r (now (places .exit))
-        ≡ take count (now (places .entry)) ++ map (λ (j : ℕ). base + j) (members 64 word) ⌝ }
-    ensures { λ r. ⌜ (r ≡ count + length (members 64 word)) × (length (now (places .exit)) ≡ 64) ⌝ }
-{
-    let mut left = word;
-    let mut n = count;
-    while left != 0 {
-        let i = u64::trailing_zeros(left) as usize;
-        places[n] = (base + i) as u16;
-        n += 1;
-        left &= left - 1;
-    }
-    n
-}
-
-// Lists the tested places, ascending, and answers how many there are. Not the places in the order of the rules, nor those of the
-// first word alone.
-pub fn list_places(words: &[u64; 11], places: &mut [u16; 64]) -> usize
-    requires { ⌜ (length (now words) ≡ 11) × (length (placesIn (now words)) ≤ 64) × (length (now places) ≡ 64) ⌝ }
-    ensures { λ r. ⌜ take r (now (places .exit)) ≡ placesIn (now (words .entry)) ⌝ }
-    ensures { λ r. ⌜ (r ≡ length (placesIn (now (words .entry)))) × (length (now (places .exit)) ≡ 64) ⌝ }
-{
-    let mut count: usize = 0;
-    let mut i: usize = 0;
-    while i < 11 {
-        count = list_word(words[i], 64 * i, places, count);
-        i += 1;
-    }
-    count
-}
+pub use rules::table_rules;

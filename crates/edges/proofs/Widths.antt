@@ -7,11 +7,13 @@ use native.Mathlib.Decide.{decLt}
 use native.Mathlib.Nat.{add-suc, suc-add, lt-of-lt-of-le}
 use native.Mathlib.Omega.{arith}
 use lib.Pow.{pow-mono}
+use borrow.Author.Tests.{lt-ltb}
 use Rattle.masks.specs.Mask.{has, maskOf, members}
 use Rattle.masks.proofs.Membership.{has-above}
-use Rattle.masks.proofs.Extensionality.{ext, maskOf-lt, has-maskOf}
+use Rattle.masks.proofs.Extensionality.{ext, maskOf-lt, has-maskOf, maskOf-same}
+use Rattle.masks.proofs.Operations.{full-is}
+use Rattle.edges.specs.views.KeysBehind.{full}
 use Rattle.basics.proofs.AnyBelow.{any-none, any-some, any-found, any-nowhere}
-use Rattle.edges.specs.views.Tables.{those}
 use Rattle.basics.specs.Lists.{anyBelow}
 use Rattle.basics.proofs.Booleans.{by-test}
 use Rattle.masks.proofs.Listed.{consIf, listFrom}
@@ -52,8 +54,7 @@ members-within n w m h k = list-within n w 0 (has m) h (λ j l. has-above n m j 
 -- The members of a set of numbers below n at which p holds.
 pub those-where
     : (n m : ℕ) (p q : ℕ → Bool) → n ≤ 64 → m < 2 ^ n → ((i : ℕ) → i < n → has m i ≡ true → p i ≡ q i)
-    → those m p ≡ maskOf n (λ i. has m i && q i)
-unfolding those
+    → maskOf 64 (λ i. has m i && p i) ≡ maskOf n (λ i. has m i && q i)
 those-where n m p q h k same =
     ext 64 (maskOf 64 (λ i. has m i && p i)) (maskOf n (λ i. has m i && q i)) (maskOf-lt 64 (λ i. has m i && p i))
     (lt-of-lt-of-le (maskOf-lt n (λ i. has m i && q i)) (pow-mono h))
@@ -66,3 +67,8 @@ those-where n m p q h k same =
     (λ (a : ¬ (i < n)).
     ap (λ (b : Bool). b && p i) (has-above n m i k (omega arith))
     ∙ sym (has-above n (maskOf n (λ j. has m j && q j)) i (maskOf-lt n (λ j. has m j && q j)) (omega arith))))
+
+-- All numbers below n.
+pub full-where : (n : ℕ) → n ≤ 64 → full n ≡ maskOf n (λ i. true)
+unfolding full
+full-where n h = sym (full-is 64 n h) ∙ full-is n n (omega arith) ∙ maskOf-same n _ _ (λ i l. lt-ltb i n l)

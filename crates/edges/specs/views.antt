@@ -1,7 +1,4 @@
 -- How the code keeps things.
 pub mod VertexKey
-pub mod Codes
-pub mod Compiled
-pub mod Tables
-pub mod FirstCase
-pub mod Switches
+pub mod KeysBehind
+pub mod NodeIn

@@ -1,40 +1,51 @@
-// The keys behind the edges of a node. The rules and tests of a sheet are in tables: row i of `rows` is the set of the
-// tests of rule i. Contracts speak of all rules whose tables these are.
+// The keys behind the edges of a node, each a few operations on the tables of its sheet.
+use crate::Asked;
 use crate::Key;
+use tables::Tables;
+use tables::column;
+use tables::row;
+use tables::under;
 ghost use mathlib.Core.Path.{_≡_};
-ghost use mathlib.Core.List.{List};
-ghost use Prim.Native.Nat.{_<_, _^_};
-ghost use lib.ListN.{length};
-ghost use Rattle.masks.specs.Mask.{has};
-ghost use Rattle.terms.specs.Pattern.{Patterns};
-ghost use Rattle.decision.specs.Edges.{leadsTo, byNone, byUnknown, byOther};
-ghost use Rattle.edges.specs.views.VertexKey.{vertexKey, keyIn};
-ghost use Rattle.edges.specs.views.Compiled.{RowTable, PlaceTable, Asked};
-ghost use Rattle.edges.specs.views.Tables.{those, isClear, lacks, isBelow};
+ghost use Prim.Native.Nat.{_<_};
+ghost use Rattle.edges.specs.views.VertexKey.{keyIn};
+ghost use Rattle.edges.specs.views.KeysBehind.{settledIn, heldIn, leadIn, rootIn, askedIn};
+ghost use Rattle.edges.specs.views.KeysBehind.{noneBehind, otherBehind, runBehind, unknownBehind};
 
-// The live rules whose row has no pending test.
-fn settled(live: u64, pending: u64, rows: &[u64; 64]) -> u64
-    ensures { λ r. ⌜ r ≡ those live (isClear (now (rows .entry)) pending) ⌝ }
+// The live rules that have none of some tests. Not those that lack one of them.
+fn settled(s: &Tables, live: u64, left: u64) -> u64
+    ensures { λ r. ⌜ r ≡ settledIn (now (s .entry)) live left ⌝ }
 {
-    let mut all: u64 = 0;
-    let mut left = live;
-    while left != 0 {
-        let i = u64::trailing_zeros(left) as usize;
-        let row = rows[i];
-        if masks::disjoint(row, pending) {
-            all |= 1 << i;
-        }
-        left &= left - 1;
+    let mut all = live;
+    let mut to_come = left;
+    while to_come != 0 {
+        let t = u64::trailing_zeros(to_come) as usize;
+        all = masks::minus(all, column(s, t));
+        to_come &= to_come - 1;
     }
     all
 }
 
-// The key of the node with these live rules, where these tests are left. Not suspend where one rule alone is settled,
-// nor tests that only rules not live have.
-pub fn lead(live: u64, left: u64, rows: &[u64; 64]) -> Key
-    requires { ⌜ ((rules : List Patterns) × RowTable rules (now rows) × (live < 2 ^ length rules)) ⌝ }
-    ensures { λ r. ⌜ ((rules : List Patterns) → RowTable rules (now (rows .entry)) → live < 2 ^ length rules
-        → r ≡ vertexKey (leadsTo rules live (has left))) ⌝ }
+// Those of some tests that a live rule has. Not the tests that all live rules have.
+fn held(s: &Tables, live: u64, left: u64) -> u64
+    ensures { λ r. ⌜ r ≡ heldIn (now (s .entry)) live left ⌝ }
+{
+    let mut all: u64 = 0;
+    let mut to_come = live;
+    while to_come != 0 {
+        let i = u64::trailing_zeros(to_come) as usize;
+        all |= row(s, i) & left;
+        if all == left {
+            return left;
+        }
+        to_come &= to_come - 1;
+    }
+    all
+}
+
+// The key of the node with these live rules, where these tests are left and these rules have none of them. Not suspend where one
+// live rule alone is settled, nor tests that only rules not live have.
+fn lead(s: &Tables, live: u64, left: u64, settled: u64) -> Key
+    ensures { λ r. ⌜ keyIn r ≡ leadIn (now (s .entry)) live left settled ⌝ }
 {
     if live == 0 {
         return Key {
@@ -48,8 +59,7 @@ pub fn lead(live: u64, left: u64, rows: &[u64; 64]) -> Key
             pending: 0,
         };
     }
-    let pending = left & masks::union_of_rows(rows, live);
-    if 1 < masks::size(settled(live, pending, rows)) {
+    if 1 < masks::size(masks::intersect(live, settled)) {
         return Key {
             live: 0,
             pending: 1,
@@ -57,115 +67,63 @@ pub fn lead(live: u64, left: u64, rows: &[u64; 64]) -> Key
     }
     Key {
         live: live,
-        pending: pending,
+        pending: held(s, live, left),
     }
 }
 
-// The live rules that have not test t. Not those that have it, nor rules that are not live.
-pub fn without(t: usize, live: u64, rows: &[u64; 64]) -> u64
-    requires { ⌜ t < 64 ⌝ }
-    ensures { λ r. ⌜ r ≡ those live (lacks (now (rows .entry)) t) ⌝ }
+// The key of the root: "The root has all of both." Not with a rule that the sheet has not, nor of a node that asks where two rules
+// have no test.
+pub fn root(s: &Tables) -> Key
+    ensures { λ r. ⌜ keyIn r ≡ rootIn (now (s .entry)) ⌝ }
 {
-    let mut all: u64 = 0;
-    let mut left = live;
-    while left != 0 {
-        let i = u64::trailing_zeros(left) as usize;
-        if !masks::has(rows[i], t) {
-            all |= 1 << i;
-        }
-        left &= left - 1;
-    }
-    all
+    let live = masks::full(tables::rules(s));
+    let left = masks::full(tables::tests(s));
+    lead(s, live, left, settled(s, live, left))
 }
 
-// The key behind neither, and behind a pair's no: the rules with the test are dropped. Not with the test still
-// pending, nor without the rules that want nothing there.
-pub fn by_none(key: Key, t: usize, rows: &[u64; 64]) -> Key
+// What the edges share of the node of a key that asks test t. Not with the test itself left, nor free rules that have it.
+pub fn ask(s: &Tables, key: Key, t: usize) -> Asked
     requires { ⌜ t < 64 ⌝ }
-    requires { ⌜ ((rules : List Patterns) × Asked rules (now rows) (key .live) t) ⌝ }
-    ensures { λ r. ⌜ ((rules : List Patterns) → Asked rules (now (rows .entry)) (key .live) t
-        → r ≡ vertexKey (byNone rules (keyIn key) t)) ⌝ }
+    ensures { λ r. ⌜ r ≡ askedIn (now (s .entry)) (keyIn key) t ⌝ }
 {
-    let live = without(t, key.live, rows);
     let left = masks::remove(key.pending, t);
-    lead(live, left, rows)
+    Asked {
+        test: t,
+        live: key.live,
+        free: masks::minus(key.live, column(s, t)),
+        left: left,
+        settled: settled(s, key.live, left),
+    }
+}
+
+// The key behind a case that these live rules want. Not with a rule that wants something else there, nor without those that want
+// nothing there.
+pub fn by_run(s: &Tables, asked: Asked, set: u64) -> Key
+    ensures { λ r. ⌜ keyIn r ≡ runBehind (now (s .entry)) asked set ⌝ }
+{
+    lead(s, asked.free | set, asked.left, asked.settled)
+}
+
+// The key behind neither, and behind a pair's no: the rules with the test are dropped. Not with the test still pending, nor without
+// the rules that want nothing there.
+pub fn by_none(s: &Tables, asked: Asked) -> Key
+    ensures { λ r. ⌜ keyIn r ≡ noneBehind (now (s .entry)) asked ⌝ }
+{
+    lead(s, asked.free, asked.left, asked.settled)
 }
 
 // The key behind a pair's other: no rule is dropped. Not with the pair still pending, nor without a rule that has it.
-pub fn by_other(key: Key, t: usize, rows: &[u64; 64]) -> Key
-    requires { ⌜ t < 64 ⌝ }
-    requires { ⌜ ((rules : List Patterns) × Asked rules (now rows) (key .live) t) ⌝ }
-    ensures { λ r. ⌜ ((rules : List Patterns) → Asked rules (now (rows .entry)) (key .live) t
-        → r ≡ vertexKey (byOther rules (keyIn key) t)) ⌝ }
+pub fn by_other(s: &Tables, asked: Asked) -> Key
+    ensures { λ r. ⌜ keyIn r ≡ otherBehind (now (s .entry)) asked ⌝ }
 {
-    let left = masks::remove(key.pending, t);
-    lead(key.live, left, rows)
+    lead(s, asked.live, asked.left, asked.settled)
 }
 
-// The same number at another width.
-fn wide(x: u16) -> usize
-    ensures { λ r. ⌜ r ≡ x ⌝ }
+// The key behind unknown: no rule is dropped. Not with a place below it still pending, nor without a test of another place.
+pub fn by_unknown(s: &Tables, asked: Asked) -> Key
+    requires { ⌜ asked .test < 64 ⌝ }
+    ensures { λ r. ⌜ keyIn r ≡ unknownBehind (now (s .entry)) asked ⌝ }
 {
-    x as usize
-}
-
-// The same number at another width.
-fn wider(x: u32) -> usize
-    ensures { λ r. ⌜ r ≡ x ⌝ }
-{
-    x as usize
-}
-
-// Is test u a place at or below place p, or a pair with such a place?
-fn is_below(p: usize, u: usize, place: &[u16; 64], pairs: &[u32; 65], count: usize) -> bool
-    requires { ⌜ (p < 680) × (u < 64) ⌝ }
-    ensures { λ r. ⌜ r ≡ isBelow (now (place .entry)) (now (pairs .entry)) count p u ⌝ }
-{
-    if u < count {
-        return places::at_or_below(p, wide(place[u]));
-    }
-    let code = wider(pairs[u - count]);
-    if places::at_or_below(p, code / 0x1_0000) {
-        return true;
-    }
-    places::at_or_below(p, code % 0x1_0000)
-}
-
-// Those of some tests that an unknown at place p settles. Not place p alone, nor pairs with both places below it alone.
-pub fn below(p: usize, tests: u64, place: &[u16; 64], pairs: &[u32; 65], count: usize) -> u64
-    requires { ⌜ p < 680 ⌝ }
-    ensures { λ r. ⌜ r ≡ those tests (isBelow (now (place .entry)) (now (pairs .entry)) count p) ⌝ }
-{
-    let mut all: u64 = 0;
-    let mut left = tests;
-    while left != 0 {
-        let i = u64::trailing_zeros(left) as usize;
-        if is_below(p, i, place, pairs, count) {
-            all |= 1 << i;
-        }
-        left &= left - 1;
-    }
-    all
-}
-
-// The key behind unknown at place p: no rule is dropped. Not with the place itself still pending, nor without a test of
-// another place.
-pub fn by_unknown(
-    key: Key,
-    p: usize,
-    rows: &[u64; 64],
-    place: &[u16; 64],
-    pairs: &[u32; 65],
-    count: usize,
-) -> Key
-    requires { ⌜ p < 680 ⌝ }
-    requires { ⌜ ((rules : List Patterns) × RowTable rules (now rows) × PlaceTable rules (now place) (now pairs) count
-        × (key .live < 2 ^ length rules)) ⌝ }
-    ensures { λ r. ⌜ ((rules : List Patterns) → RowTable rules (now (rows .entry))
-        → PlaceTable rules (now (place .entry)) (now (pairs .entry)) count → key .live < 2 ^ length rules
-        → r ≡ vertexKey (byUnknown rules (keyIn key) p)) ⌝ }
-{
-    let tests = key.pending;
-    let left = masks::minus(tests, below(p, tests, place, pairs, count));
-    lead(key.live, left, rows)
+    let left = masks::minus(asked.left, under(s, asked.test));
+    lead(s, asked.live, left, settled(s, asked.live, left))
 }

@@ -1,8 +1,5 @@
--- The laws that `lay` is proved by.
+-- The laws that `emit` is proved by.
 pub mod WritingOn
-pub mod CaseRecords
-pub mod CasesWritten
-pub mod AskedTests
-pub mod KeyNodes
-pub mod NodesWritten
-pub mod LaidKeys
+pub mod InTurn
+pub mod AskedBytes
+pub mod GraphWritten

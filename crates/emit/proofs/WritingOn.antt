@@ -1,12 +1,9 @@
--- Bytes written one piece behind another: what is left to be written completes the whole. And a piece written in front of
--- another.
-use Prim.Native.Nat.{ℕ, _+_, _≤_}
+-- Bytes written one piece behind another: what is left to be written completes the whole.
+use Prim.Native.Nat.{ℕ, _+_}
 use mathlib.Core.Path.{_≡_, refl, sym, ap, _∙_}
-use mathlib.Core.List.{List, [], _++_, append-assoc}
+use mathlib.Core.List.{List, [], _++_, append-nil}
 use native.Mathlib.Omega.{arith}
-use lib.ListN.{length, take, drop, length-append}
-use lib.Seq.{length-take-le, take-take, take-append-le, drop-at}
-use native.Mathlib.Nat.{add-assoc}
+use lib.ListN.{length, length-append}
 use Rattle.records.specs.Writing.{splice}
 use Rattle.records.proofs.Writing.{splice-none, splice-more, splice-length}
 use Rattle.emit.specs.views.Written.{Room, Wrote}
@@ -55,33 +52,24 @@ module _ {before : List ℕ} {start : ℕ} {all : List ℕ} (room : Room before 
               ∙ (λ i. splice (now i) (pos i) more);
         }
 
--- A piece written in front of another is written as both together are.
-pub splice-front
-    : (xs : List ℕ) (at : ℕ) (a b : List ℕ) → at + length a ≤ length xs
-    → splice (splice xs (at + length a) b) at a ≡ splice xs at (a ++ b)
-splice-front xs at a b h =
-    let end : ℕ = at + length a in
-    let lead : List ℕ = take end xs in
-    let left : List ℕ = b ++ drop (end + length b) xs in
-    let size : length lead ≡ end = length-take-le end xs h in
-    let front : take at (lead ++ left) ≡ take at xs =
-    take-append-le at lead left (omega arith) ∙ take-take at end xs (omega arith) in
-    let back : drop end (lead ++ left) ≡ left = drop-at lead left end size in
-    let sum : drop (end + length b) xs ≡ drop (at + length (a ++ b)) xs =
-    ap (λ (k : ℕ). drop k xs) (add-assoc at (length a) (length b) ∙ ap (λ (k : ℕ). at + k) (sym (length-append a b))) in
-    (λ i. front i ++ (a ++ back i))
-    ∙ (λ i. take at xs ++ (a ++ (b ++ sum i)))
-    ∙ (λ i. take at xs ++ sym (append-assoc a b (drop (at + length (a ++ b)) xs)) i)
+-- Two pieces, one behind the other, are the whole.
+module _ (before : List ℕ) (start : ℕ) {all : List ℕ} (first second : List ℕ) (joined : all ≡ first ++ second)
+    (room : Room before start all) where
+  at-first : Left before start all before start all
+  at-first = left-start before start all all refl
 
--- So the record of a head in front of a tail that was written behind it.
-pub both-wrote
-    : (before : List ℕ) (at : ℕ) (first second whole : List ℕ) {buf buf′ : List ℕ} {behind : ℕ} → first ++ second ≡ whole
-    → Room before at whole → Wrote before (at + length first) second behind buf → buf′ ≡ splice buf at first
-    → Wrote before at whole behind buf′
-both-wrote before at first second whole joined room w e = (
-  omega (arith, w .0, ap length joined, length-append first second),
-  e
-      ∙ ap (λ (l : List ℕ). splice l at first) (w .1)
-      ∙ splice-front before at first second (omega (arith, ap length joined, length-append first second))
-      ∙ ap (splice before at) joined,
-)
+  -- The first fits,
+  pub first-room : Room before start first
+  first-room = left-room room at-first first second joined
+
+  module _ {buf : List ℕ} {at : ℕ} (w : Wrote before start first at buf) where
+    behind : Left before start all buf at second
+    behind = left-next room at-first first second joined w
+
+    -- behind it the second,
+    pub second-room : Room buf at second
+    second-room = left-room room behind second [] (sym (append-nil second))
+
+    -- and both are written.
+    pub both-wrote : {buf′ : List ℕ} {end : ℕ} → Wrote buf at second end buf′ → Wrote before start all end buf′
+    both-wrote last = left-end room (left-next room behind second [] (sym (append-nil second)) last) refl

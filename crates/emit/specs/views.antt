@@ -1,3 +1,3 @@
 -- How the code keeps things.
-pub mod Laid
 pub mod Written
+pub mod Laid

@@ -1,118 +1,126 @@
-// The node of a key, with a switch's cases behind its record.
-use crate::cases::node_of;
-use crate::cases::put_cases;
+// One node of a graph as a record, with a switch's cases behind it.
+use cuts::Runs;
+use cuts::cut_switch;
+use cuts::part;
+use edges::Asked;
 use edges::Key;
+use edges::keys::ask;
 use edges::keys::by_none;
 use edges::keys::by_other;
+use edges::keys::by_run;
 use edges::keys::by_unknown;
+use graph::CaseRecord;
 use graph::NodeRecord;
+use graph::put_case;
 use graph::put_node;
 use keys::Kind;
 use keys::node::kind_of;
-ghost use Prim.Native.Nat.{ℕ, _+_, _*_, _≤_, _<_};
+use met::Keys;
+use tables::Tables;
 ghost use mathlib.Core.Path.{_≡_};
 ghost use mathlib.Core.List.{List};
+ghost use Prim.Native.Nat.{ℕ, _+_, _≤_, _<_};
 ghost use lib.ListN.{length};
-ghost use Rattle.terms.specs.Pattern.{Patterns};
-ghost use Rattle.sheet_tests.specs.SheetTests.{pair};
-ghost use Rattle.decision.specs.Rules.{testAt};
-ghost use Rattle.edges.specs.views.Compiled.{Asked, Compiled};
+ghost use Rattle.decision.specs.GraphBytes.{caseBytes};
+ghost use Rattle.graph.specs.views.WriteNode.{caseRecordBytes};
+ghost use Rattle.tables.specs.views.Planes.{rulesIn, placeTestsIn};
+ghost use Rattle.cuts.specs.views.Cuts.{Parted};
+ghost use Rattle.cuts.specs.views.Runs.{caseOf, runsIn};
 ghost use Rattle.edges.specs.views.VertexKey.{keyIn};
-ghost use Rattle.keys.specs.views.KeysMet.{keysIn, Sized, Once};
-ghost use Rattle.keys.specs.views.NodeKind.{Fits};
-ghost use Rattle.emit.specs.views.Laid.{askBytes, keyBytes};
+ghost use Rattle.met.specs.views.KeysMet.{keyNumber, keysIn, Chained};
+ghost use Rattle.emit.specs.views.Laid.{runBytes, askBytes, keyBytes};
 ghost use Rattle.emit.specs.views.Written.{Room, Wrote};
 
-// A pair that is asked as test t, of which the code is p × 65,536 + q, and the position behind it. Not q before p, nor other where
-// no belongs.
-fn put_pair(
-    buf: &mut [u8],
-    at: usize,
-    key: Key,
-    t: usize,
-    code: u32,
-    rows: &[u64; 64],
-    lives: &[u64; 1024],
-    pendings: &[u64; 1024],
-    hints: &mut [u16; 1024],
-    count: usize,
-) -> usize
-    requires { ⌜ (count ≤ 1024) × Sized (now lives) (now pendings) × (t < 64) × (at + 9 ≤ length (now buf))
-        × Once (keysIn (now lives) (now pendings) count) ⌝ }
-    requires { ⌜ ((rules : List Patterns) × ((p : ℕ) × ((q : ℕ) × Asked rules (now rows) (key .live) t
-        × (testAt rules t ≡ pair p q) × (q < 0x1_0000) × (code ≡ p * 0x1_0000 + q)))) ⌝ }
-    ensures { λ r. ⌜ ((rules : List Patterns) (p q : ℕ) → Asked rules (now (rows .entry)) (key .live) t
-        → testAt rules t ≡ pair p q → (q < 0x1_0000) × (code ≡ p * 0x1_0000 + q)
-        → Wrote (now (buf .entry)) at
-        (askBytes rules (keysIn (now (lives .entry)) (now (pendings .entry)) count) (keyIn key) t) r (now (buf .exit))) ⌝ }
+// The number of the node that has a key. Not that of a key with the same live rules alone, nor one that counts from 1.
+fn node_of(keys: &Keys, key: Key) -> u16
+    requires { ⌜ Chained (now keys) ⌝ }
+    ensures { λ r. ⌜ r ≡ keyNumber (keysIn (now (keys .entry))) (keyIn key) ⌝ }
 {
-    let none = by_none(key, t, rows);
-    let differ = node_of(none, lives, pendings, hints, count);
-    let rest = by_other(key, t, rows);
-    let other = node_of(rest, lives, pendings, hints, count);
-    let p = (code / 0x1_0000) as u16;
-    let q = (code % 0x1_0000) as u16;
-    put_node(buf, at, NodeRecord::Pair(p, q, differ, other))
+    met::find(keys, key.live, key.pending) as u16
 }
 
-// The node that asks test t, and the position behind it: a switch where t is one of the first so many, which are places, else a
-// pair. A switch's cases are written first, so that their number is known. Not unknown where neither belongs, nor a switch's
-// record without its cases.
-fn put_asked(
+// The record of the case whose codes run from one to another. Not the record of a symbol that has a compound's id, nor one of
+// numbers that ends at its low.
+fn case_record(first: u64, last: u64, node: u16) -> CaseRecord
+    ensures { λ r. ⌜ caseRecordBytes r ≡ caseBytes (caseOf first last) node ⌝ }
+{
+    if first < 0x200_0000 {
+        return CaseRecord::Symbol((first % 0x1_0000) as u16, node);
+    }
+    if first < 0x300_0000 {
+        return CaseRecord::Compound((first / 256 % 0x1_0000) as u16, (first % 256) as u8, node);
+    }
+    CaseRecord::Numbers((first % 0x1_0000) as u16, (last % 0x1_0000) as u16, node)
+}
+
+// The cases of a switch, and the position behind them. Not one that leads to the node of another case, nor the last without its
+// record.
+fn put_runs(
+    buf: &mut [u8],
+    start: usize,
+    s: &Tables,
+    asked: Asked,
+    runs: &Runs,
+    count: usize,
+    keys: &Keys,
+) -> usize
+    requires { ⌜ Chained (now keys) × (count ≤ 127)
+        × Room (now buf) start (runBytes (now s) (keysIn (now keys)) asked (runsIn (now runs) count)) ⌝ }
+    ensures { λ r. ⌜ Wrote (now (buf .entry)) start
+        (runBytes (now (s .entry)) (keysIn (now (keys .entry))) asked (runsIn (now (runs .entry)) count)) r (now (buf .exit)) ⌝ }
+{
+    let mut at = start;
+    let mut k: usize = 0;
+    while k < count {
+        let node = node_of(keys, by_run(s, asked, runs[3 * k + 2]));
+        at = put_case(buf, at, case_record(runs[3 * k], runs[3 * k + 1], node));
+        k += 1;
+    }
+    at
+}
+
+// A switch with its cases, and the position behind it. Not unknown where neither belongs, nor a switch's record without its cases.
+fn put_switch(
     buf: &mut [u8],
     at: usize,
-    key: Key,
-    t: usize,
-    rows: &[u64; 64],
-    low: &[u32; 4096],
-    high: &[u32; 4096],
-    place: &[u16; 64],
-    pairs: &[u32; 65],
-    places: usize,
-    lives: &[u64; 1024],
-    pendings: &[u64; 1024],
-    hints: &mut [u16; 1024],
-    count: usize,
+    s: &Tables,
+    c: &[u64],
+    asked: Asked,
+    runs: &mut Runs,
+    keys: &Keys,
 ) -> usize
-    requires { ⌜ (count ≤ 1024) × Sized (now lives) (now pendings) × (t < 64)
-        × Once (keysIn (now lives) (now pendings) count) ⌝ }
-    requires { ⌜ ((rules : List Patterns) × Compiled rules (now rows) (now low) (now high) (now place) (now pairs) places
-        × Asked rules (now rows) (key .live) t
-        × Room (now buf) at (askBytes rules (keysIn (now lives) (now pendings) count) (keyIn key) t)) ⌝ }
-    ensures { λ r. ⌜ ((rules : List Patterns)
-        → Compiled rules (now (rows .entry)) (now (low .entry)) (now (high .entry)) (now (place .entry)) (now (pairs .entry)) places
-        → Asked rules (now (rows .entry)) (key .live) t
-        → let bytes = askBytes rules (keysIn (now (lives .entry)) (now (pendings .entry)) count) (keyIn key) t in
-        Room (now (buf .entry)) at bytes → Wrote (now (buf .entry)) at bytes r (now (buf .exit))) ⌝ }
+    requires { ⌜ Chained (now keys) × Parted (rulesIn (now s)) (placeTestsIn (now s)) (now c)
+        × (asked .test < placeTestsIn (now s)) × (length (now runs) ≡ 384) ⌝ }
+    requires { ⌜ Room (now buf) at (askBytes (now s) (now c) (keysIn (now keys)) asked) ⌝ }
+    ensures { λ r. ⌜ Wrote (now (buf .entry)) at
+        (askBytes (now (s .entry)) (now (c .entry)) (keysIn (now (keys .entry))) asked) r (now (buf .exit)) ⌝ }
+    ensures { λ _. ⌜ length (now (runs .exit)) ≡ 384 ⌝ }
 {
-    if places <= t {
-        let code = pairs[t - places];
-        return put_pair(buf, at, key, t, code, rows, lives, pendings, hints, count);
-    }
-    let p = place[t];
-    let cases = put_cases(
-        buf,
-        at + 8,
-        key,
-        t,
-        rows,
-        low,
-        high,
-        lives,
-        pendings,
-        hints,
-        count,
-    );
-    let none = by_none(key, t, rows);
-    let neither = node_of(none, lives, pendings, hints, count);
-    let unread = by_unknown(key, p as usize, rows, place, pairs, places);
-    let unknown = node_of(unread, lives, pendings, hints, count);
-    put_node(
+    let t = asked.test;
+    let count = cut_switch(c, part(tables::rules(s), t), asked.live, runs);
+    let neither = node_of(keys, by_none(s, asked));
+    let unknown = node_of(keys, by_unknown(s, asked));
+    let place = (tables::test(s, t) % 0x1_0000) as u16;
+    let behind = put_node(
         buf,
         at,
-        NodeRecord::Switch(p, cases.count, neither, unknown),
+        NodeRecord::Switch(place, count as u8, neither, unknown),
     );
-    cases.at
+    put_runs(buf, behind, s, asked, runs, count, keys)
+}
+
+// A pair, and the position behind it. Not q before p, nor other where no belongs.
+fn put_pair(buf: &mut [u8], at: usize, s: &Tables, asked: Asked, keys: &Keys) -> usize
+    requires { ⌜ Chained (now keys) × (placeTestsIn (now s) ≤ asked .test) × (asked .test < 64) × (at + 9 ≤ length (now buf)) ⌝ }
+    ensures { λ r. ⌜ ((c : List ℕ) → Wrote (now (buf .entry)) at
+        (askBytes (now (s .entry)) c (keysIn (now (keys .entry))) asked) r (now (buf .exit))) ⌝ }
+{
+    let code = tables::test(s, asked.test);
+    let differ = node_of(keys, by_none(s, asked));
+    let other = node_of(keys, by_other(s, asked));
+    let p = (code / 0x1_0000 % 0x1_0000) as u16;
+    let q = (code % 0x1_0000) as u16;
+    put_node(buf, at, NodeRecord::Pair(p, q, differ, other))
 }
 
 // The node of a key, and the position behind it. Not a record of another kind, nor an edge to the node of another key.
@@ -120,45 +128,26 @@ pub fn put_one(
     buf: &mut [u8],
     at: usize,
     key: Key,
-    rows: &[u64; 64],
-    low: &[u32; 4096],
-    high: &[u32; 4096],
-    place: &[u16; 64],
-    pairs: &[u32; 65],
-    places: usize,
-    lives: &[u64; 1024],
-    pendings: &[u64; 1024],
-    hints: &mut [u16; 1024],
-    count: usize,
+    s: &Tables,
+    c: &[u64],
+    runs: &mut Runs,
+    keys: &Keys,
 ) -> usize
-    requires { ⌜ (count ≤ 1024) × Sized (now lives) (now pendings) × Once (keysIn (now lives) (now pendings) count) ⌝ }
-    requires { ⌜ ((rules : List Patterns) × Compiled rules (now rows) (now low) (now high) (now place) (now pairs) places
-        × Fits rules (keyIn key)
-        × Room (now buf) at (keyBytes rules (keysIn (now lives) (now pendings) count) (keyIn key))) ⌝ }
-    ensures { λ r. ⌜ ((rules : List Patterns)
-        → Compiled rules (now (rows .entry)) (now (low .entry)) (now (high .entry)) (now (place .entry)) (now (pairs .entry)) places
-        → Fits rules (keyIn key)
-        → let bytes = keyBytes rules (keysIn (now (lives .entry)) (now (pendings .entry)) count) (keyIn key) in
-        Room (now (buf .entry)) at bytes → Wrote (now (buf .entry)) at bytes r (now (buf .exit))) ⌝ }
+    requires { ⌜ Chained (now keys) × Parted (rulesIn (now s)) (placeTestsIn (now s)) (now c) × (length (now runs) ≡ 384) ⌝ }
+    requires { ⌜ Room (now buf) at (keyBytes (now s) (now c) (keysIn (now keys)) (keyIn key)) ⌝ }
+    ensures { λ r. ⌜ Wrote (now (buf .entry)) at
+        (keyBytes (now (s .entry)) (now (c .entry)) (keysIn (now (keys .entry))) (keyIn key)) r (now (buf .exit)) ⌝ }
+    ensures { λ _. ⌜ length (now (runs .exit)) ≡ 384 ⌝ }
 {
-    let kind = kind_of(key);
+    let kind = kind_of(s, key);
     match kind {
         Kind::End(leaf) => put_node(buf, at, NodeRecord::End(leaf)),
-        Kind::Ask(t) => put_asked(
-            buf,
-            at,
-            key,
-            t,
-            rows,
-            low,
-            high,
-            place,
-            pairs,
-            places,
-            lives,
-            pendings,
-            hints,
-            count,
-        ),
+        Kind::Ask(t) => {
+            let asked = ask(s, key, t);
+            if tables::place_tests(s) <= t {
+                return put_pair(buf, at, s, asked, keys);
+            }
+            put_switch(buf, at, s, c, asked, runs, keys)
+        }
     }
 }

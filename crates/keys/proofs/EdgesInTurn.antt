@@ -1,95 +1,169 @@
 -- The keys behind a node's edges in turn: a switch's are those behind its cases, then neither, then unknown.
-use Prim.Native.Nat.{ℕ, _+_, _≤_, _<_}
+use Prim.Native.Nat.{ℕ, suc, _+_, _-_, _/_, _%_, _≤_, _<_}
 use mathlib.Core.Path.{_≡_, refl, sym, ap, subst, _∙_}
-use mathlib.Core.List.{List, [], _∷_, _++_, map}
+use mathlib.Core.List.{List, [], _∷_, map}
 use native.Mathlib.Omega.{arith}
-use Rattle.terms.specs.Pattern.{Patterns}
-use Rattle.sheet_tests.specs.SheetTests.{Test, place, pair}
-use Rattle.decision.specs.Rules.{testAt}
-use Rattle.decision.specs.Key.{Key, Vertex}
-use Rattle.decision.specs.Cases.{Case, casesOf}
-use Rattle.decision.specs.Node.{CaseEdge, edges}
-use Rattle.decision.specs.Edges.{liveWants, byCase, byNone, byUnknown, byOther, askNode}
-use Rattle.edges.specs.declared.Key as code
-use Rattle.edges.specs.views.VertexKey.{vertexKey, keyIn}
-use Rattle.keys.specs.views.KeysMet.{keysIn, meetAll, Met}
-use Rattle.keys.specs.views.KeyGraph.{nameOf}
-use Rattle.keys.specs.views.Switching.{switchCases, caseKeys, casesLength}
-use Rattle.keys.specs.views.Expanding.{recordLength, EdgesMet}
-use Rattle.keys.proofs.Meeting.{met-more, met-enough}
-use Rattle.keys.proofs.CasesInTurn.{from-zero}
-use Rattle.keys.proofs.Measures.{cases-measured}
+use lib.ListN.{length, length-append}
+use borrow.Author.Tests.{le-ltb}
+use Rattle.basics.specs.Lists.{countFrom}
+use Rattle.decision.specs.Key.{Key}
+use Rattle.decision.specs.Node.{Node, CaseEdge, switch, pairNode, mapCase}
+use Rattle.decision.specs.Graph.{mostNodes}
+use Rattle.decision.specs.GraphBytes.{caseBytes, casesBytes}
+use Rattle.cuts.specs.views.Runs.{runAt, runsIn}
+use Rattle.edges.specs.declared.Asked.{Asked}
+use Rattle.tables.specs.views.Planes.{placeTestsIn, testIn}
+use Rattle.edges.specs.views.KeysBehind.{noneBehind, otherBehind}
+use Rattle.edges.specs.views.NodeIn.{runEdge, askIn}
+use Rattle.met.specs.views.KeysMet.{meet, meetAll, keysIn}
+use Rattle.met.proofs.Meeting.{meet-longer, meet-join}
+use Rattle.keys.specs.declared.Measured.{Measured}
+use Rattle.keys.specs.declared.Measured.the-variants.{Bytes, TooMany}
+use Rattle.keys.specs.views.Expanded.{casesLength, AtMost, Met, CasesMet, EdgesMet}
 
-module _ (rules : List Patterns) (key : Key) (t : ℕ) where
-  -- The edges of the node that asks a test are those of the node that asks what the test is.
-  pub asked-met
-      : {test : Test} {keys : List Key} {count bytes : ℕ} {lives pendings : List ℕ} → testAt rules t ≡ test
-      → EdgesMet (askNode rules key t test) keys count bytes lives pendings
-      → EdgesMet (askNode rules key t (testAt rules t)) keys count bytes lives pendings
-  asked-met {keys = keys} {count = count} {bytes = bytes} {lives = lives} {pendings = pendings} e met =
-      subst (λ (u : Test). EdgesMet (askNode rules key t u) keys count bytes lives pendings) (sym e) met
+-- The bytes measured are at most what they may be.
+pub bytes-most : {most n : ℕ} {r : Measured} → r ≡ Bytes n → AtMost most r → n ≤ most
+bytes-most {most} e a = subst (AtMost most) e a
 
-  module _ (n : ℕ) where
-    abbrev cases : List Case
-    cases = casesOf (liveWants rules (key .live) n)
+pub many-most : (most : ℕ) {r : Measured} → r ≡ TooMany → AtMost most r
+many-most most e = subst (AtMost most) (sym e) tt
 
-    abbrev two : List Key
-    two = nameOf (byNone rules key t) ∷ nameOf (byUnknown rules key n) ∷ []
+pub most-more : {most more : ℕ} (r : Measured) → most ≤ more → AtMost most r → AtMost more r
+most-more (Bytes n) h a = omega arith
+most-more TooMany h a = tt
 
-    -- A switch's edges are taken as cases, neither, unknown.
-    switch-keys : map nameOf (edges (askNode rules key t (place n))) ≡ caseKeys rules key t n 0 ++ two
-    switch-keys =
-        go cases
-        ∙ ap (λ (l : List Case). map (λ (c : Case). nameOf (byCase rules key t n c)) l ++ two) (sym (from-zero cases))
-      where
-        edgesTo : List Case → List (CaseEdge Vertex)
-        edgesTo cs = map (λ (c : Case). record { case = c; target = byCase rules key t n c }) cs
+-- Where one key is too many, those after it change nothing,
+pub one-many : (keys : List Key) (key : Key) (more : List Key) → mostNodes < length (meet keys key)
+    → mostNodes < length (meetAll keys (key ∷ more))
+one-many keys key more h = omega (arith, meet-longer (meet keys key) more)
 
-        go
-            : (cs : List Case)
-            → map nameOf
-            (map (λ (c : CaseEdge Vertex). c .target) (edgesTo cs) ++ byNone rules key t ∷ byUnknown rules key n ∷ [])
-            ≡ map (λ (c : Case). nameOf (byCase rules key t n c)) cs ++ two
-        go [] = refl
-        go (c ∷ cs) = ap (λ (l : List Key). nameOf (byCase rules key t n c) ∷ l) (go cs)
+-- and where it is not, they are met after it.
+pub second-many : (keys : List Key) (t : List ℕ) (first second : Key) → keysIn t ≡ meet keys first
+    → mostNodes < length (meet (keysIn t) second) → mostNodes < length (meetAll keys (first ∷ second ∷ []))
+second-many keys t first second e h = subst (λ (l : List Key). mostNodes < length (meet l second)) e h
 
-    -- Its record is 8 bytes and its cases.
-    switch-length : recordLength (askNode rules key t (place n)) ≡ casesLength (switchCases rules key t n 0) + 8
-    switch-length = omega (arith, cases-measured (byCase rules key t n) cases, ap casesLength (from-zero cases))
+pub second-met : (keys : List Key) (t u : List ℕ) (first second : Key) → keysIn t ≡ meet keys first
+    → keysIn u ≡ meet (keysIn t) second → keysIn u ≡ meetAll keys (first ∷ second ∷ [])
+second-met keys t u first second e d = d ∙ ap (λ (l : List Key). meet l second) e
 
-    module _ {keys : List Key} {count bytes : ℕ} {lives pendings : List ℕ}
-        (met : Met count lives pendings (meetAll keys (caseKeys rules key t n 0))) where
-      -- Where too many keys are behind its cases, that is so,
-      pub switch-many : 1024 < count → EdgesMet (askNode rules key t (place n)) keys count bytes lives pendings
-      switch-many h = record {
-        met = subst (λ (l : List Key). Met count lives pendings (meetAll keys l)) (sym switch-keys)
-            (met-enough keys (caseKeys rules key t n 0) two met h);
-        measured = λ f. absurd (let z : ⊥ = omega arith in z);
-      }
+abbrev targets : List (CaseEdge Key) → List Key
+targets cs = map (λ (c : CaseEdge Key). c .target) cs
 
-      -- and else the keys behind neither and unknown are met after them.
-      pub switch-met
-          : {neither unknown : code.Key} {more : ℕ} {lives′ pendings′ : List ℕ} → count ≤ 1024
-          → bytes ≡ casesLength (switchCases rules key t n 0) → neither ≡ vertexKey (byNone rules key t)
-          → unknown ≡ vertexKey (byUnknown rules key n)
-          → Met more lives′ pendings′ (meetAll (keysIn lives pendings count) (keyIn neither ∷ keyIn unknown ∷ []))
-          → EdgesMet (askNode rules key t (place n)) keys more (bytes + 8) lives′ pendings′
-      switch-met {more = more} {lives′ = lives′} {pendings′ = pendings′} h size e d last =
-          let same : keyIn _ ∷ keyIn _ ∷ [] ≡ two = λ i. keyIn (e i) ∷ keyIn (d i) ∷ [] in
-          record {
-            met = subst (λ (l : List Key). Met more lives′ pendings′ (meetAll keys l)) (sym switch-keys)
-                (met-more keys (caseKeys rules key t n 0) two met h
-                (subst (λ (l : List Key). Met more lives′ pendings′ (meetAll (keysIn lives pendings count) l)) same last));
-            measured = λ f. omega (arith, size, switch-length);
-          }
+-- These cases are still to come, where the keys met at the start are given.
+pub record CasesLeft (all rest : List (CaseEdge Key)) (keys : List Key) (t : List ℕ) (bytes : ℕ) : Type 0 where
+  pub left : meetAll (keysIn t) (targets rest) ≡ meetAll keys (targets all)
+  pub lengths : bytes + casesLength rest ≡ casesLength all
 
-  -- A pair's edges are taken as no, other, and its record is 9 bytes.
-  pub pair-met
-      : {p q : ℕ} {keys : List Key} {differ other : code.Key} {count : ℕ} {lives pendings : List ℕ}
-      → differ ≡ vertexKey (byNone rules key t) → other ≡ vertexKey (byOther rules key t)
-      → Met count lives pendings (meetAll keys (keyIn differ ∷ keyIn other ∷ []))
-      → EdgesMet (askNode rules key t (pair p q)) keys count 9 lives pendings
-  pair-met {keys = keys} {count = count} {lives = lives} {pendings = pendings} e d met = record {
-    met = subst (λ (l : List Key). Met count lives pendings (meetAll keys l)) (λ i. keyIn (e i) ∷ keyIn (d i) ∷ []) met;
-    measured = λ f. refl;
-  }
+module _ {all : List (CaseEdge Key)} {keys : List Key} {t : List ℕ} {bytes : ℕ} where
+  -- Where none is left, all keys are met.
+  pub cases-end : {rest : List (CaseEdge Key)} → rest ≡ [] → CasesLeft all rest keys t bytes → CasesMet all keys (Bytes bytes) t
+  cases-end e state =
+      let done : CasesLeft all [] keys t bytes = subst (λ (l : List (CaseEdge Key)). CasesLeft all l keys t bytes) e state in
+      (done .left, omega (arith, done .lengths))
+
+  module _ {before rest : List (CaseEdge Key)} (edge : CaseEdge Key) (is : before ≡ edge ∷ rest)
+      (state : CasesLeft all before keys t bytes) where
+    now-left : CasesLeft all (edge ∷ rest) keys t bytes
+    now-left = subst (λ (l : List (CaseEdge Key)). CasesLeft all l keys t bytes) is state
+
+    -- The key behind the next is met,
+    pub cases-next
+        : {u : List ℕ} {size : ℕ} → keysIn u ≡ meet (keysIn t) (edge .target) → size ≡ length (caseBytes (edge .case) 0)
+        → CasesLeft all rest keys u (bytes + size)
+    cases-next met size = record {
+      left = ap (λ (l : List Key). meetAll l (targets rest)) met ∙ now-left .left;
+      lengths = omega (
+        arith,
+        now-left .lengths,
+        size,
+        length-append (caseBytes (edge .case) 0) (casesBytes (map (mapCase (λ (k : Key). 0)) rest)),
+      );
+    }
+
+    -- or is one too many.
+    pub cases-many : mostNodes < length (meet (keysIn t) (edge .target)) → mostNodes < length (meetAll keys (targets all))
+    cases-many h = omega (arith, one-many (keysIn t) (edge .target) (targets rest) h, ap length (now-left .left))
+
+-- The cases from case k on of those in an array.
+module _ (s c : List ℕ) (asked : Asked) (runs : List ℕ) (count : ℕ) where
+  abbrev pub casesFrom : ℕ → List (CaseEdge Key)
+  casesFrom k = map (runEdge s c asked) (map (runAt runs) (countFrom k (count - k)))
+
+  pub cases-start : (t : List ℕ) → CasesLeft (map (runEdge s c asked) (runsIn runs count)) (casesFrom 0) (keysIn t) t 0
+  cases-start t =
+      let e : count - 0 ≡ count = omega arith in
+      subst
+      (λ (n : ℕ).
+      CasesLeft (map (runEdge s c asked) (runsIn runs count)) (map (runEdge s c asked) (map (runAt runs) (countFrom 0 n)))
+      (keysIn t) t 0)
+      (sym e)
+      (record { left = refl; lengths = omega arith })
+
+  pub cases-some : (k : ℕ) → k < count → casesFrom k ≡ runEdge s c asked (runAt runs k) ∷ casesFrom (k + 1)
+  cases-some k h =
+      let e : count - k ≡ suc (count - (k + 1)) = omega arith in
+      let d : suc k ≡ k + 1 = omega arith in
+      ap (λ (n : ℕ). map (runEdge s c asked) (map (runAt runs) (countFrom k n))) e
+      ∙ ap
+      (λ (i : ℕ).
+      runEdge s c asked (runAt runs k) ∷ map (runEdge s c asked) (map (runAt runs) (countFrom i (count - (k + 1)))))
+      d
+
+  pub cases-none : (k : ℕ) → count ≤ k → casesFrom k ≡ []
+  cases-none k h =
+      let e : count - k ≡ 0 = omega arith in
+      ap (λ (n : ℕ). map (runEdge s c asked) (map (runAt runs) (countFrom k n))) e
+
+-- A pair's edges are taken as no, other, and its record is 9 bytes.
+pub pair-met
+    : (s c : List ℕ) (asked : Asked) → placeTestsIn s ≤ asked .test → {differ other : Key} → differ ≡ noneBehind s asked
+    → other ≡ otherBehind s asked → (keys : List Key) (r : Measured) (t : List ℕ)
+    → Met keys (differ ∷ other ∷ []) 9 r t → EdgesMet (askIn s c asked) keys r t
+pair-met s c asked h e d keys r t met =
+    let pair : Node Key = pairNode (testIn s (asked .test) / 0x1_0000 % 0x1_0000) (testIn s (asked .test) % 0x1_0000)
+    (noneBehind s asked) (otherBehind s asked) in
+    let is : askIn s c asked ≡ pair = simp (le-ltb (asked .test) (placeTestsIn s) h) in
+    subst (λ (node : Node Key). EdgesMet node keys r t) (sym is)
+    (subst (λ (l : List Key). Met keys l 9 r t) (λ i. e i ∷ d i ∷ []) met)
+
+module _ (place : ℕ) (cs : List (CaseEdge Key)) (keys : List Key) (neither unknown : Key) where
+  abbrev node : Node Key
+  node = switch place cs neither unknown
+
+  -- Where too many keys are behind a switch's cases, they are too many,
+  pub switch-many : (r : Measured) (t : List ℕ) → r ≡ TooMany → CasesMet cs keys r t → EdgesMet node keys r t
+  switch-many r t e met =
+      let many : CasesMet cs keys TooMany t = subst (λ (x : Measured). CasesMet cs keys x t) e met in
+      let all : EdgesMet node keys TooMany t =
+      omega (
+        arith,
+        many,
+        meet-longer (meetAll keys (targets cs)) (neither ∷ unknown ∷ []),
+        ap length (meet-join keys (targets cs) (neither ∷ unknown ∷ [])),
+      ) in
+      subst (λ (x : Measured). EdgesMet node keys x t) (sym e) all
+
+  -- and else the keys behind neither and unknown are met after them, and the record is 8 bytes and the cases.
+  pub switch-met
+      : (r : Measured) {bytes : ℕ} (t : List ℕ) → r ≡ Bytes bytes → CasesMet cs keys r t → (q : Measured) (u : List ℕ)
+      → {x y : Key} → x ≡ neither → y ≡ unknown → Met (keysIn t) (x ∷ y ∷ []) (bytes + 8) q u → EdgesMet node keys q u
+  switch-met r {bytes} t e met q u d f last =
+      let first : CasesMet cs keys (Bytes bytes) t = subst (λ (x : Measured). CasesMet cs keys x t) e met in
+      go q (subst (λ (l : List Key). Met (keysIn t) l (bytes + 8) q u) (λ i. d i ∷ f i ∷ []) last) first
+    where
+      go
+          : (q : Measured) → Met (keysIn t) (neither ∷ unknown ∷ []) (bytes + 8) q u → CasesMet cs keys (Bytes bytes) t
+          → EdgesMet node keys q u
+      go (Bytes n) l f = (
+        l .0
+            ∙ ap (λ (k : List Key). meetAll k (neither ∷ unknown ∷ [])) (f .0)
+            ∙ sym (meet-join keys (targets cs) (neither ∷ unknown ∷ [])),
+        omega (arith, l .1, f .1),
+      )
+      go TooMany l f =
+          omega (
+            arith,
+            l,
+            ap (λ (k : List Key). length (meetAll k (neither ∷ unknown ∷ []))) (f .0),
+            ap length (meet-join keys (targets cs) (neither ∷ unknown ∷ [])),
+          )

@@ -5,154 +5,119 @@ use mathlib.Core.List.{List, [], _∷_, _++_, map}
 use native.Mathlib.Numerals.{add-one}
 use native.Mathlib.Omega.{arith}
 use lib.Dec.{T}
-use lib.ListN.{length, getD, set, take, length-append}
+use lib.ListN.{length, getD, take, length-append}
 use lib.Seq.{take-all, take-suc, take-append-le}
-use Rattle.basics.specs.Lists.{All}
-use Rattle.terms.specs.Pattern.{Patterns}
-use Rattle.basics.proofs.ListLaws.{all-at}
-use Rattle.decision.specs.Key.{Key, Vertex, asking, sameKey}
+use Rattle.basics.specs.Lists.{countFrom}
+use Rattle.decision.specs.Key.{Key, asking, sameKey}
+use Rattle.decision.specs.Node.{edges, mapNode}
 use Rattle.decision.specs.Graph.{newOnes, mostNodes}
 use Rattle.decision.specs.GraphBytes.{nodeBytes, nodesBytes}
 use Rattle.decision.proofs.keys.SameVertex.{vertex-same, same-key}
-use Rattle.edges.specs.views.Compiled.{RowTable}
-use Rattle.keys.specs.views.KeysMet.{keyWith, keyAt, keysIn, keyNumber, meetAll, Sized}
-use Rattle.keys.specs.views.KeyGraph.{nameOf, nodeBy, nextKeys, keyedNode}
-use Rattle.keys.specs.views.NodeKind.{Fits}
-use Rattle.keys.specs.views.Expanding.{recordLength, EdgesMet}
-use Rattle.keys.specs.views.Grown.{rootName, graphKeys, Grown}
-use Rattle.keys.proofs.Searching.{keys-length, key-at, key-among, keys-added}
-use Rattle.keys.proofs.Meeting.{meet-all, meet-longer}
+use Rattle.edges.specs.views.KeysBehind.{rootIn}
+use Rattle.edges.specs.views.NodeIn.{nodeIn}
+use Rattle.met.specs.views.KeysMet.{keyNumber, meetAll, keyAt, countIn, keysIn}
+use Rattle.met.proofs.Meeting.{keys-length, key-at, meet-all, meet-longer}
+use Rattle.keys.specs.declared.Measured.{Measured}
+use Rattle.keys.specs.declared.Measured.the-variants.{Bytes, TooMany}
+use Rattle.keys.specs.views.Expanded.{recordLength, EdgesMet}
+use Rattle.keys.specs.views.Grown.{keysFrom, Grown}
+use Rattle.keys.proofs.Targets.{length-anywhere}
 use Rattle.keys.proofs.Growing.{leftFrom, left-turn, left-done, left-many}
-use Rattle.keys.proofs.Measures.{length-anywhere}
-use Rattle.keys.proofs.NamedKeys.{Named, named-fits, next-named, root-named, meets-all}
-use Rattle.basics.proofs.Positions.{mem-at}
 
-pub key-same : (x : Key) → T (sameKey x x)
+key-same : (x : Key) → T (sameKey x x)
 key-same x = vertex-same (asking x)
 
-module _ (rules : List Patterns) where
-  -- The rules are at most 64.
-  pub few-rules : {rows : List ℕ} → RowTable rules rows → length rules ≤ 64
-  few-rules table = omega (arith, table .fewRules)
+module _ (s c : List ℕ) where
+  abbrev nextIn : Key → List Key
+  nextIn key = edges (nodeIn s c key)
 
   -- How long the records of the nodes of keys are.
   abbrev recordsLength : List Key → ℕ
   recordsLength [] = 0
-  recordsLength (k ∷ ks) = recordLength (nodeBy rules k) + recordsLength ks
+  recordsLength (k ∷ ks) = recordLength (nodeIn s c k) + recordsLength ks
 
   records-join : (ks ls : List Key) → recordsLength (ks ++ ls) ≡ recordsLength ks + recordsLength ls
   records-join [] ls = omega arith
   records-join (k ∷ ks) ls = omega (arith, records-join ks ls)
 
   -- They are the nodes' bytes, wherever the edges lead.
-  records-bytes : (all ks : List Key) → recordsLength ks ≡ length (nodesBytes (map (keyedNode rules all) ks))
-  records-bytes all [] = refl
-  records-bytes all (k ∷ ks) =
+  records-bytes
+      : (number : Key → ℕ) (ks : List Key)
+      → recordsLength ks ≡ length (nodesBytes (map (λ (key : Key). mapNode number (nodeIn s c key)) ks))
+  records-bytes number [] = refl
+  records-bytes number (k ∷ ks) =
       omega (
         arith,
-        length-anywhere (λ (v : Vertex). keyNumber all (nameOf v)) (nodeBy rules k),
-        length-append (nodeBytes (keyedNode rules all k)) (nodesBytes (map (keyedNode rules all) ks)),
-        records-bytes all ks,
+        length-anywhere number (nodeIn s c k),
+        length-append (nodeBytes (mapNode number (nodeIn s c k)))
+            (nodesBytes (map (λ (key : Key). mapNode number (nodeIn s c key)) ks)),
+        records-bytes number ks,
       )
 
   -- Keys are met, the first k of them have their edges met, and so many bytes are their records.
   pub record Growing (keys : List Key) (k bytes : ℕ) : Type 0 where
-    pub left : leftFrom sameKey (nextKeys rules) mostNodes k keys ≡ graphKeys rules
-    pub names : All (Named rules) keys
+    pub left : leftFrom sameKey nextIn mostNodes k keys ≡ keysFrom s c
     pub size : bytes ≡ recordsLength (take k keys)
 
-  -- At first the root's key is stored.
-  pub root-stored
-      : (lives pendings : List ℕ) (live pending : ℕ) → Sized lives pendings → keyWith live pending ≡ rootName rules
-      → keysIn (set lives 0 live) (set pendings 0 pending) 1 ≡ rootName rules ∷ []
-  root-stored lives pendings live pending sized e =
-      keys-added lives pendings live pending 0 (omega (arith, sized .0)) (omega (arith, sized .1))
-      ∙ ap (λ (k : Key). k ∷ []) e
+  -- At first the root's key is met.
+  pub root-added
+      : (t u : List ℕ) {key : Key} → countIn t ≡ 0 → key ≡ rootIn s → keysIn u ≡ keysIn t ++ key ∷ []
+      → keysIn u ≡ rootIn s ∷ []
+  root-added t u none e added = added ∙ (λ i. map (keyAt t) (countFrom 0 (none i)) ++ e i ∷ [])
 
-  pub growing-start : {keys : List Key} → keys ≡ rootName rules ∷ [] → Growing keys 0 0
-  growing-start {keys} e =
-      subst (λ (l : List Key). Growing l 0 0) (sym e)
-      (record { left = refl; names = (root-named rules, tt); size = refl })
+  pub growing-start : {keys : List Key} → keys ≡ rootIn s ∷ [] → Growing keys 0 0
+  growing-start {keys} e = subst (λ (l : List Key). Growing l 0 0) (sym e) (record { left = refl; size = refl })
 
   -- Then the edges of the next key are met.
   growing-turn
-      : length rules ≤ 64 → (d : Key) (keys : List Key) (k bytes : ℕ) → Growing keys k bytes → k < length keys → k < mostNodes
-      → Growing (meetAll keys (nextKeys rules (getD keys k d))) (k + 1) (bytes + recordLength (nodeBy rules (getD keys k d)))
-  growing-turn few d keys k bytes state h room =
+      : (d : Key) (keys : List Key) (k bytes : ℕ) → Growing keys k bytes → k < length keys → k < mostNodes
+      → Growing (meetAll keys (nextIn (getD keys k d))) (k + 1) (bytes + recordLength (nodeIn s c (getD keys k d)))
+  growing-turn d keys k bytes state h room =
       let key : Key = getD keys k d in
-      let new : List Key = newOnes sameKey keys (nextKeys rules key) in
-      let met : meetAll keys (nextKeys rules key) ≡ keys ++ new = meet-all (nextKeys rules) keys (nextKeys rules key) in
-      let first : take (k + 1) (meetAll keys (nextKeys rules key)) ≡ take k keys ++ key ∷ [] =
+      let new : List Key = newOnes sameKey keys (nextIn key) in
+      let met : meetAll keys (nextIn key) ≡ keys ++ new = meet-all nextIn keys (nextIn key) in
+      let first : take (k + 1) (meetAll keys (nextIn key)) ≡ take k keys ++ key ∷ [] =
       ap (take (k + 1)) met ∙ take-append-le (k + 1) keys new (omega arith) ∙ ap (λ (n : ℕ). take n keys) (add-one k)
       ∙ take-suc keys k d h in
       record {
-        left = ap (leftFrom sameKey (nextKeys rules) mostNodes (k + 1)) met
-            ∙ sym (left-turn sameKey (nextKeys rules) mostNodes d k keys h room) ∙ state .left;
-        names = meets-all (Named rules) keys (nextKeys rules key) (state .names)
-            (next-named rules few key (all-at (Named rules) (mem-at d keys k h) (state .names)));
+        left = ap (leftFrom sameKey nextIn mostNodes (k + 1)) met
+            ∙ sym (left-turn sameKey nextIn mostNodes d k keys h room) ∙ state .left;
         size = omega (arith, state .size, ap recordsLength first, records-join (take k keys) (key ∷ []));
       }
 
-  module _ (few : length rules ≤ 64) (lives pendings : List ℕ) (count : ℕ) {k bytes : ℕ}
-      (state : Growing (keysIn lives pendings count) k bytes) where
-    abbrev keys : List Key
-    keys = keysIn lives pendings count
-
-    -- The next key is one of the sheet's.
-    pub next-fits : k < count → Fits rules (keyAt lives pendings k)
-    next-fits h =
-        named-fits rules (keyAt lives pendings k)
-        (all-at (Named rules) (key-among lives pendings count k h) (state .names))
-
+  module _ (t : List ℕ) {k bytes : ℕ} (state : Growing (keysIn t) k bytes) where
     -- Where all keys have their edges met, those are all,
-    pub grown-all : count ≤ k → count ≤ 1024 → Grown rules count bytes lives pendings
-    grown-all h small =
-        let end : length keys ≤ k = omega (arith, keys-length lives pendings count) in
-        record {
-          within = λ f. sym (state .left) ∙ left-done sameKey (nextKeys rules) mostNodes k keys end;
-          size = λ f. state .size ∙ ap recordsLength (take-all k keys end) ∙ records-bytes keys keys;
-          beyond = λ b. absurd (let z : ⊥ = omega arith in z);
-        }
+    pub grown-all : countIn t ≤ k → Grown s c (Bytes bytes) t
+    grown-all h =
+        let end : length (keysIn t) ≤ k = omega (arith, keys-length t) in (
+          sym (state .left) ∙ left-done sameKey nextIn mostNodes k (keysIn t) end,
+          state .size ∙ ap recordsLength (take-all k (keysIn t) end) ∙ records-bytes (keyNumber (keysIn t)) (keysIn t),
+        )
 
-    module _ (h : k < count) (small : count ≤ 1024) {more size : ℕ} {lives′ pendings′ : List ℕ}
-        (met : EdgesMet (nodeBy rules (keyAt lives pendings k)) keys more size lives′ pendings′) where
-      turned
-          : Growing (meetAll keys (nextKeys rules (keyAt lives pendings k))) (k + 1)
-          (bytes + recordLength (nodeBy rules (keyAt lives pendings k)))
+    module _ (h : k < countIn t) (small : countIn t ≤ 1024) (r : Measured) (u : List ℕ)
+        (met : EdgesMet (nodeIn s c (keyAt t k)) (keysIn t) r u) where
+      turned : Growing (meetAll (keysIn t) (nextIn (keyAt t k))) (k + 1) (bytes + recordLength (nodeIn s c (keyAt t k)))
       turned =
-          subst (λ (key : Key). Growing (meetAll keys (nextKeys rules key)) (k + 1) (bytes + recordLength (nodeBy rules key)))
-          (key-at lives pendings count k h)
-          (growing-turn few (keyAt lives pendings 0) keys k bytes state (omega (arith, keys-length lives pendings count))
-          (omega arith))
+          subst (λ (key : Key). Growing (meetAll (keysIn t) (nextIn key)) (k + 1) (bytes + recordLength (nodeIn s c key)))
+          (key-at t k h)
+          (growing-turn (keyAt t 0) (keysIn t) k bytes state (omega (arith, keys-length t)) (omega arith))
 
       -- where the edges of one more are met one is left less to look at,
-      pub grown-turn : more ≤ 1024 → Growing (keysIn lives′ pendings′ more) (k + 1) (bytes + size)
-      grown-turn f =
-          let same : bytes + recordLength (nodeBy rules (keyAt lives pendings k)) ≡ bytes + size =
-          ap (λ (n : ℕ). bytes + n) (sym (met .measured f)) in
-          subst (λ (n : ℕ). Growing (keysIn lives′ pendings′ more) (k + 1) n) same
-          (subst (λ (l : List Key). Growing l (k + 1) (bytes + recordLength (nodeBy rules (keyAt lives pendings k))))
-          (sym (met .met .within f)) turned)
-
-      -- and no fewer are met,
-      pub grown-longer : more ≤ 1024 → count ≤ more
-      grown-longer f =
-          omega (
-            arith,
-            meet-longer keys (nextKeys rules (keyAt lives pendings k)),
-            ap length (met .met .within f),
-            keys-length lives pendings count,
-            keys-length lives′ pendings′ more,
+      pub grown-turn : {more : ℕ} → r ≡ Bytes more → Growing (keysIn u) (k + 1) (bytes + more) × (countIn t ≤ countIn u)
+      grown-turn {more} e =
+          let m : EdgesMet (nodeIn s c (keyAt t k)) (keysIn t) (Bytes more) u =
+          subst (λ (x : Measured). EdgesMet (nodeIn s c (keyAt t k)) (keysIn t) x u) e met in
+          let size : bytes + recordLength (nodeIn s c (keyAt t k)) ≡ bytes + more = omega (arith, m .1) in (
+            subst (λ (n : ℕ). Growing (keysIn u) (k + 1) n) size
+                (subst (λ (l : List Key). Growing l (k + 1) (bytes + recordLength (nodeIn s c (keyAt t k)))) (sym (m .0)) turned),
+            omega (arith, meet-longer (keysIn t) (nextIn (keyAt t k)), ap length (m .0), keys-length t, keys-length u),
           )
 
       -- and where too many are, there is no graph.
-      pub grown-many : {lives″ pendings″ : List ℕ} → 1024 < more → Grown rules 1025 0 lives″ pendings″
-      grown-many b =
+      pub grown-many : r ≡ TooMany → Grown s c r u
+      grown-many e =
+          let m : EdgesMet (nodeIn s c (keyAt t k)) (keysIn t) TooMany u =
+          subst (λ (x : Measured). EdgesMet (nodeIn s c (keyAt t k)) (keysIn t) x u) e met in
           let none-left =
-          left-many sameKey (nextKeys rules) mostNodes same-key key-same (k + 1)
-          (meetAll keys (nextKeys rules (keyAt lives pendings k))) (omega arith) (met .met .beyond b) in
-          record {
-            within = λ f. absurd (let z : ⊥ = omega arith in z);
-            size = λ f. absurd (let z : ⊥ = omega arith in z);
-            beyond = λ c. (sym (turned .left) ∙ none-left, refl);
-          }
+          left-many sameKey nextIn mostNodes same-key key-same (k + 1) (meetAll (keysIn t) (nextIn (keyAt t k))) (omega arith) m in
+          subst (λ (x : Measured). Grown s c x u) (sym e) (sym (turned .left) ∙ none-left)

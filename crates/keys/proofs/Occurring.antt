@@ -1,27 +1,26 @@
--- The vertices of a sheet's graph: each is that of a key whose live rules are rules of the sheet.
-use Prim.Native.Nat.{ℕ, _^_, _≤_, _<_}
-use mathlib.Core.Path.{_≡_, refl, ap}
+-- The vertices of a sheet's graph: each is that of a key whose live rules are rules of the sheet, so its key fits the sheet.
+use Prim.Native.Nat.{ℕ, zero, suc, _^_, _<_}
+use mathlib.Core.Path.{refl, sym, ap, subst}
 use mathlib.Core.Bool.{true, _&&_, not}
 use mathlib.Core.List.{List, [], _∷_, map}
 use mathlib.Core.Option.{Option, some, none}
 use lib.ListN.{length}
+use lib.Pow.{pow-lt, pow-pos}
+use Rattle.basics.specs.Lists.{All}
+use Rattle.basics.proofs.ListLaws.{all-join}
 use Rattle.masks.specs.Mask.{has}
 use Rattle.masks.proofs.Extensionality.{maskOf-lt}
-use Rattle.basics.specs.Lists.{All}
 use Rattle.terms.specs.Pattern.{Patterns}
-use Rattle.basics.proofs.ListLaws.{all-join}
-use Rattle.sheet_tests.specs.SheetTests.{Test, place, pair}
+use Rattle.sheet_tests.specs.SheetTests.{Test, place, pair, sheetTests}
 use Rattle.decision.specs.Rules.{testAt, hasTest, wantAt, rulesWhere}
-use Rattle.decision.specs.Key.{Key, Vertex, leaf, asking, rootKey, vertexOf, sameKey, sameVertex}
+use Rattle.decision.specs.Key.{Key, Vertex, leaf, asking, failNode, suspendNode, executeNode, isHeld, rootKey, vertexOf}
 use Rattle.decision.specs.Cases.{Case, casesOf}
 use Rattle.decision.specs.Node.{CaseEdge, edges}
 use Rattle.decision.specs.Edges.{firstIn, settledByUnknown, caseKeeps, liveWants, butTest}
 use Rattle.decision.specs.Edges.{byCase, byNone, byUnknown, byOther, askNode, askFirst}
-use Rattle.decision.specs.Graph.{nextVertices, lowestFirst, explore, vertices, mostNodes}
+use Rattle.decision.specs.Graph.{nextVertices}
 use Rattle.decision.proofs.keys.EdgeKeys.{LedTo, led-means}
-use Rattle.decision.proofs.exploring.ExploreMap.{named, explore-named}
-use Rattle.keys.specs.views.KeyGraph.{nameOf, nextKeys}
-use Rattle.keys.proofs.Names.{named-vertex, told-apart}
+use Rattle.edges.specs.views.VertexKey.{vertexKey, Fits}
 
 module _ (rules : List Patterns) where
   -- An edge leads to the vertex with rules of the sheet live.
@@ -29,23 +28,24 @@ module _ (rules : List Patterns) where
   Occurs v = (led : LedTo rules v) × (led .live < 2 ^ length rules)
 
   -- The live rules of a vertex that asks are rules of the sheet.
-  pub asking-fits : (key : Key) → Occurs (asking key) → key .live < 2 ^ length rules
+  asking-fits : (key : Key) → Occurs (asking key) → key .live < 2 ^ length rules
   asking-fits key o = rw (ap (λ (k : Key). k .live) (led-means rules (o .0) .0)) (o .1)
-
-  abbrev order : List ℕ
-  order = lowestFirst rules
 
   -- So it is by a case,
   case-occurs : (key : Key) (t n : ℕ) (c : Case) → Occurs (byCase rules key t n c)
   case-occurs key t n c =
-      let live : ℕ = rulesWhere rules (λ i. has (key .live) i && caseKeeps c (wantAt rules i n)) in
-      (record { live = live; isLeft = butTest key t; is = refl }, maskOf-lt (length rules) (λ i. has (key .live) i && caseKeeps c (wantAt rules i n)))
+      let live : ℕ = rulesWhere rules (λ i. has (key .live) i && caseKeeps c (wantAt rules i n)) in (
+        record { live = live; isLeft = butTest key t; is = refl },
+        maskOf-lt (length rules) (λ i. has (key .live) i && caseKeeps c (wantAt rules i n)),
+      )
 
   -- by neither, or a pair's no,
   none-occurs : (key : Key) (t : ℕ) → Occurs (byNone rules key t)
   none-occurs key t =
-      let live : ℕ = rulesWhere rules (λ i. has (key .live) i && not (hasTest rules i t)) in
-      (record { live = live; isLeft = butTest key t; is = refl }, maskOf-lt (length rules) (λ i. has (key .live) i && not (hasTest rules i t)))
+      let live : ℕ = rulesWhere rules (λ i. has (key .live) i && not (hasTest rules i t)) in (
+        record { live = live; isLeft = butTest key t; is = refl },
+        maskOf-lt (length rules) (λ i. has (key .live) i && not (hasTest rules i t)),
+      )
 
   -- by unknown,
   unknown-occurs : (key : Key) → key .live < 2 ^ length rules → (n : ℕ) → Occurs (byUnknown rules key n)
@@ -81,9 +81,9 @@ module _ (rules : List Patterns) where
   asked-occur key fits t (pair p q) = (none-occurs key t, (other-occurs key fits t, tt))
 
   -- So all edges lead to vertices that occur where they start at one,
-  pub edges-occur : (v : Vertex) → Occurs v → All Occurs (nextVertices rules order v)
-  edges-occur (leaf l) o = tt
-  edges-occur (asking key) o = go (firstIn (key .pending) order)
+  pub edges-occur : (order : List ℕ) (v : Vertex) → Occurs v → All Occurs (nextVertices rules order v)
+  edges-occur order (leaf l) o = tt
+  edges-occur order (asking key) o = go (firstIn (key .pending) order)
     where
       go : (x : Option ℕ) → All Occurs (edges (askFirst rules key x))
       go none = tt
@@ -91,17 +91,23 @@ module _ (rules : List Patterns) where
 
   -- and the root occurs.
   pub root-occurs : Occurs (vertexOf rules (rootKey rules))
-  root-occurs = (record { live = rulesWhere rules (λ i. true); isLeft = λ t. true; is = refl }, maskOf-lt (length rules) (λ i. true))
+  root-occurs = (
+    record { live = rulesWhere rules (λ i. true); isLeft = λ t. true; is = refl },
+    maskOf-lt (length rules) (λ i. true),
+  )
 
-  abbrev root : Vertex
-  root = vertexOf rules (rootKey rules)
-
-  -- Breadth first over keys finds the keys of the vertices.
-  pub keys-explored
-      : length rules ≤ 64
-      → explore sameKey (nextKeys rules) mostNodes (nameOf root ∷ []) (nameOf root ∷ []) ≡ named nameOf (vertices rules order)
-  keys-explored few =
-      explore-named sameVertex (nextVertices rules order) sameKey (nextKeys rules) nameOf Occurs
-      (λ v w p q. told-apart rules few v w (p .0) (q .0))
-      (λ v p. ap (λ (u : Vertex). map nameOf (nextVertices rules order u)) (named-vertex rules few v (p .0)))
-      edges-occur mostNodes (root ∷ []) (root ∷ []) (root-occurs, tt) (root-occurs, tt)
+  -- The live rules and pending tests of a vertex that occurs are the sheet's.
+  pub occurs-fits : (v : Vertex) → Occurs v → Fits rules (vertexKey v)
+  occurs-fits (leaf failNode) o = record { lives = pow-pos (length rules); pends = λ n. absurd (n refl) }
+  occurs-fits (leaf suspendNode) o = record { lives = pow-pos (length rules); pends = λ n. absurd (n refl) }
+  occurs-fits (leaf (executeNode zero)) o = absurd (led-means rules (o .0))
+  occurs-fits (leaf (executeNode (suc i))) o = record {
+    lives = pow-lt (led-means rules (o .0) .0);
+    pends = λ n. pow-pos (length (sheetTests rules));
+  }
+  occurs-fits (asking key) o = record {
+    lives = asking-fits key o;
+    pends = λ n.
+        subst (λ (k : Key). k .pending < 2 ^ length (sheetTests rules)) (sym (led-means rules (o .0) .0))
+        (maskOf-lt (length (sheetTests rules)) (λ t. o .0 .isLeft t && isHeld rules (o .0 .live) t));
+  }

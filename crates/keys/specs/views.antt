@@ -1,7 +1,3 @@
 -- How the code keeps things.
-pub mod KeysMet
-pub mod KeyGraph
-pub mod NodeKind
-pub mod Switching
-pub mod Expanding
+pub mod Expanded
 pub mod Grown

@@ -1,34 +1,37 @@
 // The edges of one node: the keys behind them are met, and the node's record is measured.
-use crate::Expanded;
 use crate::Kind;
-use crate::grow::meet_cases;
-use crate::met::meet_two;
-use crate::met::wide;
+use crate::Measured;
 use crate::node::kind_of;
+use cuts::Runs;
+use cuts::cut_switch;
+use cuts::part;
+use edges::Asked;
 use edges::Key;
+use edges::keys::ask;
 use edges::keys::by_none;
 use edges::keys::by_other;
+use edges::keys::by_run;
 use edges::keys::by_unknown;
 use graph::Leaf;
+use met::Keys;
+use met::key_at;
+use met::meet;
+use tables::Tables;
 ghost use mathlib.Core.Path.{_≡_};
-ghost use mathlib.Core.List.{List};
-ghost use Prim.Native.Nat.{ℕ, _<_, _≤_};
+ghost use mathlib.Core.List.{List, [], _∷_, map};
+ghost use Prim.Native.Nat.{ℕ, _*_, _≤_, _<_};
 ghost use lib.ListN.{length};
-ghost use Rattle.terms.specs.Pattern.{Patterns};
-ghost use Rattle.sheet_tests.specs.SheetTests.{pair};
-ghost use Rattle.decision.specs.Rules.{testAt};
-ghost use Rattle.decision.specs.Edges.{byUnknown, askNode};
-ghost use Rattle.decision.specs.GraphBytes.{leafBytes};
+ghost use Rattle.decision.specs.GraphBytes.{leafBytes, caseBytes};
 ghost use Rattle.graph.specs.views.NodeRecord.{leafOf};
-ghost use Rattle.edges.specs.views.VertexKey.{vertexKey, keyIn};
-ghost use Rattle.edges.specs.views.Compiled.{Asked, Compiled};
-ghost use Rattle.keys.specs.views.KeysMet.{keyAt, keysIn, Sized};
-ghost use Rattle.keys.specs.views.KeyGraph.{nodeBy};
-ghost use Rattle.keys.specs.views.NodeKind.{Fits};
-ghost use Rattle.edges.specs.views.Switches.{Switches};
-ghost use Rattle.keys.specs.views.Expanding.{EdgesMet};
+ghost use Rattle.tables.specs.views.Planes.{rulesIn, placeTestsIn};
+ghost use Rattle.cuts.specs.views.Cuts.{Parted};
+ghost use Rattle.cuts.specs.views.Runs.{caseOf, runsIn};
+ghost use Rattle.edges.specs.views.VertexKey.{keyIn};
+ghost use Rattle.edges.specs.views.NodeIn.{runEdge, askIn, nodeIn};
+ghost use Rattle.met.specs.views.KeysMet.{keyAt, countIn, keysIn, Chained};
+ghost use Rattle.keys.specs.views.Expanded.{AtMost, Met, CasesMet, EdgesMet};
 
-// The length of a leaf's record.
+// The length of a leaf's record. Not one byte for execute, nor two for suspend.
 fn leaf_length(leaf: Leaf) -> usize
     ensures { λ r. ⌜ (r ≡ length (leafBytes (leafOf leaf))) × (r ≤ 2) ⌝ }
 {
@@ -39,122 +42,102 @@ fn leaf_length(leaf: Leaf) -> usize
     }
 }
 
-// A switch that asks test t, with the key behind its unknown. Not neither before a case, nor unknown before neither.
-fn expand_switch(
-    lives: &mut [u64; 1024],
-    pendings: &mut [u64; 1024],
-    hints: &mut [u16; 1024],
-    start: usize,
-    key: Key,
-    t: usize,
-    unknown: Key,
-    rows: &[u64; 64],
-    low: &[u32; 4096],
-    high: &[u32; 4096],
-) -> Expanded
-    requires { ⌜ (start ≤ 1024) × Sized (now lives) (now pendings) × (t < 64) ⌝ }
-    requires { ⌜ ((rules : List Patterns) × ((n : ℕ) × Switches (now rows) (now low) (now high) (key .live) t rules n
-        × (unknown ≡ vertexKey (byUnknown rules (keyIn key) n)))) ⌝ }
-    ensures { λ r. ⌜ ((rules : List Patterns) (n : ℕ)
-        → Switches (now (rows .entry)) (now (low .entry)) (now (high .entry)) (key .live) t rules n
-        → unknown ≡ vertexKey (byUnknown rules (keyIn key) n)
-        → EdgesMet (askNode rules (keyIn key) t (testAt rules t)) (keysIn (now (lives .entry)) (now (pendings .entry)) start)
-        (r .count) (r .bytes) (now (lives .exit)) (now (pendings .exit))) ⌝ }
-    ensures { λ r. ⌜ (r .count ≤ 1025) × (r .bytes ≤ 0x2000_0008) × Sized (now (lives .exit)) (now (pendings .exit)) ⌝ }
+// The length of the record of the case that begins at a code. Not a symbol's for a compound, nor a compound's for numbers.
+fn case_length(code: u64) -> usize
+    ensures { λ r. ⌜ ((high : ℕ) → r ≡ length (caseBytes (caseOf code high) 0)) × (r ≤ 7) ⌝ }
 {
-    let met = meet_cases(lives, pendings, hints, start, key, t, rows, low, high);
-    if 1024 < met.count {
+    if code < 0x200_0000 {
+        return 5;
+    }
+    if code < 0x300_0000 {
+        return 6;
+    }
+    7
+}
+
+// Meets two keys, one after the other, where so many bytes are measured. Not the second first, nor the first alone.
+fn meet_two(keys: &mut Keys, first: Key, second: Key, bytes: usize) -> Measured
+    requires { ⌜ Chained (now keys) ⌝ }
+    ensures { λ r. ⌜ Met (keysIn (now (keys .entry))) (keyIn first ∷ (keyIn second ∷ [])) bytes r (now (keys .exit)) ⌝ }
+    ensures { λ r. ⌜ Chained (now (keys .exit)) × AtMost bytes r ⌝ }
+{
+    if 1024 <= meet(keys, first) {
+        return Measured::TooMany;
+    }
+    if 1024 <= meet(keys, second) {
+        return Measured::TooMany;
+    }
+    Measured::Bytes(bytes)
+}
+
+// Meets the keys behind a switch's cases, in their order, and counts the bytes of their records. Not a case that the runs have not,
+// nor the case that ends first before one that begins first.
+fn meet_runs(keys: &mut Keys, s: &Tables, asked: Asked, runs: &Runs, count: usize) -> Measured
+    requires { ⌜ Chained (now keys) × (count ≤ 128) ⌝ }
+    ensures { λ r. ⌜ ((c : List ℕ) → CasesMet (map (runEdge (now (s .entry)) c asked) (runsIn (now (runs .entry)) count))
+        (keysIn (now (keys .entry))) r (now (keys .exit))) ⌝ }
+    ensures { λ r. ⌜ Chained (now (keys .exit)) × AtMost (7 * count) r ⌝ }
+{
+    let mut bytes: usize = 0;
+    let mut k: usize = 0;
+    while k < count {
+        if 1024 <= meet(keys, by_run(s, asked, runs[3 * k + 2])) {
+            return Measured::TooMany;
+        }
+        bytes += case_length(runs[3 * k]);
+        k += 1;
+    }
+    Measured::Bytes(bytes)
+}
+
+// A switch. Not neither before a case, nor unknown before neither.
+fn expand_switch(keys: &mut Keys, s: &Tables, c: &[u64], asked: Asked, runs: &mut Runs) -> Measured
+    requires { ⌜ Chained (now keys) × Parted (rulesIn (now s)) (placeTestsIn (now s)) (now c)
+        × (asked .test < placeTestsIn (now s)) × (length (now runs) ≡ 384) ⌝ }
+    ensures { λ r. ⌜ EdgesMet (askIn (now (s .entry)) (now (c .entry)) asked) (keysIn (now (keys .entry))) r (now (keys .exit)) ⌝ }
+    ensures { λ r. ⌜ Chained (now (keys .exit)) × AtMost 1000 r × (length (now (runs .exit)) ≡ 384) ⌝ }
+{
+    let count = cut_switch(c, part(tables::rules(s), asked.test), asked.live, runs);
+    let met = meet_runs(keys, s, asked, runs, count);
+    let Measured::Bytes(bytes) = met else {
         return met;
-    }
-    let neither = by_none(key, t, rows);
-    let count = meet_two(lives, pendings, hints, met.count, neither, unknown);
-    Expanded {
-        count: count,
-        bytes: met.bytes + 8,
-    }
-}
-
-// A pair that is asked as test t. Not other before no.
-fn expand_pair(
-    lives: &mut [u64; 1024],
-    pendings: &mut [u64; 1024],
-    hints: &mut [u16; 1024],
-    start: usize,
-    key: Key,
-    t: usize,
-    rows: &[u64; 64],
-) -> Expanded
-    requires { ⌜ (start ≤ 1024) × Sized (now lives) (now pendings) × (t < 64) ⌝ }
-    requires { ⌜ ((rules : List Patterns) × ((p : ℕ) × ((q : ℕ) × Asked rules (now rows) (key .live) t
-        × (testAt rules t ≡ pair p q)))) ⌝ }
-    ensures { λ r. ⌜ ((rules : List Patterns) (p q : ℕ) → Asked rules (now (rows .entry)) (key .live) t
-        → testAt rules t ≡ pair p q
-        → EdgesMet (askNode rules (keyIn key) t (testAt rules t)) (keysIn (now (lives .entry)) (now (pendings .entry)) start)
-        (r .count) (r .bytes) (now (lives .exit)) (now (pendings .exit))) ⌝ }
-    ensures { λ r. ⌜ (r .count ≤ 1025) × (r .bytes ≤ 9) × Sized (now (lives .exit)) (now (pendings .exit)) ⌝ }
-{
-    let differ = by_none(key, t, rows);
-    let other = by_other(key, t, rows);
-    let count = meet_two(lives, pendings, hints, start, differ, other);
-    Expanded {
-        count: count,
-        bytes: 9,
-    }
-}
-
-// Meets the keys behind the edges of the node of key k, in their order, and measures its record with its cases. The first n tests
-// are places. Not a key before one behind an earlier edge, nor the length of a switch's record without its cases.
-pub fn expand(
-    lives: &mut [u64; 1024],
-    pendings: &mut [u64; 1024],
-    hints: &mut [u16; 1024],
-    count: usize,
-    k: usize,
-    rows: &[u64; 64],
-    low: &[u32; 4096],
-    high: &[u32; 4096],
-    place: &[u16; 64],
-    pairs: &[u32; 65],
-    n: usize,
-) -> Expanded
-    requires { ⌜ (count ≤ 1024) × Sized (now lives) (now pendings) × (k < count) ⌝ }
-    requires { ⌜ ((rules : List Patterns) × Compiled rules (now rows) (now low) (now high) (now place) (now pairs) n
-        × Fits rules (keyAt (now lives) (now pendings) k)) ⌝ }
-    ensures { λ r. ⌜ ((rules : List Patterns)
-        → Compiled rules (now (rows .entry)) (now (low .entry)) (now (high .entry)) (now (place .entry)) (now (pairs .entry)) n
-        → Fits rules (keyAt (now (lives .entry)) (now (pendings .entry)) k)
-        → EdgesMet (nodeBy rules (keyAt (now (lives .entry)) (now (pendings .entry)) k))
-        (keysIn (now (lives .entry)) (now (pendings .entry)) count)
-        (r .count) (r .bytes) (now (lives .exit)) (now (pendings .exit))) ⌝ }
-    ensures { λ r. ⌜ (r .count ≤ 1025) × (r .bytes ≤ 0x2000_0008) × Sized (now (lives .exit)) (now (pendings .exit)) ⌝ }
-{
-    let key = Key {
-        live: lives[k],
-        pending: pendings[k],
     };
-    let kind = kind_of(key);
+    let neither = by_none(s, asked);
+    let unknown = by_unknown(s, asked);
+    meet_two(keys, neither, unknown, bytes + 8)
+}
+
+// A pair. Not other before no, nor the bytes of a switch.
+fn expand_pair(keys: &mut Keys, s: &Tables, asked: Asked) -> Measured
+    requires { ⌜ Chained (now keys) × (placeTestsIn (now s) ≤ asked .test) ⌝ }
+    ensures { λ r. ⌜ ((c : List ℕ)
+        → EdgesMet (askIn (now (s .entry)) c asked) (keysIn (now (keys .entry))) r (now (keys .exit))) ⌝ }
+    ensures { λ r. ⌜ Chained (now (keys .exit)) × AtMost 1000 r ⌝ }
+{
+    let differ = by_none(s, asked);
+    let other = by_other(s, asked);
+    meet_two(keys, differ, other, 9)
+}
+
+// Meets the keys behind the edges of node k, in their order, and measures its record with its cases. Not a key before one behind an
+// earlier edge, nor the length of a switch's record without its cases.
+pub fn expand(keys: &mut Keys, k: usize, s: &Tables, c: &[u64], runs: &mut Runs) -> Measured
+    requires { ⌜ Chained (now keys) × (k < countIn (now keys)) × Parted (rulesIn (now s)) (placeTestsIn (now s)) (now c)
+        × (length (now runs) ≡ 384) ⌝ }
+    ensures { λ r. ⌜ EdgesMet (nodeIn (now (s .entry)) (now (c .entry)) (keyAt (now (keys .entry)) k)) (keysIn (now (keys .entry)))
+        r (now (keys .exit)) ⌝ }
+    ensures { λ r. ⌜ Chained (now (keys .exit)) × AtMost 1000 r × (length (now (runs .exit)) ≡ 384) ⌝ }
+{
+    let key = key_at(keys, k);
+    let kind = kind_of(s, key);
     match kind {
-        Kind::End(leaf) => Expanded {
-            count: count,
-            bytes: leaf_length(leaf),
-        },
+        Kind::End(leaf) => Measured::Bytes(leaf_length(leaf)),
         Kind::Ask(t) => {
-            if n <= t {
-                return expand_pair(lives, pendings, hints, count, key, t, rows);
+            let asked = ask(s, key, t);
+            if tables::place_tests(s) <= t {
+                return expand_pair(keys, s, asked);
             }
-            let unknown = by_unknown(key, wide(place[t]), rows, place, pairs, n);
-            expand_switch(
-                lives,
-                pendings,
-                hints,
-                count,
-                key,
-                t,
-                unknown,
-                rows,
-                low,
-                high,
-            )
+            expand_switch(keys, s, c, asked, runs)
         }
     }
 }

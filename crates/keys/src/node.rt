@@ -2,21 +2,17 @@
 use crate::Kind;
 use edges::Key;
 use graph::Leaf;
+use tables::Tables;
 ghost use mathlib.Core.Path.{_≡_};
 ghost use mathlib.Core.List.{List};
-ghost use lib.ListN.{length};
-ghost use Rattle.terms.specs.Pattern.{Patterns};
-ghost use Rattle.sheet_tests.specs.SheetTests.{sheetTests};
+ghost use Prim.Native.Nat.{ℕ};
 ghost use Rattle.edges.specs.views.VertexKey.{keyIn};
-ghost use Rattle.keys.specs.views.KeyGraph.{nodeBy};
-ghost use Rattle.keys.specs.views.NodeKind.{Fits, kindNode, Below};
+ghost use Rattle.edges.specs.views.NodeIn.{nodeIn};
+ghost use Rattle.keys.specs.views.Expanded.{kindNode, Below};
 
-// The leaf that a key is, or the test that its node asks: the lowest pending one. Not the highest, nor execute where two rules
-// are live.
-pub fn kind_of(key: Key) -> Kind
-    requires { ⌜ ((rules : List Patterns) × Fits rules (keyIn key)) ⌝ }
-    ensures { λ r. ⌜ ((rules : List Patterns) → Fits rules (keyIn key)
-        → (nodeBy rules (keyIn key) ≡ kindNode rules (keyIn key) r) × Below (length (sheetTests rules)) r) ⌝ }
+// The leaf that a key is, or the test that its node asks. Not execute where two rules are live, nor fail where a test is pending.
+pub fn kind_of(s: &Tables, key: Key) -> Kind
+    ensures { λ r. ⌜ ((c : List ℕ) → nodeIn (now (s .entry)) c (keyIn key) ≡ kindNode (now (s .entry)) c (keyIn key) r) ⌝ }
     ensures { λ r. ⌜ Below 64 r ⌝ }
 {
     if key.live == 0 {
@@ -31,5 +27,5 @@ pub fn kind_of(key: Key) -> Kind
     if key.pending == 0 {
         return Kind::End(Leaf::Suspend);
     }
-    Kind::Ask(u64::trailing_zeros(key.pending) as usize)
+    Kind::Ask(tables::first_asked(s, key.pending))
 }

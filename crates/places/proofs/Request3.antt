@@ -5,17 +5,13 @@ use native.Mathlib.Omega.{arith}
 use Rattle.places.specs.Numbering.{childPlace}
 use Rattle.places.proofs.Steps.{stride-closed}
 
--- "Compute it as (4 to the power (4 − d), less 1) divided by 3."
-abbrev pub computedStep : ℕ → ℕ
-computedStep d = (4 ^ (4 - d) - 1) / 3
-
 -- "That this gives 21, 5 and 1 is proved",
-pub steps-are : (computedStep 1 ≡ 21) × (computedStep 2 ≡ 5) × (computedStep 3 ≡ 1)
+pub steps-are : ((4 ^ (4 - 1) - 1) / 3 ≡ 21) × ((4 ^ (4 - 2) - 1) / 3 ≡ 5) × ((4 ^ (4 - 3) - 1) / 3 ≡ 1)
 steps-are = (refl, refl, refl)
 
 -- "and every place keeps its number": child j of place p at depth d, whose levels are 5 − d.
 pub places-kept
-    : (d p j : ℕ) → 1 ≤ d → d ≤ 3 → childPlace (5 - d) p j ≡ p + 1 + (j - 1) * computedStep d
+    : (d p j : ℕ) → 1 ≤ d → d ≤ 3 → childPlace (5 - d) p j ≡ p + 1 + (j - 1) * ((4 ^ (4 - d) - 1) / 3)
 places-kept d p j from to =
     let levels : 5 - d ≡ suc (4 - d) = omega arith in
     ap (λ (r : ℕ). childPlace r p j) levels ∙ ap (λ (s : ℕ). p + 1 + (j - 1) * s) (sym (stride-closed (4 - d)))

@@ -7,7 +7,7 @@ use mathlib.Core.List.{List, _++_, map}
 use native.Mathlib.Decide.{decLt}
 use native.Mathlib.Nat.{lt-of-lt-of-le}
 use native.Mathlib.Omega.{arith}
-use lib.ListN.{length, getD, take, length-map, length-append, List·getD-append, List·getD-map}
+use lib.ListN.{length, getD, take, replicate, length-replicate, length-map, length-append, List·getD-append, List·getD-map}
 use lib.Pow.{pow-mono}
 use lib.Seq.{length-take-le, getD-take, getD-append-add}
 use Rattle.masks.specs.Mask.{has, maskOf}
@@ -24,16 +24,38 @@ use Rattle.sheet_tests.specs.SheetTests.{Test, place, sheetTests}
 use Rattle.sheet_tests.specs.views.TestedPlaces.{placesIn}
 use Rattle.sheet_tests.specs.views.KeptPairs.{codePair}
 use Rattle.sheet_tests.specs.views.TestsRead.{keptTests}
-use Rattle.compiled.proofs.CompiledRight.{rule-row}
+use Rattle.tables.specs.views.Planes.{placeTestsIn}
+use Rattle.rows.specs.views.Tests.{testsPut, Counted, pairsListed}
+use Rattle.rows.proofs.SheetRows.{rule-row}
+use Rattle.rows.proofs.TestsListed.{listed-counted, listed-places, listed-pairs}
 use Rattle.piece.specs.views.LaidOut.{pieceCells}
 use Rattle.decision.specs.Rules.{testAt, hasTest, testsWhere}
 use Rattle.decision.specs.Walk.{testNotKnown}
 use Rattle.walk.specs.views.CodeSteps.{openCells}
 use Rattle.walk.specs.views.TestNumbers.{NearTest}
+use Rattle.walk.specs.views.Ready.{Arrays}
 use Rattle.walk.specs.views.LeafAnswers.{listedTest, openSet, ownTests, ownWaits}
 use Rattle.walk.proofs.StepsAgree.{open-agrees}
 use Rattle.walk.proofs.OpenSets.{listed-place, listed-pair}
 use Rattle.basics.proofs.Positions.{mem-at, getD-any}
+
+-- Tables with the kept tests list these.
+pub listed-as
+    : (words codes : List ℕ) (pairs : ℕ) → Arrays words codes pairs → {listed s : List ℕ} → listed ≡ placesIn words
+    → s ≡ testsPut listed (take pairs codes) (replicate 260 0)
+    → Counted s × (placeTestsIn s ≡ length (placesIn words)) × (pairsListed s ≡ take pairs codes)
+listed-as words codes pairs arrays {listed} {s} are put =
+    let blank = replicate {A = ℕ} 260 0 in
+    let ps = placesIn words in
+    let cs = take pairs codes in
+    let long : length blank ≡ 260 = length-replicate {A = ℕ} 260 0 in
+    let few : length ps + length cs ≤ 64 =
+    omega (arith, arrays .fewTests, arrays .allCodes, length-take-le pairs codes (omega (arith, arrays .fewTests, arrays .allCodes))) in
+    let e : s ≡ testsPut ps cs blank = put ∙ ap (λ (l : List ℕ). testsPut l cs blank) are in (
+      subst Counted (sym e) (listed-counted ps cs blank long few),
+      ap placeTestsIn e ∙ listed-places ps cs blank long few,
+      ap pairsListed e ∙ listed-pairs ps cs blank long few,
+    )
 
 module _ (words codes : List ℕ) (n : ℕ) (all : n ≤ length codes) where
   pairs-length : length (map codePair (take n codes)) ≡ n

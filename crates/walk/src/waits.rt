@@ -92,10 +92,12 @@ pub fn own_waits(
         (notesIn (now (notes .entry)) n) ⌝ }
 {
     let mut places = [0u16; 64];
-    let count = compiled::list_places(words, &mut places);
+    let count = rows::list_places(words, &mut places);
     let mut numbers = [0u8; 680];
-    compiled::numbers::number_places(&places, count, &mut numbers);
+    rows::numbers::number_places(&places, count, &mut numbers);
+    let mut s = [0u64; 260];
+    rows::tests::put_tests(&places, count, codes, pairs, &mut s);
     let ranges = sheet::variable_ranges(notes, n);
-    let own = compiled::rule_row(notes, n, ranges, &numbers, codes, pairs, count);
+    let own = rows::rule_row(notes, n, ranges, &numbers, &s);
     masks::intersect(own, open_tests(&places, count, codes, pairs, cells))
 }

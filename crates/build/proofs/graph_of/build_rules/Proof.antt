@@ -1,41 +1,42 @@
--- The rules are compiled to tables, and the graph is built from these.
+-- The tests are listed, and the graph is built where there is room for the cuts.
 use Prim.Native.Nat.{ℕ}
-use mathlib.Core.Path.{refl}
-use lib.ListN.{length-replicate}
-use Rattle.build.proofs.SheetTables.{pairs-within, accepted-rules, small-sheet, kept-tabled}
+use mathlib.Core.Path.{ap, _∙_}
+use native.Mathlib.Omega.{arith}
+use Rattle.decision.specs.Graph.{graphOf}
+use Rattle.build.specs.BuildOutcome.{graphWritten}
+use Rattle.build.proofs.SheetTables.{small-sheet, kept-listed, kept-compiling, small-room, large-room}
 use borrow.Author.Needs.{needs}
 use Rattle.build.proofs.graph_of.build_rules.Statement.{statement}
 use Rattle.build.proofs.graph_of.build_rules.Tie as tie
 
-compile-rules-requires : tie.Need-compile-rules-requires
-compile-rules-requires c κs =
-    let start = c .before .before .before .before .before .before in
+array-write-s : tie.Need-array-write-s
+array-write-s c = search needs
+
+list-tests-requires : tie.Need-list-tests-requires
+list-tests-requires c κs = search needs
+
+place-tests-requires : tie.Need-place-tests-requires
+place-tests-requires c κs = search needs
+
+part-requires : tie.Need-part-requires
+part-requires c κs =
+    let start = c .before .before .before .before .before .before .before in
+    let a = start .args in
+    let list-tests = c .before .before .list-tests .ensures in
     let (sheet, k) = start .pre .1 in
-    let small = small-sheet _ _ _ _ _ _ sheet k in (
-      (
-        small .0,
-        small .1,
-        start .pre .0 .0,
-        start .pre .0 .1,
-        start .pre .0 .2,
-        length-replicate {A = ℕ} 64 0,
-        refl,
-        length-replicate {A = ℕ} 4096 0,
-        length-replicate {A = ℕ} 4096 0,
-      ),
-      (k .bytes, (sheet .rules, k .rulesRead, accepted-rules _ _ _ _ _ _ sheet k, k .tests)),
+    let listed = kept-listed (a .b .now) (a .words .now) (a .codes .now) (a .arity) (a .rules) (a .pairs) sheet k (start .pre .0 .1) (start .pre .0 .2) (list-tests .1) (list-tests .0) in (
+      omega (arith, small-sheet (a .b .now) (a .words .now) (a .codes .now) (a .arity) (a .rules) (a .pairs) sheet k .1),
+      omega (arith, c .place-tests .ensures, listed .counted .places, listed .counted .few),
     )
 
-add-build-tables : tie.Need-add-build-tables
-add-build-tables c = search needs
-
-build-tables-requires : tie.Need-build-tables-requires
-build-tables-requires c κs =
+build-small-requires : tie.Need-build-small-requires
+build-small-requires c κs =
     let start = c .before .before .before .before .before .before .before .before .before .before .before .before in
+    let a = start .args in
+    let list-tests = c .before .before .before .before .before .before .before .list-tests .ensures in
     let (sheet, k) = start .pre .1 in
-    let compile-rules = c .before .before .before .before .before .compile-rules in
-    let within = pairs-within (start .args .codes .now) _ _ (start .pre .0 .1) (start .pre .0 .2) in
-    (sheet, kept-tabled _ _ _ _ _ _ sheet k _ _ _ _ _ within (compile-rules .ensures .0) (compile-rules .ensures .1 .0))
+    let room = small-room (a .b .now) (a .words .now) (a .codes .now) (a .arity) (a .rules) (a .pairs) sheet k (start .pre .0 .1) (start .pre .0 .2) (list-tests .1) (list-tests .0) (c .before .before .before .before .before .place-tests .ensures) (c .before .before .before .before .part .ensures) (c .before .before .before .if1 .taken) in
+    (sheet .rules, kept-compiling (a .b .now) (a .words .now) (a .codes .now) (a .arity) (a .rules) (a .pairs) sheet k (start .pre .0 .1) (start .pre .0 .2) (list-tests .1) (list-tests .0) 320 room)
 
 same-length : tie.Need-same-length
 same-length c = search needs
@@ -43,12 +44,42 @@ same-length c = search needs
 returns : tie.Need-returns
 returns c sheet k =
     let start = c .before .before .before .before .before .before .before .before .before .before .before .before .before .before .before in
-    let compile-rules = c .before .before .before .before .before .before .before .before .compile-rules in
-    let within = pairs-within (start .args .codes .now) _ _ (start .pre .0 .1) (start .pre .0 .2) in
-    let tabled = kept-tabled _ _ _ _ _ _ sheet k _ _ _ _ _ within (compile-rules .ensures .0) (compile-rules .ensures .1 .0) in
-    c .before .before .build-tables .ensures sheet tabled
+    let a = start .args in
+    let list-tests = c .before .before .before .before .before .before .before .before .before .before .list-tests .ensures in
+    let room = small-room (a .b .now) (a .words .now) (a .codes .now) (a .arity) (a .rules) (a .pairs) sheet k (start .pre .0 .1) (start .pre .0 .2) (list-tests .1) (list-tests .0) (c .before .before .before .before .before .before .before .before .place-tests .ensures) (c .before .before .before .before .before .before .before .part .ensures) (c .before .before .before .before .before .before .if1 .taken) in
+    c .before .before .build-small .ensures (sheet .rules) (kept-compiling (a .b .now) (a .words .now) (a .codes .now) (a .arity) (a .rules) (a .pairs) sheet k (start .pre .0 .1) (start .pre .0 .2) (list-tests .1) (list-tests .0) 320 room)
+    ∙ ap (λ (n : ℕ). graphWritten (a .arity) n (graphOf (sheet .rules)) (a .buf .now)) (k .known .countIs)
+
+build-large-requires : tie.Need-build-large-requires
+build-large-requires c κs =
+    let start = c .before .before .before .before .before .before .before .before .before .before .before .before in
+    let a = start .args in
+    let list-tests = c .before .before .before .before .before .before .before .list-tests .ensures in
+    let (sheet, k) = start .pre .1 in
+    (sheet .rules, kept-compiling (a .b .now) (a .words .now) (a .codes .now) (a .arity) (a .rules) (a .pairs) sheet k (start .pre .0 .1) (start .pre .0 .2) (list-tests .1) (list-tests .0) 8256 (large-room (a .b .now) (a .words .now) (a .codes .now) (a .arity) (a .rules) (a .pairs) sheet k (start .pre .0 .1) (start .pre .0 .2) (list-tests .1) (list-tests .0)))
+
+same-length-2 : tie.Need-same-length-2
+same-length-2 c = search needs
+
+returns-2 : tie.Need-returns-2
+returns-2 c sheet k =
+    let start = c .before .before .before .before .before .before .before .before .before .before .before .before .before .before .before in
+    let a = start .args in
+    let list-tests = c .before .before .before .before .before .before .before .before .before .before .list-tests .ensures in
+    c .before .before .build-large .ensures (sheet .rules) (kept-compiling (a .b .now) (a .words .now) (a .codes .now) (a .arity) (a .rules) (a .pairs) sheet k (start .pre .0 .1) (start .pre .0 .2) (list-tests .1) (list-tests .0) 8256 (large-room (a .b .now) (a .words .now) (a .codes .now) (a .arity) (a .rules) (a .pairs) sheet k (start .pre .0 .1) (start .pre .0 .2) (list-tests .1) (list-tests .0)))
+    ∙ ap (λ (n : ℕ). graphWritten (a .arity) n (graphOf (sheet .rules)) (a .buf .now)) (k .known .countIs)
 
 pub build-rules-spec : {M : Type 1} → statement M
 build-rules-spec =
     tie.close
-    (tie.spec compile-rules-requires add-build-tables build-tables-requires same-length returns)
+    (tie.spec
+    array-write-s
+    list-tests-requires
+    place-tests-requires
+    part-requires
+    build-small-requires
+    same-length
+    returns
+    build-large-requires
+    same-length-2
+    returns-2)

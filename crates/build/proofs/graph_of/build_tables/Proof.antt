@@ -1,97 +1,88 @@
 -- All keys are met, then questions 18 and 19, and then the graph is written.
-use Prim.Native.Nat.{ℕ, _+_, _≤_}
+use Prim.Native.Nat.{_*_}
 use native.Mathlib.Omega.{arith}
-use lib.ListN.{length-replicate}
-use Rattle.keys.proofs.GrownGraph.{keys-once}
-use Rattle.emit.proofs.LaidKeys.{grown-laid, grown-room}
-use Rattle.build.proofs.GrownBytes.{few-rules, built-many, built-short, built-whole, bytes-small}
+use Rattle.tables.specs.views.Planes.{rulesIn}
+use Rattle.build.proofs.GrownBytes.{grown-none, grown-some, grown-most, graph-size, built-many, built-short, built-whole}
 use borrow.Author.Needs.{needs}
 use Rattle.build.proofs.graph_of.build_tables.Statement.{statement}
 use Rattle.build.proofs.graph_of.build_tables.Tie as tie
 
-within : (n m : ℕ) → 5 + n ≤ m → n + 5 ≤ m
-within n m h = omega arith
-
-root-key-requires : tie.Need-root-key-requires
-root-key-requires c κs =
-    let (sheet, t) = c .before .pre in (sheet .rules, t .compiled .tests, t .known .countIs, t .testsAre)
-
 grow-requires : tie.Need-grow-requires
-grow-requires c κs =
-    let start = c .before .before .before .before in
-    let (sheet, t) = start .pre in
-    let root = c .before .before .root-key .ensures (sheet .rules) (t .compiled .tests) (t .known .countIs) (t .testsAre) in
-    ((length-replicate {A = ℕ} 1024 0, length-replicate {A = ℕ} 1024 0), (sheet .rules, t .compiled, root))
+grow-requires c κs = search needs
+
+enum-known-grown : tie.Need-enum-known-grown
+enum-known-grown c = search needs
+
+enum-told : tie.Need-enum-told
+enum-told c = search needs
 
 returns : tie.Need-returns
-returns c sheet t =
-    let start = c .before .before .before .before .before .before in
-    let root = c .before .before .before .before .root-key .ensures (sheet .rules) (t .compiled .tests) (t .known .countIs) (t .testsAre) in
-    let grow = c .before .grow in
-    let grown = grow .ensures .0 (sheet .rules) (t .compiled) root in
-    built-many sheet (few-rules (t .compiled .tests)) _ _ _ _ _ _ grown (c .if1 .taken)
+returns c =
+    let start = c .before .before .before .before .before .before .before in
+    let s = start .args .s .now in
+    let grow = c .before .before .grow in
+    built-many (start .args .arity) (rulesIn s) s (start .args .c .now) (start .args .buf .now)
+    (grown-none s (start .args .c .now) (grow .last .0) _ (grow .ensures .0) (c .enum-told .given .1))
 
-add-if2 : tie.Need-add-if2
-add-if2 c = search needs
+add-if1 : tie.Need-add-if1
+add-if1 c = omega (arith, grown-most (1024 * 1000) _ (c .before .before .before .grow .ensures .1 .1) (c .before .grown .given .1))
 
 returns-2 : tie.Need-returns-2
-returns-2 c sheet t =
-    let root = c .before .before .before .before .before .before .root-key .ensures (sheet .rules) (t .compiled .tests) (t .known .countIs) (t .testsAre) in
-    let grow = c .before .before .before .grow in
-    let grown = grow .ensures .0 (sheet .rules) (t .compiled) root in
-    let few = few-rules (t .compiled .tests) in
-    built-short sheet few _ _ _ _ _ _ grown (c .before .before .if1 .left) (c .if2 .taken)
+returns-2 c =
+    let start = c .before .before .before .before .before .before .before .before .before in
+    let s = start .args .s .now in
+    let t = c .before .before .before .before .grow .last .0 in
+    let some = grown-some s (start .args .c .now) t _ (c .before .before .before .before .grow .ensures .0) (c .before .before .grown .given .1) in
+    built-short (start .args .arity) (rulesIn s) s (start .args .c .now) (start .args .buf .now) t _ (some .0) (some .1) (c .if1 .taken)
 
 put-graph-requires : tie.Need-put-graph-requires
 put-graph-requires c κs =
-    let start = c .before .before .before .before .before .before .before .before .before .before .before in
-    let (sheet, t) = start .pre in
-    let root = c .before .before .before .before .before .before .before .before .before .root-key .ensures (sheet .rules) (t .compiled .tests) (t .known .countIs) (t .testsAre) in
-    let grow = c .before .before .before .before .before .before .grow in
-    let grown = grow .ensures .0 (sheet .rules) (t .compiled) root in
-    let few = few-rules (t .compiled .tests) in
-    let small = c .before .before .before .before .before .if1 .left in
-    let fits = c .before .before .before .if2 .left in
-    let laid = grown-laid (sheet .rules) few (t .compiled) _ _ _ grown small in
-    let room = grown-room (sheet .rules) few (t .compiled) _ _ _ grown small (start .args .buf .now) (start .args .arity) (start .args .rules) (within _ _ fits) in
-    ((small, grow .ensures .1 .2, keys-once (sheet .rules) few _ _ _ grown small), (sheet .rules, laid, room))
+    let start = c .before .before .before .before .before .before .before .before .before .before .before .before in
+    let s = start .args .s .now in
+    let t = c .before .before .before .before .before .before .before .grow .last .0 in
+    let some = grown-some s (start .args .c .now) t _ (c .before .before .before .before .before .before .before .grow .ensures .0) (c .before .before .before .before .before .grown .given .1) in
+    let grow = c .before .before .before .before .before .before .before .grow in
+    ((grow .ensures .1 .0, start .pre, grow .ensures .1 .2), omega (arith, graph-size (start .args .arity) (rulesIn s) s (start .args .c .now) (start .args .buf .now) t _ (some .0) (some .1), c .before .before .before .if1 .left))
 
-cast-t26 : tie.Need-cast-t26
-cast-t26 c = search needs
+count-requires : tie.Need-count-requires
+count-requires c κs = search needs
 
-cast-t27 : tie.Need-cast-t27
-cast-t27 c =
-    let start = c .before .before .before .before .before .before .before .before .before .before .before .before .before .before in
-    let (sheet, t) = start .pre in
-    let root = c .before .before .before .before .before .before .before .before .before .before .before .before .root-key .ensures (sheet .rules) (t .compiled .tests) (t .known .countIs) (t .testsAre) in
-    let grow = c .before .before .before .before .before .before .before .before .before .grow in
-    let grown = grow .ensures .0 (sheet .rules) (t .compiled) root in
-    let few = few-rules (t .compiled .tests) in
-    let small = c .before .before .before .before .before .before .before .before .if1 .left in
-    let fits = c .before .before .before .before .before .before .if2 .left in
-    let laid = grown-laid (sheet .rules) few (t .compiled) _ _ _ grown small in
-    let room = grown-room (sheet .rules) few (t .compiled) _ _ _ grown small (start .args .buf .now) (start .args .arity) (start .args .rules) (within _ _ fits) in
-    let wrote = c .before .before .put-graph .ensures (sheet .rules) laid room in
-    omega (arith, wrote .0, bytes-small sheet few (start .args .arity) (start .args .rules) (start .args .buf .now) _ _ _ grown small (t .known .accepted))
+cast-t20 : tie.Need-cast-t20
+cast-t20 c = search needs
+
+cast-t21 : tie.Need-cast-t21
+cast-t21 c =
+    let start = c .before .before .before .before .before .before .before .before .before .before .before .before .before .before .before .before .before in
+    let s = start .args .s .now in
+    let t = c .before .before .before .before .before .before .before .before .before .before .before .before .grow .last .0 in
+    let some = grown-some s (start .args .c .now) t _ (c .before .before .before .before .before .before .before .before .before .before .before .before .grow .ensures .0) (c .before .before .before .before .before .before .before .before .before .before .grown .given .1) in
+    let most = grown-most (1024 * 1000) _ (c .before .before .before .before .before .before .before .before .before .before .before .before .grow .ensures .1 .1) (c .before .before .before .before .before .before .before .before .before .before .grown .given .1) in
+    omega (arith, graph-size (start .args .arity) (rulesIn s) s (start .args .c .now) (start .args .buf .now) t _ (some .0) (some .1), c .before .before .before .before .put-graph .ensures .0)
 
 same-length : tie.Need-same-length
 same-length c = search needs
 
 returns-3 : tie.Need-returns-3
-returns-3 c sheet t =
-    let start = c .before .before .before .before .before .before .before .before .before .before .before .before .before .before in
-    let root = c .before .before .before .before .before .before .before .before .before .before .before .before .root-key .ensures (sheet .rules) (t .compiled .tests) (t .known .countIs) (t .testsAre) in
-    let grow = c .before .before .before .before .before .before .before .before .before .grow in
-    let grown = grow .ensures .0 (sheet .rules) (t .compiled) root in
-    let few = few-rules (t .compiled .tests) in
-    let small = c .before .before .before .before .before .before .before .before .if1 .left in
-    let fits = c .before .before .before .before .before .before .if2 .left in
-    let laid = grown-laid (sheet .rules) few (t .compiled) _ _ _ grown small in
-    let room = grown-room (sheet .rules) few (t .compiled) _ _ _ grown small (start .args .buf .now) (start .args .arity) (start .args .rules) (within _ _ fits) in
-    let wrote = c .before .before .put-graph .ensures (sheet .rules) laid room in
-    built-whole sheet few _ _ _ _ _ _ grown small _ _ fits wrote
+returns-3 c =
+    let start = c .before .before .before .before .before .before .before .before .before .before .before .before .before .before .before .before .before in
+    let s = start .args .s .now in
+    let t = c .before .before .before .before .before .before .before .before .before .before .before .before .grow .last .0 in
+    let some = grown-some s (start .args .c .now) t _ (c .before .before .before .before .before .before .before .before .before .before .before .before .grow .ensures .0) (c .before .before .before .before .before .before .before .before .before .before .grown .given .1) in
+    built-whole (start .args .arity) (rulesIn s) s (start .args .c .now) (start .args .buf .now) t _ (some .0) (some .1) _ _ _ (c .before .before .before .before .before .before .before .before .if1 .left) (c .count .ensures) (c .before .before .before .before .put-graph .ensures)
 
 pub build-tables-spec : {M : Type 1} → statement M
 build-tables-spec =
     tie.close
-    (tie.spec root-key-requires grow-requires returns add-if2 returns-2 put-graph-requires cast-t26 cast-t27 same-length returns-3)
+    (tie.spec
+    grow-requires
+    enum-known-grown
+    enum-told
+    returns
+    add-if1
+    returns-2
+    put-graph-requires
+    count-requires
+    cast-t20
+    cast-t21
+    same-length
+    returns-3)

@@ -1,58 +1,81 @@
--- The row, then the codes of the rule.
-use mathlib.Core.Path.{ap, _∙_}
+-- The row, then the cuts of the rule.
+use Prim.Native.Nat.{ℕ, _+_}
+use mathlib.Core.Path.{_≡_, sym, ap, _∙_, subst}
+use mathlib.Core.List.{List}
 use native.Mathlib.Omega.{arith}
-use lib.ListN.{take, set}
+use lib.ListN.{set}
 use Rattle.sheet.specs.declared.Ranges.{Ranges}
 use Rattle.sheet.specs.views.NoteArray.{notesIn}
-use Rattle.edges.specs.views.Codes.{wantLow, wantHigh}
-use Rattle.compiled.specs.views.Wants.{notesTests}
-use Rattle.compiled.specs.views.Row.{rowOf}
-use Rattle.compiled.specs.views.RuleTables.{storeAll, tables, ruleTables}
+use Rattle.sheet.specs.views.NoteRanges.{lowsOf, highsOf}
+use Rattle.tables.specs.views.Planes.{placeTestsIn}
+use Rattle.rows.specs.views.Tests.{pairsListed}
+use Rattle.rows.specs.views.Wants.{notesTests}
+use Rattle.rows.specs.views.Row.{rowOf}
+use Rattle.compiled.specs.views.Columns.{Columned}
+use Rattle.compiled.specs.views.CutRules.{turnAll, TurnsFit}
+use borrow.Author.Needs.{needs}
 use Rattle.compiled.proofs.rules.table_rule.Statement.{statement}
 use Rattle.compiled.proofs.rules.table_rule.Tie as tie
 
+-- The row as another number.
+moved
+    : (i : ℕ) (s : List ℕ) {x y : ℕ} {s′ : List ℕ} → x ≡ y → Columned i x (set s (68 + i) x) s′ → Columned i y (set s (68 + i) y) s′
+moved i s {s′ = s′} e c = subst (λ (z : ℕ). Columned i z (set s (68 + i) z) s′) e c
+
+rules-requires : tie.Need-rules-requires
+rules-requires c κs = search needs
+
 ranges-requires : tie.Need-ranges-requires
-ranges-requires c κs = let pre = c .pre in (pre .0, pre .1)
+ranges-requires c κs = search needs
 
 rule-row-requires : tie.Need-rule-row-requires
-rule-row-requires c κs = let pre = c .before .pre in (pre .0, pre .1, pre .2, pre .3, pre .4, pre .5, pre .6)
+rule-row-requires c κs = search needs
 
-mul-rows : tie.Need-mul-rows
-mul-rows c = omega (arith, c .before .before .pre .7)
+put-row-requires : tie.Need-put-row-requires
+put-row-requires c κs = search needs
 
-element-write-rows : tie.Need-element-write-rows
-element-write-rows c = omega (arith, c .before .before .pre .7, c .before .before .pre .8)
+cut-rule-requires : tie.Need-cut-rule-requires
+cut-rule-requires c κs =
+    let start = c .before .before .before .before .before .before .before .before .before in
+    let a = start .args in
+    let notes = notesIn (a .notes .now) (a .n) in
+    let pre = start .pre .0 in
+    let many = c .before .before .before .before .before .before .rules .ensures in
+    let own = c .before .before .before .before .before .ranges .ensures in (
+      (pre .0, pre .1, pre .2, pre .3, omega (arith, many, pre .6), pre .4),
+      subst (λ (r : Ranges). TurnsFit (a .numbers .now) (c .before .before .before .before .before .before .rules .result) (a .i) (notesTests (r .low) (r .high) notes) (a .c .now))
+          (sym own)
+          (subst (λ (k : ℕ). TurnsFit (a .numbers .now) k (a .i) (notesTests (lowsOf notes) (highsOf notes) notes) (a .c .now)) (sym many) (start .pre .1)),
+    )
 
-rule-codes-requires : tie.Need-rule-codes-requires
-rule-codes-requires c κs =
-    let pre = c .before .before .before .before .pre in
-    (pre .0, pre .1, pre .2, pre .3, pre .7, pre .9, pre .10)
+same-length : tie.Need-same-length
+same-length c = search needs
 
 returns : tie.Need-returns
-unfolding ruleTables
 returns c =
-    let a = c .before .before .before .before .before .args in
+    let start = c .before .before .before .before .before .before .before .before .before .before .before .before in
+    let a = start .args in
     let notes = notesIn (a .notes .now) (a .n) in
     let numbers = a .numbers .now in
-    let kept = take (a .pairs) (a .codes .now) in
-    let own = c .before .before .before .before .ranges .ensures in
+    let s = a .s .now in
+    let many = c .before .before .before .before .before .before .before .before .before .rules .ensures in
+    let own = c .before .before .before .before .before .before .before .before .ranges .ensures in
     let row =
-    c .before .before .before .rule-row .ensures ∙ ap (λ (r : Ranges). rowOf numbers (a .count) kept (r .low) (r .high) notes) own in
-    let lows =
-    c .rule-codes .ensures .0
-    ∙ ap (λ (r : Ranges). storeAll wantLow numbers (a .i) (notesTests (r .low) (r .high) notes) (a .low .now)) own in
-    let highs =
-    c .rule-codes .ensures .1
-    ∙ ap (λ (r : Ranges). storeAll wantHigh numbers (a .i) (notesTests (r .low) (r .high) notes) (a .high .now)) own in
-    λ j. tables (set (a .rows .now) (a .i) (row j)) (lows j) (highs j)
+    c .before .before .before .before .before .before .rule-row .ensures
+    ∙ ap (λ (r : Ranges). rowOf numbers (placeTestsIn s) (pairsListed s) (r .low) (r .high) notes) own in (
+      moved (a .i) s row (c .before .before .before .before .put-row .ensures),
+      c .before .before .cut-rule .ensures
+          ∙ (λ j. turnAll numbers (many j) (a .i) (notesTests (own j .low) (own j .high) notes) (a .c .now)),
+    )
 
 pub table-rule-spec : {M : Type 1} → statement M
 table-rule-spec =
     tie.close
     (tie.spec
+    rules-requires
     ranges-requires
     rule-row-requires
-    mul-rows
-    element-write-rows
-    rule-codes-requires
+    put-row-requires
+    cut-rule-requires
+    same-length
     returns)

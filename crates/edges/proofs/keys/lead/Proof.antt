@@ -1,65 +1,52 @@
--- `edges::keys::lead` meets its contract: each answer is the key of the vertex that document 01 names.
-use mathlib.Core.Path.{sym}
+-- `edges::keys::lead` meets its contract: none, one, or two live rules and more, and of these two settled ones or not.
 use native.Mathlib.Omega.{arith}
-use lib.ListN.{length}
 use borrow.Author.Needs.{needs}
-use borrow.Author.Tests.{lt-ltb, le-ltb}
 use Rattle.masks.specs.Mask.{members}
-use Rattle.edges.proofs.Leads.{pending-is, lead-fail, lead-one, lead-suspend, lead-asks}
+use Rattle.masks.proofs.Members.{members-none, members-one, members-two}
+use Rattle.edges.specs.views.KeysBehind.{both}
+use Rattle.edges.proofs.TwoOrMore.{two-or-more, one-at-most}
 use Rattle.edges.proofs.keys.lead.Statement.{statement}
 use Rattle.edges.proofs.keys.lead.Tie as tie
 
 returns : tie.Need-returns
-returns c rules table within =
-    let a = c .before .args in
-    sym (lead-fail rules (a .rows .now) table (a .live) (a .left) within (c .if1 .taken))
+returns c = rw (members-none 64 (c .before .args .live) (c .if1 .taken))
 
 returns-2 : tie.Need-returns-2
-returns-2 c rules table within =
-    let a = c .before .before .args in
-    sym (lead-one rules (a .rows .now) table (a .live) (a .left) within (c .if2 .taken))
+returns-2 c = rw (members-one 64 (c .before .before .args .live) (search needs) (c .if2 .taken))
 
-union-of-rows-requires : tie.Need-union-of-rows-requires
-union-of-rows-requires c κs = search needs
-
-settled-requires : tie.Need-settled-requires
-settled-requires c κs = search needs
+intersect-requires : tie.Need-intersect-requires
+intersect-requires c κs = search needs
 
 size-requires : tie.Need-size-requires
 size-requires c κs = search needs
 
 returns-3 : tie.Need-returns-3
-returns-3 c rules table within =
-    let a = c .before .before .before .before .before .before .before .args in
-    let pending =
-    pending-is rules (a .rows .now) table (a .live) (a .left) within (c .before .before .before .union-of-rows .ensures)
-    (search needs) in
-    sym
-    (lead-suspend rules (a .rows .now) table (a .live) (a .left) within
-    (c .before .before .before .before .before .before .if1 .left) (c .before .before .before .before .before .if2 .left)
-    pending (c .before .before .settled .ensures)
-    (lt-ltb 1 (length (members 64 (c .before .before .settled .result))) (omega (arith, c .before .size .ensures))))
+unfolding both
+returns-3 c =
+    let a = c .before .before .before .before .before .args in
+    rw (
+      members-two 64 (a .live) (search needs) (c .before .before .before .before .if1 .left)
+          (c .before .before .before .if2 .left) .3,
+      ← c .before .before .intersect .ensures,
+      two-or-more (members 64 (c .before .before .intersect .result)) (omega (arith, c .before .size .ensures)),
+    )
+
+held-requires : tie.Need-held-requires
+held-requires c κs = search needs
 
 returns-4 : tie.Need-returns-4
-returns-4 c rules table within =
-    let a = c .before .before .before .before .before .before .before .args in
-    let pending =
-    pending-is rules (a .rows .now) table (a .live) (a .left) within (c .before .before .before .union-of-rows .ensures)
-    (search needs) in
-    sym
-    (lead-asks rules (a .rows .now) table (a .live) (a .left) within
-    (c .before .before .before .before .before .before .if1 .left) (c .before .before .before .before .before .if2 .left)
-    pending (c .before .before .settled .ensures)
-    (le-ltb 1 (length (members 64 (c .before .before .settled .result))) (omega (arith, c .before .size .ensures))))
+unfolding both
+returns-4 c =
+    let a = c .before .before .before .before .before .before .args in
+    rw (
+      members-two 64 (a .live) (search needs) (c .before .before .before .before .before .if1 .left)
+          (c .before .before .before .before .if2 .left) .3,
+      ← c .before .before .before .intersect .ensures,
+      one-at-most (members 64 (c .before .before .before .intersect .result)) (omega (arith, c .before .before .size .ensures)),
+      c .held .ensures,
+    )
 
 pub lead-spec : {M : Type 1} → statement M
 lead-spec =
     tie.close
-    (tie.spec
-    returns
-    returns-2
-    union-of-rows-requires
-    settled-requires
-    size-requires
-    returns-3
-    returns-4)
+    (tie.spec returns returns-2 intersect-requires size-requires returns-3 held-requires returns-4)

@@ -1,59 +1,59 @@
--- `row::put_graph` meets its contract: the header, and the nodes behind it. Assumes nothing.
-use mathlib.Core.Path.{_∙_}
+-- `row::put_graph` meets its contract: the header, and the nodes behind it.
 use denote.Ref.{now}
-use Rattle.keys.specs.views.KeysMet.{keysIn}
-use Rattle.keys.specs.views.KeyGraph.{keyedNodes}
-use Rattle.emit.proofs.NodesWritten.{header-room, nodes-room, graph-wrote, nodes-many}
 use borrow.Author.Needs.{needs}
+use Rattle.tables.specs.views.Planes.{rulesIn}
+use Rattle.met.specs.views.KeysMet.{keysIn}
+use Rattle.emit.specs.views.Laid.{keysBytes}
+use Rattle.emit.specs.views.Written.{headerBytes}
+use Rattle.emit.proofs.WritingOn.{both-wrote}
+use Rattle.emit.proofs.GraphWritten.{graph-joined}
 use Rattle.emit.proofs.row.put_graph.Statement.{statement}
 use Rattle.emit.proofs.row.put_graph.Tie as tie
+
+rules-requires : tie.Need-rules-requires
+rules-requires c κs = search needs
 
 cast-put-header : tie.Need-cast-put-header
 cast-put-header c = search needs
 
+count-requires : tie.Need-count-requires
+count-requires c κs = search needs
+
+cast-put-header-2 : tie.Need-cast-put-header-2
+cast-put-header-2 c = search needs
+
 put-header-requires : tie.Need-put-header-requires
-put-header-requires c κs =
-    let start = c .before .before in
-    let a = start .args in
-    let lives = now (a .lives) in
-    let pendings = now (a .pendings) in
-    header-room (now (a .buf)) (a .arity) (a .rules) (keyedNodes (start .pre .1 .0) (keysIn lives pendings (a .count))) (a .count)
-    (nodes-many (start .pre .1 .0) lives pendings (a .count)) (start .pre .1 .2)
+put-header-requires c κs = search needs
 
 put-nodes-requires : tie.Need-put-nodes-requires
-put-nodes-requires c κs =
-    let start = c .before .before .before .before .before .before .before in
-    let a = start .args in
-    let lives = now (a .lives) in
-    let pendings = now (a .pendings) in
-    let room =
-    nodes-room (now (a .buf)) (a .arity) (a .rules) (keyedNodes (start .pre .1 .0) (keysIn lives pendings (a .count))) (a .count)
-    (nodes-many (start .pre .1 .0) lives pendings (a .count)) (start .pre .1 .2) (c .before .before .before .before .put-header .ensures) in
-    (start .pre .0, (start .pre .1 .0, start .pre .1 .1, room))
+put-nodes-requires c κs = search needs
 
 same-length : tie.Need-same-length
-same-length c = c .before .buf2 .given ∙ c .before .before .before .before .before .before .buf .given
+same-length c = search needs
 
 returns : tie.Need-returns
 returns c =
-    let start = c .before .before .before .before .before .before .before .before .before .before in
+    let start = c .before .before .before .before .before .before .before .before .before .before .before .before .before in
+    let rules = c .before .before .before .before .before .before .before .before .before .rules in
+    let count = c .before .before .before .before .before .before .before .before .count in
+    let put-header = c .before .before .before .before .before .before .before .put-header in
+    let put-nodes = c .before .before .put-nodes in
     let a = start .args in
-    let lives = now (a .lives) in
-    let pendings = now (a .pendings) in
-    let header = c .before .before .before .before .before .before .before .put-header .ensures in
-    let nodes = c .before .before .put-nodes .ensures in
-    λ ps laid room.
-    graph-wrote (now (a .buf)) (a .arity) (a .rules) (keyedNodes ps (keysIn lives pendings (a .count))) (a .count)
-    (nodes-many ps lives pendings (a .count)) room header
-    (nodes ps laid
-    (nodes-room (now (a .buf)) (a .arity) (a .rules) (keyedNodes ps (keysIn lives pendings (a .count))) (a .count)
-    (nodes-many ps lives pendings (a .count)) room header))
+    let s = now (a .s) in
+    let cuts = now (a .c) in
+    let keys = now (a .keys) in
+    both-wrote (now (a .buf)) 0 (headerBytes (a .arity) (rules .result) (count .result)) (keysBytes s cuts (keysIn keys))
+    (graph-joined s cuts keys (a .arity) (rulesIn s) (rules .ensures) (count .ensures)) (start .pre .1) (put-header .ensures)
+    (put-nodes .ensures)
 
 pub put-graph-spec : {M : Type 1} → statement M
 put-graph-spec =
     tie.close
     (tie.spec
+    rules-requires
     cast-put-header
+    count-requires
+    cast-put-header-2
     put-header-requires
     put-nodes-requires
     same-length

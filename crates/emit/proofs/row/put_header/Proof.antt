@@ -1,4 +1,4 @@
--- `row::put_header` meets its contract. Assumes nothing.
+-- `row::put_header` meets its contract.
 use borrow.Author.Needs.{needs}
 use Rattle.emit.proofs.row.put_header.Statement.{statement}
 use Rattle.emit.proofs.row.put_header.Tie as tie
@@ -20,17 +20,12 @@ same-length c = c .before .buf .given
 
 returns : tie.Need-returns
 returns c =
-    let high = c .before .before .before .before .before .high .ensures in
-    let low = c .before .before .before .before .low .ensures in
-    simp (high, low) at (c .before .before .put .ensures)
+    let high = c .before .before .before .before .before .high in
+    let low = c .before .before .before .before .low in
+    let put = c .before .before .put in
+    simp (high .ensures, low .ensures) at (put .ensures)
 
 pub put-header-spec : {M : Type 1} → statement M
 put-header-spec =
     tie.close
-    (tie.spec
-    high-requires
-    low-requires
-    slice-aggregate-put
-    put-requires
-    same-length
-    returns)
+    (tie.spec high-requires low-requires slice-aggregate-put put-requires same-length returns)

@@ -1,112 +1,111 @@
 -- `row::put_nodes` meets its contract. The loop's invariant: the nodes of the keys from a number on are left to be written.
--- Assumes nothing.
 use Prim.Native.Nat.{_+_, _-_}
 use mathlib.Core.Path.{_≡_, refl, _∙_}
-use mathlib.Core.List.{List}
+use native.Mathlib.Omega.{arith}
 use lib.ListN.{length}
 use denote.Ref.{now}
-use Rattle.terms.specs.Pattern.{Patterns}
-use Rattle.edges.specs.views.VertexKey.{keyIn}
-use Rattle.keys.specs.views.KeysMet.{keysIn}
-use Rattle.emit.specs.views.Laid.{Laid, keyBytes, keysBytes}
-use Rattle.emit.specs.views.Written.{Room}
-use Rattle.emit.proofs.WritingOn.{Left, left-start, left-room, left-next, left-end}
-use Rattle.emit.proofs.NodesWritten.{bytesFrom, key-fits, from-first, from-next, from-last}
 use borrow.Author.Needs.{needs}
+use Rattle.edges.specs.views.VertexKey.{keyIn}
+use Rattle.met.specs.views.KeysMet.{countIn, keysIn}
+use Rattle.emit.specs.views.Laid.{keyBytes, keysBytes}
+use Rattle.emit.proofs.WritingOn.{Left, left-start, left-room, left-next, left-end}
+use Rattle.emit.proofs.InTurn.{keysLeft, keys-first, keys-next, keys-last}
 use Rattle.emit.proofs.row.put_nodes.Statement.{statement}
 use Rattle.emit.proofs.row.put_nodes.Tie as tie
 
 abbrev Inv-loop : tie.InvT-loop
-Inv-loop buf₀ start rows low high place pairs places lives pendings hints₀ count at₀ i₀ buf hints at i =
-    (length buf ≡ length buf₀)
-    × ((rules : List Patterns) → Laid rules rows low high place pairs places (keysIn lives pendings count)
-    → Room buf₀ start (keysBytes rules (keysIn lives pendings count))
-    → Left buf₀ start (keysBytes rules (keysIn lives pendings count)) buf at (bytesFrom rules lives pendings count i))
+Inv-loop buf₀ start s c runs₀ keys at₀ i₀ buf runs at i =
+    (length buf ≡ length buf₀) × (length runs ≡ 384)
+    × Left buf₀ start (keysBytes s c (keysIn keys)) buf at (keysLeft s c keys i)
 
 abbrev μ-loop : tie.MeasureT-loop
-μ-loop buf₀ start rows low high place pairs places lives pendings hints₀ count at₀ i₀ buf hints at i = count - i
+μ-loop buf₀ start s c runs₀ keys at₀ i₀ buf runs at i = countIn keys - i
 
 loop-holds : tie.Need-loop-holds Inv-loop μ-loop
 loop-holds c =
-    let start = c .before in
+    let start = c .before .before in
     let a = start .args in
-    let keys = keysIn (now (a .lives)) (now (a .pendings)) (a .count) in (
+    let s = now (a .s) in
+    let cuts = now (a .c) in
+    let keys = now (a .keys) in (
       refl,
-      λ rules laid room.
-          left-start (now (a .buf)) (a .start) (keysBytes rules keys)
-          (bytesFrom rules (now (a .lives)) (now (a .pendings)) (a .count) 0)
-          (from-first rules (now (a .lives)) (now (a .pendings)) (a .count)),
+      start .pre .0 .2,
+      left-start (now (a .buf)) (a .start) (keysBytes s cuts (keysIn keys)) (keysLeft s cuts keys 0) (keys-first s cuts keys),
     )
 
+count-requires : tie.Need-count-requires Inv-loop μ-loop
+count-requires c κs = search needs
+
 key-at-requires : tie.Need-key-at-requires Inv-loop μ-loop
-key-at-requires c κs = search needs
+key-at-requires c κs =
+    let count = c .before .before .count in
+    let if1 = c .before .if1 in
+    let start = c .before .before .before .before .before .before in
+    omega (arith, count .ensures, if1 .taken, start .pre .0 .0 .few)
 
 put-one-requires : tie.Need-put-one-requires Inv-loop μ-loop
 put-one-requires c κs =
-    let start = c .before .before .before .before .before .before in
+    let start = c .before .before .before .before .before .before .before .before in
+    let at = c .before .before .before .before .before .loop in
+    let key = c .before .key-at in
+    let count = c .before .before .before .before .count in
+    let if1 = c .before .before .before .if1 in
     let a = start .args in
-    let keys = keysIn (now (a .lives)) (now (a .pendings)) (a .count) in
-    let loop = c .before .before .before .before .loop in
-    let next = c .before .before .before .loop-test .taken in
-    let key = keyIn (c .before .before .key-at .result) in
-    let is = c .before .before .key-at .ensures in
-    let rules₀ = start .pre .1 .0 in
-    let laid₀ = start .pre .1 .1 in
-    let room₀ = start .pre .1 .2 in
-    let lives = now (a .lives) in
-    let pendings = now (a .pendings) in (
-      start .pre .0,
-      (
-        rules₀,
-        laid₀ .compiled,
-        key-fits rules₀ lives pendings (a .count) (laid₀ .fit) (loop .i) key is next,
-        left-room room₀ (loop .inv .1 rules₀ laid₀ room₀) (keyBytes rules₀ keys key)
-            (bytesFrom rules₀ lives pendings (a .count) (loop .i + 1))
-            (from-next rules₀ lives pendings (a .count) (loop .i) key is next),
-      ),
+    let s = now (a .s) in
+    let cuts = now (a .c) in
+    let keys = now (a .keys) in
+    let next = keys-next s cuts keys (at .i) (key .ensures) (omega (arith, count .ensures, if1 .taken)) in (
+      (start .pre .0 .0, start .pre .0 .1, at .inv .1),
+      left-room (start .pre .1) (at .inv .2) (keyBytes s cuts (keysIn keys) (keyIn (key .result)))
+          (keysLeft s cuts keys (at .i + 1)) next,
     )
 
 add-i : tie.Need-add-i Inv-loop μ-loop
-add-i c = search needs
+add-i c =
+    let count = c .before .before .before .before .before .before .before .count in
+    let if1 = c .before .before .before .before .before .before .if1 in
+    let start = c .before .before .before .before .before .before .before .before .before .before .before in
+    omega (arith, count .ensures, if1 .taken, start .pre .0 .0 .few)
 
 loop-less : tie.Need-loop-less Inv-loop μ-loop
-loop-less c = search needs
+loop-less c =
+    let count = c .before .before .before .before .before .before .before .count in
+    let if1 = c .before .before .before .before .before .before .if1 in
+    omega (arith, count .ensures, if1 .taken)
 
 loop-again : tie.Need-loop-again Inv-loop μ-loop
 loop-again c =
-    let start = c .before .before .before .before .before .before .before .before .before in
+    let start = c .before .before .before .before .before .before .before .before .before .before .before in
+    let at = c .before .before .before .before .before .before .before .before .loop in
+    let key = c .before .before .before .before .key-at in
+    let put-one = c .before .before .put-one in
+    let count = c .before .before .before .before .before .before .before .count in
+    let if1 = c .before .before .before .before .before .before .if1 in
+    let buf = c .before .buf in
     let a = start .args in
-    let keys = keysIn (now (a .lives)) (now (a .pendings)) (a .count) in
-    let loop = c .before .before .before .before .before .before .before .loop in
-    let put = c .before .before .put-one .ensures in
-    let next = c .before .before .before .before .before .before .loop-test .taken in
-    let key = keyIn (c .before .before .before .before .before .key-at .result) in
-    let is = c .before .before .before .before .before .key-at .ensures in
-    let lives = now (a .lives) in
-    let pendings = now (a .pendings) in (
-      c .before .buf .given ∙ loop .inv .0,
-      λ rules laid room.
-          let state = loop .inv .1 rules laid room in
-          let bytes = keyBytes rules keys key in
-          let more = bytesFrom rules lives pendings (a .count) (loop .i + 1) in
-          let whole = from-next rules lives pendings (a .count) (loop .i) key is next in
-          left-next room state bytes more whole
-          (put rules (laid .compiled) (key-fits rules lives pendings (a .count) (laid .fit) (loop .i) key is next)
-          (left-room room state bytes more whole)),
+    let put = put-one .ensures in
+    let s = now (a .s) in
+    let cuts = now (a .c) in
+    let keys = now (a .keys) in
+    let next = keys-next s cuts keys (at .i) (key .ensures) (omega (arith, count .ensures, if1 .taken)) in (
+      buf .given ∙ at .inv .0,
+      put .1,
+      left-next (start .pre .1) (at .inv .2) (keyBytes s cuts (keysIn keys) (keyIn (key .result)))
+          (keysLeft s cuts keys (at .i + 1)) next (put .0),
     )
 
 same-length : tie.Need-same-length Inv-loop μ-loop
-same-length c = c .before .loop .inv .0
+same-length c = c .before .before .loop .inv .0
 
 returns : tie.Need-returns Inv-loop μ-loop
 returns c =
-    let start = c .before .before .before in
+    let start = c .before .before .before .before .before in
+    let at = c .before .before .loop in
+    let count = c .before .count in
+    let if1 = c .if1 in
     let a = start .args in
-    let keys = keysIn (now (a .lives)) (now (a .pendings)) (a .count) in
-    let loop = c .before .loop in
-    λ rules laid room.
-    left-end room (loop .inv .1 rules laid room)
-    (from-last rules (now (a .lives)) (now (a .pendings)) (a .count) (loop .i) (c .loop-test .left))
+    left-end (start .pre .1) (at .inv .2)
+    (keys-last (now (a .s)) (now (a .c)) (now (a .keys)) (at .i) (omega (arith, count .ensures, if1 .left)))
 
 pub put-nodes-spec : {M : Type 1} → statement M
 put-nodes-spec =
@@ -115,6 +114,7 @@ put-nodes-spec =
     Inv-loop
     μ-loop
     loop-holds
+    count-requires
     key-at-requires
     put-one-requires
     add-i

@@ -1,0 +1,15 @@
+-- The laws that the proofs of `cuts` cite.
+pub mod Splices
+pub mod Cutting
+pub mod Turning
+-- The cases of a switch as runs of codes.
+pub mod CodeRanges
+pub mod CodeRuns
+pub mod CaseCodes
+-- Which rules turn at the cuts of a sheet, and which want what is between them.
+pub mod Parity
+pub mod AscendingCuts
+pub mod RunningSets
+pub mod ListedWants
+pub mod TurningCuts
+pub mod SwitchCases

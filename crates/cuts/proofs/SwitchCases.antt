@@ -1,0 +1,215 @@
+-- The runs of a switch that is cut are the cases of what its live rules want at the place, in this order.
+use Prim.Native.Nat.{ℕ, suc, _^_, _<_, _≤_}
+use mathlib.Core.Path.{_≡_, refl, sym, ap, subst, fun-ext, _∙_}
+use mathlib.Core.Bool.{Bool, true, false, not, _&&_, cond}
+use mathlib.Core.List.{List, [], _∷_, map}
+use mathlib.Core.Logic.{by-cases}
+use mathlib.Core.Option.{Option, some, none}
+use native.Mathlib.Decide.{decLt}
+use native.Mathlib.Omega.{arith}
+use lib.Dec.{T, eqb, leb}
+use lib.ListN.{length}
+use lib.Pow.{pow-pos}
+use borrow.Author.Tests.{eq-eqb, ne-eqb, le-leb, lt-leb, lt-ltb}
+use Rattle.basics.specs.Lists.{Mem, All, filter}
+use Rattle.basics.proofs.Booleans.{by-test, same-truth, is-true, true-is}
+use Rattle.basics.proofs.Filters.{mem-map, all-mapped, any-mem, mem-any}
+use Rattle.basics.proofs.ListLaws.{all-at, all-from, all-map}
+use Rattle.masks.specs.Mask.{has}
+use Rattle.masks.proofs.Extensionality.{has-maskOf, maskOf-same, maskOf-unique, maskOf-lt, empty-ext}
+use Rattle.masks.proofs.Membership.{has-empty, has-pos}
+use Rattle.terms.specs.Pattern.{Patterns}
+use Rattle.terms.specs.RuleTests.{Want, Range}
+use Rattle.decision.specs.Rules.{wantAt, rulesWhere}
+use Rattle.decision.specs.Cases.{Case, isWanted, casesOf}
+use Rattle.decision.specs.AcceptedGraph.{CaseFields}
+use Rattle.decision.specs.Edges.{liveWants}
+use Rattle.decision.proofs.cases.CasesAccepted.{cases-fields}
+use Rattle.decision.proofs.cases.Intervals.{both-le, Contains, between, Between, between-cuts}
+use Rattle.decision.proofs.cases.RangeRuns as ranges
+use Rattle.decision.proofs.cases.RangeRuns.{rangeCuts, covers, isCovered, rangeRuns, covers-contains, run-between}
+use Rattle.decision.proofs.rules.LiveWants.{want-listed}
+use Rattle.codes.specs.views.Codes.{wantLow, wantHigh, SoundWant}
+use Rattle.decision.specs.views.CaseCodes.{caseLow, caseHigh}
+use Rattle.cuts.specs.views.Cuts.{Cut}
+use Rattle.cuts.specs.views.Runs.{switchRuns}
+use Rattle.cuts.specs.views.CutsOf.{cutsTo, takesFor, caseRun}
+use Rattle.cuts.proofs.CodeRanges.{wantRange, caseRange, sound-want, wanted-covers}
+use Rattle.cuts.proofs.CodeRuns.{cases-in-runs, cases-are-runs}
+use Rattle.cuts.proofs.Parity.{apart, parity, turnsBy, cuts-parity}
+use Rattle.cuts.proofs.AscendingCuts.{cuts-ascend}
+use Rattle.cuts.proofs.RunningSets.{runOf, setRuns, turning, runningTo, running-has, running-fits, running-follows}
+use Rattle.cuts.proofs.RunningSets.{runs-first}
+use Rattle.cuts.proofs.ListedWants.{listed-want, wants-sound}
+use Rattle.cuts.proofs.TurningCuts.{want-order, turning-is}
+
+-- A case is wanted where the want holds its first code.
+wanted-holds
+    : (ws : List Want) → All SoundWant ws → (c : Case) (w : Want) → Mem c (casesOf ws) → Mem w ws
+    → leb (wantLow w) (caseLow c) && leb (caseLow c) (wantHigh w) ≡ isWanted c w
+wanted-holds ws sound c w m k =
+    let fields = all-at CaseFields m (cases-fields ws (all-map SoundWant _ sound-want ws sound)) in
+    let InRuns : Case → Type 0 = λ d. Mem (caseRange d) (rangeRuns (map wantRange ws)) in
+    let b = run-between (map wantRange ws) (caseRange c) (all-at InRuns m (cases-in-runs ws sound)) in
+    let all =
+    covers-contains (map wantRange ws) (caseRange c) (wantRange w) (caseLow c) b (mem-map wantRange k)
+    (omega arith, b .ordered) in
+    let holds = both-le (wantLow w) (caseLow c) (caseLow c) (wantHigh w) in
+    sym
+    (wanted-covers c w fields (all-at SoundWant k sound)
+    ∙ same-truth (covers (wantRange w) (caseRange c)) (leb (wantLow w) (caseLow c) && leb (caseLow c) (wantHigh w))
+    (λ h. holds .1 (all .0 h)) (λ h. all .1 (holds .0 h)))
+
+-- A code has been turned at by the low and not by the high: it is between.
+apart-between : (l h c : ℕ) → l ≤ h → apart (leb (suc h) c) (leb l c) ≡ leb l c && leb c h
+apart-between l h c o =
+    by-cases (decLt c l) (λ (d : c < l). rw (lt-leb l c d, lt-leb (suc h) c (omega arith)))
+    (λ (d : ¬ (c < l)).
+    by-cases (decLt h c)
+    (λ (e : h < c). rw (le-leb l c (omega arith), le-leb (suc h) c (omega arith), lt-leb c h e))
+    (λ (e : ¬ (h < c)). rw (le-leb l c (omega arith), lt-leb (suc h) c (omega arith), le-leb c h (omega arith))))
+
+-- Tests that agree on the things of a list leave the same of them, and so with what they are mapped to.
+filter-same : {A : Type 0} (p q : A → Bool) (xs : List A) → All (λ (x : A). p x ≡ q x) xs → filter p xs ≡ filter q xs
+filter-same p q [] h = refl
+filter-same p q (x ∷ xs) h = λ i. cond (h .0 i) (x ∷ filter-same p q xs (h .1) i) (filter-same p q xs (h .1) i)
+
+map-same
+    : {A B C : Type 0} (f : A → B) (g : B → C) (h : A → C) (xs : List A) → All (λ (x : A). g (f x) ≡ h x) xs
+    → map g (map f xs) ≡ map h xs
+map-same f g h [] e = refl
+map-same f g h (x ∷ xs) e = λ i. e .0 i ∷ map-same f g h xs (e .1) i
+
+module _ (rules : List Patterns) (n live : ℕ) (fits : live < 2 ^ length rules)
+    (sound : (i : ℕ) (w : Want) → wantAt rules i n ≡ some w → SoundWant w) where
+  abbrev cuts : List Cut
+  cuts = cutsTo rules n (length rules)
+
+  abbrev wants : List Want
+  wants = liveWants rules live n
+
+  -- A code is one that is wanted.
+  abbrev holdsAt : ℕ → Option Want → Bool
+  holdsAt z none = false
+  holdsAt z (some w) = leb (wantLow w) z && leb z (wantHigh w)
+
+  -- The live rules that want a code.
+  abbrev wantersAt : ℕ → ℕ
+  wantersAt z = rulesWhere rules (λ i. has live i && holdsAt z (wantAt rules i n))
+
+  -- They are what the pass over the cuts reaches there.
+  running-wanted : (z : ℕ) → runningTo live 0 cuts z ≡ wantersAt z
+  running-wanted z =
+      maskOf-unique (length rules) (runningTo live 0 cuts z) (λ i. has live i && holdsAt z (wantAt rules i n))
+      (running-fits live (length rules) 0 cuts z fits (pow-pos (length rules)))
+      (λ i l.
+      running-has live 0 cuts z i
+      ∙ ap (λ (b : Bool). apart b (parity (λ c. leb c z) i cuts && has live i)) (has-empty i)
+      ∙ ap (λ (b : Bool). b && has live i) (cuts-parity (λ c. leb c z) i rules n (length rules))
+      ∙ ap (λ (b : Bool). (b && turnsBy (λ c. leb c z) i (wantAt rules i n)) && has live i) (lt-ltb i (length rules) l)
+      ∙ ap (λ (b : Bool). b && has live i) (go i (wantAt rules i n) refl)
+      ∙ swap (holdsAt z (wantAt rules i n)) (has live i))
+    where
+      swap : (a b : Bool) → a && b ≡ b && a
+      swap true true = refl
+      swap true false = refl
+      swap false true = refl
+      swap false false = refl
+
+      go : (i : ℕ) (x : Option Want) → wantAt rules i n ≡ x → turnsBy (λ c. leb c z) i x ≡ holdsAt z x
+      go i none e = refl
+      go i (some w) e = apart-between (wantLow w) (wantHigh w) z (want-order w (sound i w e))
+
+  module _ (r : Range) (b : Between (rangeCuts (map wantRange wants)) r) where
+    -- A run that is covered has its first code wanted,
+    covered-want : T (isCovered (map wantRange wants) r) → (w : Want) × Mem w wants × Contains (wantRange w) (r .low)
+    covered-want h =
+        let Wanted : Range → Type 0 = λ s. Contains s (r .low) → (w : Want) × Mem w wants × Contains (wantRange w) (r .low) in
+        let each = all-mapped Wanted wantRange wants (all-from (λ (w : Want). Wanted (wantRange w)) wants (λ w m k. (w, m, k))) in
+        let s = any-mem (λ (s : Range). covers s r) (map wantRange wants) h in
+        let k = both-le (s .0 .low) (r .low) (r .high) (s .0 .high) .0 (s .2) in
+        all-at Wanted (s .1) each (k .0, omega (arith, k .1, b .ordered))
+
+    -- and one whose first code is wanted is covered.
+    want-covered : (w : Want) → Mem w wants → Contains (wantRange w) (r .low) → T (isCovered (map wantRange wants) r)
+    want-covered w m k =
+        mem-any (λ (s : Range). covers s r) (mem-map wantRange m)
+        (covers-contains (map wantRange wants) r (wantRange w) (r .low) b (mem-map wantRange m) (omega arith, b .ordered) .1 k)
+
+    -- So a run is a case where some live rule wants its first code.
+    covered-is : isCovered (map wantRange wants) r ≡ not (eqb (wantersAt (r .low)) 0)
+    covered-is =
+        by-test (isCovered (map wantRange wants) r) (λ e. e ∙ sym (open-run (is-true e)))
+        (λ e. e ∙ sym (shut-run (λ h. subst T e h)))
+      where
+        wanting : ℕ → Bool
+        wanting i = has live i && holdsAt (r .low) (wantAt rules i n)
+
+        open-run : T (isCovered (map wantRange wants) r) → not (eqb (wantersAt (r .low)) 0) ≡ true
+        open-run h =
+            let c = covered-want h in
+            let i = listed-want rules live n (c .1) in
+            let in-it : has (wantersAt (r .low)) (i .0) ≡ true =
+            has-maskOf (length rules) wanting (i .0) (i .1)
+            ∙ (λ j. i .2 j && holdsAt (r .low) (i .3 j))
+            ∙ true-is (holdsAt (r .low) (some (c .0))) (both-le (wantLow (c .0)) (r .low) (r .low) (wantHigh (c .0)) .1 (c .2)) in
+            let some-rule = has-pos (wantersAt (r .low)) (i .0) in-it in
+            ap not (ne-eqb (wantersAt (r .low)) 0 (λ e. omega arith))
+
+        shut-run : (T (isCovered (map wantRange wants) r) → ⊥) → not (eqb (wantersAt (r .low)) 0) ≡ false
+        shut-run h =
+            ap not
+            (eq-eqb (wantersAt (r .low)) 0
+            (empty-ext (length rules) (wantersAt (r .low)) (maskOf-lt (length rules) wanting)
+            (λ i l. has-maskOf (length rules) wanting i l ∙ none-here i l)))
+          where
+            none-here : (i : ℕ) → i < length rules → wanting i ≡ false
+            none-here i l =
+                by-test (has live i)
+                (λ y. ap (λ (a : Bool). a && holdsAt (r .low) (wantAt rules i n)) y ∙ go (wantAt rules i n) refl y)
+                (λ y. ap (λ (a : Bool). a && holdsAt (r .low) (wantAt rules i n)) y)
+              where
+                go : (x : Option Want) → wantAt rules i n ≡ x → has live i ≡ true → holdsAt (r .low) x ≡ false
+                go none e y = refl
+                go (some w) e y =
+                    by-test (holdsAt (r .low) (some w))
+                    (λ d.
+                    absurd
+                    (h
+                    (want-covered w (want-listed rules live n i w l (is-true y) e)
+                    (both-le (wantLow w) (r .low) (r .low) (wantHigh w) .0 (is-true d)))))
+                    (λ d. d)
+
+  -- The set of a run is that of the live rules that want what the case takes.
+  case-set : (c : Case) → Mem c (casesOf wants) → runOf wantersAt (caseRange c) ≡ caseRun rules n live c
+  case-set c m =
+      ap (λ (s : ℕ). record { low = caseLow c; high = caseHigh c; set = s })
+      (maskOf-same (length rules) (λ i. has live i && holdsAt (caseLow c) (wantAt rules i n))
+      (λ i. has live i && takesFor rules n c (wantAt rules i n))
+      (λ i l.
+      by-test (has live i) (λ y. ap (λ (b : Bool). has live i && b) (go i l y (wantAt rules i n) refl)) (λ y. rw y)))
+    where
+      go : (i : ℕ) → i < length rules → has live i ≡ true → (x : Option Want) → wantAt rules i n ≡ x
+          → holdsAt (caseLow c) x ≡ takesFor rules n c x
+      go i l y none e = refl
+      go i l y (some w) e =
+          wanted-holds wants (wants-sound rules live n sound) c w m (want-listed rules live n i w l (is-true y) e)
+
+  -- "A switch has a case for each symbol and compound that a live rule wants there, and one for each maximal run of numbers
+  -- accepted by the same non-empty set of those rules."
+  pub runs-are-cases : switchRuns live cuts ≡ map (caseRun rules n live) (casesOf wants)
+  runs-are-cases =
+      let wanted = map wantRange wants in
+      let follows =
+      running-follows live (runningTo live 0 cuts) 0 cuts (cuts-ascend rules n (length rules)) (λ x m. refl) in
+      runs-first live (runningTo live 0 cuts) 0 cuts follows
+      ∙ ap (λ (sets : ℕ → ℕ). setRuns sets (turning live cuts)) (fun-ext running-wanted)
+      ∙ ap (setRuns wantersAt) (turning-is rules n live fits sound)
+      ∙ ap (map (runOf wantersAt))
+      (sym
+      (filter-same (isCovered wanted) (λ (r : Range). not (eqb (wantersAt (r .low)) 0)) (between (rangeCuts wanted))
+      (all-map (Between (rangeCuts wanted)) (λ (r : Range). isCovered wanted r ≡ not (eqb (wantersAt (r .low)) 0)) covered-is
+      (between (rangeCuts wanted)) (between-cuts (rangeCuts wanted) (ranges.cuts-ascend wanted)))))
+      ∙ ap (map (runOf wantersAt)) (sym (cases-are-runs wants (wants-sound rules live n sound)))
+      ∙ map-same caseRange (runOf wantersAt) (caseRun rules n live) (casesOf wants)
+      (all-from (λ (c : Case). runOf wantersAt (caseRange c) ≡ caseRun rules n live c) (casesOf wants) case-set)

@@ -1,0 +1,2 @@
+-- The definitions that the contracts of `cuts` cite.
+pub mod views

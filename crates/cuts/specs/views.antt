@@ -1,0 +1,4 @@
+-- How the code keeps things.
+pub mod Cuts
+pub mod Runs
+pub mod CutsOf

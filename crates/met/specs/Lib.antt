@@ -1,0 +1,2 @@
+-- The definitions that the contracts of `met` cite.
+pub mod views

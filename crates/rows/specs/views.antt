@@ -1,0 +1,6 @@
+-- How the code keeps things.
+pub mod Numbers
+pub mod Wants
+pub mod Tests
+pub mod Row
+pub mod TestsOf
