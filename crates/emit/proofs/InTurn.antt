@@ -28,7 +28,7 @@ module _ (piece : ℕ → List ℕ) (row : ℕ → ℕ → List ℕ) (more : (i 
 
 -- The cases of a switch in an array.
 module _ (s : List ℕ) (keys : List Key) (asked : Asked) (runs : List ℕ) (count : ℕ) where
-  abbrev pub runPiece : ℕ → List ℕ
+  abbrev runPiece : ℕ → List ℕ
   runPiece k =
       caseBytes (caseOf (runAt runs k .low) (runAt runs k .high)) (keyNumber keys (runBehind s asked (runAt runs k .set)))
 

@@ -20,7 +20,7 @@ use Rattle.met.specs.views.KeysMet.{hashOf, keyAt, countIn, keysIn, keyN
 use Rattle.met.proofs.Numbers.{same-equal, number-all}
 
 -- Keys that agree have the same last one.
-pub last-same
+last-same
     : (f g : ℕ → Key) (h n : ℕ) → ((i : ℕ) → i < n → f i ≡ g i) → lastOf f h n ≡ lastOf g h n
 last-same f g h zero same = refl
 last-same f g h (suc n) same =
@@ -206,7 +206,7 @@ module _ (t : List ℕ) (n h live pending : ℕ) (size : length t ≡ 4097) (roo
             (λ y.
             let old = number-all (keyAt t) (keyWith live pending) 0 (countIn t) new i (omega arith) (omega arith) in
             let same = same-equal (keyAt t i) (keyWith live pending) y in
-            y ∙ sym y ∙ ap (λ (x : Key). sameKey (keyAt t i) x) (sym same) ∙ ap (λ (x : Key). sameKey x (keyAt t i)) same ∙ old)
+            ap (λ (x : Key). sameKey (keyAt t i) x) (sym same) ∙ ap (λ (x : Key). sameKey x (keyAt t i)) same ∙ old)
             (λ y. y))
             (λ (d : ¬ (j ≡ n)).
             let low : j < n = omega arith in

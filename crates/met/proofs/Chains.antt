@@ -16,7 +16,7 @@ use Rattle.met.proofs.Numbers.{same-equal, number-none, number-here}
 
 module _ (at : ℕ → Key) (h : ℕ) where
   -- The last key with a hash is one of the first n,
-  pub last-most : (n : ℕ) → lastOf at h n ≤ n
+  last-most : (n : ℕ) → lastOf at h n ≤ n
   last-most zero = omega arith
   last-most (suc n) = go (eqb (hashOf (at n)) h) (last-most n)
     where
@@ -25,7 +25,7 @@ module _ (at : ℕ → Key) (h : ℕ) where
       go false l = omega arith
 
   -- has the hash,
-  pub last-hash : (n i : ℕ) → suc i ≡ lastOf at h n → hashOf (at i) ≡ h
+  last-hash : (n i : ℕ) → suc i ≡ lastOf at h n → hashOf (at i) ≡ h
   last-hash zero i e = absurd (let z : ⊥ = omega arith in z)
   last-hash (suc n) i e = go (eqb (hashOf (at n)) h) refl (last-hash n i) e
     where
@@ -37,7 +37,7 @@ module _ (at : ℕ → Key) (h : ℕ) where
       go false d rest s = rest s
 
   -- and none after it has.
-  pub last-after : (n j : ℕ) → lastOf at h n ≤ j → j < n → hashOf (at j) ≡ h → ⊥
+  last-after : (n j : ℕ) → lastOf at h n ≤ j → j < n → hashOf (at j) ≡ h → ⊥
   last-after zero j l k e = absurd (let z : ⊥ = omega arith in z)
   last-after (suc n) j l k e = go (eqb (hashOf (at n)) h) refl (last-after n j) l
     where

@@ -61,12 +61,3 @@ module _ (at : ℕ → Key) (key : Key) where
       ∙ ap suc
       (number-here (suc i) n k (omega arith) (ap (λ (x : ℕ). sameKey key (at x)) d ∙ e)
       (λ j g l. f j (omega arith) (omega arith)))
-
-  -- It is at most n.
-  pub number-most : (i n : ℕ) → numberFrom i n ≤ n
-  number-most i zero = omega arith
-  number-most i (suc n) = go (sameKey key (at i)) (number-most (suc i) n)
-    where
-      go : (b : Bool) → numberFrom (suc i) n ≤ n → cond b 0 (suc (numberFrom (suc i) n)) ≤ suc n
-      go true l = omega arith
-      go false l = omega arith

@@ -133,8 +133,7 @@ returns-2 c =
     let at = c .before .before .before .loop in
     let count = c .before .count in
     let if1 = c .if1 in
-    let a = start .args in
-    let at = at in (
+    let a = start .args in (
       grown-all (now (a .s)) (now (a .c)) (at .keys) (at .inv .4) (omega (arith, count .ensures, if1 .left)),
       (at .inv .0, omega (arith, at .inv .2, at .inv .3, at .inv .0 .few), at .inv .1),
     )
