@@ -22,8 +22,8 @@ use Rattle.promises.specs.BuiltGraph.{BuiltGraph}
 use Rattle.promises.specs.Path.{EdgesOfPath}
 use Rattle.promises.proofs.PathEdges.{edges-are-the-path}
 use Rattle.promises.proofs.Demand3.{demand-3, walk-is-plain, monotone-promise}
-use Rattle.promises.proofs.Waiting.{wait-values}
-use Rattle.decision.specs.Waiting.{ListedNotKnown}
+use Rattle.promises.proofs.Waiting.{wait-values, wait-word-kept}
+use Rattle.decision.specs.Waiting.{ListedNotKnown, ListedKept}
 
 -- Word and rule determine the answer.
 pub answer-determined : (a b : Answer) → wordOf a ≡ wordOf b → ruleOf a ≡ ruleOf b → a ≡ b
@@ -168,3 +168,14 @@ module _ {s buffer g p : List ℕ} {sheet : Sheet} {piece : Piece} (built : Buil
         ∙ wait-values ok okFurther more built (ap (λ (x : WalkValues). x .word) (sym e) ∙ word)
         (subst (λ (n : ℕ). ListedNotKnown (sheet .rules) n (further .terms)) is listed)
         ∙ sym e
+
+    -- "While each listed place keeps what it held and each listed pair is still not known, a piece filled in further suspends":
+    -- where `walk` hands back suspend, it hands back suspend for the piece filled in further.
+    pub walk-call-kept
+        : (waits : ℕ) → waits ≡ replyValues (walkReply s g p) .waits
+        → walkedValues r .word ≡ wordOf suspend → ListedKept (sheet .rules) waits (piece .terms) (further .terms)
+        → walkedValues t .word ≡ wordOf suspend
+    walk-call-kept waits is word listed =
+        ap (λ (x : WalkValues). x .word) d
+        ∙ wait-word-kept ok okFurther more built (ap (λ (x : WalkValues). x .word) (sym e) ∙ word)
+        (subst (λ (n : ℕ). ListedKept (sheet .rules) n (piece .terms) (further .terms)) is listed)

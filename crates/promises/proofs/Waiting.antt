@@ -1,5 +1,6 @@
 -- The wait sentence, over bytes (document 01, "The walk"): "If every listed test is still not known in a piece filled in further,
--- suspend stays suspend."
+-- suspend stays suspend"; on a built graph also (document 02, request 8) "while each listed place keeps what it held and each
+-- listed pair is still not known".
 use Prim.Native.Nat.{ℕ}
 use mathlib.Core.Path.{_≡_, refl, sym, ap, subst, _∙_}
 use mathlib.Core.List.{List}
@@ -14,16 +15,20 @@ use Rattle.accepted.proofs.Acceptance.{sheet-accepted}
 use Rattle.promises.specs.AcceptedBytes.{AcceptedBytes}
 use Rattle.decision.specs.Node.{Node}
 use Rattle.decision.specs.AcceptedGraph.{AcceptedGraph}
+use Rattle.decision.specs.Graph.{lowestFirst}
 use Rattle.decision.specs.Walk.{Walk}
+use Rattle.decision.proofs.keys.AskedFirst.{lowest-first}
 use Rattle.decision.proofs.waiting.WaitSentence.{wait-sentence-accepted}
+use Rattle.decision.proofs.waiting.WaitSentenceKept as definitions
 use Rattle.graph.specs.ReadGraph.{readGraph}
 use Rattle.graph.proofs.Spelled.{graph-read}
 use Rattle.walk.specs.Walking.{walkReply, replyValues}
 use Rattle.promises.specs.BuiltGraph.{BuiltGraph}
-use Rattle.promises.proofs.Demand2.{building, accepted-graph, graph-read-back}
+use Rattle.promises.proofs.PlainBytes.{terms-accepted}
+use Rattle.promises.proofs.Demand2.{building, accepted-sheet, accepted-graph, graph-read-back}
 use Rattle.promises.proofs.Demand3.{walk-over-nodes}
 use Rattle.promises.proofs.PathEdges.{walk-takes-none}
-use Rattle.decision.specs.Waiting.{ListedNotKnown}
+use Rattle.decision.specs.Waiting.{ListedNotKnown, ListedKept}
 use Rattle.build.specs.Building.{Building}
 
 -- The word tells whether an answer is suspend.
@@ -32,6 +37,21 @@ word-suspends (commit i) e = absurd (omega (arith, e))
 word-suspends (execute i) e = absurd (omega (arith, e))
 word-suspends suspend e = refl
 word-suspends fail e = absurd (omega (arith, e))
+
+-- A reply with the word suspend, over a graph that is read as nodes, is a walk that suspends.
+reply-suspends
+    : {s p : List ℕ} {sheet : Sheet} {piece : Piece} → AcceptedBytes s p sheet piece
+    → (g : List ℕ) {k : ℕ} {nodes : List (Node ℕ)} → readGraph sheet g ≡ took k nodes
+    → replyValues (walkReply s g p) .word ≡ wordOf suspend
+    → (w : Walk) × (walkReply s g p ≡ took 0 w) × (w .answer ≡ suspend)
+reply-suspends {s} {p} {sheet} {piece} ok g {k} {nodes} read word = go (walkReply s g p) refl
+  where
+    go : (r : Reading Walk) → walkReply s g p ≡ r → (w : Walk) × (walkReply s g p ≡ took 0 w) × (w .answer ≡ suspend)
+    go (took k w) e =
+        let none = walk-takes-none (sheet .rules) nodes (piece .terms) (sym (walk-over-nodes g ok read) ∙ e) in
+        let suspends = word-suspends (w .answer) (ap (λ (x : Reading Walk). replyValues x .word) (sym e) ∙ word) in
+        (w, e ∙ ap (λ (n : ℕ). took n w) none, suspends)
+    go (refused q) e = absurd (omega (arith, ap (λ (x : Reading Walk). replyValues x .word) (sym e) ∙ word))
 
 module _ {s p q : List ℕ} {sheet : Sheet} {piece further : Piece} (ok : AcceptedBytes s p sheet piece)
     (okFurther : AcceptedBytes s q sheet further) (more : FilledFurther (piece .terms) (further .terms)) where
@@ -52,16 +72,10 @@ module _ {s p q : List ℕ} {sheet : Sheet} {piece further : Piece} (ok : Accept
     values-still
         : replyValues (walkReply s g p) .word ≡ wordOf suspend → StillListed (replyValues (walkReply s g p) .waits)
         → replyValues (walkReply s g q) ≡ replyValues (walkReply s g p)
-    values-still word listed = go (walkReply s g p) refl
-      where
-        go : (r : Reading Walk) → walkReply s g p ≡ r → replyValues (walkReply s g q) ≡ replyValues (walkReply s g p)
-        go (took k w) e =
-            let none = walk-takes-none (sheet .rules) nodes (piece .terms) (sym (walk-over-nodes g ok read) ∙ e) in
-            let answers = e ∙ ap (λ (n : ℕ). took n w) none in
-            let suspends = word-suspends (w .answer) (ap (λ (x : Reading Walk). replyValues x .word) (sym e) ∙ word) in
-            let here = subst (λ (x : Reading Walk). StillListed (replyValues x .waits)) e listed in
-            ap replyValues (suspends-still answers suspends here ∙ sym answers)
-        go (refused q) e = absurd (omega (arith, ap (λ (x : Reading Walk). replyValues x .word) (sym e) ∙ word))
+    values-still word listed =
+        let (w, answers, suspends) = reply-suspends ok g read word in
+        let here = subst (λ (x : Reading Walk). StillListed (replyValues x .waits)) answers listed in
+        ap replyValues (suspends-still answers suspends here ∙ sym answers)
 
   -- Of every graph that the check accepts, built or another maker's: the walk of the piece filled in further suspends too, with the
   -- same edges and the same wait list.
@@ -100,3 +114,31 @@ module _ {s p q : List ℕ} {sheet : Sheet} {piece further : Piece} (ok : Accept
         → replyValues (walkReply s g q) ≡ replyValues (walkReply s g p)
     wait-values =
         values-still g (graph-read-back built (ok .areBytes .0) built-as) (accepted-graph built (ok .areBytes .0) built-as)
+
+    -- "While each listed place keeps what it held and each listed pair is still not known, a piece filled in further suspends,
+    -- although its walk may take another way."
+    pub wait-sentence-kept
+        : {w : Walk} → walkReply s g p ≡ took 0 w → w .answer ≡ suspend
+        → ListedKept (sheet .rules) (w .waits) (piece .terms) (further .terms)
+        → (v : Walk) × (walkReply s g q ≡ took 0 v) × (v .answer ≡ suspend)
+    wait-sentence-kept {w} e suspends listed =
+        let accepted = accepted-sheet built (ok .areBytes .0) built-as in
+        let read = graph-read-back built (ok .areBytes .0) built-as in
+        let (v, walks, still) =
+        definitions.wait-sentence-kept sheet accepted (lowestFirst (sheet .rules)) (lowest-first (sheet .rules)) (built-as .nodes)
+        (built-as .graph) (piece .terms) (further .terms) (terms-accepted ok) (terms-accepted okFurther) more w
+        (sym (walk-over-nodes g ok read) ∙ e) suspends listed in
+        (v, walk-over-nodes g okFurther read ∙ walks, still)
+
+    -- So it is of the word that `vt_walk` and of the wait list that `vt_wait` hands back.
+    pub wait-word-kept
+        : replyValues (walkReply s g p) .word ≡ wordOf suspend
+        → ListedKept (sheet .rules) (replyValues (walkReply s g p) .waits) (piece .terms) (further .terms)
+        → replyValues (walkReply s g q) .word ≡ wordOf suspend
+    wait-word-kept word listed =
+        let (w, answers, suspends) = reply-suspends ok g (graph-read-back built (ok .areBytes .0) built-as) word in
+        let here =
+        subst (λ (x : Reading Walk). ListedKept (sheet .rules) (replyValues x .waits) (piece .terms) (further .terms)) answers
+        listed in
+        let (v, later, still) = wait-sentence-kept answers suspends here in
+        ap (λ (x : Reading Walk). replyValues x .word) later ∙ ap wordOf still
