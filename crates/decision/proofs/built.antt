@@ -5,3 +5,4 @@ pub mod BuiltGraph
 pub mod Sharing
 pub mod OneLeaf
 pub mod SwitchSentence
+pub mod SameGraph

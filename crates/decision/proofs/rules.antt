@@ -5,3 +5,4 @@ pub mod LiveWants
 pub mod SoundWants
 pub mod TheWant
 pub mod NearTests
+pub mod SameTests

@@ -5,3 +5,4 @@ pub mod BuiltWalk
 pub mod Demand3
 pub mod LiveEdges
 pub mod LiveOn
+pub mod SameWalk

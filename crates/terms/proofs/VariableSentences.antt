@@ -61,22 +61,26 @@ pair-there b e (o ∷ os) up p q v m n before =
         let place : q ≡ o .place = ap (λ (x : Occurrence). x .place) f in absurd (omega (arith, later j))
     go (inr j) (inr k) rest = mem-right (pairsWith (o .place) (o .name) os) (rest j k)
 
--- The equality tests of an accepted rule are exactly the pairs p < q of places at which one variable stands.
+-- The pairs of variables that stand at ascending places are exactly the pairs p < q of places at which one variable stands,
+pub pairs-of-are
+    : (b e : ℕ) (os : List Occurrence) → Ascends variablePlace b e os → (p q : ℕ)
+    → Mem (both p q) (pairsOf os) ↔ ((v : ℕ) × Mem (standing p v) os × Mem (standing q v) os × (p < q))
+pairs-of-are b e os up p q =
+    let Standing : Occurrence → Type 0 = λ o. Mem o os in (
+      λ m. all-at (OneVariable os) m
+          (pairs-each Standing (OneVariable os)
+          (λ o x before same j k. (o .name, j, subst (λ (v : ℕ). Mem (standing (x .place) v) os) (sym same) k, before))
+          b e os up (all-from Standing os (λ o k. k))),
+      λ x. pair-there b e os up p q (x .0) (x .1) (x .2) (x .3),
+    )
+
+-- and so are the equality tests of an accepted rule.
 pub pairs-are
     : {arity : ℕ} {rule : Patterns} → AcceptedRule arity rule → (p q : ℕ)
     → Mem (both p q) (pairTests rule)
     ↔ ((v : ℕ) × Mem (standing p v) (ruleVariables rule) × Mem (standing q v) (ruleVariables rule) × (p < q))
 pairs-are {rule = rule} ok p q =
-    let os = ruleVariables rule in
-    let end = 0 + extent (countPatterns rule) 4 in
-    let up = all-variables-ascend rule 4 0 (ok .sound) in
-    let Standing : Occurrence → Type 0 = λ o. Mem o os in (
-      λ m. all-at (OneVariable os) m
-          (pairs-each Standing (OneVariable os)
-          (λ o x before same j k. (o .name, j, subst (λ (v : ℕ). Mem (standing (x .place) v) os) (sym same) k, before))
-          0 end os up (all-from Standing os (λ o k. k))),
-      λ x. pair-there 0 end os up p q (x .0) (x .1) (x .2) (x .3),
-    )
+    pairs-of-are 0 (0 + extent (countPatterns rule) 4) (ruleVariables rule) (all-variables-ascend rule 4 0 (ok .sound)) p q
 
 -- The number is in the range, if there is one.
 abbrev pub Inside : Option Range → ℕ → Type 0
