@@ -1,0 +1,109 @@
+-- The records of a rule in a row, as its bytes have them: tidying changes each record by itself, and the row keeps its length.
+-- So the writer needs no recursion.
+use Prim.Native.Nat.{ℕ}
+use mathlib.Core.Path.{_≡_, refl, sym, ap, _∙_}
+use mathlib.Core.Bool.{Bool, true, false, cond}
+use mathlib.Core.List.{List, [], _∷_, _++_, map, append-assoc}
+use mathlib.Core.Option.{Option, some, none}
+use Rattle.basics.proofs.Filters.{map-join}
+use Rattle.terms.specs.Pattern.{Pattern, Patterns, countPatterns, pnil, pcons}
+use Rattle.terms.specs.Pattern.{anything, theSymbol, theRange, theCompound, variable, rangedVariable}
+use Rattle.terms.specs.RuleTests.{Occurrence}
+use Rattle.terms.specs.RuleTests as tests
+use Rattle.sheet.specs.WriteSheet.{patternBytes, patternsBytes}
+use Rattle.sheet.specs.declared.PatternRecord.{PatternRecord}
+use Rattle.sheet.specs.declared.PatternRecord.the-variants.{Anything, Symbol, Range, Compound, Variable, Ranged}
+use Rattle.sheet.proofs.HeadBytes.{recordSpelling}
+use Rattle.tidy.specs.TidyRule.{isRepeated, newNumber, single, repeated, tidyPattern, tidyPatterns}
+use Rattle.tidy.proofs.TidyTests.{tidy-count}
+
+-- The records of a pattern, in preorder.
+abbrev mutual
+  pub patternRecords : Pattern → List PatternRecord
+  patternRecords anything = Anything ∷ []
+  patternRecords (theSymbol a) = Symbol a ∷ []
+  patternRecords (theRange l h) = Range l h ∷ []
+  patternRecords (theCompound a ps) = Compound a (countPatterns ps) ∷ patternsRecords ps
+  patternRecords (variable v) = Variable v ∷ []
+  patternRecords (rangedVariable v l h) = Ranged v l h ∷ []
+
+  pub patternsRecords : Patterns → List PatternRecord
+  patternsRecords pnil = []
+  patternsRecords (pcons p ps) = patternRecords p ++ patternsRecords ps
+
+-- The bytes that spell records in a row.
+abbrev pub recordsSpelling : List PatternRecord → List ℕ
+recordsSpelling [] = []
+recordsSpelling (r ∷ rs) = recordSpelling r ++ recordsSpelling rs
+
+spelling-join : (rs qs : List PatternRecord) → recordsSpelling (rs ++ qs) ≡ recordsSpelling rs ++ recordsSpelling qs
+spelling-join [] qs = refl
+spelling-join (r ∷ rs) qs =
+    ap (recordSpelling r ++_) (spelling-join rs qs)
+    ∙ sym (append-assoc (recordSpelling r) (recordsSpelling rs) (recordsSpelling qs))
+
+-- A pattern's records spell it.
+mutual
+  pub pattern-records-spell : (p : Pattern) → recordsSpelling (patternRecords p) ≡ patternBytes p
+  pattern-records-spell anything = refl
+  pattern-records-spell (theSymbol a) = refl
+  pattern-records-spell (theRange l h) = refl
+  pattern-records-spell (theCompound a ps) =
+      ap (λ (l : List ℕ). recordSpelling (Compound a (countPatterns ps)) ++ l) (records-spell ps)
+  pattern-records-spell (variable v) = refl
+  pattern-records-spell (rangedVariable v l h) = refl
+
+  pub records-spell : (ps : Patterns) → recordsSpelling (patternsRecords ps) ≡ patternsBytes ps
+  records-spell pnil = refl
+  records-spell (pcons p ps) =
+      spelling-join (patternRecords p) (patternsRecords ps) ∙ (λ i. pattern-records-spell p i ++ records-spell ps i)
+
+-- What a variable's record becomes: one that stands once, and a repeated one.
+abbrev singleRecord : Option tests.Range → PatternRecord
+singleRecord none = Anything
+singleRecord (some x) = Range (x .low) (x .high)
+
+abbrev repeatedRecord : ℕ → Option tests.Range → PatternRecord
+repeatedRecord n none = Variable n
+repeatedRecord n (some x) = Ranged n (x .low) (x .high)
+
+variable-records
+    : (c : Bool) (n : ℕ) (x : Option tests.Range)
+    → patternRecords (cond c (repeated n x) (single x)) ≡ cond c (repeatedRecord n x) (singleRecord x) ∷ []
+variable-records true n none = refl
+variable-records true n (some x) = refl
+variable-records false n none = refl
+variable-records false n (some x) = refl
+
+-- The tidy form of a record: only that of a variable changes.
+module _ (os : List Occurrence) (rangeOf : ℕ → Option tests.Range) where
+  abbrev pub tidyVariableRecord : ℕ → PatternRecord
+  tidyVariableRecord v = cond (isRepeated os v) (repeatedRecord (newNumber os v) (rangeOf v)) (singleRecord (rangeOf v))
+
+  abbrev pub tidyRecord : PatternRecord → PatternRecord
+  tidyRecord Anything = Anything
+  tidyRecord (Symbol a) = Symbol a
+  tidyRecord (Range l h) = Range l h
+  tidyRecord (Compound a n) = Compound a n
+  tidyRecord (Variable v) = tidyVariableRecord v
+  tidyRecord (Ranged v l h) = tidyVariableRecord v
+
+  -- The records of the tidy form are the tidy records, one for one.
+  mutual
+    pub tidy-pattern-records : (p : Pattern) → patternRecords (tidyPattern os rangeOf p) ≡ map tidyRecord (patternRecords p)
+    tidy-pattern-records anything = refl
+    tidy-pattern-records (theSymbol a) = refl
+    tidy-pattern-records (theRange l h) = refl
+    tidy-pattern-records (theCompound a ps) = λ i. Compound a (tidy-count os rangeOf ps i) ∷ tidy-records ps i
+    tidy-pattern-records (variable v) = variable-records (isRepeated os v) (newNumber os v) (rangeOf v)
+    tidy-pattern-records (rangedVariable v l h) = variable-records (isRepeated os v) (newNumber os v) (rangeOf v)
+
+    pub tidy-records : (ps : Patterns) → patternsRecords (tidyPatterns os rangeOf ps) ≡ map tidyRecord (patternsRecords ps)
+    tidy-records pnil = refl
+    tidy-records (pcons p ps) =
+        (λ i. tidy-pattern-records p i ++ tidy-records ps i) ∙ sym (map-join tidyRecord (patternRecords p) (patternsRecords ps))
+
+  -- So the tidy rule's bytes are those of the tidy records.
+  pub tidy-spelling
+      : (ps : Patterns) → patternsBytes (tidyPatterns os rangeOf ps) ≡ recordsSpelling (map tidyRecord (patternsRecords ps))
+  tidy-spelling ps = sym (records-spell (tidyPatterns os rangeOf ps)) ∙ ap recordsSpelling (tidy-records ps)

@@ -1,0 +1,3 @@
+-- What a tidy sheet is.
+pub mod TidyRule
+pub mod TidySheet
