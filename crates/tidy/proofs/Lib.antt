@@ -1,4 +1,4 @@
--- The laws of tidy sheets. Some of them, computed:
+-- The laws of tidy sheets. Sheets whose tidy form is computed:
 pub mod Examples
 -- The variables of a rule, their pairs and their new numbers:
 pub mod Occurrences
