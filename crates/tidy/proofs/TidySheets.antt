@@ -79,7 +79,7 @@ module _ (sheet : Sheet) (accepted : AcceptedSheet sheet) where
       let same : again ≡ tidySheet sheet = cc in
       ap tidyBytes same ∙ ap sheetBytes tidy-sheet-twice
 
-  -- "And the tidy sheet has the same graph", in whatever order the tests are asked,
+  -- And "the tidy sheet has the same graph", in whatever order the tests are asked,
   pub tidy-same-graph : graphOf (tidySheet sheet .rules) ≡ graphOf (sheet .rules)
   tidy-same-graph = same-tests-same-graph (tidySheet sheet .rules) (sheet .rules) (tests-kept .0) (tests-kept .1)
 

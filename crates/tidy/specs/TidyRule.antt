@@ -35,30 +35,30 @@ module _ (variables : List Occurrence) where
   abbrev pub stoodBefore : Occurrence → Bool
   stoodBefore o = anyOf (isEarlier o) variables
 
-  -- "A repeated one": variable v stands at a place, and again at a later one.
+  -- Variable v is "a repeated one": it stands at a place, and again at a later one.
   abbrev pub isAgain : ℕ → Occurrence → Bool
   isAgain v o = isNamed v o && standsAgain o
 
   abbrev pub isRepeated : ℕ → Bool
   isRepeated v = anyOf (isAgain v) variables
 
-  -- "First appearance": a repeated variable stands there that stood nowhere before. Only repeated variables are numbered.
+  -- A "first appearance": a repeated variable stands there that stood nowhere before. Only repeated variables are numbered.
   abbrev pub appearsFirst : Occurrence → Bool
   appearsFirst o = standsAgain o && not (stoodBefore o)
 
   abbrev pub firstAppearances : List Occurrence
   firstAppearances = filter appearsFirst variables
 
-  -- "Numbered from 0 by first appearance in each rule".
+  -- The number of a repeated variable, "numbered from 0 by first appearance in each rule".
   abbrev pub newNumber : ℕ → ℕ
   newNumber v = positionOf (isNamed v) firstAppearances
 
--- "One that stands once written as anything or its range",
+-- A variable becomes, as "one that stands once written as anything or its range",
 abbrev pub single : Option Range → Pattern
 single none = anything
 single (some x) = theRange (x .low) (x .high)
 
--- "a repeated one with its common range, if any, at each of its places".
+-- or as "a repeated one with its common range, if any, at each of its places".
 abbrev pub repeated : ℕ → Option Range → Pattern
 repeated n none = variable n
 repeated n (some x) = rangedVariable n (x .low) (x .high)

@@ -17,13 +17,13 @@ tidySheet sheet = record { arity = sheet .arity; rules = map tidyRule (sheet .ru
 abbrev pub tidyBytes : Sheet → List ℕ
 tidyBytes sheet = sheetBytes (tidySheet sheet)
 
--- "The same tests": each place test of the one, with what it wants, is one of the other, and each equality test is.
+-- Two rules have "the same tests": each place test of the one, with what it wants, is one of the other, and each equality test.
 abbrev pub SameTests : Patterns → Patterns → Type 0
 SameTests rule other =
     ((x : PlaceTest) → Mem x (placeTests rule) ↔ Mem x (placeTests other))
     × ((x : PairTest) → Mem x (pairTests rule) ↔ Mem x (pairTests other))
 
--- "Rule for rule": as many, the first like the first, and so on.
+-- Two sheets have them "rule for rule": as many rules, the first like the first, and so on.
 abbrev pub AllSameTests : List Patterns → List Patterns → Type 0
 AllSameTests [] [] = Unit
 AllSameTests [] (other ∷ others) = ⊥
