@@ -83,7 +83,8 @@ module _ (arity rules : ℕ) (s c buffer : List ℕ) where
   pub built-many : keysFrom s c ≡ none → notBuilt 18 buffer ≡ graphWritten arity rules (graphIn s c) buffer
   built-many e = sym (ap (λ (x : Option (List Key)). graphWritten arity rules (nodesIf s c x) buffer) e)
 
-  module _ (t : List ℕ) (bytes : ℕ) (all : keysFrom s c ≡ some (keysIn t)) (size : bytes ≡ length (nodesBytes (nodesFrom s c (keysIn t)))) where
+  module _ (t : List ℕ) (bytes : ℕ) (all : keysFrom s c ≡ some (keysIn t))
+      (size : bytes ≡ length (nodesBytes (nodesFrom s c (keysIn t)))) where
     abbrev nodes : List (Node ℕ)
     nodes = nodesFrom s c (keysIn t)
 

@@ -23,18 +23,18 @@ use Rattle.accepted.specs.views.AcceptedAs.{AcceptedTests}
 use Rattle.decision.specs.Graph.{graphOf}
 use Rattle.tables.specs.views.Planes.{rulesIn, placeTestsIn}
 use Rattle.cuts.specs.views.Cuts.{partAt}
-use Rattle.rows.specs.views.Numbers.{numberAll}
-use Rattle.rows.specs.views.Tests.{testsPut, underPut}
+use Rattle.test_list.specs.views.Numbers.{numberAll}
+use Rattle.test_list.specs.views.Tests.{testsPut, underPut}
 use Rattle.rows.specs.views.TestsOf.{TestsOf}
 use Rattle.rows.proofs.SheetRows.{zeros}
-use Rattle.rows.proofs.TestsListed.{under-rows}
+use Rattle.test_list.proofs.TestsListed.{under-rows}
 use Rattle.rows.proofs.TestsRight.{tests-listed}
 use Rattle.compiled.specs.views.Compiling.{Compiling}
 use Rattle.build.specs.declared.Built.the-variants.{Refused}
 use Rattle.build.specs.BuildOutcome.{graphWritten, sheetBuilt, buildOutcome, leftBy}
 use Rattle.build.specs.views.Tabled.{SheetHeld}
 
-module _ (s words codes : List ℕ) (arity count pairs : ℕ) (sheet : Sheet) (k : SheetHeld s words codes arity count pairs sheet) where
+module _ {s words codes : List ℕ} {arity count pairs : ℕ} {sheet : Sheet} (k : SheetHeld s words codes arity count pairs sheet) where
   pub accepted-rules : All (AcceptedRule arity) (sheet .rules)
   accepted-rules =
       subst (λ (n : ℕ). All (AcceptedRule n) (sheet .rules)) (k .known .arityIs) (k .known .accepted .sound .acceptedRules)
@@ -68,7 +68,7 @@ module _ (s words codes : List ℕ) (arity count pairs : ℕ) (sheet : Sheet) (k
         tests-listed (sheet .rules) (placesIn words) (take pairs codes) blank (k .tests) enough long
         (rules-in ∙ sym (k .known .countIs)) made listed
 
-    pub kept-compiling
+    kept-compiling
         : (size : ℕ) → partAt (rulesIn s′) (placeTestsIn s′) ≤ size → Compiling arity s numbers s′ (replicate size 0) (sheet .rules)
     kept-compiling size room =
         let rules : rulesIn s′ ≡ count = kept-listed .rulesAre ∙ k .known .countIs in
@@ -88,19 +88,21 @@ module _ (s words codes : List ℕ) (arity count pairs : ℕ) (sheet : Sheet) (k
           noCuts = zeros size;
         }
 
-    -- Room by what was worked out,
-    pub small-room
-        : {size p t : ℕ} → t ≡ placeTestsIn s′ → p ≡ partAt count t → p ≤ size → partAt (rulesIn s′) (placeTestsIn s′) ≤ size
-    small-room {size} tests part h =
+    -- There is room where that was worked out,
+    pub small-compiling
+        : (size : ℕ) {p t : ℕ} → t ≡ placeTestsIn s′ → p ≡ partAt count t → p ≤ size
+        → Compiling arity s numbers s′ (replicate size 0) (sheet .rules)
+    small-compiling size tests part h =
         let rules : rulesIn s′ ≡ count = kept-listed .rulesAre ∙ k .known .countIs in
-        subst (λ (x : ℕ). x ≤ size) (part ∙ (λ j. partAt (sym rules j) (tests j))) h
+        kept-compiling size (subst (λ (x : ℕ). x ≤ size) (part ∙ (λ j. partAt (sym rules j) (tests j))) h)
 
     -- and for every sheet in 8,256.
-    pub large-room : partAt (rulesIn s′) (placeTestsIn s′) ≤ 8256
-    large-room =
+    pub large-compiling : Compiling arity s numbers s′ (replicate 8256 0) (sheet .rules)
+    large-compiling =
         let rules : rulesIn s′ ≡ count = kept-listed .rulesAre ∙ k .known .countIs in
-        mul-le-mul {n₁ = 1 + 4 * rulesIn s′} {m₁ = placeTestsIn s′} {n₂ = 129} {m₂ = 64} (omega (arith, rules, small-sheet .1))
-        (omega (arith, kept-listed .counted .places, kept-listed .counted .few))
+        kept-compiling 8256
+        (mul-le-mul {n₁ = 1 + 4 * rulesIn s′} {m₁ = placeTestsIn s′} {n₂ = 129} {m₂ = 64} (omega (arith, rules, small-sheet .1))
+        (omega (arith, kept-listed .counted .places, kept-listed .counted .few)))
 
 -- There are few tests.
 pub few-tests

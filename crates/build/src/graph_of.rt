@@ -57,7 +57,8 @@ fn build_cut(
     build_tables(arity, s, c, buf)
 }
 
-// The same in room for the cuts of a small sheet: a large array takes longer to clear than a small graph to build.
+// The same in room for the cuts of a small sheet, and of every sheet: a large array takes longer to clear than a small graph to
+// build.
 fn build_small(b: &[u8], arity: u8, numbers: &[u8; 680], s: &mut Tables, buf: &mut [u8]) -> Built
     requires { ⌜ ((all : List Patterns) × Compiling arity (now b) (now numbers) (now s) (replicate 320 0) all) ⌝ }
     ensures { λ r. ⌜ ((all : List Patterns)
@@ -68,7 +69,6 @@ fn build_small(b: &[u8], arity: u8, numbers: &[u8; 680], s: &mut Tables, buf: &m
     build_cut(b, arity, numbers, s, &mut c, buf)
 }
 
-// The same in room for the cuts of every sheet.
 fn build_large(b: &[u8], arity: u8, numbers: &[u8; 680], s: &mut Tables, buf: &mut [u8]) -> Built
     requires { ⌜ ((all : List Patterns) × Compiling arity (now b) (now numbers) (now s) (replicate 8256 0) all) ⌝ }
     ensures { λ r. ⌜ ((all : List Patterns)
@@ -98,7 +98,7 @@ fn build_rules(
     let mut s = [0u64; 260];
     let mut numbers = [0u8; 680];
     s[0] = rules as u64;
-    rows::list_tests(words, codes, pairs, &mut s, &mut numbers);
+    test_list::list_tests(words, codes, pairs, &mut s, &mut numbers);
     if cuts::part(rules as usize, tables::place_tests(&s)) <= 320 {
         return build_small(b, arity, &numbers, &mut s, buf);
     }

@@ -64,12 +64,14 @@ module _ (i row : ℕ) (s₀ s : List ℕ) (left : ℕ) (c : Columning i row s�
         (both .0, λ e. false≢true (sym (ap not (eq-eqb t j e)) ∙ both .1))
 
     pub columning-turn
-        : {u : List ℕ} (v : ℕ) → u ≡ set s (132 + t) v → v ≡ withTest (columnIn s t) i → Columning i row s₀ u (bitAnd left (left - 1))
+        : {u : List ℕ} (v : ℕ) → u ≡ set s (132 + t) v → v ≡ withTest (columnIn s t) i
+        → Columning i row s₀ u (bitAnd left (left - 1))
     columning-turn {u} v e is = record {
       fits = and-fits 64 left (left - 1) (c .fits);
       entries = ap length e ∙ length-set s (132 + t) v ∙ c .entries;
       others = λ k apart.
-          other k (⊎-elim (λ (h : k < 132) d. omega (arith, low)) (λ (h : 196 ≤ k) d. omega (arith, low)) apart) ∙ c .others k apart;
+          other k (⊎-elim (λ (h : k < 132) d. omega (arith, low)) (λ (h : 196 ≤ k) d. omega (arith, low)) apart)
+          ∙ c .others k apart;
       part = λ j h. c .part j (still j h .0);
       todo = λ j l h. column j (still j h .1) ∙ c .todo j l (still j h .0);
       with = λ j l there gone.

@@ -19,7 +19,7 @@ use Rattle.tables.specs.views.TablesOf.{TablesOf}
 use Rattle.cuts.specs.views.Cuts.{Cut, cutWith, partAt, countAt, cutAt, cutsIn, Parted}
 use Rattle.cuts.specs.views.CutsOf.{cutsTo, CutsOf}
 use Rattle.cuts.proofs.AscendingCuts.{cuts-coded}
-use Rattle.rows.proofs.PutLists.{row-at}
+use Rattle.test_list.proofs.PutLists.{row-at}
 use Rattle.rows.proofs.TestNumbers.{tests-number, place-number}
 use Rattle.rows.proofs.TestsRight.{tests-are, tests-near, tests-coded, tests-split, unknown-settles}
 use Rattle.compiled.specs.views.Compiling.{Compiling, Compiled}

@@ -31,11 +31,11 @@ use Rattle.cuts.specs.views.Cuts.{partAt, countAt, cutAt, cutsIn}
 use Rattle.cuts.specs.views.CutsOf.{turnRule, cutsTo}
 use Rattle.cuts.proofs.AscendingCuts.{cuts-few}
 use Rattle.rows.specs.views.Wants.{notesTests}
-use Rattle.rows.specs.views.Tests.{Counted, pairsListed}
+use Rattle.test_list.specs.views.Tests.{Counted, pairsListed}
 use Rattle.rows.specs.views.Row.{withTest, notesRow}
 use Rattle.rows.specs.views.TestsOf.{TestsOf}
 use Rattle.rows.proofs.NotesRight.{rule-wants}
-use Rattle.rows.proofs.SameTests.{same-counted, same-pairs}
+use Rattle.test_list.proofs.SameTests.{same-counted, same-pairs}
 use Rattle.rows.proofs.TestNumbers.{tests-number, place-number, number-place}
 use Rattle.rows.proofs.TestsRight.{row-is}
 use Rattle.compiled.specs.views.Columns.{Columned}
@@ -157,7 +157,8 @@ module _ {arity : ℕ} {b numbers s₀ c₀ : List ℕ} {all : List Patterns} (g
 
         -- and with it the tables and the cuts are those of one rule more.
         pub filled-turn
-            : {s′ c′ : List ℕ} → Columned i row (set s (68 + i) row) s′ → c′ ≡ turnAll numbers (rulesIn s) i own c → Filled (i + 1) s′ c′
+            : {s′ c′ : List ℕ} → Columned i row (set s (68 + i) row) s′ → c′ ≡ turnAll numbers (rulesIn s) i own c
+            → Filled (i + 1) s′ c′
         filled-turn {s′} {c′} put cut = subst (λ (k : ℕ). Filled k s′ c′) (sym (add-one i)) next
           where
             col : Columned i set-of (set s (68 + i) set-of) s′
@@ -200,9 +201,8 @@ module _ {arity : ℕ} {b numbers s₀ c₀ : List ℕ} {all : List Patterns} (g
               long = ap length cuts-are ∙ turned .long ∙ f .long;
               cuts = λ t n k is.
                   let (inside, spot) = number-place all (l .places) (l .pairs) (l .tests) t n k is in
+                  let want = wants-at arity all (g .arguments) (g .accepted) numbers s₀ l (rulesIn s₀) i h (l .rulesAre) t n k is in
                   ap (λ (x : List ℕ). cutsIn x (partAt (rulesIn s₀) t)) cuts-are
                   ∙ turned .cuts t (omega (arith, l .placesAre))
-                  ∙ (λ j.
-                  turnRule i (wants-at arity all (g .arguments) (g .accepted) numbers s₀ l (rulesIn s₀) i h (l .rulesAre) t n k is j)
-                  (f .cuts t n k is j));
+                  ∙ (λ j. turnRule i (want j) (f .cuts t n k is j));
             }

@@ -26,7 +26,9 @@ module _ (numbers : List ℕ) (rules i : ℕ) (low high : List ℕ) (all : List 
     abbrev from : ℕ
     from = partAt rules (getD numbers (x .place) 0)
 
-    next : (y : Option Want) → recordWant low high (x .what) ≡ y → notesTests low high left ≡ testIf (x .place) y (notesTests low high rest)
+    next
+        : (y : Option Want) → recordWant low high (x .what) ≡ y
+        → notesTests low high left ≡ testIf (x .place) y (notesTests low high rest)
     next y is = ap (notesTests low high) e ∙ ap (λ (z : Option Want). testIf (x .place) z (notesTests low high rest)) is
 
     module _ (w : Want) (is : recordWant low high (x .what) ≡ some w) where

@@ -10,7 +10,7 @@ use Rattle.basics.specs.Lists.{countFrom}
 use Rattle.basics.proofs.Counting.{count-length}
 use Rattle.records.specs.Writing.{splice}
 use Rattle.cuts.specs.views.Cuts.{Cut, cutWith, countAt, cutAt, cutsIn, cutWords, partWords}
-use Rattle.rows.proofs.PutLists.{row-at}
+use Rattle.test_list.proofs.PutLists.{row-at}
 
 -- What is spliced in stands there,
 splice-in
@@ -114,7 +114,9 @@ part-other c from xs other room apart =
     ap (λ (n : ℕ). map (cutAt after other) (countFrom 0 n)) (stays other (omega arith) (omega arith))
     ∙ map-same (cutAt after other) (cutAt c other) 0 (countAt c other)
     (λ k l h.
-    λ j. cutWith (stays (other + 1 + 2 * k) (omega arith) (omega arith) j) (stays (other + 2 + 2 * k) (omega arith) (omega arith) j))
+    let code = stays (other + 1 + 2 * k) (omega arith) (omega arith) in
+    let turns = stays (other + 2 + 2 * k) (omega arith) (omega arith) in
+    λ j. cutWith (code j) (turns j))
   where
     after : List ℕ
     after = splice c from (partWords xs)

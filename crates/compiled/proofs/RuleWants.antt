@@ -1,4 +1,5 @@
--- The place tests of a rule by their numbers: no two have one number, and by test t the rule wants what it wants at the test's place.
+-- The place tests of a rule by their numbers: no two have one number, and by test t the rule wants what it wants at the place of
+-- the test.
 use Prim.Native.Nat.{ℕ, suc, _≤_, _<_}
 use mathlib.Core.Path.{_≡_, refl, sym, ap, _∙_}
 use mathlib.Core.Bool.{cond}
@@ -22,7 +23,7 @@ use Rattle.sheet_tests.specs.SheetTests.{place, sheetTests}
 use Rattle.decision.specs.Rules.{testAt, wantIn, wantAt}
 use Rattle.decision.proofs.rules.SoundWants.{rule-accepted}
 use Rattle.tables.specs.views.Planes.{placeTestsIn}
-use Rattle.rows.specs.views.Numbers.{numberAll}
+use Rattle.test_list.specs.views.Numbers.{numberAll}
 use Rattle.rows.specs.views.TestsOf.{TestsOf}
 use Rattle.rows.proofs.TestNumbers.{number-place}
 use Rattle.rows.proofs.RowRight.{place-found}
@@ -65,7 +66,9 @@ module _ (arity : ℕ) (all : List Patterns) (few : arity ≤ 8) (accepted : All
       let (h, spot) = number-place all (l .places) (l .pairs) (l .tests) (number x) (x .place) (mine .0) (mine .1) in
       omega (arith, l .placesAre))
 
-  apart-from : (b e : ℕ) (xs : List PlaceTest) → Ascends testPlace b e xs → All Own xs → Apart numbers rules i (placeTestsIn s) inside xs
+  apart-from
+      : (b e : ℕ) (xs : List PlaceTest) → Ascends testPlace b e xs → All Own xs
+      → Apart numbers rules i (placeTestsIn s) inside xs
   apart-from b e [] up own = tt
   apart-from b e (x ∷ xs) up own = (
     all-from (λ (y : PlaceTest). number x ≡ number y → ⊥) xs later,
@@ -74,7 +77,8 @@ module _ (arity : ℕ) (all : List Patterns) (few : arity ≤ 8) (accepted : All
     where
       later : (y : PlaceTest) → Mem y xs → number x ≡ number y → ⊥
       later y m same =
-          let after = all-at (λ (z : PlaceTest). suc (x .place) ≤ z .place) m (ascends-from testPlace (suc (x .place)) e xs (up .1)) in
+          let above = ascends-from testPlace (suc (x .place)) e xs (up .1) in
+          let after = all-at (λ (z : PlaceTest). suc (x .place) ≤ z .place) m above in
           let d : place (x .place) ≡ place (y .place) = sym (own .0 .1) ∙ ap (testAt all) same ∙ all-at Own m (own .1) .1 in
           let equal : x .place ≡ y .place = cc in
           omega arith

@@ -40,7 +40,8 @@ module _ (arity : ℕ) (b numbers s₀ c₀ : List ℕ) where
         filled = filled-start g;
       }
 
-  module _ (i at : ℕ) (s c : List ℕ) (tabling : Tabling i at s c) (all : List Patterns) (g : Compiling arity b numbers s₀ c₀ all) where
+  module _ (i at : ℕ) (s c : List ℕ) (tabling : Tabling i at s c) (all : List Patterns)
+      (g : Compiling arity b numbers s₀ c₀ all) where
     -- and after the last all are in.
     pub tabling-end : i ≡ rulesIn s₀ → Compiled all s c
     tabling-end e = filled-done g s c (subst (λ (k : ℕ). Filled g k s c) e (tabling all g .filled))
@@ -49,7 +50,8 @@ module _ (arity : ℕ) (b numbers s₀ c₀ : List ℕ) where
       -- Where a rule is refused, so are all.
       pub tabling-refused : {C : Type 0} {q : ℕ} → readRule arity (drop at b) ≡ refused q → C
       tabling-refused no-rule =
-          let d = sym (tabling all g .read) ∙ row-refused [] _∷_ (readRule arity) (rulesIn s₀ - i) (drop at b) (omega arith) no-rule in
+          let none = row-refused [] _∷_ (readRule arity) (rulesIn s₀ - i) (drop at b) (omega arith) no-rule in
+          let d = sym (tabling all g .read) ∙ none in
           clash (cc)
 
       module _ {k : ℕ} (rule : Patterns) (one : readRule arity (drop at b) ≡ took k rule) where
@@ -73,7 +75,6 @@ module _ (arity : ℕ) (b numbers s₀ c₀ : List ℕ) where
         pub tabling-turn : {s′ c′ : List ℕ} → Filled g (i + 1) s′ c′ → Left all g (i + 1) (at + k) s′ c′
         tabling-turn f =
             let less : rulesIn s₀ - (i + 1) ≡ rulesIn s₀ - i - 1 = omega arith in
-            let next : i + 1 ≡ i + 1 = refl in
             record {
               used = others .0;
               left = others .1;

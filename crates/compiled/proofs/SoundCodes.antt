@@ -34,7 +34,8 @@ rules-sound arity rules accepted i n w e =
     let rule = ruleAt rules (suc i) in
     by-cases (decLt i (length rules))
     (λ (h : i < length rules).
-    want-sound w (all-at SoundTest (want-test (placeTests rule) n w e) (rule-tests-sound rule (rule-accepted arity rules accepted i h))))
+    let sound = rule-tests-sound rule (rule-accepted arity rules accepted i h) in
+    want-sound w (all-at SoundTest (want-test (placeTests rule) n w e) sound))
     (λ (h : i < length rules → ⊥).
     let empty : rule ≡ pnil = List·getD-eq-default rules pnil (omega arith) in
     let d : wantAt (pnil ∷ []) 0 n ≡ some w = sym (ap (λ (r : Patterns). wantAt (r ∷ []) 0 n) empty) ∙ e in

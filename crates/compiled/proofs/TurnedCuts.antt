@@ -210,7 +210,8 @@ module _ (numbers : List ℕ) (rules i places : ℕ) (inside : i < rules) where
             ∙ ap (λ (v : ℕ). cutsIn after (partAt rules v)) e
             ∙ both-own i (x .want) c (partAt rules (number x)) fits
             ∙ sym
-            ((λ j. turnRule i (cond (eq-eqb (number x) u (sym e) j) (some (x .want)) (wantOf xs u)) (cutsIn c (partAt rules (e j))))))
+            (λ j.
+            turnRule i (cond (eq-eqb (number x) u (sym e) j) (some (x .want)) (wantOf xs u)) (cutsIn c (partAt rules (e j)))))
             (λ (e : ¬ (u ≡ number x)).
             ap (turnRule i (wantOf xs u)) (one-other x c (within .0) (r .room) (r .fewer .0) u h e (r .most u h))
             ∙ sym

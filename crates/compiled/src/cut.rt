@@ -10,7 +10,7 @@ ghost use Rattle.basics.specs.Lists.{All};
 ghost use Rattle.sheet.specs.views.NoteArray.{notesIn};
 ghost use Rattle.sheet_tests.specs.views.NoteTests.{Placed};
 ghost use Rattle.cuts.specs.views.Cuts.{countAt};
-ghost use Rattle.rows.specs.views.Numbers.{Small};
+ghost use Rattle.test_list.specs.views.Numbers.{Small};
 ghost use Rattle.rows.specs.views.Wants.{notesTests};
 ghost use Rattle.compiled.specs.views.CutRules.{turnIn, TurnsFit, turnAll};
 

@@ -9,15 +9,13 @@ ghost use lib.ListN.{length, set};
 ghost use Rattle.basics.specs.Lists.{All};
 ghost use Rattle.terms.specs.Pattern.{Patterns};
 ghost use Rattle.sheet.specs.views.NoteArray.{notesIn};
-ghost use Rattle.sheet.specs.views.NoteRanges.{lowsOf, highsOf};
 ghost use Rattle.sheet_tests.specs.views.NoteTests.{Placed};
 ghost use Rattle.tables.specs.views.Planes.{rulesIn, placeTestsIn};
-ghost use Rattle.rows.specs.views.Numbers.{Small};
-ghost use Rattle.rows.specs.views.Tests.{Counted, pairsListed};
-ghost use Rattle.rows.specs.views.Wants.{notesTests};
+ghost use Rattle.test_list.specs.views.Numbers.{Small};
+ghost use Rattle.test_list.specs.views.Tests.{Counted, pairsListed};
 ghost use Rattle.rows.specs.views.Row.{notesRow};
 ghost use Rattle.compiled.specs.views.Columns.{Columned};
-ghost use Rattle.compiled.specs.views.CutRules.{TurnsFit, turnAll};
+ghost use Rattle.compiled.specs.views.CutRules.{wantsOf, TurnsFit, turnAll};
 ghost use Rattle.compiled.specs.views.Compiling.{Compiling, Compiled};
 
 // Rule i has these tests: its row, and the rule in the column of each. Not in the column of another test, nor the row of another
@@ -47,7 +45,7 @@ fn table_rule(
     requires { ⌜ (n ≤ 680) × (length (now notes) ≡ 680) × All Placed (notesIn (now notes) n) × Small (now numbers) × (i < 64)
         × Counted (now s) × (rulesIn (now s) ≤ 64) ⌝ }
     requires { ⌜ TurnsFit (now numbers) (rulesIn (now s)) i
-        (notesTests (lowsOf (notesIn (now notes) n)) (highsOf (notesIn (now notes) n)) (notesIn (now notes) n)) (now c) ⌝ }
+        (wantsOf (notesIn (now notes) n)) (now c) ⌝ }
     ensures { λ _. ⌜ Columned i
         (notesRow (now (numbers .entry)) (placeTestsIn (now (s .entry))) (pairsListed (now (s .entry)))
         (notesIn (now (notes .entry)) n))
@@ -57,8 +55,7 @@ fn table_rule(
         (now (s .exit)) ⌝ }
     ensures { λ _. ⌜ now (c .exit)
         ≡ turnAll (now (numbers .entry)) (rulesIn (now (s .entry))) i
-        (notesTests (lowsOf (notesIn (now (notes .entry)) n)) (highsOf (notesIn (now (notes .entry)) n))
-        (notesIn (now (notes .entry)) n))
+        (wantsOf (notesIn (now (notes .entry)) n))
         (now (c .entry)) ⌝ }
 {
     let rules = tables::rules(s);

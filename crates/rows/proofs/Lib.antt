@@ -1,16 +1,10 @@
 -- The laws of tests by their numbers, for the proofs of this crate and of those that use it.
-pub mod WordPlaces
 pub mod AscendingLists
 pub mod TestNumbers
-pub mod PlaceNumbers
 pub mod NotesWanted
 pub mod RowTurns
 pub mod NotesRight
 pub mod RowRight
-pub mod PutLists
-pub mod SettledTests
-pub mod TestsListed
-pub mod SameTests
 pub mod SheetRows
 pub mod UnderRight
 pub mod TestsRight

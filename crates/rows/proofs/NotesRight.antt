@@ -8,7 +8,8 @@ use lib.ListN.{getD}
 use borrow.Author.Tests.{lt-ltb}
 use Rattle.places.specs.Numbering.{stride}
 use Rattle.basics.specs.Lists.{All}
-use Rattle.terms.specs.Pattern.{Pattern, Patterns, anything, theSymbol, theRange, theCompound, variable, rangedVariable, pnil, pcons}
+use Rattle.terms.specs.Pattern.{Pattern, Patterns, anything, theSymbol, theRange, theCompound, variable, rangedVariable}
+use Rattle.terms.specs.Pattern.{pnil, pcons}
 use Rattle.terms.specs.RuleTests.{Range, PlaceTest, Occurrence, rangeTest, pairsOf, placeTests}
 use Rattle.terms.specs.Accepted.{Sound, Sounds, AcceptedRule}
 use Rattle.basics.proofs.ListLaws.{all-join}

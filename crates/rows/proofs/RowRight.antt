@@ -29,8 +29,7 @@ use Rattle.decision.specs.Rules.{sameTest, testAt, hasTest, testsWhere}
 use Rattle.basics.proofs.Filters.{mem-left, mem-right, mem-map}
 use Rattle.decision.proofs.rules.TestsOfRules.{same-test, test-same, mem-has}
 use Rattle.decision.proofs.rules.TestNumbers.{test-number}
-use Rattle.rows.specs.views.Numbers.{pairNumber}
-use Rattle.rows.specs.views.Row.{withTest, withTests, placeNumbers, pairNumbers, rowOf, notesRow}
+use Rattle.rows.specs.views.Row.{withTest, withTests, pairNumber, placeNumbers, pairNumbers, rowOf, notesRow}
 use Rattle.rows.proofs.AscendingLists.{slot-at}
 use Rattle.rows.proofs.TestNumbers.{number-place, number-pair, codes-up, one-test}
 use Rattle.rows.proofs.RowTurns.{with-append}

@@ -21,8 +21,7 @@ use Rattle.sheet_tests.specs.declared.Name.the-variants.{Nameless, Of}
 use Rattle.sheet_tests.specs.views.KeptPairs.{pairCode}
 use Rattle.sheet_tests.specs.views.NoteTests.{nameOf, isNamed, occurrence, notesVariables, pairCodes, codesWith, notesCodes}
 use Rattle.sheet_tests.proofs.NoteRows.{notes-next, notes-end}
-use Rattle.rows.specs.views.Numbers.{pairNumber}
-use Rattle.rows.specs.views.Row.{withTest, withTests, placeNumbers, pairNumbers}
+use Rattle.rows.specs.views.Row.{withTest, withTests, pairNumber, placeNumbers, pairNumbers}
 use Rattle.rows.proofs.NotesWanted.{wantHere, testsFrom, tests-turn, tests-end}
 use Rattle.masks.proofs.Listed.{consIf}
 

@@ -18,10 +18,10 @@ use Rattle.sheet_tests.specs.views.KeptPairs.{codePair}
 use Rattle.decision.specs.Rules.{hasTest, testsWhere}
 use Rattle.decision.proofs.rules.SoundWants.{rule-accepted}
 use Rattle.decision.proofs.rules.NearTests.{rules-near}
-use Rattle.rows.specs.views.Numbers.{numberAll, Small}
+use Rattle.test_list.specs.views.Numbers.{numberAll, Small}
 use Rattle.rows.specs.views.Row.{notesRow}
 use Rattle.rows.proofs.TestNumbers.{tests-number, places-up}
-use Rattle.rows.proofs.PlaceNumbers.{number-at, number-small}
+use Rattle.test_list.proofs.PlaceNumbers.{number-at, number-small}
 use Rattle.rows.proofs.RowRight.{row-right}
 
 -- A new table has zeros.
@@ -40,7 +40,9 @@ module _ (arity : ℕ) (rules : List Patterns) (few : arity ≤ 8) (accepted : A
     listed-near : All (λ (p : ℕ). p < 680) listed
     listed-near =
         all-from (λ (p : ℕ). p < 680) listed
-        (λ p m. rules-near arity rules few accepted (place p) (subst (Mem (place p)) (sym tests) (mem-left (map codePair codes) (mem-map place m))))
+        (λ p m.
+        rules-near arity rules few accepted (place p)
+        (subst (Mem (place p)) (sym tests) (mem-left (map codePair codes) (mem-map place m))))
 
     -- The table of the listed places.
     abbrev pub numbers : List ℕ

@@ -23,13 +23,14 @@ use Rattle.decision.specs.Edges.{settledByUnknown}
 use Rattle.decision.proofs.rules.NearTests.{Near as NearPlaces, rules-near}
 use Rattle.tables.specs.views.Planes.{rulesIn, testsIn, placeTestsIn, testIn, underIn}
 use Rattle.tables.specs.views.TablesOf.{isPlace, testCode, Near}
-use Rattle.rows.specs.views.Numbers.{numberAll, Small}
+use Rattle.test_list.specs.views.Numbers.{numberAll, Small}
 use Rattle.rows.specs.views.Row.{notesRow}
-use Rattle.rows.specs.views.Tests.{testsPut, settledIn, pairsListed, underPut}
+use Rattle.test_list.specs.views.Tests.{testsPut, settledIn, pairsListed, underPut}
 use Rattle.rows.specs.views.TestsOf.{TestsOf}
-use Rattle.rows.proofs.PutLists.{put-length, put-other, put-at, row-at}
-use Rattle.rows.proofs.TestsListed.{listed-tests, listed-places, listed-counted, listed-long, listed-place, listed-pairs, listed-rules}
-use Rattle.rows.proofs.SameTests.{same-counted, same-pairs, same-settled}
+use Rattle.test_list.proofs.PutLists.{put-length, put-other, put-at, row-at}
+use Rattle.test_list.proofs.TestsListed.{listed-tests, listed-places, listed-counted, listed-long}
+use Rattle.test_list.proofs.TestsListed.{listed-place, listed-pairs, listed-rules}
+use Rattle.test_list.proofs.SameTests.{same-counted, same-pairs, same-settled}
 use Rattle.rows.proofs.TestNumbers.{tests-number, place-number, pair-number, number-place}
 use Rattle.rows.proofs.RowRight.{place-numbered}
 use Rattle.rows.proofs.SheetRows.{new-small, numbered, rule-row}
@@ -112,11 +113,12 @@ module _ (arity : ℕ) (rules : List Patterns) (few : arity ≤ 8) (accepted : A
       let k = t - length (l .places) in
       let inside : k < length (l .pairs) = omega (arith, tests-number rules (l .places) (l .pairs) (l .tests)) in
       let back : t ≡ length (l .places) + k = omega arith in
-      let spot : 4 + t ≡ 4 + placeTestsIn s + k = omega (arith, l .placesAre) in (
+      let spot : 4 + t ≡ 4 + placeTestsIn s + k = omega (arith, l .placesAre) in
+      let near : k < testsIn s - placeTestsIn s = omega (arith, l .testsAre, l .placesAre) in (
         getD (l .pairs) k 0,
         ap (λ (j : ℕ). getD s j 0) spot
             ∙ sym (getD-drop (4 + placeTestsIn s) s k 0)
-            ∙ sym (getD-take (testsIn s - placeTestsIn s) (drop (4 + placeTestsIn s) s) k 0 (omega (arith, l .testsAre, l .placesAre)))
+            ∙ sym (getD-take (testsIn s - placeTestsIn s) (drop (4 + placeTestsIn s) s) k 0 near)
             ∙ ap (λ (xs : List ℕ). getD xs k 0) (l .pairsAre),
         ap (testAt rules) back ∙ pair-number rules (l .places) (l .pairs) (l .tests) k inside,
       )

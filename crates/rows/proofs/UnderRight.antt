@@ -19,7 +19,7 @@ use Rattle.decision.specs.Rules.{testAt, testsWhere}
 use Rattle.decision.specs.Edges.{settledByUnknown}
 use Rattle.tables.specs.views.Planes.{testsIn, testIn}
 use Rattle.tables.specs.views.TablesOf.{testCode, Near}
-use Rattle.rows.specs.views.Tests.{under, isSettled, settledIn}
+use Rattle.test_list.specs.views.Tests.{under, isSettled, settledIn}
 use Rattle.rows.proofs.AscendingLists.{ascends-at}
 
 -- A test's places are those of its code.

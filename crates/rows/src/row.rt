@@ -13,8 +13,8 @@ ghost use Rattle.basics.specs.Lists.{All};
 ghost use Rattle.sheet.specs.views.NoteArray.{notesIn};
 ghost use Rattle.sheet_tests.specs.views.NoteTests.{codesWith, notesCodes, Placed};
 ghost use Rattle.tables.specs.views.Planes.{placeTestsIn};
-ghost use Rattle.rows.specs.views.Numbers.{Small};
-ghost use Rattle.rows.specs.views.Tests.{Counted, pairsListed};
+ghost use Rattle.test_list.specs.views.Numbers.{Small};
+ghost use Rattle.test_list.specs.views.Tests.{Counted, pairsListed};
 ghost use Rattle.rows.specs.views.Wants.{notesTests};
 ghost use Rattle.rows.specs.views.Row.{withTest, withTests, placeNumbers, pairNumbers, rowOf};
 

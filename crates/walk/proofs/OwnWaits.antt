@@ -25,9 +25,9 @@ use Rattle.sheet_tests.specs.views.TestedPlaces.{placesIn}
 use Rattle.sheet_tests.specs.views.KeptPairs.{codePair}
 use Rattle.sheet_tests.specs.views.TestsRead.{keptTests}
 use Rattle.tables.specs.views.Planes.{placeTestsIn}
-use Rattle.rows.specs.views.Tests.{testsPut, Counted, pairsListed}
+use Rattle.test_list.specs.views.Tests.{testsPut, Counted, pairsListed}
 use Rattle.rows.proofs.SheetRows.{rule-row}
-use Rattle.rows.proofs.TestsListed.{listed-counted, listed-places, listed-pairs}
+use Rattle.test_list.proofs.TestsListed.{listed-counted, listed-places, listed-pairs}
 use Rattle.piece.specs.views.LaidOut.{pieceCells}
 use Rattle.decision.specs.Rules.{testAt, hasTest, testsWhere}
 use Rattle.decision.specs.Walk.{testNotKnown}

@@ -92,11 +92,11 @@ pub fn own_waits(
         (notesIn (now (notes .entry)) n) ⌝ }
 {
     let mut places = [0u16; 64];
-    let count = rows::list_places(words, &mut places);
+    let count = test_list::list_places(words, &mut places);
     let mut numbers = [0u8; 680];
-    rows::numbers::number_places(&places, count, &mut numbers);
+    test_list::numbers::number_places(&places, count, &mut numbers);
     let mut s = [0u64; 260];
-    rows::tests::put_tests(&places, count, codes, pairs, &mut s);
+    test_list::put_tests(&places, count, codes, pairs, &mut s);
     let ranges = sheet::variable_ranges(notes, n);
     let own = rows::rule_row(notes, n, ranges, &numbers, &s);
     masks::intersect(own, open_tests(&places, count, codes, pairs, cells))

@@ -4,8 +4,15 @@ use mathlib.Core.List.{List, [], _∷_}
 use lib.ListN.{length, getD}
 use Rattle.records.specs.Writing.{splice}
 use Rattle.terms.specs.RuleTests.{Want, PlaceTest}
+use Rattle.sheet.specs.views.Noted.{Note}
+use Rattle.sheet.specs.views.NoteRanges.{lowsOf, highsOf}
 use Rattle.codes.specs.views.Codes.{wantLow, wantHigh}
 use Rattle.cuts.specs.views.Cuts.{partAt, countAt, cutsIn, partWords, toggle}
+use Rattle.rows.specs.views.Wants.{notesTests}
+
+-- What a rule with these notes wants, by its place tests.
+abbrev pub wantsOf : List Note → List PlaceTest
+wantsOf notes = notesTests (lowsOf notes) (highsOf notes) notes
 
 -- Some rules turn at a code more in the part that begins there.
 abbrev pub turnIn : List ℕ → ℕ → ℕ → ℕ → List ℕ

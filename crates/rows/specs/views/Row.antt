@@ -1,5 +1,5 @@
 -- The tests of a rule as a set (document 01, "The walk": "a set of tests, test t being bit t of 64"), off its notes.
-use Prim.Native.Nat.{ℕ}
+use Prim.Native.Nat.{ℕ, _+_}
 use mathlib.Core.Bool.{_||_}
 use mathlib.Core.List.{List, [], _∷_, map}
 use lib.Dec.{eqb}
@@ -8,8 +8,8 @@ use Rattle.masks.specs.Mask.{has, maskOf}
 use Rattle.terms.specs.RuleTests.{PlaceTest}
 use Rattle.sheet.specs.views.Noted.{Note}
 use Rattle.sheet.specs.views.NoteRanges.{lowsOf, highsOf}
+use Rattle.sheet_tests.specs.views.Slot.{slot}
 use Rattle.sheet_tests.specs.views.NoteTests.{notesCodes}
-use Rattle.rows.specs.views.Numbers.{pairNumber}
 use Rattle.rows.specs.views.Wants.{notesTests}
 
 -- A set of numbers below 64 with one number more, and with those of a list. A number from 64 on is in no set.
@@ -19,6 +19,10 @@ withTest row t = maskOf 64 (λ j. has row j || eqb t j)
 abbrev pub withTests : List ℕ → ℕ → ℕ
 withTests [] row = row
 withTests (t ∷ ts) row = withTests ts (withTest row t)
+
+-- Behind so many places the pairs of an ascending list are numbered; c is a pair as one number.
+abbrev pub pairNumber : ℕ → List ℕ → ℕ → ℕ
+pairNumber count codes c = count + slot c codes
 
 -- The numbers of place tests, and of pairs.
 abbrev pub placeNumbers : List ℕ → List PlaceTest → List ℕ

@@ -7,8 +7,8 @@ use Rattle.terms.specs.Pattern.{Patterns}
 use Rattle.sheet_tests.specs.SheetTests.{place, sheetTests}
 use Rattle.sheet_tests.specs.views.KeptPairs.{codePair}
 use Rattle.tables.specs.views.Planes.{rulesIn, testsIn, placeTestsIn, testIn, underIn}
-use Rattle.rows.specs.views.Numbers.{numberAll}
-use Rattle.rows.specs.views.Tests.{Counted, spotCode, pairsListed, settledIn}
+use Rattle.test_list.specs.views.Numbers.{numberAll}
+use Rattle.test_list.specs.views.Tests.{Counted, spotCode, pairsListed, settledIn}
 
 -- The listed places and pairs.
 pub record TestsOf (rules : List Patterns) (numbers s : List ℕ) : Type 0 where

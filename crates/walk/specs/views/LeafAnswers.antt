@@ -15,7 +15,7 @@ use Rattle.sheet_tests.specs.SheetTests.{Test, place}
 use Rattle.sheet_tests.specs.views.TestedPlaces.{placesIn}
 use Rattle.sheet_tests.specs.views.KeptPairs.{codePair}
 use Rattle.sheet_tests.specs.views.TestsRead.{keptTests}
-use Rattle.rows.specs.views.Numbers.{numberAll}
+use Rattle.test_list.specs.views.Numbers.{numberAll}
 use Rattle.rows.specs.views.Row.{notesRow}
 use Rattle.plain.specs.views.NotesOutcome.{cellsOutcome}
 use Rattle.decision.specs.Key.{Leaf, failNode, suspendNode, executeNode}

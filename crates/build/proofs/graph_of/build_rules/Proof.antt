@@ -4,7 +4,7 @@ use mathlib.Core.Path.{ap, _∙_}
 use native.Mathlib.Omega.{arith}
 use Rattle.decision.specs.Graph.{graphOf}
 use Rattle.build.specs.BuildOutcome.{graphWritten}
-use Rattle.build.proofs.SheetTables.{small-sheet, kept-listed, kept-compiling, small-room, large-room}
+use Rattle.build.proofs.SheetTables.{small-sheet, kept-listed, small-compiling, large-compiling}
 use borrow.Author.Needs.{needs}
 use Rattle.build.proofs.graph_of.build_rules.Statement.{statement}
 use Rattle.build.proofs.graph_of.build_rules.Tie as tie
@@ -20,23 +20,20 @@ place-tests-requires c κs = search needs
 
 part-requires : tie.Need-part-requires
 part-requires c κs =
-    let start = c .before .before .before .before .before .before .before in
-    let a = start .args in
-    let list-tests = c .before .before .list-tests .ensures in
-    let (sheet, k) = start .pre .1 in
-    let listed = kept-listed (a .b .now) (a .words .now) (a .codes .now) (a .arity) (a .rules) (a .pairs) sheet k (start .pre .0 .1) (start .pre .0 .2) (list-tests .1) (list-tests .0) in (
-      omega (arith, small-sheet (a .b .now) (a .words .now) (a .codes .now) (a .arity) (a .rules) (a .pairs) sheet k .1),
-      omega (arith, c .place-tests .ensures, listed .counted .places, listed .counted .few),
-    )
+    let pre = c .before .before .before .before .before .before .before .pre in
+    let (sheet, k) = pre .1 in
+    let made = c .before .before .list-tests .ensures in
+    let listed = kept-listed k (pre .0 .1) (pre .0 .2) (made .1) (made .0) in
+    (omega (arith, small-sheet k .1), omega (arith, c .place-tests .ensures, listed .counted .places, listed .counted .few))
 
 build-small-requires : tie.Need-build-small-requires
 build-small-requires c κs =
-    let start = c .before .before .before .before .before .before .before .before .before .before .before .before in
-    let a = start .args in
-    let list-tests = c .before .before .before .before .before .before .before .list-tests .ensures in
-    let (sheet, k) = start .pre .1 in
-    let room = small-room (a .b .now) (a .words .now) (a .codes .now) (a .arity) (a .rules) (a .pairs) sheet k (start .pre .0 .1) (start .pre .0 .2) (list-tests .1) (list-tests .0) (c .before .before .before .before .before .place-tests .ensures) (c .before .before .before .before .part .ensures) (c .before .before .before .if1 .taken) in
-    (sheet .rules, kept-compiling (a .b .now) (a .words .now) (a .codes .now) (a .arity) (a .rules) (a .pairs) sheet k (start .pre .0 .1) (start .pre .0 .2) (list-tests .1) (list-tests .0) 320 room)
+    let pre = c .before .before .before .before .before .before .before .before .before .before .before .before .pre in
+    let (sheet, k) = pre .1 in
+    let made = c .before .before .before .before .before .before .before .list-tests .ensures in
+    let tests = c .before .before .before .before .before .place-tests .ensures in
+    let part = c .before .before .before .before .part .ensures in
+    (sheet .rules, small-compiling k (pre .0 .1) (pre .0 .2) (made .1) (made .0) 320 tests part (c .before .before .before .if1 .taken))
 
 same-length : tie.Need-same-length
 same-length c = search needs
@@ -44,19 +41,20 @@ same-length c = search needs
 returns : tie.Need-returns
 returns c sheet k =
     let start = c .before .before .before .before .before .before .before .before .before .before .before .before .before .before .before in
-    let a = start .args in
-    let list-tests = c .before .before .before .before .before .before .before .before .before .before .list-tests .ensures in
-    let room = small-room (a .b .now) (a .words .now) (a .codes .now) (a .arity) (a .rules) (a .pairs) sheet k (start .pre .0 .1) (start .pre .0 .2) (list-tests .1) (list-tests .0) (c .before .before .before .before .before .before .before .before .place-tests .ensures) (c .before .before .before .before .before .before .before .part .ensures) (c .before .before .before .before .before .before .if1 .taken) in
-    c .before .before .build-small .ensures (sheet .rules) (kept-compiling (a .b .now) (a .words .now) (a .codes .now) (a .arity) (a .rules) (a .pairs) sheet k (start .pre .0 .1) (start .pre .0 .2) (list-tests .1) (list-tests .0) 320 room)
-    ∙ ap (λ (n : ℕ). graphWritten (a .arity) n (graphOf (sheet .rules)) (a .buf .now)) (k .known .countIs)
+    let pre = start .pre .0 in
+    let made = c .before .before .before .before .before .before .before .before .before .before .list-tests .ensures in
+    let tests = c .before .before .before .before .before .before .before .before .place-tests .ensures in
+    let part = c .before .before .before .before .before .before .before .part .ensures in
+    c .before .before .build-small .ensures (sheet .rules)
+    (small-compiling k (pre .1) (pre .2) (made .1) (made .0) 320 tests part (c .before .before .before .before .before .before .if1 .taken))
+    ∙ ap (λ (n : ℕ). graphWritten (start .args .arity) n (graphOf (sheet .rules)) (start .args .buf .now)) (k .known .countIs)
 
 build-large-requires : tie.Need-build-large-requires
 build-large-requires c κs =
-    let start = c .before .before .before .before .before .before .before .before .before .before .before .before in
-    let a = start .args in
-    let list-tests = c .before .before .before .before .before .before .before .list-tests .ensures in
-    let (sheet, k) = start .pre .1 in
-    (sheet .rules, kept-compiling (a .b .now) (a .words .now) (a .codes .now) (a .arity) (a .rules) (a .pairs) sheet k (start .pre .0 .1) (start .pre .0 .2) (list-tests .1) (list-tests .0) 8256 (large-room (a .b .now) (a .words .now) (a .codes .now) (a .arity) (a .rules) (a .pairs) sheet k (start .pre .0 .1) (start .pre .0 .2) (list-tests .1) (list-tests .0)))
+    let pre = c .before .before .before .before .before .before .before .before .before .before .before .before .pre in
+    let (sheet, k) = pre .1 in
+    let made = c .before .before .before .before .before .before .before .list-tests .ensures in
+    (sheet .rules, large-compiling k (pre .0 .1) (pre .0 .2) (made .1) (made .0))
 
 same-length-2 : tie.Need-same-length-2
 same-length-2 c = search needs
@@ -64,10 +62,10 @@ same-length-2 c = search needs
 returns-2 : tie.Need-returns-2
 returns-2 c sheet k =
     let start = c .before .before .before .before .before .before .before .before .before .before .before .before .before .before .before in
-    let a = start .args in
-    let list-tests = c .before .before .before .before .before .before .before .before .before .before .list-tests .ensures in
-    c .before .before .build-large .ensures (sheet .rules) (kept-compiling (a .b .now) (a .words .now) (a .codes .now) (a .arity) (a .rules) (a .pairs) sheet k (start .pre .0 .1) (start .pre .0 .2) (list-tests .1) (list-tests .0) 8256 (large-room (a .b .now) (a .words .now) (a .codes .now) (a .arity) (a .rules) (a .pairs) sheet k (start .pre .0 .1) (start .pre .0 .2) (list-tests .1) (list-tests .0)))
-    ∙ ap (λ (n : ℕ). graphWritten (a .arity) n (graphOf (sheet .rules)) (a .buf .now)) (k .known .countIs)
+    let pre = start .pre .0 in
+    let made = c .before .before .before .before .before .before .before .before .before .before .list-tests .ensures in
+    c .before .before .build-large .ensures (sheet .rules) (large-compiling k (pre .1) (pre .2) (made .1) (made .0))
+    ∙ ap (λ (n : ℕ). graphWritten (start .args .arity) n (graphOf (sheet .rules)) (start .args .buf .now)) (k .known .countIs)
 
 pub build-rules-spec : {M : Type 1} → statement M
 build-rules-spec =

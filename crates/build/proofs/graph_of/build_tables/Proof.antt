@@ -18,11 +18,10 @@ enum-told c = search needs
 
 returns : tie.Need-returns
 returns c =
-    let start = c .before .before .before .before .before .before .before in
-    let s = start .args .s .now in
+    let a = c .before .before .before .before .before .before .before .args in
     let grow = c .before .before .grow in
-    built-many (start .args .arity) (rulesIn s) s (start .args .c .now) (start .args .buf .now)
-    (grown-none s (start .args .c .now) (grow .last .0) _ (grow .ensures .0) (c .enum-told .given .1))
+    built-many (a .arity) (rulesIn (a .s .now)) (a .s .now) (a .c .now) (a .buf .now)
+    (grown-none (a .s .now) (a .c .now) (grow .last .0) _ (grow .ensures .0) (c .enum-told .given .1))
 
 add-if1 : tie.Need-add-if1
 add-if1 c = omega (arith, grown-most (1024 * 1000) _ (c .before .before .before .grow .ensures .1 .1) (c .before .grown .given .1))
@@ -30,19 +29,24 @@ add-if1 c = omega (arith, grown-most (1024 * 1000) _ (c .before .before .before 
 returns-2 : tie.Need-returns-2
 returns-2 c =
     let start = c .before .before .before .before .before .before .before .before .before in
-    let s = start .args .s .now in
-    let t = c .before .before .before .before .grow .last .0 in
-    let some = grown-some s (start .args .c .now) t _ (c .before .before .before .before .grow .ensures .0) (c .before .before .grown .given .1) in
-    built-short (start .args .arity) (rulesIn s) s (start .args .c .now) (start .args .buf .now) t _ (some .0) (some .1) (c .if1 .taken)
+    let a = start .args in
+    let grow = c .before .before .before .before .grow in
+    let t = grow .last .0 in
+    let met = c .before .before .grown .given .1 in
+    let some = grown-some (a .s .now) (a .c .now) t _ (grow .ensures .0) met in
+    built-short (a .arity) (rulesIn (a .s .now)) (a .s .now) (a .c .now) (a .buf .now) t _ (some .0) (some .1) (c .if1 .taken)
 
 put-graph-requires : tie.Need-put-graph-requires
 put-graph-requires c κs =
     let start = c .before .before .before .before .before .before .before .before .before .before .before .before in
-    let s = start .args .s .now in
-    let t = c .before .before .before .before .before .before .before .grow .last .0 in
-    let some = grown-some s (start .args .c .now) t _ (c .before .before .before .before .before .before .before .grow .ensures .0) (c .before .before .before .before .before .grown .given .1) in
+    let a = start .args in
     let grow = c .before .before .before .before .before .before .before .grow in
-    ((grow .ensures .1 .0, start .pre, grow .ensures .1 .2), omega (arith, graph-size (start .args .arity) (rulesIn s) s (start .args .c .now) (start .args .buf .now) t _ (some .0) (some .1), c .before .before .before .if1 .left))
+    let t = grow .last .0 in
+    let met = c .before .before .before .before .before .grown .given .1 in
+    let some = grown-some (a .s .now) (a .c .now) t _ (grow .ensures .0) met in
+    let size =
+    graph-size (a .arity) (rulesIn (a .s .now)) (a .s .now) (a .c .now) (a .buf .now) t _ (some .0) (some .1) in
+    ((grow .ensures .1 .0, start .pre, grow .ensures .1 .2), omega (arith, size, c .before .before .before .if1 .left))
 
 count-requires : tie.Need-count-requires
 count-requires c κs = search needs
@@ -53,11 +57,15 @@ cast-t20 c = search needs
 cast-t21 : tie.Need-cast-t21
 cast-t21 c =
     let start = c .before .before .before .before .before .before .before .before .before .before .before .before .before .before .before .before .before in
-    let s = start .args .s .now in
-    let t = c .before .before .before .before .before .before .before .before .before .before .before .before .grow .last .0 in
-    let some = grown-some s (start .args .c .now) t _ (c .before .before .before .before .before .before .before .before .before .before .before .before .grow .ensures .0) (c .before .before .before .before .before .before .before .before .before .before .grown .given .1) in
-    let most = grown-most (1024 * 1000) _ (c .before .before .before .before .before .before .before .before .before .before .before .before .grow .ensures .1 .1) (c .before .before .before .before .before .before .before .before .before .before .grown .given .1) in
-    omega (arith, graph-size (start .args .arity) (rulesIn s) s (start .args .c .now) (start .args .buf .now) t _ (some .0) (some .1), c .before .before .before .before .put-graph .ensures .0)
+    let a = start .args in
+    let grow = c .before .before .before .before .before .before .before .before .before .before .before .before .grow in
+    let t = grow .last .0 in
+    let met = c .before .before .before .before .before .before .before .before .before .before .grown .given .1 in
+    let some = grown-some (a .s .now) (a .c .now) t _ (grow .ensures .0) met in
+    let most = grown-most (1024 * 1000) _ (grow .ensures .1 .1) met in
+    let size =
+    graph-size (a .arity) (rulesIn (a .s .now)) (a .s .now) (a .c .now) (a .buf .now) t _ (some .0) (some .1) in
+    omega (arith, size, c .before .before .before .before .put-graph .ensures .0)
 
 same-length : tie.Need-same-length
 same-length c = search needs
@@ -65,10 +73,14 @@ same-length c = search needs
 returns-3 : tie.Need-returns-3
 returns-3 c =
     let start = c .before .before .before .before .before .before .before .before .before .before .before .before .before .before .before .before .before in
-    let s = start .args .s .now in
-    let t = c .before .before .before .before .before .before .before .before .before .before .before .before .grow .last .0 in
-    let some = grown-some s (start .args .c .now) t _ (c .before .before .before .before .before .before .before .before .before .before .before .before .grow .ensures .0) (c .before .before .before .before .before .before .before .before .before .before .grown .given .1) in
-    built-whole (start .args .arity) (rulesIn s) s (start .args .c .now) (start .args .buf .now) t _ (some .0) (some .1) _ _ _ (c .before .before .before .before .before .before .before .before .if1 .left) (c .count .ensures) (c .before .before .before .before .put-graph .ensures)
+    let a = start .args in
+    let grow = c .before .before .before .before .before .before .before .before .before .before .before .before .grow in
+    let t = grow .last .0 in
+    let met = c .before .before .before .before .before .before .before .before .before .before .grown .given .1 in
+    let some = grown-some (a .s .now) (a .c .now) t _ (grow .ensures .0) met in
+    let fits = c .before .before .before .before .before .before .before .before .if1 .left in
+    built-whole (a .arity) (rulesIn (a .s .now)) (a .s .now) (a .c .now) (a .buf .now) t _ (some .0) (some .1)
+    _ _ _ fits (c .count .ensures) (c .before .before .before .before .put-graph .ensures)
 
 pub build-tables-spec : {M : Type 1} → statement M
 build-tables-spec =

@@ -62,7 +62,9 @@ place-number-requires c κs =
     (omega (arith, c .note-place .ensures), start .pre .0 .3)
 
 part-requires : tie.Need-part-requires Inv-loop μ-loop
-part-requires c κs = (c .before .before .before .before .before .before .before .before .before .before .before .pre .0 .4, omega (arith, c .place-number .ensures .1))
+part-requires c κs =
+    let pre = c .before .before .before .before .before .before .before .before .before .before .before .pre .0 in
+    (omega (arith, pre .4, pre .5), omega (arith, c .place-number .ensures .1))
 
 turn-rule-requires : tie.Need-turn-rule-requires Inv-loop μ-loop
 turn-rule-requires c κs =

@@ -8,7 +8,7 @@ use Rattle.sheet.specs.declared.Ranges.{Ranges}
 use Rattle.sheet.specs.views.NoteArray.{notesIn}
 use Rattle.sheet.specs.views.NoteRanges.{lowsOf, highsOf}
 use Rattle.tables.specs.views.Planes.{placeTestsIn}
-use Rattle.rows.specs.views.Tests.{pairsListed}
+use Rattle.test_list.specs.views.Tests.{pairsListed}
 use Rattle.rows.specs.views.Wants.{notesTests}
 use Rattle.rows.specs.views.Row.{rowOf}
 use Rattle.compiled.specs.views.Columns.{Columned}

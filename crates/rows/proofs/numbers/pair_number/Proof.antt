@@ -8,7 +8,7 @@ use Rattle.sheet_tests.specs.views.Slot.{slot}
 use Rattle.sheet_tests.specs.views.KeptPairs.{pairCode}
 use Rattle.sheet_tests.proofs.Slots.{slot-end, slot-found, slot-further}
 use Rattle.tables.specs.views.Planes.{testsIn, placeTestsIn}
-use Rattle.rows.specs.views.Tests.{pairsListed}
+use Rattle.test_list.specs.views.Tests.{pairsListed}
 use borrow.Author.Needs.{needs}
 use Rattle.rows.proofs.numbers.pair_number.Statement.{statement}
 use Rattle.rows.proofs.numbers.pair_number.Tie as tie
@@ -53,15 +53,18 @@ returns c =
     let start = c .before .before .before .before .before .before in
     let turn = c .before .before .before .loop in
     let s = start .args .s .now in
+    let pre = start .pre .0 in
     let count = placeTestsIn s in
     let l = drop (4 + count) s in
-    let within : testsIn s - count ≤ length l = omega (arith, length-drop (4 + count) s, start .pre .0 .entries, start .pre .0 .few) in
+    let within : testsIn s - count ≤ length l = omega (arith, length-drop (4 + count) s, pre .entries, pre .few) in
     let code = pairCode (start .args .p) (start .args .q) in
     let first = c .before .before .before .before .before .place-tests .ensures in
+    let inside : turn .i < testsIn s - count = omega (arith, first, c .before .before .before .before .tests .ensures) in
     let same : 4 + count + turn .i ≡ 4 + (c .before .before .before .before .before .place-tests .result + turn .i) = omega (arith, first) in
     let here : getD l (turn .i) 0 ≡ c .before .test .result =
     getD-drop (4 + count) s (turn .i) 0 ∙ ap (λ (k : ℕ). getD s k 0) same ∙ sym (c .before .test .ensures) in
-    (λ j. first j + slot-found code l (testsIn s - count) (turn .i) within (turn .inv .1) (omega (arith, first, c .before .before .before .before .tests .ensures)) (omega (arith, here, c .if1 .taken)) j)
+    let found = slot-found code l (testsIn s - count) (turn .i) within (turn .inv .1) inside (omega (arith, here, c .if1 .taken)) in
+    λ j. first j + found j
 
 add-i : tie.Need-add-i Inv-loop μ-loop
 add-i c = search needs
@@ -74,15 +77,16 @@ loop-again c =
     let start = c .before .before .before .before .before .before in
     let turn = c .before .before .before .loop in
     let s = start .args .s .now in
+    let pre = start .pre .0 in
     let count = placeTestsIn s in
     let l = drop (4 + count) s in
-    let within : testsIn s - count ≤ length l = omega (arith, length-drop (4 + count) s, start .pre .0 .entries, start .pre .0 .few) in
+    let within : testsIn s - count ≤ length l = omega (arith, length-drop (4 + count) s, pre .entries, pre .few) in
     let code = pairCode (start .args .p) (start .args .q) in
     let first = c .before .before .before .before .before .place-tests .ensures in
+    let inside : turn .i < testsIn s - count = omega (arith, first, c .before .before .before .before .tests .ensures) in
     let same : 4 + count + turn .i ≡ 4 + (c .before .before .before .before .before .place-tests .result + turn .i) = omega (arith, first) in
     let here : getD l (turn .i) 0 ≡ c .before .test .result =
-    getD-drop (4 + count) s (turn .i) 0 ∙ ap (λ (k : ℕ). getD s k 0) same ∙ sym (c .before .test .ensures) in
-    let inside : turn .i < testsIn s - count = omega (arith, first, c .before .before .before .before .tests .ensures) in (
+    getD-drop (4 + count) s (turn .i) 0 ∙ ap (λ (k : ℕ). getD s k 0) same ∙ sym (c .before .test .ensures) in (
       omega arith,
       slot-further code l (testsIn s - count) (turn .i) within (turn .inv .1) inside (omega (arith, here, c .if1 .left)),
     )
@@ -95,12 +99,15 @@ returns-2 c =
     let start = c .before .before .before .before in
     let turn = c .before .loop in
     let s = start .args .s .now in
+    let pre = start .pre .0 in
     let count = placeTestsIn s in
     let l = drop (4 + count) s in
-    let within : testsIn s - count ≤ length l = omega (arith, length-drop (4 + count) s, start .pre .0 .entries, start .pre .0 .few) in
+    let within : testsIn s - count ≤ length l = omega (arith, length-drop (4 + count) s, pre .entries, pre .few) in
     let code = pairCode (start .args .p) (start .args .q) in
     let first = c .before .before .before .place-tests .ensures in
-    (λ j. first j + slot-end code l (testsIn s - count) (turn .i) within (turn .inv .1) (omega (arith, first, c .before .before .tests .ensures)) j)
+    let past : testsIn s - count ≤ turn .i = omega (arith, first, c .before .before .tests .ensures) in
+    let end = slot-end code l (testsIn s - count) (turn .i) within (turn .inv .1) past in
+    λ j. first j + end j
 
 pub pair-number-spec : {M : Type 1} → statement M
 pair-number-spec =

@@ -8,7 +8,7 @@ use Rattle.sheet.specs.views.NoteArray.{notesIn}
 use Rattle.sheet_tests.specs.views.NoteTests.{nameOf, notesCodes, Placed}
 use Rattle.sheet_tests.proofs.NoteRows.{notes-each}
 use Rattle.tables.specs.views.Planes.{placeTestsIn}
-use Rattle.rows.specs.views.Tests.{pairsListed}
+use Rattle.test_list.specs.views.Tests.{pairsListed}
 use Rattle.rows.specs.views.Row.{withTests, pairNumbers}
 use Rattle.rows.proofs.RowTurns.{withFrom, pairsFrom, pairs-named, pairs-nameless, pairs-end}
 use borrow.Author.Needs.{needs}

@@ -9,9 +9,8 @@ use Rattle.sheet_tests.specs.views.KeptPairs.{pairCode}
 use Rattle.sheet_tests.specs.views.NoteTests.{isNamed, codesWith, Placed}
 use Rattle.sheet_tests.proofs.NoteRows.{notes-each}
 use Rattle.tables.specs.views.Planes.{placeTestsIn}
-use Rattle.rows.specs.views.Tests.{pairsListed}
-use Rattle.rows.specs.views.Numbers.{pairNumber}
-use Rattle.rows.specs.views.Row.{withTest, withTests, pairNumbers}
+use Rattle.test_list.specs.views.Tests.{pairsListed}
+use Rattle.rows.specs.views.Row.{withTest, withTests, pairNumber, pairNumbers}
 use Rattle.rows.proofs.RowTurns.{withFrom, with-yes, with-no, with-end}
 use borrow.Author.Needs.{needs}
 use Rattle.rows.proofs.row.pairs_with.Statement.{statement}

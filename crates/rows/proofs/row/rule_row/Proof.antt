@@ -3,7 +3,7 @@ use mathlib.Core.Path.{ap, _∙_}
 use Rattle.sheet.specs.views.NoteArray.{notesIn}
 use Rattle.sheet_tests.specs.views.NoteTests.{notesCodes}
 use Rattle.tables.specs.views.Planes.{placeTestsIn}
-use Rattle.rows.specs.views.Tests.{pairsListed}
+use Rattle.test_list.specs.views.Tests.{pairsListed}
 use Rattle.rows.specs.views.Row.{withTests, pairNumbers, rowOf}
 use Rattle.rows.proofs.row.rule_row.Statement.{statement}
 use Rattle.rows.proofs.row.rule_row.Tie as tie

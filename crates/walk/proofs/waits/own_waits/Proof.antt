@@ -3,7 +3,7 @@ use Rattle.walk.proofs.OwnWaits.{listed-as, open-listed, near-listed}
 use Rattle.walk.specs.views.LeafAnswers.{openSet, ownTests, ownWaits}
 use Rattle.rows.proofs.SheetRows.{new-small}
 use Rattle.rows.specs.views.Row.{rowOf}
-use Rattle.rows.specs.views.Numbers.{numberAll, Small}
+use Rattle.test_list.specs.views.Numbers.{numberAll, Small}
 use Rattle.sheet_tests.specs.views.TestsRead.{keptTests}
 use Rattle.sheet_tests.specs.views.TestedPlaces.{placesIn}
 use Rattle.sheet.specs.views.NoteArray.{notesIn}

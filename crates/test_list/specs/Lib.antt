@@ -1,0 +1,2 @@
+-- The tests of a sheet by their numbers.
+pub mod views
