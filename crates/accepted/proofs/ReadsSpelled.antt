@@ -11,7 +11,8 @@ use Rattle.terms.specs.Pattern.{Pattern, Patterns, pnil, pcons}
 use Rattle.sheet.specs.declared.PatternRecord.the-variants.{Compound}
 use Rattle.sheet.specs.ReadSheet.{readPattern, readPatterns, readRule, readRules}
 use Rattle.sheet.specs.WriteSheet.{patternBytes, patternsBytes, rulesBytes}
-use Rattle.sheet.proofs.HeadBytes.{recordSpelling, head-spelled}
+use Rattle.sheet.proofs.HeadBytes.{head-spelled}
+use Rattle.sheet.specs.views.PatternRecord.{recordSpelling}
 use Rattle.sheet.proofs.Compounds.{row-count}
 use Rattle.sheet.proofs.PatternReads.{PatternIs, isAnything, isSymbol, isRange, isCompound, isVariable, isRanged, pattern-is}
 use Rattle.sheet.proofs.SheetReads.{rule-is}

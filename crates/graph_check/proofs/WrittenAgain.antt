@@ -9,6 +9,7 @@ use lib.ListN.{length, drop}
 use Rattle.records.specs.Fields.{IsByte, wideThen}
 use Rattle.records.specs.Reading.{Reading, took, refused, ask, andThen, mapReading}
 use Rattle.records.specs.Writing.{splice}
+use Rattle.records.specs.Written.{resultOf, askFits}
 use Rattle.basics.specs.Lists.{All}
 use Rattle.sheet.specs.Sheet.{Sheet, SoundSheet}
 use Rattle.sheet_tests.specs.CheckSheet.{acceptSheet}
@@ -19,7 +20,7 @@ use Rattle.graph.specs.ReadGraph.{readGraph}
 use Rattle.graph.specs.views.Rewriting.{IsTook, readOr, readRecords}
 use Rattle.graph_check.specs.declared.GraphHeader.the-variants.{Refused}
 use Rattle.graph_check.specs.declared.Rewrote.the-variants as rewrote
-use Rattle.graph_check.specs.Rewritten.{askFits, resultOf, rewritten, leftBy}
+use Rattle.graph_check.specs.Rewritten.{rewritten, leftBy}
 use Rattle.graph_check.proofs.Headers.{HeaderOf}
 use Rattle.graph_check.proofs.AcceptedBytes as accepted
 use Rattle.graph_check.specs.views.Header.{fieldsOf, fieldsReading, fieldsRead, headerBytes}
@@ -32,7 +33,7 @@ module _ (s g buffer : List ℕ) where
   rewrite-refused {q} e = go (acceptSheet s) e
     where
       left : Reading (List ℕ) → Type 0
-      left x = leftBy (rewrote.Refused q) buffer ≡ resultOf buffer (andThen x (λ _ bytes. askFits buffer bytes))
+      left x = leftBy (rewrote.Refused q) buffer ≡ resultOf buffer (andThen x (λ _ bytes. askFits 19 buffer bytes))
 
       inner
           : (sheet : Sheet) (x : Reading (List (Node ℕ))) → refused q ≡ mapReading (fieldsOf sheet) x
@@ -83,16 +84,16 @@ module _ (s g : List ℕ) (s-bytes : All IsByte s) (g-bytes : All IsByte g) {a r
   again-size = ap length again-same
 
   module _ (buffer : List ℕ) where
-    asked : rewritten s g buffer ≡ resultOf buffer (askFits buffer g)
+    asked : rewritten s g buffer ≡ resultOf buffer (askFits 19 buffer g)
     unfolding rewritten
     asked =
         let bytes : Sheet → List (Node ℕ) → List ℕ = λ x. graphBytes (x .arity) (length (x .rules)) in
         ap
         (λ x.
-        resultOf buffer (andThen (andThen x (λ _ y. mapReading (bytes y) (readGraph y g))) (λ _ l. askFits buffer l)))
+        resultOf buffer (andThen (andThen x (λ _ y. mapReading (bytes y) (readGraph y g))) (λ _ l. askFits 19 buffer l)))
         (h .accepted)
-        ∙ ap (λ x. resultOf buffer (andThen (mapReading (bytes sheet) x) (λ _ l. askFits buffer l))) (h .read)
-        ∙ ap (λ (l : List ℕ). resultOf buffer (askFits buffer l)) (accepted.written-same sheet sound g g-bytes (h .read))
+        ∙ ap (λ x. resultOf buffer (andThen (mapReading (bytes sheet) x) (λ _ l. askFits 19 buffer l))) (h .read)
+        ∙ ap (λ (l : List ℕ). resultOf buffer (askFits 19 buffer l)) (accepted.written-same sheet sound g g-bytes (h .read))
 
     -- Question 19 got a no: it does not fit.
     pub rewrite-large : length buffer < length g → leftBy (rewrote.Refused 19) buffer ≡ rewritten s g buffer

@@ -10,6 +10,7 @@ use native.Mathlib.Omega.{arith}
 use lib.Dec.{leb, eqb}
 use lib.ListN.{length}
 use Rattle.records.specs.Reading.{Reading, took, refused, ask, andThen, mapReading}
+use Rattle.records.specs.Written.{askFits, resultOf}
 use Rattle.terms.specs.Answer.{Answer, plainAnswer}
 use Rattle.sheet.specs.Sheet.{Sheet}
 use Rattle.sheet_tests.specs.CheckSheet.{acceptSheet, sheetValues}
@@ -23,7 +24,7 @@ use Rattle.decision.specs.GraphBytes.{graphBytes}
 use Rattle.decision.specs.Walk.{Walk, walk}
 use Rattle.graph.specs.ReadGraph.{readGraph}
 use Rattle.graph_check.specs.CheckGraph.{graphReading, graphValues}
-use Rattle.graph_check.specs.Rewritten.{bytesReading, askFits, resultOf, rewritten}
+use Rattle.graph_check.specs.Rewritten.{bytesReading, rewritten}
 use Rattle.build.specs.BuildOutcome.{writtenIf, graphWritten, sheetBuilt, buildOutcome}
 use Rattle.walk.specs.Walking.{graphReply, pieceReply, walkReply, replyValues}
 use Rattle.accepted.proofs.Named.{Named, ask-named, then-named, named-wider}
@@ -133,8 +134,8 @@ build-answers s buffer = read (acceptSheet s) (sheet-named s)
 pub rewrite-answers : (s g buffer : List ℕ) → RewriteEnds buffer (rewritten s g buffer)
 unfolding rewritten
 rewrite-answers s g buffer =
-    go (andThen (bytesReading s g) (λ _ bytes. askFits buffer bytes))
-    (then-named RewriteQuestion (bytesReading s g) (λ _ bytes. askFits buffer bytes)
+    go (andThen (bytesReading s g) (λ _ bytes. askFits 19 buffer bytes))
+    (then-named RewriteQuestion (bytesReading s g) (λ _ bytes. askFits 19 buffer bytes)
     (then-named RewriteQuestion (acceptSheet s)
     (λ _ sheet. mapReading (graphBytes (sheet .arity) (length (sheet .rules))) (readGraph sheet g))
     (named-wider SheetQuestion RewriteQuestion (λ q h. inl (inl h)) (acceptSheet s) (sheet-named s))

@@ -11,6 +11,7 @@ use lib.Seq.{take-append-seam}
 use borrow.Author.Tests.{le-leb}
 use Rattle.records.specs.Fields.{AreBytes}
 use Rattle.records.specs.Reading.{Reading, took, refused, ask, andThen, mapReading}
+use Rattle.records.specs.Written.{resultOf, askFits}
 use Rattle.records.specs.Writing.{splice}
 use Rattle.sheet.specs.Sheet.{Sheet}
 use Rattle.sheet_tests.specs.CheckSheet.{acceptSheet, AcceptedSheet}
@@ -23,7 +24,7 @@ use Rattle.decision.proofs.built.BuiltGraph.{built-graph-accepted}
 use Rattle.graph.specs.ReadGraph.{readGraph}
 use Rattle.graph.proofs.Spelled.{graph-brought, graph-read}
 use Rattle.graph_check.specs.CheckGraph.{graphReading, graphValues}
-use Rattle.graph_check.specs.Rewritten.{resultOf, askFits, rewritten}
+use Rattle.graph_check.specs.Rewritten.{rewritten}
 use Rattle.build.specs.BuildOutcome.{BuildOutcome, buildOutcome}
 use Rattle.build.proofs.BuiltBytes.{built-outcome, outcome-built}
 use Rattle.promises.specs.BuiltGraph.{BuiltGraph}
@@ -96,12 +97,12 @@ module _ (s g buffer : List ℕ) (sheetBytes : AreBytes s) (areBytes : AreBytes 
     where
       go
           : (r : Reading Sheet) → acceptSheet s ≡ r → andThen r (λ _ sheet. readGraph sheet g) ≡ took k nodes
-          → resultOf buffer (andThen (andThen r (λ _ sheet. mapReading (graphBytes (sheet .arity) (length (sheet .rules))) (readGraph sheet g))) (λ _ bytes. askFits buffer bytes))
+          → resultOf buffer (andThen (andThen r (λ _ sheet. mapReading (graphBytes (sheet .arity) (length (sheet .rules))) (readGraph sheet g))) (λ _ bytes. askFits 19 buffer bytes))
           ≡ record { refusal = 0; bytes = length g; buffer = splice buffer 0 g }
       go (took a sheet) c d =
           let sound = sheet-accepted s sheetBytes a sheet .0 c .0 .sound in
           let spelled = graph-read sheet sound g areBytes d in
-          ap (λ (x : Reading (List (Node ℕ))). resultOf buffer (andThen (mapReading (graphBytes (sheet .arity) (length (sheet .rules))) x) (λ _ bytes. askFits buffer bytes))) d
-          ∙ ap (λ (bytes : List ℕ). resultOf buffer (askFits buffer bytes)) (spelled .spelled)
+          ap (λ (x : Reading (List (Node ℕ))). resultOf buffer (andThen (mapReading (graphBytes (sheet .arity) (length (sheet .rules))) x) (λ _ bytes. askFits 19 buffer bytes))) d
+          ∙ ap (λ (bytes : List ℕ). resultOf buffer (askFits 19 buffer bytes)) (spelled .spelled)
           ∙ ap (λ (b : Bool). resultOf buffer (ask 19 b (took (length g) g))) (le-leb (length g) (length buffer) fits)
       go (refused q) c d = let z : _≡_ {A = ℕ} 0 1 = cc in absurd (omega arith)

@@ -3,7 +3,7 @@ use Prim.Native.Nat.{ℕ}
 use mathlib.Core.Path.{_≡_}
 use mathlib.Core.Logic.{_⊎_}
 use mathlib.Core.List.{List}
-use Rattle.graph_check.specs.Rewritten.{Result}
+use Rattle.records.specs.Written.{Result}
 use Rattle.build.specs.BuildOutcome.{BuildOutcome}
 use Rattle.accepted.specs.Questions.{Between, SheetQuestion}
 

@@ -3,3 +3,4 @@ pub mod Kinds
 pub mod Fields
 pub mod Reading
 pub mod Writing
+pub mod Written

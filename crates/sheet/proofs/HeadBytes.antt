@@ -14,18 +14,9 @@ use Rattle.sheet.specs.declared.PatternRecord.{PatternRecord}
 use Rattle.sheet.specs.declared.PatternRecord.the-variants.{Anything, Symbol, Range, Compound, Variable, Ranged}
 use Rattle.sheet.specs.declared.PatternHead.{PatternHead}
 use Rattle.sheet.specs.declared.PatternHead.the-variants.{Whole, Refused}
-use Rattle.sheet.specs.views.PatternRecord.{recordBytes, patternHead}
+use Rattle.sheet.specs.views.PatternRecord.{recordBytes, recordSpelling, patternHead}
 use Rattle.sheet.proofs.Heads.{head-cases}
 use Rattle.records.proofs.ByteLists.{byte-at}
-
--- The bytes that spell a record.
-abbrev pub recordSpelling : PatternRecord → List ℕ
-recordSpelling Anything = 0x20 ∷ []
-recordSpelling (Symbol a) = 0x21 ∷ wideThen a []
-recordSpelling (Range l h) = 0x22 ∷ wideThen l (wideThen h [])
-recordSpelling (Compound a n) = 0x23 ∷ wideThen a (n ∷ [])
-recordSpelling (Variable v) = 0x24 ∷ v ∷ []
-recordSpelling (Ranged v l h) = 0x25 ∷ v ∷ wideThen l (wideThen h [])
 
 -- The wide fields of a record are wide.
 abbrev pub WideFields : PatternRecord → Type 0

@@ -15,10 +15,10 @@ use Rattle.sheet.specs.declared.PatternRecord.{PatternRecord}
 use Rattle.sheet.specs.declared.PatternRecord.the-variants.{Anything, Symbol, Range, Compound, Variable, Ranged}
 use Rattle.sheet.specs.ReadSheet.{readPattern, readPatterns, rangesMeet, readRule, readRules}
 use Rattle.sheet.specs.WriteSheet.{patternBytes, patternsBytes, rulesBytes}
-use Rattle.sheet.proofs.HeadBytes.{WideFields, recordSpelling, spelled-head}
+use Rattle.sheet.proofs.HeadBytes.{WideFields, spelled-head}
 use Rattle.sheet.proofs.Compounds.{compoundOf, pattern-by-head}
 use Rattle.sheet.proofs.RangesMeet.{common-meet}
-use Rattle.sheet.specs.views.PatternRecord.{onRecord, onHead}
+use Rattle.sheet.specs.views.PatternRecord.{recordSpelling, onRecord, onHead}
 
 -- A pattern has a level, and so has each of a row.
 sound-level : (p : Pattern) (r : ℕ) → Sound p r → 1 ≤ r

@@ -13,7 +13,7 @@ use Rattle.terms.specs.RuleTests as tests
 use Rattle.sheet.specs.WriteSheet.{patternBytes, patternsBytes}
 use Rattle.sheet.specs.declared.PatternRecord.{PatternRecord}
 use Rattle.sheet.specs.declared.PatternRecord.the-variants.{Anything, Symbol, Range, Compound, Variable, Ranged}
-use Rattle.sheet.proofs.HeadBytes.{recordSpelling}
+use Rattle.sheet.specs.views.PatternRecord.{recordSpelling, recordsSpelling}
 use Rattle.tidy.specs.TidyRule.{isRepeated, newNumber, single, repeated, tidyPattern, tidyPatterns}
 use Rattle.tidy.proofs.TidyTests.{tidy-count}
 
@@ -31,12 +31,8 @@ abbrev mutual
   patternsRecords pnil = []
   patternsRecords (pcons p ps) = patternRecords p ++ patternsRecords ps
 
--- The bytes that spell records in a row.
-abbrev pub recordsSpelling : List PatternRecord → List ℕ
-recordsSpelling [] = []
-recordsSpelling (r ∷ rs) = recordSpelling r ++ recordsSpelling rs
-
-spelling-join : (rs qs : List PatternRecord) → recordsSpelling (rs ++ qs) ≡ recordsSpelling rs ++ recordsSpelling qs
+-- Those of two rows are those of the first, then those of the second.
+pub spelling-join : (rs qs : List PatternRecord) → recordsSpelling (rs ++ qs) ≡ recordsSpelling rs ++ recordsSpelling qs
 spelling-join [] qs = refl
 spelling-join (r ∷ rs) qs =
     ap (recordSpelling r ++_) (spelling-join rs qs)
@@ -59,11 +55,11 @@ mutual
       spelling-join (patternRecords p) (patternsRecords ps) ∙ (λ i. pattern-records-spell p i ++ records-spell ps i)
 
 -- What a variable's record becomes: one that stands once, and a repeated one.
-abbrev singleRecord : Option tests.Range → PatternRecord
+abbrev pub singleRecord : Option tests.Range → PatternRecord
 singleRecord none = Anything
 singleRecord (some x) = Range (x .low) (x .high)
 
-abbrev repeatedRecord : ℕ → Option tests.Range → PatternRecord
+abbrev pub repeatedRecord : ℕ → Option tests.Range → PatternRecord
 repeatedRecord n none = Variable n
 repeatedRecord n (some x) = Ranged n (x .low) (x .high)
 

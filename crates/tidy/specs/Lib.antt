@@ -1,3 +1,4 @@
--- What a tidy sheet is.
+-- What a tidy sheet is, and what tidying answers.
 pub mod TidyRule
 pub mod TidySheet
+pub mod Tidied

@@ -1,10 +1,10 @@
 -- The record of a pattern that a list of bytes begins with, as the code hands it on, and what it is read as.
 use Prim.Native.Nat.{ℕ}
 use mathlib.Core.Bool.{Bool, true, false, cond}
-use mathlib.Core.List.{List}
+use mathlib.Core.List.{List, [], _∷_, _++_}
 use lib.ListN.{length, getD}
 use lib.Dec.{leb, eqb}
-use Rattle.records.specs.Fields.{wideAt}
+use Rattle.records.specs.Fields.{wideAt, wideThen}
 use Rattle.records.specs.Reading.{Reading, took, refused, ask}
 use Rattle.terms.specs.Pattern.{Pattern, anything, theSymbol, theRange, variable, rangedVariable}
 use Rattle.sheet.specs.declared.PatternRecord.{PatternRecord}
@@ -20,6 +20,20 @@ recordBytes (Range l h) = 5
 recordBytes (Compound a n) = 4
 recordBytes (Variable v) = 2
 recordBytes (Ranged v l h) = 6
+
+-- The bytes that spell a record.
+abbrev pub recordSpelling : PatternRecord → List ℕ
+recordSpelling Anything = 0x20 ∷ []
+recordSpelling (Symbol a) = 0x21 ∷ wideThen a []
+recordSpelling (Range l h) = 0x22 ∷ wideThen l (wideThen h [])
+recordSpelling (Compound a n) = 0x23 ∷ wideThen a (n ∷ [])
+recordSpelling (Variable v) = 0x24 ∷ v ∷ []
+recordSpelling (Ranged v l h) = 0x25 ∷ v ∷ wideThen l (wideThen h [])
+
+-- The bytes that spell records in a row.
+abbrev pub recordsSpelling : List PatternRecord → List ℕ
+recordsSpelling [] = []
+recordsSpelling (r ∷ rs) = recordSpelling r ++ recordsSpelling rs
 
 -- Whole where its bytes are there.
 abbrev pub wholeIf : Bool → PatternRecord → PatternHead

@@ -1,6 +1,7 @@
 -- The values of the call, packed, and the buffer that it leaves.
 use mathlib.Core.Path.{sym, ap, _∙_, subst}
-use Rattle.graph_check.specs.Rewritten.{Result, leftBy}
+use Rattle.records.specs.Written.{Result}
+use Rattle.graph_check.specs.Rewritten.{leftBy}
 use Rattle.voltunnis.specs.Packed.{Packs, writtenFields}
 use borrow.Author.Needs.{needs}
 use Rattle.voltunnis.proofs.vt_rewrite.Statement.{statement}
