@@ -1,0 +1,3 @@
+-- What tidying a sheet hands back.
+pub mod HandedBack
+pub mod views

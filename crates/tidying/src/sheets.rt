@@ -1,0 +1,87 @@
+// The tidy form of a sheet: its questions, its length, then its bytes.
+use crate::Row;
+use crate::Tidied;
+use crate::names::meet_row;
+use crate::names::number_row;
+use crate::rules::measure_rule;
+use crate::rules::put_rule;
+use sheet_tests::SheetCheck;
+ghost use mathlib.Core.Path.{_≡_};
+ghost use Prim.Native.Nat.{_+_, _*_, _≤_};
+ghost use lib.ListN.{length, drop};
+ghost use Rattle.records.specs.Writing.{splice};
+ghost use Rattle.tidy.specs.Tidied.{tidied};
+ghost use Rattle.tidying.specs.HandedBack.{leftBy};
+ghost use Rattle.tidying.specs.views.TidyRow.{tidyRows};
+
+// How many bytes the tidy form of a sheet has. Not those of the sheet, nor those of its rules alone.
+fn measure(s: &[u8], arity: u8, rules: u8) -> usize
+    requires { ⌜ 3 ≤ length (now s) ⌝ }
+    ensures { λ r. ⌜ r ≡ 3 + length (tidyRows arity rules (drop 3 (now (s .entry)))) ⌝ }
+    ensures { λ r. ⌜ r ≤ 3 + 4080 * rules ⌝ }
+{
+    let mut at: usize = 3;
+    let mut size: usize = 3;
+    let mut i: u8 = 0;
+    while i < rules {
+        let row = Row {
+            at,
+            patterns: arity as usize,
+            most: 680,
+        };
+        let mut words = [0x1_0000_0000u64; 16];
+        meet_row(s, row, &mut words);
+        let moved = measure_rule(s, row, &words);
+        at = moved.from;
+        size += moved.to;
+        i += 1;
+    }
+    size
+}
+
+// The tidy forms of a sheet's rules in a buffer that has room for them, from a position on, and the position behind them. Each rule
+// has its own numbers: those of one rule do not run on into the next.
+fn put_rules(s: &[u8], arity: u8, rules: u8, buf: &mut [u8], start: usize) -> usize
+    requires { ⌜ (3 ≤ length (now s)) × (start + length (tidyRows arity rules (drop 3 (now s))) ≤ length (now buf)) ⌝ }
+    ensures { λ r. ⌜ (r ≡ start + length (tidyRows arity rules (drop 3 (now (s .entry)))))
+        × (now (buf .exit) ≡ splice (now (buf .entry)) start (tidyRows arity rules (drop 3 (now (s .entry))))) ⌝ }
+{
+    let mut at: usize = 3;
+    let mut end = start;
+    let mut i: u8 = 0;
+    while i < rules {
+        let row = Row {
+            at,
+            patterns: arity as usize,
+            most: 680,
+        };
+        let mut words = [0x1_0000_0000u64; 16];
+        meet_row(s, row, &mut words);
+        number_row(s, row, &mut words);
+        let moved = put_rule(s, row, &words, buf, end);
+        at = moved.from;
+        end = moved.to;
+        i += 1;
+    }
+    end
+}
+
+// Writes the tidy form of a sheet: the sheet's questions, then 31. Not a byte written where the sheet is refused or its tidy form does
+// not fit, nor a sheet refused whose tidy form just fits.
+pub fn tidy(sheet: &[u8], buffer: &mut [u8]) -> Tidied
+    ensures { λ r. ⌜ leftBy r (now (buffer .exit)) ≡ tidied (now (sheet .entry)) (now (buffer .entry)) ⌝ }
+{
+    let checked = sheet_tests::check_sheet(sheet);
+    match checked {
+        SheetCheck::Refused(q) => Tidied::Refused(q),
+        SheetCheck::Accepted(arity, rules, _) => {
+            let size = measure(sheet, arity, rules);
+            if buffer.len() < size {
+                return Tidied::Refused(31);
+            }
+            let start = records::put(buffer, 0, &[0x10, arity, rules]);
+            let end = put_rules(sheet, arity, rules, buffer, start);
+            Tidied::Written(end as u32)
+        }
+    }
+}
