@@ -112,9 +112,13 @@ mutual
       → length (patternsRecords ps) ≤ countPatterns ps * stride (suc below)
   patterns-size pnil below sound = omega arith
   patterns-size (pcons p ps) below sound =
-      omega
-      (arith, length-append (patternRecords p) (patternsRecords ps), pattern-size p below (sound .0),
-      patterns-size ps below (sound .1), suc-mul (countPatterns ps) (stride (suc below)))
+      omega (
+        arith,
+        length-append (patternRecords p) (patternsRecords ps),
+        pattern-size p below (sound .0),
+        patterns-size ps below (sound .1),
+        suc-mul (countPatterns ps) (stride (suc below)),
+      )
 
 mutual
   -- The fields of a sound pattern's records fit, and so do those of a row.

@@ -1,0 +1,79 @@
+-- One rule further in a sheet: what is measured and written.
+use Prim.Native.Nat.{ℕ, zero, suc, _+_, _-_, _≤_, _<_}
+use mathlib.Core.Path.{_≡_, refl, sym, ap, _∙_}
+use mathlib.Core.List.{List, [], _∷_, _++_}
+use native.Mathlib.Omega.{arith}
+use lib.ListN.{length, drop, length-append}
+use lib.Seq.{drop-drop}
+use Rattle.records.specs.Writing.{splice}
+use Rattle.records.proofs.Writing.{splice-more}
+use Rattle.sheet.specs.declared.PatternRecord.{PatternRecord}
+use Rattle.sheet.specs.views.PatternRecord.{recordsSpelling}
+use Rattle.tidying.specs.views.Row.{ruleRecords}
+use Rattle.tidying.specs.views.TidyRow.{tidySpelling, metIn, numberedIn, tidyRow, tidyRows}
+use Rattle.tidying.proofs.SameSize.{same-size}
+
+-- With no rule left there is nothing left.
+pub rows-none : (arity n : ℕ) (s : List ℕ) → n ≡ 0 → tidyRows arity n s ≡ []
+unfolding tidyRows
+rows-none arity zero s e = refl
+rows-none arity (suc n) s e = absurd (omega arith)
+
+rows-next
+    : (arity n : ℕ) (s : List ℕ) → 1 ≤ n
+    → tidyRows arity n s
+    ≡ tidyRow (ruleRecords arity s) ++ tidyRows arity (n - 1) (drop (length (recordsSpelling (ruleRecords arity s))) s)
+unfolding tidyRows
+rows-next arity zero s some = absurd (omega arith)
+rows-next arity (suc n) s some =
+    let e : n ≡ suc n - 1 = omega arith in
+    ap
+    (λ (k : ℕ). tidyRow (ruleRecords arity s) ++ tidyRows arity k (drop (length (recordsSpelling (ruleRecords arity s))) s))
+    e
+
+-- The rules from i on, whose bytes begin at a position.
+abbrev pub rowsFrom : ℕ → ℕ → List ℕ → ℕ → ℕ → List ℕ
+rowsFrom arity rules s i at = tidyRows arity (rules - i) (drop at s)
+
+module _ (arity rules : ℕ) (s : List ℕ) where
+  -- Before the first rule all are left, and after the last none.
+  pub rows-all : rowsFrom arity rules s 0 3 ≡ tidyRows arity rules (drop 3 s)
+  rows-all = let e : rules - 0 ≡ rules = omega arith in ap (λ (k : ℕ). tidyRows arity k (drop 3 s)) e
+
+  pub rows-done : (i at : ℕ) → rules ≤ i → rowsFrom arity rules s i at ≡ []
+  rows-done i at h = rows-none arity (rules - i) (drop at s) (omega arith)
+
+  module _ (i at : ℕ) (h : i < rules) {from : ℕ} (e : from ≡ at + length (recordsSpelling (ruleRecords arity (drop at s)))) where
+    abbrev own : List PatternRecord
+    own = ruleRecords arity (drop at s)
+
+    -- The first of the rules left, and the others.
+    pub rows-turn : rowsFrom arity rules s i at ≡ tidyRow own ++ rowsFrom arity rules s (i + 1) from
+    rows-turn =
+        let less : rules - i - 1 ≡ rules - (i + 1) = omega arith in
+        let behind : drop (length (recordsSpelling own)) (drop at s) ≡ drop from s =
+        drop-drop (length (recordsSpelling own)) at s ∙ ap (λ (k : ℕ). drop k s) (sym e) in
+        rows-next arity (rules - i) (drop at s) (omega arith) ∙ (λ j. tidyRow own ++ tidyRows arity (less j) (behind j))
+
+    pub turn-size
+        : length (rowsFrom arity rules s i at) ≡ length (tidyRow own) + length (rowsFrom arity rules s (i + 1) from)
+    turn-size = ap length rows-turn ∙ length-append (tidyRow own) (rowsFrom arity rules s (i + 1) from)
+
+    -- A rule measured before its variables have numbers.
+    pub turn-measured
+        : {words : List ℕ} → words ≡ metIn own
+        → length (rowsFrom arity rules s i at) ≡ length (tidySpelling words own) + length (rowsFrom arity rules s (i + 1) from)
+    turn-measured {words} is =
+        omega (arith, turn-size, ap (λ (l : List ℕ). length (tidySpelling l own)) is, same-size own)
+
+    -- A rule written behind those before it.
+    pub turn-written
+        : {words : List ℕ} → words ≡ numberedIn own → (buf : List ℕ) (end : ℕ) {left : List ℕ} {to : ℕ}
+        → end + length (tidySpelling words own) ≤ length buf → left ≡ splice buf end (tidySpelling words own)
+        → to ≡ end + length (tidySpelling words own)
+        → splice left to (rowsFrom arity rules s (i + 1) from) ≡ splice buf end (rowsFrom arity rules s i at)
+    turn-written {words} is buf end {left} {to} room l t =
+        let rest = rowsFrom arity rules s (i + 1) from in
+        (λ j. splice (l j) (t j) rest)
+        ∙ splice-more buf end (tidySpelling words own) rest room
+        ∙ ap (splice buf end) (ap (λ (k : List ℕ). tidySpelling k own ++ rest) is ∙ sym rows-turn)

@@ -1,0 +1,128 @@
+-- A rule's tidy form has the same length before its variables have their numbers.
+use Prim.Native.Nat.{ℕ, suc, _+_, _*_, _/_, _%_, _≤_, _<_}
+use mathlib.Core.Path.{_≡_, refl, sym, ap, _∙_}
+use mathlib.Core.Bool.{Bool, true, false, cond}
+use mathlib.Core.List.{List, [], _∷_, map}
+use native.Mathlib.Decide.{ℕ-discrete}
+use native.Mathlib.Omega.{arith}
+use lib.Dec.{eqb}
+use lib.ListN.{length, getD, set, length-set}
+use lib.Seq.{getD-set-same, getD-set-other}
+use borrow.Author.Tests.{le-ltb, eqb-true}
+use Rattle.sheet.specs.declared.PatternRecord.{PatternRecord}
+use Rattle.sheet.specs.declared.PatternRecord.the-variants.{Anything, Symbol, Range, Compound, Variable, Ranged}
+use Rattle.sheet.specs.views.PatternRecord.{recordBytes}
+use Rattle.tidying.specs.views.Words.{wordHigh, wordUses, freshWords, slot, metRecord, metRecords, metAt}
+use Rattle.tidying.specs.views.Words.{Numbering, numberedIf, numberedAt, numberRecord, numberRecords}
+use Rattle.tidying.specs.views.TidyRow.{tidyWord, tidyIn, tidySpelling, metIn, numberedIn}
+use Rattle.tidying.proofs.WordLaws.{tidy-by}
+use Rattle.tidying.proofs.RowSteps.{first-spelled}
+
+-- The bytes of a repeated variable's record.
+repeated-bytes : (w : ℕ) → 2 ≤ wordUses w → recordBytes (tidyWord w) ≡ cond (eqb (wordHigh w) 0x1_0000) 2 6
+repeated-bytes w twice = go (eqb (wordHigh w) 0x1_0000) refl
+  where
+    go : (b : Bool) → eqb (wordHigh w) 0x1_0000 ≡ b → recordBytes (tidyWord w) ≡ cond b 2 6
+    go true e = ap recordBytes (sym (tidy-by w false true (le-ltb (wordUses w) 2 twice) e))
+    go false e = ap recordBytes (sym (tidy-by w false false (le-ltb (wordUses w) 2 twice) e))
+
+-- A number changes nothing of them.
+numbered-bytes
+    : (w count : ℕ) → w / 0x2_0000_0000 ≡ 2
+    → recordBytes (tidyWord w) ≡ recordBytes (tidyWord (w + (count * 4 + 1) * 0x2_0000_0000))
+numbered-bytes w count is =
+    let after = w + (count * 4 + 1) * 0x2_0000_0000 in
+    let same : wordHigh w ≡ wordHigh after = omega arith in
+    repeated-bytes w (omega (arith, is))
+    ∙ ap (λ (h : ℕ). cond (eqb h 0x1_0000) 2 6) same
+    ∙ sym (repeated-bytes after (omega (arith, is)))
+
+-- Words by which the variables' records have as many bytes.
+abbrev Alike : List ℕ → List ℕ → Type 0
+Alike xs ys = (k : ℕ) → recordBytes (tidyWord (getD xs k 0)) ≡ recordBytes (tidyWord (getD ys k 0))
+
+pub record Kept (x y : List ℕ) : Type 0 where
+  pub alike : Alike x y
+  pub size : length y ≡ 16
+
+kept-at : (v : ℕ) (x : Numbering) → length (x .words) ≡ 16 → Kept (x .words) (numberedAt v x .words)
+kept-at v x size = go (eqb (w / 0x2_0000_0000) 2) refl
+  where
+    w : ℕ
+    w = getD (x .words) (slot v) 0
+
+    words : List ℕ
+    words = x .words
+
+    more : ℕ
+    more = w + (x .count * 4 + 1) * 0x2_0000_0000
+
+    go
+        : (b : Bool) → eqb (w / 0x2_0000_0000) 2 ≡ b
+        → Kept words (cond b (record { words = set words (slot v) more; count = suc (x .count) }) x .words)
+    go true e = record {
+      alike = λ k. elim (ℕ-discrete k (slot v)) [
+        | yes same ↦
+            ap (λ (i : ℕ). recordBytes (tidyWord (getD words i 0))) same
+            ∙ numbered-bytes w (x .count) (eqb-true (w / 0x2_0000_0000) 2 e)
+            ∙ ap (λ (u : ℕ). recordBytes (tidyWord u))
+            (sym
+            (ap (λ (i : ℕ). getD (set words (slot v) more) i 0) same
+            ∙ getD-set-same words (slot v) more 0 (omega (arith, size))))
+        | no apart ↦
+            ap (λ (u : ℕ). recordBytes (tidyWord u)) (sym (getD-set-other words (slot v) k more 0 apart))
+      ];
+      size = length-set words (slot v) more ∙ size;
+    }
+    go false e = record { alike = λ k. refl; size = size }
+
+kept-record : (r : PatternRecord) (x : Numbering) → length (x .words) ≡ 16 → Kept (x .words) (numberRecord r x .words)
+kept-record Anything x size = record { alike = λ k. refl; size = size }
+kept-record (Symbol a) x size = record { alike = λ k. refl; size = size }
+kept-record (Range l h) x size = record { alike = λ k. refl; size = size }
+kept-record (Compound a n) x size = record { alike = λ k. refl; size = size }
+kept-record (Variable v) x size = kept-at v x size
+kept-record (Ranged v l h) x size = kept-at v x size
+
+kept-records : (x : Numbering) (rs : List PatternRecord) → length (x .words) ≡ 16 → Alike (x .words) (numberRecords x rs .words)
+kept-records x [] size k = refl
+kept-records x (r ∷ rs) size k =
+    let one = kept-record r x size in one .alike k ∙ kept-records (numberRecord r x) rs (one .size) k
+
+bytes-alike : (xs ys : List ℕ) → Alike xs ys → (r : PatternRecord) → recordBytes (tidyIn xs r) ≡ recordBytes (tidyIn ys r)
+bytes-alike xs ys same Anything = refl
+bytes-alike xs ys same (Symbol a) = refl
+bytes-alike xs ys same (Range l h) = refl
+bytes-alike xs ys same (Compound a n) = refl
+bytes-alike xs ys same (Variable v) = same (slot v)
+bytes-alike xs ys same (Ranged v l h) = same (slot v)
+
+spelling-alike
+    : (xs ys : List ℕ) → Alike xs ys → (rs : List PatternRecord) → length (tidySpelling xs rs) ≡ length (tidySpelling ys rs)
+spelling-alike xs ys same [] = refl
+spelling-alike xs ys same (r ∷ rs) =
+    omega (
+      arith,
+      first-spelled (tidyIn xs r) (map (tidyIn xs) rs),
+      first-spelled (tidyIn ys r) (map (tidyIn ys) rs),
+      bytes-alike xs ys same r,
+      spelling-alike xs ys same rs,
+    )
+
+-- What is known keeps its 16 words.
+met-size : (words : List ℕ) (rs : List PatternRecord) → length words ≡ 16 → length (metRecords words rs) ≡ 16
+met-size words [] size = size
+met-size words (r ∷ rs) size = met-size (metRecord words r) rs (go r)
+  where
+    go : (r : PatternRecord) → length (metRecord words r) ≡ 16
+    go Anything = size
+    go (Symbol a) = size
+    go (Range l h) = size
+    go (Compound a n) = size
+    go (Variable v) = length-set words (slot v) _ ∙ size
+    go (Ranged v l h) = length-set words (slot v) _ ∙ size
+
+pub same-size : (rs : List PatternRecord) → length (tidySpelling (metIn rs) rs) ≡ length (tidySpelling (numberedIn rs) rs)
+same-size rs =
+    spelling-alike (metIn rs) (numberedIn rs)
+    (kept-records (record { words = metIn rs; count = 0 }) rs (met-size freshWords rs refl)) rs
