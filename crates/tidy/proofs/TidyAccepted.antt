@@ -27,7 +27,7 @@ use Rattle.tidy.proofs.NewNumbers.{numbers-differ, number-lt}
 use Rattle.tidy.proofs.TidyTests.{isNumbered, tidy-count, ranges-kept, has-number}
 
 -- The number is 0 to 15.
-abbrev Small : Occurrence → Type 0
+abbrev pub Small : Occurrence → Type 0
 Small o = o .name < 16
 
 mutual
@@ -40,7 +40,7 @@ mutual
   names-small (variable v) r b sound = (sound .1, tt)
   names-small (rangedVariable v l h) r b sound = (sound .3, tt)
 
-  all-names-small : (ps : Patterns) (r b : ℕ) → Sounds ps r → All Small (patternsVariables ps r b)
+  pub all-names-small : (ps : Patterns) (r b : ℕ) → Sounds ps r → All Small (patternsVariables ps r b)
   all-names-small pnil r b sound = tt
   all-names-small (pcons p ps) r b sound =
       all-join Small (patternVariables p r b) (patternsVariables ps r (b + stride r)) (names-small p r b (sound .0))

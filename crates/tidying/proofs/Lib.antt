@@ -7,3 +7,4 @@ pub mod RuleTurns
 -- Of the records of an accepted rule, and what the words say behind them:
 pub mod RuleRecords
 pub mod MetVariables
+pub mod NumberedVariables
