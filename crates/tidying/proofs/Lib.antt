@@ -8,3 +8,6 @@ pub mod RuleTurns
 pub mod RuleRecords
 pub mod MetVariables
 pub mod NumberedVariables
+-- So what the code writes is the tidy form:
+pub mod TidyRows
+pub mod TidiedSheets

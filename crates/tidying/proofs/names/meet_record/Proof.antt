@@ -45,10 +45,14 @@ returns-4 : tie.Need-returns-4
 returns-4 c = search needs
 
 returns-5 : tie.Need-returns-5
-returns-5 c = let words = c .before .before .before .before .before .args .words .now in (c .meet-variable .ensures .0 ∙ ap (metRecord words) (sym (c .before .before .before .what .given .1)), c .meet-variable .ensures .1)
+returns-5 c =
+    let words = c .before .before .before .before .before .args .words .now in
+    (c .meet-variable .ensures .0 ∙ ap (metRecord words) (sym (c .before .before .before .what .given .1)), c .meet-variable .ensures .1)
 
 returns-6 : tie.Need-returns-6
-returns-6 c = let words = c .before .before .before .before .before .args .words .now in (c .meet-variable2 .ensures .0 ∙ ap (metRecord words) (sym (c .before .before .before .what2 .given .1)), c .meet-variable2 .ensures .1)
+returns-6 c =
+    let words = c .before .before .before .before .before .args .words .now in
+    (c .meet-variable2 .ensures .0 ∙ ap (metRecord words) (sym (c .before .before .before .what2 .given .1)), c .meet-variable2 .ensures .1)
 
 pub meet-record-spec : {M : Type 1} → statement M
 meet-record-spec =

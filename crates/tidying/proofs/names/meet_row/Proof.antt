@@ -32,16 +32,36 @@ enum-told : tie.Need-enum-told Inv-loop μ-loop
 enum-told c = search needs
 
 returns : tie.Need-returns Inv-loop μ-loop
-returns c = let s = c .before .before .before .before .before .args .s .now in let row = c .before .before .before .loop .row in let words = c .before .before .before .loop .words in let inv = c .before .before .before .loop .inv in let read = c .before .before .next-record .ensures in (sym (ap (metRecords words) (ends s row (read .0) (c .enum-told .given .1))) ∙ inv .2, inv .1)
+returns c =
+    let s = c .before .before .before .before .before .args .s .now in
+    let row = c .before .before .before .loop .row in
+    let words = c .before .before .before .loop .words in
+    let inv = c .before .before .before .loop .inv in
+    let read = c .before .before .next-record .ensures in
+    (sym (ap (metRecords words) (ends s row (read .0) (c .enum-told .given .1))) ∙ inv .2, inv .1)
 
 meet-record-requires : tie.Need-meet-record-requires Inv-loop μ-loop
 meet-record-requires c κs = c .before .before .before .before .before .loop .inv .1
 
 loop-less : tie.Need-loop-less Inv-loop μ-loop
-loop-less c = let s = c .before .before .before .before .before .before .before .before .args .s .now in let row = c .before .before .before .before .before .before .loop .row in let words = c .before .before .before .before .before .before .loop .words in let inv = c .before .before .before .before .before .before .loop .inv in let read = c .before .before .before .before .before .next-record .ensures in omega (arith, behind-it s row (read .0) (read .1) (c .before .before .before .next .given .1) .1)
+loop-less c =
+    let s = c .before .before .before .before .before .before .before .before .args .s .now in
+    let row = c .before .before .before .before .before .before .loop .row in
+    let words = c .before .before .before .before .before .before .loop .words in
+    let inv = c .before .before .before .before .before .before .loop .inv in
+    let read = c .before .before .before .before .before .next-record .ensures in
+    omega (arith, behind-it s row (read .0) (read .1) (c .before .before .before .next .given .1) .1)
 
 loop-again : tie.Need-loop-again Inv-loop μ-loop
-loop-again c = let s = c .before .before .before .before .before .before .before .before .args .s .now in let row = c .before .before .before .before .before .before .loop .row in let words = c .before .before .before .before .before .before .loop .words in let inv = c .before .before .before .before .before .before .loop .inv in let read = c .before .before .before .before .before .next-record .ensures in let more = c .before .before .before .next .given .0 .1 .0 in let met = c .meet-record .ensures in (behind-it s row (read .0) (read .1) (c .before .before .before .next .given .1) .0, met .1, ap (λ (l : List ℕ). metRecords l (recordsFrom s more)) (met .0) ∙ sym (ap (metRecords words) (goes s row (read .0) (c .before .before .before .next .given .1))) ∙ inv .2)
+loop-again c =
+    let s = c .before .before .before .before .before .before .before .before .args .s .now in
+    let row = c .before .before .before .before .before .before .loop .row in
+    let words = c .before .before .before .before .before .before .loop .words in
+    let inv = c .before .before .before .before .before .before .loop .inv in
+    let read = c .before .before .before .before .before .next-record .ensures in
+    let more = c .before .before .before .next .given .0 .1 .0 in
+    let met = c .meet-record .ensures in
+    (behind-it s row (read .0) (read .1) (c .before .before .before .next .given .1) .0, met .1, ap (λ (l : List ℕ). metRecords l (recordsFrom s more)) (met .0) ∙ sym (ap (metRecords words) (goes s row (read .0) (c .before .before .before .next .given .1))) ∙ inv .2)
 
 pub meet-row-spec : {M : Type 1} → statement M
 meet-row-spec =

@@ -25,7 +25,9 @@ element-write-words : tie.Need-element-write-words
 element-write-words c = search needs
 
 returns : tie.Need-returns
-returns c = let words = c .before .before .args .words .now in (ap (set words (c .before .before .args .v % 16)) (c .met .ensures), length-set words (c .before .before .args .v % 16) _ ∙ c .before .before .pre)
+returns c =
+    let words = c .before .before .args .words .now in
+    (ap (set words (c .before .before .args .v % 16)) (c .met .ensures), length-set words (c .before .before .args .v % 16) _ ∙ c .before .before .pre)
 
 pub meet-variable-spec : {M : Type 1} → statement M
 meet-variable-spec =

@@ -18,7 +18,12 @@ element-copy-out-word : tie.Need-element-copy-out-word
 element-copy-out-word c = search needs
 
 returns : tie.Need-returns
-returns c = let words = c .before .before .args .words .now in let v = c .before .before .args .v in let w = getD words (v % 16) 0 in let count = c .before .before .args .count in (number-none v w words count (c .if1 .taken), (c .before .before .pre .0, omega arith))
+returns c =
+    let words = c .before .before .args .words .now in
+    let v = c .before .before .args .v in
+    let w = getD words (v % 16) 0 in
+    let count = c .before .before .args .count in
+    (number-none v w words count (c .if1 .taken), (c .before .before .pre .0, omega arith))
 
 mul-words : tie.Need-mul-words
 mul-words c = search needs
@@ -42,7 +47,12 @@ add-result : tie.Need-add-result
 add-result c = search needs
 
 returns-2 : tie.Need-returns-2
-returns-2 c = let words = c .before .before .args .words .now in let v = c .before .before .args .v in let w = getD words (v % 16) 0 in let count = c .before .before .args .count in (number-given v w words count (c .if1 .left), (length-set words (v % 16) _ ∙ c .before .before .pre .0, omega arith))
+returns-2 c =
+    let words = c .before .before .args .words .now in
+    let v = c .before .before .args .v in
+    let w = getD words (v % 16) 0 in
+    let count = c .before .before .args .count in
+    (number-given v w words count (c .if1 .left), (length-set words (v % 16) _ ∙ c .before .before .pre .0, omega arith))
 
 pub number-variable-spec : {M : Type 1} → statement M
 number-variable-spec =

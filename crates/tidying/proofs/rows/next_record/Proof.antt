@@ -7,10 +7,16 @@ use Rattle.tidying.proofs.rows.next_record.Statement.{statement}
 use Rattle.tidying.proofs.rows.next_record.Tie as tie
 
 returns : tie.Need-returns
-returns c = let s = c .before .before .before .args .s .now in let row = c .before .before .before .args .row in (ends-full s row (c .if1 .taken), tt)
+returns c =
+    let s = c .before .before .before .args .s .now in
+    let row = c .before .before .before .args .row in
+    (ends-full s row (c .if1 .taken), tt)
 
 returns-2 : tie.Need-returns-2
-returns-2 c = let s = c .before .before .before .before .before .args .s .now in let row = c .before .before .before .before .before .args .row in (ends-last s row (c .if2 .taken), tt)
+returns-2 c =
+    let s = c .before .before .before .before .before .args .s .now in
+    let row = c .before .before .before .before .before .args .row in
+    (ends-last s row (c .if2 .taken), tt)
 
 sub-pattern-head : tie.Need-sub-pattern-head
 sub-pattern-head c = search needs
@@ -31,13 +37,19 @@ enum-told : tie.Need-enum-told
 enum-told c = search needs
 
 returns-3 : tie.Need-returns-3
-returns-3 c = let s = c .before .before .before .before .before .before .before .before .before .args .s .now in let row = c .before .before .before .before .before .before .before .before .before .args .row in (ends-cut s row (c .before .before .pattern-head .ensures) (c .enum-told .given .1), tt)
+returns-3 c =
+    let s = c .before .before .before .before .before .before .before .before .before .args .s .now in
+    let row = c .before .before .before .before .before .before .before .before .before .args .row in
+    (ends-cut s row (c .before .before .pattern-head .ensures) (c .enum-told .given .1), tt)
 
 record-length-requires : tie.Need-record-length-requires
 record-length-requires c κs = search needs
 
 add-t11 : tie.Need-add-t11
-add-t11 c = let s = c .before .before .before .before .before .before .before .before .before .before .before .args .s .now in let row = c .before .before .before .before .before .before .before .before .before .before .before .args .row in omega (arith, record-there s row (c .before .before .before .before .pattern-head .ensures) (c .before .before .head .given .1) (c .record-length .ensures) (c .before .before .before .before .before .before .before .before .before .before .before .pre))
+add-t11 c =
+    let s = c .before .before .before .before .before .before .before .before .before .before .before .args .s .now in
+    let row = c .before .before .before .before .before .before .before .before .before .before .before .args .row in
+    omega (arith, record-there s row (c .before .before .before .before .pattern-head .ensures) (c .before .before .head .given .1) (c .record-length .ensures) (c .before .before .before .before .before .before .before .before .before .before .before .pre))
 
 sub-t12 : tie.Need-sub-t12
 sub-t12 c = search needs
@@ -52,7 +64,14 @@ sub-t15 : tie.Need-sub-t15
 sub-t15 c = search needs
 
 returns-4 : tie.Need-returns-4
-returns-4 c = let s = c .before .before .before .before .before .before .before .before .before .before .before .before .before .before .args .s .now in let row = c .before .before .before .before .before .before .before .before .before .before .before .before .before .before .args .row in let is = c .before .before .before .before .before .before .before .pattern-head .ensures in let e = c .before .before .before .before .before .head .given .1 in let size = c .before .before .before .record-length .ensures in let more = c .before .arguments .ensures .0 in (goes-next s row is e size more (omega arith) (omega arith), goes-on s row is e size more (omega arith) (omega arith) (c .before .before .before .before .before .before .before .before .before .before .before .before .before .before .pre) (c .before .arguments .ensures .1))
+returns-4 c =
+    let s = c .before .before .before .before .before .before .before .before .before .before .before .before .before .before .args .s .now in
+    let row = c .before .before .before .before .before .before .before .before .before .before .before .before .before .before .args .row in
+    let is = c .before .before .before .before .before .before .before .pattern-head .ensures in
+    let e = c .before .before .before .before .before .head .given .1 in
+    let size = c .before .before .before .record-length .ensures in
+    let more = c .before .arguments .ensures .0 in
+    (goes-next s row is e size more (omega arith) (omega arith), goes-on s row is e size more (omega arith) (omega arith) (c .before .before .before .before .before .before .before .before .before .before .before .before .before .before .pre) (c .before .arguments .ensures .1))
 
 pub next-record-spec : {M : Type 1} → statement M
 next-record-spec =

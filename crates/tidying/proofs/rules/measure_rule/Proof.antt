@@ -34,7 +34,16 @@ enum-told : tie.Need-enum-told Inv-loop μ-loop
 enum-told c = search needs
 
 returns : tie.Need-returns Inv-loop μ-loop
-returns c = let s = c .before .before .before .before .before .args .s .now in let words = c .before .before .before .before .before .args .words .now in let row = c .before .before .before .loop .row in let inv = c .before .before .before .loop .inv in let read = c .before .before .next-record .ensures in let none = ends s row (read .0) (c .enum-told .given .1) in let from = ends-here s row none ∙ inv .2 in let to : c .before .before .before .loop .size ≡ sizeFrom words s (c .before .before .before .before .before .args .start) = omega (arith, inv .3, ap length (nothing-left s row none words)) in ((λ j. record { from = from j; to = to j }), (inv .0 .inside, omega (arith, inv .1)))
+returns c =
+    let s = c .before .before .before .before .before .args .s .now in
+    let words = c .before .before .before .before .before .args .words .now in
+    let row = c .before .before .before .loop .row in
+    let inv = c .before .before .before .loop .inv in
+    let read = c .before .before .next-record .ensures in
+    let none = ends s row (read .0) (c .enum-told .given .1) in
+    let from = ends-here s row none ∙ inv .2 in
+    let to : c .before .before .before .loop .size ≡ sizeFrom words s (c .before .before .before .before .before .args .start) = omega (arith, inv .3, ap length (nothing-left s row none words)) in
+    ((λ j. record { from = from j; to = to j }), (inv .0 .inside, omega (arith, inv .1)))
 
 tidy-record-requires : tie.Need-tidy-record-requires Inv-loop μ-loop
 tidy-record-requires c κs = c .before .before .before .before .before .before .pre .2
@@ -43,13 +52,41 @@ record-length-requires : tie.Need-record-length-requires Inv-loop μ-loop
 record-length-requires c κs = search needs
 
 add-size : tie.Need-add-size Inv-loop μ-loop
-add-size c = let s = c .before .before .before .before .before .before .before .before .args .s .now in let words = c .before .before .before .before .before .before .before .before .args .words .now in let row = c .before .before .before .before .before .before .loop .row in let inv = c .before .before .before .before .before .before .loop .inv in let read = c .before .before .before .before .before .next-record .ensures in let whole = goes s row (read .0) (c .before .before .before .next .given .1) in let on = behind-it s row (read .0) (read .1) (c .before .before .before .next .given .1) in let what = c .before .before .before .next .given .0 .0 in let more = c .before .before .before .next .given .0 .1 .0 in let size = c .record-length .ensures ∙ ap recordBytes (c .before .tidy-record .ensures) in omega (arith, size, few-bytes (tidyIn words what), inv .1)
+add-size c =
+    let s = c .before .before .before .before .before .before .before .before .args .s .now in
+    let words = c .before .before .before .before .before .before .before .before .args .words .now in
+    let row = c .before .before .before .before .before .before .loop .row in
+    let inv = c .before .before .before .before .before .before .loop .inv in
+    let read = c .before .before .before .before .before .next-record .ensures in
+    let whole = goes s row (read .0) (c .before .before .before .next .given .1) in
+    let on = behind-it s row (read .0) (read .1) (c .before .before .before .next .given .1) in
+    let what = c .before .before .before .next .given .0 .0 in
+    let more = c .before .before .before .next .given .0 .1 .0 in
+    let size = c .record-length .ensures ∙ ap recordBytes (c .before .tidy-record .ensures) in
+    omega (arith, size, few-bytes (tidyIn words what), inv .1)
 
 loop-less : tie.Need-loop-less Inv-loop μ-loop
-loop-less c = let s = c .before .before .before .before .before .before .before .before .args .s .now in let words = c .before .before .before .before .before .before .before .before .args .words .now in let row = c .before .before .before .before .before .before .loop .row in let inv = c .before .before .before .before .before .before .loop .inv in let read = c .before .before .before .before .before .next-record .ensures in omega (arith, behind-it s row (read .0) (read .1) (c .before .before .before .next .given .1) .1)
+loop-less c =
+    let s = c .before .before .before .before .before .before .before .before .args .s .now in
+    let words = c .before .before .before .before .before .before .before .before .args .words .now in
+    let row = c .before .before .before .before .before .before .loop .row in
+    let inv = c .before .before .before .before .before .before .loop .inv in
+    let read = c .before .before .before .before .before .next-record .ensures in
+    omega (arith, behind-it s row (read .0) (read .1) (c .before .before .before .next .given .1) .1)
 
 loop-again : tie.Need-loop-again Inv-loop μ-loop
-loop-again c = let s = c .before .before .before .before .before .before .before .before .args .s .now in let words = c .before .before .before .before .before .before .before .before .args .words .now in let row = c .before .before .before .before .before .before .loop .row in let inv = c .before .before .before .before .before .before .loop .inv in let read = c .before .before .before .before .before .next-record .ensures in let whole = goes s row (read .0) (c .before .before .before .next .given .1) in let on = behind-it s row (read .0) (read .1) (c .before .before .before .next .given .1) in let what = c .before .before .before .next .given .0 .0 in let more = c .before .before .before .next .given .0 .1 .0 in let size = c .record-length .ensures ∙ ap recordBytes (c .before .tidy-record .ensures) in (on .0, omega (arith, on .1, inv .1, size, few-bytes (tidyIn words what)), ends-same s row more whole (on .2) ∙ inv .2, omega (arith, size, size-next s row more whole words, inv .3))
+loop-again c =
+    let s = c .before .before .before .before .before .before .before .before .args .s .now in
+    let words = c .before .before .before .before .before .before .before .before .args .words .now in
+    let row = c .before .before .before .before .before .before .loop .row in
+    let inv = c .before .before .before .before .before .before .loop .inv in
+    let read = c .before .before .before .before .before .next-record .ensures in
+    let whole = goes s row (read .0) (c .before .before .before .next .given .1) in
+    let on = behind-it s row (read .0) (read .1) (c .before .before .before .next .given .1) in
+    let what = c .before .before .before .next .given .0 .0 in
+    let more = c .before .before .before .next .given .0 .1 .0 in
+    let size = c .record-length .ensures ∙ ap recordBytes (c .before .tidy-record .ensures) in
+    (on .0, omega (arith, on .1, inv .1, size, few-bytes (tidyIn words what)), ends-same s row more whole (on .2) ∙ inv .2, omega (arith, size, size-next s row more whole words, inv .3))
 
 pub measure-rule-spec : {M : Type 1} → statement M
 measure-rule-spec =

@@ -42,19 +42,67 @@ same-length : tie.Need-same-length Inv-loop μ-loop
 same-length c = c .before .before .before .loop .inv .1
 
 returns : tie.Need-returns Inv-loop μ-loop
-returns c = let s = c .before .before .before .before .before .before .args .s .now in let words = c .before .before .before .before .before .before .args .words .now in let row = c .before .before .before .loop .row in let inv = c .before .before .before .loop .inv in let read = c .before .before .next-record .ensures in let buf = c .before .before .before .loop .buf in let end = c .before .before .before .loop .end in let none = ends s row (read .0) (c .enum-told .given .1) in let from = ends-here s row none ∙ inv .2 in let to : end ≡ c .before .before .before .before .before .before .args .to + sizeFrom words s (c .before .before .before .before .before .before .args .start) = omega (arith, inv .3, ap length (nothing-left s row none words)) in ((λ j. record { from = from j; to = to j }), (splice-none buf end ∙ ap (splice buf end) (sym (nothing-left s row none words)) ∙ inv .4, inv .0 .inside))
+returns c =
+    let s = c .before .before .before .before .before .before .args .s .now in
+    let words = c .before .before .before .before .before .before .args .words .now in
+    let row = c .before .before .before .loop .row in
+    let inv = c .before .before .before .loop .inv in
+    let read = c .before .before .next-record .ensures in
+    let buf = c .before .before .before .loop .buf in
+    let end = c .before .before .before .loop .end in
+    let none = ends s row (read .0) (c .enum-told .given .1) in
+    let from = ends-here s row none ∙ inv .2 in
+    let to : end ≡ c .before .before .before .before .before .before .args .to + sizeFrom words s (c .before .before .before .before .before .before .args .start) = omega (arith, inv .3, ap length (nothing-left s row none words)) in
+    ((λ j. record { from = from j; to = to j }), (splice-none buf end ∙ ap (splice buf end) (sym (nothing-left s row none words)) ∙ inv .4, inv .0 .inside))
 
 tidy-record-requires : tie.Need-tidy-record-requires Inv-loop μ-loop
 tidy-record-requires c κs = c .before .before .before .before .before .before .before .before .pre .1
 
 put-record-requires : tie.Need-put-record-requires Inv-loop μ-loop
-put-record-requires c κs = let s = c .before .before .before .before .before .before .before .before .before .args .s .now in let words = c .before .before .before .before .before .before .before .before .before .args .words .now in let row = c .before .before .before .before .before .before .loop .row in let inv = c .before .before .before .before .before .before .loop .inv in let read = c .before .before .before .before .before .next-record .ensures in let buf = c .before .before .before .before .before .before .loop .buf in let end = c .before .before .before .before .before .before .loop .end in let whole = goes s row (read .0) (c .before .before .before .next .given .1) in let on = behind-it s row (read .0) (read .1) (c .before .before .before .next .given .1) in let what = c .before .before .before .next .given .0 .0 in let more = c .before .before .before .next .given .0 .1 .0 in let tidy = c .tidy-record .ensures in let room : end + recordBytes (tidyIn words what) ≤ length buf = omega (arith, inv .1, inv .3, c .before .before .before .before .before .before .before .before .before .pre .2, size-next s row more whole words) in omega (arith, room, ap (λ (r : PatternRecord). length (recordSpelling r)) tidy, spelled-length (tidyIn words what))
+put-record-requires c κs =
+    let s = c .before .before .before .before .before .before .before .before .before .args .s .now in
+    let words = c .before .before .before .before .before .before .before .before .before .args .words .now in
+    let row = c .before .before .before .before .before .before .loop .row in
+    let inv = c .before .before .before .before .before .before .loop .inv in
+    let read = c .before .before .before .before .before .next-record .ensures in
+    let buf = c .before .before .before .before .before .before .loop .buf in
+    let end = c .before .before .before .before .before .before .loop .end in
+    let whole = goes s row (read .0) (c .before .before .before .next .given .1) in
+    let on = behind-it s row (read .0) (read .1) (c .before .before .before .next .given .1) in
+    let what = c .before .before .before .next .given .0 .0 in
+    let more = c .before .before .before .next .given .0 .1 .0 in
+    let tidy = c .tidy-record .ensures in
+    let room : end + recordBytes (tidyIn words what) ≤ length buf = omega (arith, inv .1, inv .3, c .before .before .before .before .before .before .before .before .before .pre .2, size-next s row more whole words) in
+    omega (arith, room, ap (λ (r : PatternRecord). length (recordSpelling r)) tidy, spelled-length (tidyIn words what))
 
 loop-less : tie.Need-loop-less Inv-loop μ-loop
-loop-less c = let s = c .before .before .before .before .before .before .before .before .before .before .before .before .args .s .now in let words = c .before .before .before .before .before .before .before .before .before .before .before .before .args .words .now in let row = c .before .before .before .before .before .before .before .before .before .loop .row in let inv = c .before .before .before .before .before .before .before .before .before .loop .inv in let read = c .before .before .before .before .before .before .before .before .next-record .ensures in omega (arith, behind-it s row (read .0) (read .1) (c .before .before .before .before .before .before .next .given .1) .1)
+loop-less c =
+    let s = c .before .before .before .before .before .before .before .before .before .before .before .before .args .s .now in
+    let words = c .before .before .before .before .before .before .before .before .before .before .before .before .args .words .now in
+    let row = c .before .before .before .before .before .before .before .before .before .loop .row in
+    let inv = c .before .before .before .before .before .before .before .before .before .loop .inv in
+    let read = c .before .before .before .before .before .before .before .before .next-record .ensures in
+    omega (arith, behind-it s row (read .0) (read .1) (c .before .before .before .before .before .before .next .given .1) .1)
 
 loop-again : tie.Need-loop-again Inv-loop μ-loop
-loop-again c = let s = c .before .before .before .before .before .before .before .before .before .before .before .before .args .s .now in let words = c .before .before .before .before .before .before .before .before .before .before .before .before .args .words .now in let row = c .before .before .before .before .before .before .before .before .before .loop .row in let inv = c .before .before .before .before .before .before .before .before .before .loop .inv in let read = c .before .before .before .before .before .before .before .before .next-record .ensures in let buf = c .before .before .before .before .before .before .before .before .before .loop .buf in let end = c .before .before .before .before .before .before .before .before .before .loop .end in let whole = goes s row (read .0) (c .before .before .before .before .before .before .next .given .1) in let on = behind-it s row (read .0) (read .1) (c .before .before .before .before .before .before .next .given .1) in let what = c .before .before .before .before .before .before .next .given .0 .0 in let more = c .before .before .before .before .before .before .next .given .0 .1 .0 in let tidy = c .before .before .before .tidy-record .ensures in let room : end + recordBytes (tidyIn words what) ≤ length buf = omega (arith, inv .1, inv .3, c .before .before .before .before .before .before .before .before .before .before .before .before .pre .2, size-next s row more whole words) in let put = c .before .before .put-record .ensures in let to = put .0 ∙ ap (λ (r : PatternRecord). end + length (recordSpelling r)) tidy in let left = put .1 ∙ ap (λ (r : PatternRecord). splice buf end (recordSpelling r)) tidy in (on .0, c .before .buf .given ∙ inv .1, ends-same s row more whole (on .2) ∙ inv .2, omega (arith, to, spelled-length (tidyIn words what), size-next s row more whole words, inv .3), written-next s row more whole words buf end room left to ∙ inv .4)
+loop-again c =
+    let s = c .before .before .before .before .before .before .before .before .before .before .before .before .args .s .now in
+    let words = c .before .before .before .before .before .before .before .before .before .before .before .before .args .words .now in
+    let row = c .before .before .before .before .before .before .before .before .before .loop .row in
+    let inv = c .before .before .before .before .before .before .before .before .before .loop .inv in
+    let read = c .before .before .before .before .before .before .before .before .next-record .ensures in
+    let buf = c .before .before .before .before .before .before .before .before .before .loop .buf in
+    let end = c .before .before .before .before .before .before .before .before .before .loop .end in
+    let whole = goes s row (read .0) (c .before .before .before .before .before .before .next .given .1) in
+    let on = behind-it s row (read .0) (read .1) (c .before .before .before .before .before .before .next .given .1) in
+    let what = c .before .before .before .before .before .before .next .given .0 .0 in
+    let more = c .before .before .before .before .before .before .next .given .0 .1 .0 in
+    let tidy = c .before .before .before .tidy-record .ensures in
+    let room : end + recordBytes (tidyIn words what) ≤ length buf = omega (arith, inv .1, inv .3, c .before .before .before .before .before .before .before .before .before .before .before .before .pre .2, size-next s row more whole words) in
+    let put = c .before .before .put-record .ensures in
+    let to = put .0 ∙ ap (λ (r : PatternRecord). end + length (recordSpelling r)) tidy in
+    let left = put .1 ∙ ap (λ (r : PatternRecord). splice buf end (recordSpelling r)) tidy in
+    (on .0, c .before .buf .given ∙ inv .1, ends-same s row more whole (on .2) ∙ inv .2, omega (arith, to, spelled-length (tidyIn words what), size-next s row more whole words, inv .3), written-next s row more whole words buf end room left to ∙ inv .4)
 
 pub put-rule-spec : {M : Type 1} → statement M
 put-rule-spec =

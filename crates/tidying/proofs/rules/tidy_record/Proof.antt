@@ -60,10 +60,14 @@ returns-4 : tie.Need-returns-4
 returns-4 c = search needs
 
 returns-5 : tie.Need-returns-5
-returns-5 c = let words = c .before .before .before .before .before .args .words .now in c .tidy-variable .ensures ∙ ap (tidyIn words) (sym (c .before .before .before .what .given .1))
+returns-5 c =
+    let words = c .before .before .before .before .before .args .words .now in
+    c .tidy-variable .ensures ∙ ap (tidyIn words) (sym (c .before .before .before .what .given .1))
 
 returns-6 : tie.Need-returns-6
-returns-6 c = let words = c .before .before .before .before .before .args .words .now in c .tidy-variable2 .ensures ∙ ap (tidyIn words) (sym (c .before .before .before .what2 .given .1))
+returns-6 c =
+    let words = c .before .before .before .before .before .args .words .now in
+    c .tidy-variable2 .ensures ∙ ap (tidyIn words) (sym (c .before .before .before .what2 .given .1))
 
 pub tidy-record-spec : {M : Type 1} → statement M
 tidy-record-spec =
