@@ -15,6 +15,8 @@ pub mod ByPlace
 pub mod Rebuild
 pub mod Exactly
 pub mod TidySheets
+-- It is short:
+pub mod TidyLength
 -- The tidy form record by record, and its numbers in one pass:
 pub mod TidyRecords
 pub mod Uses
