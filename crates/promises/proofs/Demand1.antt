@@ -26,11 +26,13 @@ use Rattle.graph.specs.ReadGraph.{readGraph}
 use Rattle.graph_check.specs.CheckGraph.{graphReading, graphValues}
 use Rattle.graph_check.specs.Rewritten.{bytesReading, rewritten}
 use Rattle.build.specs.BuildOutcome.{writtenIf, graphWritten, sheetBuilt, buildOutcome}
+use Rattle.tidy.specs.TidySheet.{tidyBytes}
+use Rattle.tidy.specs.Tidied.{tidied}
 use Rattle.walk.specs.Walking.{graphReply, pieceReply, walkReply, replyValues}
 use Rattle.accepted.proofs.Named.{Named, ask-named, then-named, named-wider}
 use Rattle.accepted.proofs.Questions.{sheet-named}
-use Rattle.promises.specs.Questions.{PieceQuestion, GraphQuestion, PathQuestion, PlainQuestion, CheckQuestion, RewriteQuestion}
-use Rattle.promises.specs.Questions.{WalkQuestion, AnswersOr, BuildEnds, RewriteEnds}
+use Rattle.promises.specs.Questions.{PieceQuestion, GraphQuestion, PathQuestion, PlainQuestion, CheckQuestion}
+use Rattle.promises.specs.Questions.{RewriteQuestion, TidyQuestion, WalkQuestion, AnswersOr, BuildEnds, WriterEnds}
 use Rattle.promises.proofs.PieceQuestions.{piece-named}
 use Rattle.promises.proofs.GraphQuestions.{graph-named, mapped-named, walk-named}
 use Rattle.promises.proofs.PathEdges.{edges-are-the-path, path-few}
@@ -130,11 +132,18 @@ build-answers s buffer = read (acceptSheet s) (sheet-named s)
     read (took k sheet) h = grown (sheet .arity) (length (sheet .rules)) (graphOf (sheet .rules))
     read (refused q) h = inr (inl h, refl)
 
--- and read nodes written again.
-pub rewrite-answers : (s g buffer : List ℕ) → RewriteEnds buffer (rewritten s g buffer)
+-- and so do all other writers, by their own questions:
+writer-ends
+    : (Question : ℕ → Type 0) (buffer : List ℕ) (r : Reading (List ℕ)) → Named Question r
+    → WriterEnds Question buffer (resultOf buffer r)
+writer-ends Question buffer (took k bytes) h = inl refl
+writer-ends Question buffer (refused q) h = inr (h, refl, refl)
+
+-- read nodes written again
+pub rewrite-answers : (s g buffer : List ℕ) → WriterEnds RewriteQuestion buffer (rewritten s g buffer)
 unfolding rewritten
 rewrite-answers s g buffer =
-    go (andThen (bytesReading s g) (λ _ bytes. askFits 19 buffer bytes))
+    writer-ends RewriteQuestion buffer (andThen (bytesReading s g) (λ _ bytes. askFits 19 buffer bytes))
     (then-named RewriteQuestion (bytesReading s g) (λ _ bytes. askFits 19 buffer bytes)
     (then-named RewriteQuestion (acceptSheet s)
     (λ _ sheet. mapReading (graphBytes (sheet .arity) (length (sheet .rules))) (readGraph sheet g))
@@ -144,7 +153,24 @@ rewrite-answers s g buffer =
     (named-wider GraphQuestion RewriteQuestion (λ q h. inl (inr h)) (readGraph sheet g) (graph-named sheet g))))
     (λ _ bytes.
     ask-named RewriteQuestion 19 (leb (length bytes) (length buffer)) (took (length bytes) bytes) (inr refl) tt))
+
+-- and a tidied sheet.
+pub tidy-answers : (s buffer : List ℕ) → WriterEnds TidyQuestion buffer (tidied s buffer)
+unfolding tidied
+tidy-answers s buffer =
+    writer-ends TidyQuestion buffer (andThen (acceptSheet s) (λ _ sheet. askFits 31 buffer (tidyBytes sheet)))
+    (then-named TidyQuestion (acceptSheet s) (λ _ sheet. askFits 31 buffer (tidyBytes sheet))
+    (named-wider SheetQuestion TidyQuestion (λ q h. inl h) (acceptSheet s) (sheet-named s))
+    (λ _ sheet.
+    ask-named TidyQuestion 31 (leb (length (tidyBytes sheet)) (length buffer)) (took (length (tidyBytes sheet)) (tidyBytes sheet))
+    (inr refl) tt))
+
+-- A refusal of it hands back 0 bytes and "changes no byte of a lent buffer".
+pub tidy-refusal-keeps
+    : (s buffer : List ℕ) → (tidied s buffer .refusal ≡ 0 → ⊥)
+    → (tidied s buffer .bytes ≡ 0) × (tidied s buffer .buffer ≡ buffer)
+tidy-refusal-keeps s buffer not-accepted = go (tidy-answers s buffer)
   where
-    go : (r : Reading (List ℕ)) → Named RewriteQuestion r → RewriteEnds buffer (resultOf buffer r)
-    go (took k bytes) h = inl refl
-    go (refused q) h = inr (h, refl)
+    go : WriterEnds TidyQuestion buffer (tidied s buffer) → (tidied s buffer .bytes ≡ 0) × (tidied s buffer .buffer ≡ buffer)
+    go (inl e) = absurd (not-accepted e)
+    go (inr (_, bytes, kept)) = (bytes, kept)

@@ -12,6 +12,10 @@ pub mod Demand3
 pub mod Waiting
 pub mod HandedBack
 pub mod Unchecked
+-- Request 2:
+pub mod SameSheets
+pub mod TidyBytes
+pub mod Request2
 -- The cases that document 01 gives, and its fakes:
 pub mod Marked
 pub mod Example

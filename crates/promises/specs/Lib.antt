@@ -2,6 +2,7 @@
 pub mod Questions
 pub mod AcceptedBytes
 pub mod BuiltGraph
+pub mod TidyWritten
 pub mod Path
 pub mod Marked
 pub mod Example

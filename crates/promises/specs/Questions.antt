@@ -35,6 +35,10 @@ CheckQuestion q = SheetQuestion q ⊎ GraphQuestion q
 abbrev pub RewriteQuestion : ℕ → Type 0
 RewriteQuestion q = CheckQuestion q ⊎ (q ≡ 19)
 
+-- Document 02, request 2: "It refuses a buffer that is too short (31), after the sheet's questions."
+abbrev pub TidyQuestion : ℕ → Type 0
+TidyQuestion q = SheetQuestion q ⊎ (q ≡ 31)
+
 -- "Walking, after sheet and piece": 20, then the graph's, then those "at each switch or pair walked".
 abbrev pub WalkQuestion : ℕ → Type 0
 WalkQuestion q = PlainQuestion q ⊎ (GraphQuestion q ⊎ PathQuestion q)
@@ -47,6 +51,6 @@ AnswersOr Question refusal = (refusal ≡ 0) ⊎ Question refusal
 abbrev pub BuildEnds : List ℕ → BuildOutcome → Type 0
 BuildEnds buffer x = (x .values .refusal ≡ 0) ⊎ (BuildQuestion (x .values .refusal) × (x .buffer ≡ buffer))
 
--- and with read nodes that are written again.
-abbrev pub RewriteEnds : List ℕ → Result → Type 0
-RewriteEnds buffer x = (x .refusal ≡ 0) ⊎ (RewriteQuestion (x .refusal) × (x .buffer ≡ buffer))
+-- and with every other writer.
+abbrev pub WriterEnds : (ℕ → Type 0) → List ℕ → Result → Type 0
+WriterEnds Question buffer x = (x .refusal ≡ 0) ⊎ (Question (x .refusal) × (x .bytes ≡ 0) × (x .buffer ≡ buffer))
