@@ -18,6 +18,7 @@ use Rattle.sheet_tests.specs.CheckSheet.{acceptSheet, AcceptedSheet, sheetValue
 use Rattle.accepted.proofs.Acceptance.{sheet-accepted}
 use Rattle.plain.specs.Plain.{plainReading}
 use Rattle.graph_check.specs.CheckGraph.{graphReading}
+use Rattle.graph_check.specs.Rewritten.{rewritten}
 use Rattle.build.specs.BuildOutcome.{buildOutcome}
 use Rattle.walk.specs.Walking.{walkReply}
 use Rattle.tidy.specs.TidySheet.{tidySheet, tidyBytes, AllSameTests}
@@ -26,7 +27,7 @@ use Rattle.tidy.proofs.Exactly.{tidy-rules-tests}
 use Rattle.tidy.proofs.TidySheets.{tidy-sheet-accepted, tidy-sheet-twice, tidy-read, tidy-exactly}
 use Rattle.promises.specs.TidyWritten.{TidyWritten}
 use Rattle.promises.proofs.TidyBytes.{tidy-fits, tidy-written-exactly, written-is}
-use Rattle.promises.proofs.SameSheets.{same-check, same-build, same-plain, same-graph-check, same-walk}
+use Rattle.promises.proofs.SameSheets.{same-check, same-build, same-plain, same-graph-check, same-rewrite, same-walk}
 
 -- "Two accepted sheets get equal bytes exactly when they have the same arity and, rule for rule, the same tests": from whatever
 -- bytes s and t they are read, and into whatever buffers their tidy bytes v and w are written.
@@ -106,6 +107,12 @@ module _ {s p w : List ℕ} (areBytes : AreBytes s) (written : TidyWritten s p w
         same-graph-check w s (tidy-bytes-read e) e refl (tests-kept e .0) (tests-kept e .1) g,
         same-walk w s (tidy-bytes-read e) e refl (tests-kept e .0) (tests-kept e .1) g piece,
       )
+
+  -- Its nodes are written again alike.
+  pub tidy-same-rewrite : (g buffer : List ℕ) → rewritten w g buffer ≡ rewritten s g buffer
+  tidy-same-rewrite g buffer =
+      let (k, sheet, e, _) = source in
+      same-rewrite w s (tidy-bytes-read e) e refl (tests-kept e .0) (tests-kept e .1) g buffer
 
 -- Computed: (X7, X3, X3) becomes (anything, X0, X0), of which 8 bytes are written into 9, and none into 7.
 abbrev exampleSheet : List ℕ
