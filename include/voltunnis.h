@@ -39,6 +39,7 @@
  *   each switch 26  fewer than 64 edges have been walked
  *   or pair     27  each place that it tests is in the piece, or below an unknown
  *   walked
+ *   tidying     31  the tidy sheet fits the lent buffer
  *   an answer   36  commit or execute with rule 1 to 64, or suspend or fail with rule 0
  *   fed
  *
@@ -91,6 +92,12 @@ uint64_t vt_rewrite(const uint8_t *sheet, size_t sheet_len, const uint8_t *graph
  * graph stay as they are, and all do on a refusal. At most 1,836,037 bytes are written.
  * Fields: nodes (bits 8 to 23), bytes written (bits 24 to 55). */
 uint64_t vt_build(const uint8_t *sheet, size_t sheet_len, uint8_t *buffer, size_t buffer_len);
+
+/* Writes a sheet in its tidy form, at the start of the buffer: questions 1 to 11, then 31. Two accepted sheets get equal bytes
+ * exactly when they have the same arity and, rule for rule, the same tests. The tidy form may be longer than the sheet. The bytes
+ * after it stay as they are, and all do on a refusal. At most 20,995 bytes are written.
+ * Fields: bytes written (bits 8 to 39). */
+uint64_t vt_tidy(const uint8_t *sheet, size_t sheet_len, uint8_t *buffer, size_t buffer_len);
 
 /* Walks a piece over a graph: questions 1 to 17, 20, 21 to 25, then 26 and 27 along the way.
  * Fields: word (bits 8 to 15), rule (bits 16 to 23, 0 for suspend and fail), edges walked (bits 24 to 31). */

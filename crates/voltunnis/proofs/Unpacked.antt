@@ -33,7 +33,7 @@ pub graph-unpacked
     : (r : ℕ) (x : GraphValues) → Packs r (graphFields x) → (r % 0x100 ≡ x .refusal) × (r / 0x100 % 0x1_0000 ≡ x .nodes)
 graph-unpacked r x (e, (a, (b, _))) = (omega arith, omega arith)
 
--- the bytes that nodes written again take in bits 8 to 39,
+-- the bytes written by any writer but the build in bits 8 to 39,
 pub written-unpacked
     : (r : ℕ) (x : Result) → Packs r (writtenFields x) → (r % 0x100 ≡ x .refusal) × (r / 0x100 % 0x1_0000_0000 ≡ x .bytes)
 written-unpacked r x (e, (a, (b, _))) = (omega arith, omega arith)

@@ -8,6 +8,7 @@ use piece::PieceCheck;
 use plain::Answer;
 use plain::Plain;
 use sheet_tests::SheetCheck;
+use tidying::Tidied;
 use walk::Walked;
 ghost use mathlib.Core.Path.{_≡_};
 ghost use Rattle.terms.specs.Answer.{wordOf, ruleOf};
@@ -17,6 +18,7 @@ ghost use Rattle.piece.specs.CheckPiece.{pieceValues};
 ghost use Rattle.plain.specs.Plain.{answerOf, plainReading, readingValues};
 ghost use Rattle.graph_check.specs.CheckGraph.{graphReading, graphValues};
 ghost use Rattle.graph_check.specs.Rewritten.{rewritten};
+ghost use Rattle.tidy.specs.Tidied.{tidied};
 ghost use Rattle.build.specs.BuildOutcome.{buildOutcome};
 ghost use Rattle.walk.specs.Walking.{walkReply, replyValues};
 ghost use mathlib.Core.List.{[], _∷_};
@@ -132,6 +134,20 @@ pub extern "C" fn vt_rewrite(sheet: &[u8], graph: &[u8], buffer: &mut [u8]) -> u
     match written {
         Rewrote::Written(bytes) => pack_wide(0, bytes),
         Rewrote::Refused(q) => pack_wide(q, 0),
+    }
+}
+
+// Writes the tidy form of a sheet, at the front of a buffer: the bytes written. Not the buffer's length for them, nor a byte
+// changed behind them or beside a refusal's number.
+#[no_mangle]
+pub extern "C" fn vt_tidy(sheet: &[u8], buffer: &mut [u8]) -> u64
+    ensures { λ r. ⌜ Packs r (writtenFields (tidied (now (sheet .entry)) (now (buffer .entry)))) ⌝ }
+    ensures { λ _. ⌜ now (buffer .exit) ≡ tidied (now (sheet .entry)) (now (buffer .entry)) .buffer ⌝ }
+{
+    let written = tidying::tidy(sheet, buffer);
+    match written {
+        Tidied::Written(bytes) => pack_wide(0, bytes),
+        Tidied::Refused(q) => pack_wide(q, 0),
     }
 }
 
