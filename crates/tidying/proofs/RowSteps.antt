@@ -11,7 +11,8 @@ use Rattle.sheet.specs.declared.PatternRecord.the-variants.{Anything, Symbol, R
 use Rattle.sheet.specs.views.PatternRecord.{recordBytes, recordSpelling, recordsSpelling}
 use Rattle.tidying.specs.declared.Row.{Row}
 use Rattle.tidying.specs.views.Row.{recordsFrom}
-use Rattle.tidying.specs.views.TidyRow.{tidyIn, tidySpelling}
+use Rattle.tidying.specs.views.Words.{Numbering, numberRecord}
+use Rattle.tidying.specs.views.TidyRow.{tidyIn, tidySpelling, tidyOnward}
 
 -- A record has as many bytes as spell it, at most 6.
 pub spelled-length : (r : PatternRecord) → length (recordSpelling r) ≡ recordBytes r
@@ -52,6 +53,9 @@ module _ (s : List ℕ) (row : Row) where
     pub nothing-left : (words : List ℕ) → tidySpelling words (recordsFrom s row) ≡ []
     nothing-left words = ap (tidySpelling words) none
 
+    pub nothing-onward : (x : Numbering) → tidyOnward x (recordsFrom s row) ≡ []
+    nothing-onward x = ap (tidyOnward x) none
+
   -- Behind the first record it ends where it did, and the others are left.
   module _ (more : Row) {what : PatternRecord} (whole : recordsFrom s row ≡ what ∷ recordsFrom s more) where
     pub ends-same : more .at ≡ row .at + recordBytes what → endFrom s more ≡ endFrom s row
@@ -71,14 +75,18 @@ module _ (s : List ℕ) (row : Row) where
           ∙ length-append (recordSpelling (tidyIn words what)) (tidySpelling words (recordsFrom s more))
           ∙ ap (λ (k : ℕ). k + sizeFrom words s more) (spelled-length (tidyIn words what))
 
-      -- What is written behind the first record is written behind all before it.
-      pub written-next
-          : (buf : List ℕ) (end : ℕ) {left : List ℕ} {to : ℕ} → end + recordBytes (tidyIn words what) ≤ length buf
-          → left ≡ splice buf end (recordSpelling (tidyIn words what)) → to ≡ end + length (recordSpelling (tidyIn words what))
-          → splice left to (tidySpelling words (recordsFrom s more)) ≡ splice buf end (tidySpelling words (recordsFrom s row))
-      written-next buf end {left} {to} room e f =
-          let a = recordSpelling (tidyIn words what) in
-          let b = tidySpelling words (recordsFrom s more) in
-          (λ j. splice (e j) (f j) b)
-          ∙ splice-more buf end a b (omega (arith, spelled-length (tidyIn words what)))
-          ∙ ap (splice buf end) (sym spelled-next)
+    -- Where the first record's variable got its number, it is written by it, and the others behind.
+    pub onward-next
+        : (x : Numbering) {y : Numbering} → y ≡ numberRecord what x
+        → tidyOnward x (recordsFrom s row)
+        ≡ recordSpelling (tidyIn (y .words) what) ++ tidyOnward y (recordsFrom s more)
+    onward-next x e =
+        ap (tidyOnward x) whole
+        ∙ ap (λ (z : Numbering). recordSpelling (tidyIn (z .words) what) ++ tidyOnward z (recordsFrom s more)) (sym e)
+
+-- What is written behind a part is written behind what that part was written behind.
+pub written-next
+    : (whole part rest buf : List ℕ) (end : ℕ) {left : List ℕ} {to : ℕ} → whole ≡ part ++ rest → end + length part ≤ length buf
+    → left ≡ splice buf end part → to ≡ end + length part → splice left to rest ≡ splice buf end whole
+written-next whole part rest buf end {left} {to} w room l t =
+    (λ j. splice (l j) (t j) rest) ∙ splice-more buf end part rest room ∙ ap (splice buf end) (sym w)

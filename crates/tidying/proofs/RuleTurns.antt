@@ -6,11 +6,11 @@ use native.Mathlib.Omega.{arith}
 use lib.ListN.{length, drop, length-append}
 use lib.Seq.{drop-drop}
 use Rattle.records.specs.Writing.{splice}
-use Rattle.records.proofs.Writing.{splice-more}
 use Rattle.sheet.specs.declared.PatternRecord.{PatternRecord}
 use Rattle.sheet.specs.views.PatternRecord.{recordsSpelling}
 use Rattle.tidying.specs.views.Row.{ruleRecords}
-use Rattle.tidying.specs.views.TidyRow.{tidySpelling, metIn, numberedIn, tidyRow, tidyRows}
+use Rattle.tidying.specs.views.TidyRow.{tidySpelling, tidyOnward, metIn, tidyRow, tidyRows}
+use Rattle.tidying.proofs.RowSteps.{written-next}
 use Rattle.tidying.proofs.SameSize.{same-size}
 
 -- With no rule left there is nothing left.
@@ -67,13 +67,16 @@ module _ (arity rules : ℕ) (s : List ℕ) where
         omega (arith, turn-size, ap (λ (l : List ℕ). length (tidySpelling l own)) is, same-size own)
 
     -- A rule written behind those before it.
+    pub turn-row : {words : List ℕ} → words ≡ metIn own → tidyOnward (record { words = words; count = 0 }) own ≡ tidyRow own
+    turn-row is = ap (λ (l : List ℕ). tidyOnward (record { words = l; count = 0 }) own) is
+
     pub turn-written
-        : {words : List ℕ} → words ≡ numberedIn own → (buf : List ℕ) (end : ℕ) {left : List ℕ} {to : ℕ}
-        → end + length (tidySpelling words own) ≤ length buf → left ≡ splice buf end (tidySpelling words own)
-        → to ≡ end + length (tidySpelling words own)
+        : {words : List ℕ} → words ≡ metIn own → (buf : List ℕ) (end : ℕ) {left : List ℕ} {to : ℕ}
+        → end + length (tidyOnward (record { words = words; count = 0 }) own) ≤ length buf
+        → left ≡ splice buf end (tidyOnward (record { words = words; count = 0 }) own)
+        → to ≡ end + length (tidyOnward (record { words = words; count = 0 }) own)
         → splice left to (rowsFrom arity rules s (i + 1) from) ≡ splice buf end (rowsFrom arity rules s i at)
     turn-written {words} is buf end {left} {to} room l t =
         let rest = rowsFrom arity rules s (i + 1) from in
-        (λ j. splice (l j) (t j) rest)
-        ∙ splice-more buf end (tidySpelling words own) rest room
-        ∙ ap (splice buf end) (ap (λ (k : List ℕ). tidySpelling k own ++ rest) is ∙ sym rows-turn)
+        written-next (rowsFrom arity rules s i at) (tidyOnward (record { words = words; count = 0 }) own) rest buf end
+        (rows-turn ∙ ap (λ (k : List ℕ). k ++ rest) (sym (turn-row is))) room l t

@@ -12,10 +12,10 @@ use borrow.Author.Tests.{le-ltb, eqb-true}
 use Rattle.sheet.specs.declared.PatternRecord.{PatternRecord}
 use Rattle.sheet.specs.declared.PatternRecord.the-variants.{Anything, Symbol, Range, Compound, Variable, Ranged}
 use Rattle.sheet.specs.views.PatternRecord.{recordBytes}
-use Rattle.tidying.specs.views.Words.{wordHigh, wordUses, freshWords, slot, metRecord, metRecords, metAt}
-use Rattle.tidying.specs.views.Words.{Numbering, numberedIf, numberedAt, numberRecord, numberRecords}
-use Rattle.tidying.specs.views.TidyRow.{tidyWord, tidyIn, tidySpelling, metIn, numberedIn}
+use Rattle.tidying.specs.views.Words.{wordHigh, wordUses, slot, Numbering, numberedAt, numberRecord}
+use Rattle.tidying.specs.views.TidyRow.{tidyWord, tidyIn, tidySpelling, metIn, tidyRow}
 use Rattle.tidying.proofs.WordLaws.{tidy-by}
+use Rattle.tidying.proofs.Settled.{numberRecords, numberedIn, met-sixteen, row-is}
 use Rattle.tidying.proofs.RowSteps.{first-spelled}
 
 -- The bytes of a repeated variable's record.
@@ -41,9 +41,9 @@ numbered-bytes w count is =
 abbrev Alike : List ℕ → List ℕ → Type 0
 Alike xs ys = (k : ℕ) → recordBytes (tidyWord (getD xs k 0)) ≡ recordBytes (tidyWord (getD ys k 0))
 
-pub record Kept (x y : List ℕ) : Type 0 where
-  pub alike : Alike x y
-  pub size : length y ≡ 16
+record Kept (x y : List ℕ) : Type 0 where
+  alike : Alike x y
+  size : length y ≡ 16
 
 kept-at : (v : ℕ) (x : Numbering) → length (x .words) ≡ 16 → Kept (x .words) (numberedAt v x .words)
 kept-at v x size = go (eqb (w / 0x2_0000_0000) 2) refl
@@ -109,20 +109,8 @@ spelling-alike xs ys same (r ∷ rs) =
       spelling-alike xs ys same rs,
     )
 
--- What is known keeps its 16 words.
-met-size : (words : List ℕ) (rs : List PatternRecord) → length words ≡ 16 → length (metRecords words rs) ≡ 16
-met-size words [] size = size
-met-size words (r ∷ rs) size = met-size (metRecord words r) rs (go r)
-  where
-    go : (r : PatternRecord) → length (metRecord words r) ≡ 16
-    go Anything = size
-    go (Symbol a) = size
-    go (Range l h) = size
-    go (Compound a n) = size
-    go (Variable v) = length-set words (slot v) _ ∙ size
-    go (Ranged v l h) = length-set words (slot v) _ ∙ size
-
-pub same-size : (rs : List PatternRecord) → length (tidySpelling (metIn rs) rs) ≡ length (tidySpelling (numberedIn rs) rs)
+pub same-size : (rs : List PatternRecord) → length (tidySpelling (metIn rs) rs) ≡ length (tidyRow rs)
 same-size rs =
     spelling-alike (metIn rs) (numberedIn rs)
-    (kept-records (record { words = metIn rs; count = 0 }) rs (met-size freshWords rs refl)) rs
+    (kept-records (record { words = metIn rs; count = 0 }) rs (met-sixteen rs)) rs
+    ∙ ap length (sym (row-is rs))

@@ -33,9 +33,10 @@ use Rattle.tidy.proofs.TidyAccepted.{all-names-small}
 use Rattle.tidy.proofs.TidyRecords.{patternsRecords, records-spell, singleRecord, repeatedRecord, tidyRecord, tidy-spelling}
 use Rattle.tidy.proofs.Uses.{uses, repeated-uses}
 use Rattle.tidying.specs.views.Row.{ruleRecords}
-use Rattle.tidying.specs.views.Words.{packedWord, wordLow, wordHigh, wordUses, slot, Numbering, numberRecords}
-use Rattle.tidying.specs.views.TidyRow.{tidyWord, tidyIn, tidySpelling, metIn, numberedIn, tidyRow, tidyRows}
+use Rattle.tidying.specs.views.Words.{packedWord, wordHigh, wordUses, slot, Numbering}
+use Rattle.tidying.specs.views.TidyRow.{tidyWord, tidyIn, tidySpelling, metIn, tidyRow, tidyRows}
 use Rattle.tidying.proofs.WordLaws.{word-parts, tidy-by}
+use Rattle.tidying.proofs.Settled.{numberRecords, numberedIn, row-is}
 use Rattle.tidying.proofs.RuleRecords.{records-fit, rule-row}
 use Rattle.tidying.proofs.MetVariables.{recordNames, times, rangeOver, nameAt, patterns-names, patterns-over}
 use Rattle.tidying.proofs.MetVariables.{knownWord, EndsFit, range-fits, met-says}
@@ -187,7 +188,8 @@ module _ (arity : ℕ) (rule : Patterns) (accepted : AcceptedRule arity rule) wh
   -- The tidy form of an accepted rule from its records.
   pub rule-tidy : tidyRow rs ≡ patternsBytes (tidyRule rule)
   rule-tidy =
-      ap (λ (l : List ℕ). tidySpelling l rs) known-last
+      row-is rs
+      ∙ ap (λ (l : List ℕ). tidySpelling l rs) known-last
       ∙ ap recordsSpelling (records-tidy rs (records-fit arity rule accepted))
       ∙ sym (tidy-spelling os (patternsRange rule) rule)
 

@@ -8,7 +8,7 @@ ghost use Prim.Native.Nat.{_+_, _≤_, min, max};
 ghost use lib.ListN.{length};
 ghost use Rattle.tidying.specs.views.Row.{recordsFrom, Going};
 ghost use Rattle.tidying.specs.views.Words.{metWord, metAt, metRecord, metRecords};
-ghost use Rattle.tidying.specs.views.Words.{numberedAt, numberRecord, numberRecords};
+ghost use Rattle.tidying.specs.views.Words.{numberedAt, numberRecord};
 
 // What is known of each of the 16 variables of a rule.
 pub type Words = [u64; 16];
@@ -97,8 +97,8 @@ fn number_variable(v: u8, count: u64, words: &mut Words) -> u64
     count + 1
 }
 
-// The same for the variable of a record.
-fn number_record(what: PatternRecord, count: u64, words: &mut Words) -> u64
+// The same for the variable of a record. Not a number for a variable that stands once, nor another one at its second place.
+pub fn number_record(what: PatternRecord, count: u64, words: &mut Words) -> u64
     requires { ⌜ (length (now words) ≡ 16) × (count ≤ 680) ⌝ }
     ensures { λ r. ⌜ record { words = now (words .exit); count = r }
         ≡ numberRecord what (record { words = now (words .entry); count = count }) ⌝ }
@@ -111,25 +111,5 @@ fn number_record(what: PatternRecord, count: u64, words: &mut Words) -> u64
         PatternRecord::Compound(_, _) => count,
         PatternRecord::Variable(v) => number_variable(v, count, words),
         PatternRecord::Ranged(v, _, _) => number_variable(v, count, words),
-    }
-}
-
-// New numbers for the repeated variables, from 0 in the order in which they first stand in the row. Not a number for a variable
-// that stands once, nor the order of the old numbers.
-pub fn number_row(s: &[u8], start: Row, words: &mut Words)
-    requires { ⌜ Going (now s) start × (start .most ≤ 680) × (length (now words) ≡ 16) ⌝ }
-    ensures { λ _. ⌜ now (words .exit)
-        ≡ numberRecords (record { words = now (words .entry); count = 0 }) (recordsFrom (now (s .entry)) start) .words ⌝ }
-    ensures { λ _. ⌜ length (now (words .exit)) ≡ 16 ⌝ }
-{
-    let mut row = start;
-    let mut count: u64 = 0;
-    loop {
-        let next = next_record(s, row);
-        let Next::Record(what, more) = next else {
-            return;
-        };
-        count = number_record(what, count, words);
-        row = more;
     }
 }

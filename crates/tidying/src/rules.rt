@@ -3,6 +3,7 @@ use crate::Moved;
 use crate::Next;
 use crate::Row;
 use crate::names::Words;
+use crate::names::number_record;
 use crate::rows::next_record;
 use crate::rows::record_length;
 use sheet::PatternRecord;
@@ -12,7 +13,7 @@ ghost use lib.ListN.{length};
 ghost use Rattle.records.specs.Writing.{splice};
 ghost use Rattle.sheet.specs.views.PatternRecord.{recordSpelling, recordsSpelling};
 ghost use Rattle.tidying.specs.views.Row.{recordsFrom, Going};
-ghost use Rattle.tidying.specs.views.TidyRow.{tidyWord, tidyIn, tidySpelling};
+ghost use Rattle.tidying.specs.views.TidyRow.{tidyWord, tidyIn, tidySpelling, tidyOnward};
 
 // What a variable becomes: anything or its range where it stands once, else itself by its new number, with its common range if any.
 fn tidy_variable(word: u64) -> PatternRecord
@@ -120,20 +121,22 @@ pub fn measure_rule(s: &[u8], start: Row, words: &Words) -> Moved
 }
 
 // The tidy form of a rule in a buffer that has room for it, from a position on; how far the rule reaches, and the position behind
-// what was written. Not a byte changed in front of it or behind.
-pub fn put_rule(s: &[u8], start: Row, words: &Words, buf: &mut [u8], to: usize) -> Moved
-    requires { ⌜ Going (now s) start × (length (now words) ≡ 16)
-        × (to + length (tidySpelling (now words) (recordsFrom (now s) start)) ≤ length (now buf)) ⌝ }
+// what was written. Repeated variables are numbered from 0 as they first come: not by their old numbers. Not a byte changes in front
+// of the rule or behind.
+pub fn put_rule(s: &[u8], start: Row, words: &mut Words, buf: &mut [u8], to: usize) -> Moved
+    requires { ⌜ Going (now s) start × (start .most ≤ 680) × (length (now words) ≡ 16)
+        × (to + length (tidyOnward (record { words = now words; count = 0 }) (recordsFrom (now s) start)) ≤ length (now buf)) ⌝ }
     ensures { λ r. ⌜ r ≡ record {
       from = start .at + length (recordsSpelling (recordsFrom (now (s .entry)) start));
-      to = to + length (tidySpelling (now (words .entry)) (recordsFrom (now (s .entry)) start));
+      to = to + length (tidyOnward (record { words = now (words .entry); count = 0 }) (recordsFrom (now (s .entry)) start));
     } ⌝ }
-    ensures { λ _. ⌜ now (buf .exit)
-        ≡ splice (now (buf .entry)) to (tidySpelling (now (words .entry)) (recordsFrom (now (s .entry)) start)) ⌝ }
+    ensures { λ _. ⌜ now (buf .exit) ≡ splice (now (buf .entry)) to
+        (tidyOnward (record { words = now (words .entry); count = 0 }) (recordsFrom (now (s .entry)) start)) ⌝ }
     ensures { λ r. ⌜ r .from ≤ length (now (s .entry)) ⌝ }
 {
     let mut row = start;
     let mut end = to;
+    let mut count: u64 = 0;
     loop {
         let next = next_record(s, row);
         let Next::Record(what, more) = next else {
@@ -142,6 +145,7 @@ pub fn put_rule(s: &[u8], start: Row, words: &Words, buf: &mut [u8], to: usize) 
                 to: end,
             };
         };
+        count = number_record(what, count, words);
         end = put_record(buf, end, tidy_record(what, words));
         row = more;
     }

@@ -2,12 +2,12 @@
 use crate::Row;
 use crate::Tidied;
 use crate::names::meet_row;
-use crate::names::number_row;
 use crate::rules::measure_rule;
 use crate::rules::put_rule;
 use sheet_tests::SheetCheck;
 ghost use mathlib.Core.Path.{_≡_};
 ghost use Prim.Native.Nat.{_+_, _*_, _≤_};
+ghost use lib.Dec.{leb};
 ghost use lib.ListN.{length, drop};
 ghost use Rattle.records.specs.Writing.{splice};
 ghost use Rattle.tidy.specs.Tidied.{tidied};
@@ -39,6 +39,18 @@ fn measure(s: &[u8], arity: u8, rules: u8) -> usize
     size
 }
 
+// Whether the tidy form of a sheet fits so much room. It has at most three times the bytes of the sheet, since only a variable's
+// record grows, from 2 to 6: where there is that much room, nothing is measured. What just fits fits.
+fn fits(s: &[u8], arity: u8, rules: u8, room: usize) -> bool
+    requires { ⌜ 3 ≤ length (now s) ⌝ }
+    ensures { λ r. ⌜ r ≡ leb (3 + length (tidyRows arity rules (drop 3 (now (s .entry))))) room ⌝ }
+{
+    if s.len() <= room / 3 {
+        return true;
+    }
+    measure(s, arity, rules) <= room
+}
+
 // The tidy forms of a sheet's rules in a buffer that has room for them, from a position on, and the position behind them. Each rule
 // has its own numbers: those of one rule do not run on into the next.
 fn put_rules(s: &[u8], arity: u8, rules: u8, buf: &mut [u8], start: usize) -> usize
@@ -57,8 +69,7 @@ fn put_rules(s: &[u8], arity: u8, rules: u8, buf: &mut [u8], start: usize) -> us
         };
         let mut words = [0x1_0000_0000u64; 16];
         meet_row(s, row, &mut words);
-        number_row(s, row, &mut words);
-        let moved = put_rule(s, row, &words, buf, end);
+        let moved = put_rule(s, row, &mut words, buf, end);
         at = moved.from;
         end = moved.to;
         i += 1;
@@ -75,8 +86,7 @@ pub fn tidy(sheet: &[u8], buffer: &mut [u8]) -> Tidied
     match checked {
         SheetCheck::Refused(q) => Tidied::Refused(q),
         SheetCheck::Accepted(arity, rules, _) => {
-            let size = measure(sheet, arity, rules);
-            if buffer.len() < size {
+            if !fits(sheet, arity, rules, buffer.len()) {
                 return Tidied::Refused(31);
             }
             let start = records::put(buffer, 0, &[0x10, arity, rules]);

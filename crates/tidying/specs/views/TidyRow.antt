@@ -6,9 +6,9 @@ use lib.Dec.{eqb, ltb}
 use lib.ListN.{length, getD, drop}
 use Rattle.sheet.specs.declared.PatternRecord.{PatternRecord}
 use Rattle.sheet.specs.declared.PatternRecord.the-variants.{Anything, Symbol, Range, Compound, Variable, Ranged}
-use Rattle.sheet.specs.views.PatternRecord.{recordsSpelling}
+use Rattle.sheet.specs.views.PatternRecord.{recordSpelling, recordsSpelling}
 use Rattle.tidying.specs.views.Row.{ruleRecords}
-use Rattle.tidying.specs.views.Words.{wordLow, wordHigh, wordUses, slot, freshWords, metRecords, numberRecords}
+use Rattle.tidying.specs.views.Words.{wordLow, wordHigh, wordUses, slot, freshWords, metRecords, Numbering, numberRecord}
 
 -- What a variable becomes, by its word.
 unfoldable pub tidyWord : ℕ → PatternRecord
@@ -31,16 +31,18 @@ tidyIn words (Ranged v l h) = tidyWord (getD words (slot v) 0)
 abbrev pub tidySpelling : List ℕ → List PatternRecord → List ℕ
 tidySpelling words rs = recordsSpelling (map (tidyIn words) rs)
 
--- What is known of the variables of a rule's records, without their new numbers and with them.
+-- The same, where a repeated variable gets its new number as it first comes.
+abbrev pub tidyOnward : Numbering → List PatternRecord → List ℕ
+tidyOnward x [] = []
+tidyOnward x (r ∷ rs) = recordSpelling (tidyIn (numberRecord r x .words) r) ++ tidyOnward (numberRecord r x) rs
+
+-- What is known of the variables of a rule's records, before they have numbers.
 abbrev pub metIn : List PatternRecord → List ℕ
 metIn rs = metRecords freshWords rs
 
-abbrev pub numberedIn : List PatternRecord → List ℕ
-numberedIn rs = numberRecords (record { words = metIn rs; count = 0 }) rs .words
-
 -- The tidy form of a rule, and of so many rules that bytes begin with.
 abbrev pub tidyRow : List PatternRecord → List ℕ
-tidyRow rs = tidySpelling (numberedIn rs) rs
+tidyRow rs = tidyOnward (record { words = metIn rs; count = 0 }) rs
 
 unfoldable pub tidyRows : ℕ → ℕ → List ℕ → List ℕ
 tidyRows arity zero s = []

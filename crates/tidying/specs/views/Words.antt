@@ -74,7 +74,3 @@ numberRecord (Range l h) x = x
 numberRecord (Compound a n) x = x
 numberRecord (Variable v) x = numberedAt v x
 numberRecord (Ranged v l h) x = numberedAt v x
-
-abbrev pub numberRecords : Numbering → List PatternRecord → Numbering
-numberRecords x [] = x
-numberRecords x (r ∷ rs) = numberRecords (numberRecord r x) rs

@@ -1,16 +1,15 @@
 -- A loop over the rules: those left, written behind what was written, make the whole.
-use mathlib.Core.Path.{_≡_, refl, sym, ap, _∙_}
+use Rattle.tidying.specs.views.Row.{ruleRecords}
 use Prim.Native.Nat.{ℕ, _+_, _-_, _≤_}
+use mathlib.Core.Path.{_≡_, refl, sym, ap, _∙_}
 use mathlib.Core.List.{List}
 use lib.ListN.{length, drop}
 use native.Mathlib.Omega.{arith}
-use Rattle.tidying.specs.declared.Moved.{Moved}
-use Rattle.tidying.proofs.RuleTurns.{rowsFrom, rows-all, rows-done, turn-size, turn-written}
-use Rattle.tidying.specs.views.Row.{ruleRecords}
-use Rattle.tidying.specs.views.Words.{Numbering, numberRecords}
-use Rattle.tidying.specs.views.TidyRow.{tidySpelling, numberedIn, tidyRows}
 use Rattle.records.specs.Writing.{splice}
 use Rattle.records.proofs.Writing.{splice-none}
+use Rattle.tidying.specs.declared.Moved.{Moved}
+use Rattle.tidying.specs.views.TidyRow.{tidyOnward, tidyRows}
+use Rattle.tidying.proofs.RuleTurns.{rowsFrom, rows-all, rows-done, turn-size, turn-row, turn-written}
 use borrow.Author.Needs.{needs}
 use Rattle.tidying.proofs.sheets.put_rules.Statement.{statement}
 use Rattle.tidying.proofs.sheets.put_rules.Tie as tie
@@ -27,33 +26,31 @@ abbrev μ-loop : tie.MeasureT-loop
 
 loop-holds : tie.Need-loop-holds Inv-loop μ-loop
 loop-holds c =
-    let s = c .before .before .args .s .now in
-    let all = rows-all (c .before .before .args .arity) (c .before .before .args .rules) s in
-    let start = c .before .before .args .start in
-    let buf = c .before .before .args .buf .now in
-    (omega arith, c .before .before .pre .0, refl, ap (λ l. start + length l) all, ap (splice buf start) all)
+    let start = c .before .before in
+    let s = start .args .s .now in
+    let all = rows-all (start .args .arity) (start .args .rules) s in
+    (omega arith, start .pre .0, refl, ap (λ (l : List ℕ). start .args .start + length l) all, ap (splice (start .args .buf .now) (start .args .start)) all)
 
 meet-row-requires : tie.Need-meet-row-requires Inv-loop μ-loop
 meet-row-requires c κs = (record { inside = c .before .before .loop .inv .1; counted = omega arith }, refl)
 
-number-row-requires : tie.Need-number-row-requires Inv-loop μ-loop
-number-row-requires c κs = (record { inside = c .before .before .before .before .loop .inv .1; counted = omega arith }, omega arith, c .before .meet-row .ensures .1)
-
 put-rule-requires : tie.Need-put-rule-requires Inv-loop μ-loop
 put-rule-requires c κs =
-    let s = c .before .before .before .before .before .before .before .before .before .before .args .s .now in
-    let arity = c .before .before .before .before .before .before .before .before .before .before .args .arity in
-    let rules = c .before .before .before .before .before .before .before .before .before .before .args .rules in
-    let at = c .before .before .before .before .before .before .before .loop .at in
-    let i = c .before .before .before .before .before .before .before .loop .i in
-    let inv = c .before .before .before .before .before .before .before .loop .inv in
-    let buf = c .before .before .before .before .before .before .before .loop .buf in
-    let end = c .before .before .before .before .before .before .before .loop .end in
-    let rs = ruleRecords arity (drop at s) in
-    let is = c .before .before .number-row .ensures .0 ∙ ap (λ (l : List ℕ). numberRecords (record { words = l; count = 0 }) rs .words) (c .before .before .before .before .meet-row .ensures .0) in
-    let same = ap (λ (l : List ℕ). length (tidySpelling l rs)) is in
-    let size = turn-size arity rules s i at (c .before .before .before .before .before .before .loop-test .taken) refl in
-    (record { inside = inv .1; counted = omega arith }, c .before .before .number-row .ensures .1, omega (arith, same, size, inv .2, inv .3, c .before .before .before .before .before .before .before .before .before .before .pre .1))
+    let start = c .before .before .before .before .before .before .before .before in
+    let turn = c .before .before .before .before .before .loop in
+    let s = start .args .s .now in
+    let arity = start .args .arity in
+    let rules = start .args .rules in
+    let at = turn .at in
+    let i = turn .i in
+    let inv = turn .inv in
+    let buf = turn .buf in
+    let end = turn .end in
+    let here = c .before .before .before .before .loop-test .taken in
+    let is = c .before .before .meet-row .ensures .0 in
+    let row = ap length (turn-row arity rules s i at here refl is) in
+    let room : end + length (tidyOnward (record { words = c .before .before .meet-row .last .1 .1 .0; count = 0 }) (ruleRecords arity (drop at s))) ≤ length buf = omega (arith, row, turn-size arity rules s i at here refl, inv .2, inv .3, start .pre .1) in
+    (record { inside = inv .1; counted = omega arith }, omega arith, c .before .before .meet-row .ensures .1, room)
 
 add-i : tie.Need-add-i Inv-loop μ-loop
 add-i c = search needs
@@ -63,39 +60,42 @@ loop-less c = search needs
 
 loop-again : tie.Need-loop-again Inv-loop μ-loop
 loop-again c =
-    let s = c .before .before .before .before .before .before .before .before .before .before .before .before .before .args .s .now in
-    let arity = c .before .before .before .before .before .before .before .before .before .before .before .before .before .args .arity in
-    let rules = c .before .before .before .before .before .before .before .before .before .before .before .before .before .args .rules in
-    let at = c .before .before .before .before .before .before .before .before .before .before .loop .at in
-    let i = c .before .before .before .before .before .before .before .before .before .before .loop .i in
-    let inv = c .before .before .before .before .before .before .before .before .before .before .loop .inv in
-    let buf = c .before .before .before .before .before .before .before .before .before .before .loop .buf in
-    let end = c .before .before .before .before .before .before .before .before .before .before .loop .end in
-    let rs = ruleRecords arity (drop at s) in
-    let is = c .before .before .before .before .before .number-row .ensures .0 ∙ ap (λ (l : List ℕ). numberRecords (record { words = l; count = 0 }) rs .words) (c .before .before .before .before .before .before .before .meet-row .ensures .0) in
-    let same = ap (λ (l : List ℕ). length (tidySpelling l rs)) is in
-    let size = turn-size arity rules s i at (c .before .before .before .before .before .before .before .before .before .loop-test .taken) refl in
+    let start = c .before .before .before .before .before .before .before .before .before .before .before in
+    let turn = c .before .before .before .before .before .before .before .before .loop in
+    let s = start .args .s .now in
+    let arity = start .args .arity in
+    let rules = start .args .rules in
+    let at = turn .at in
+    let i = turn .i in
+    let inv = turn .inv in
+    let buf = turn .buf in
+    let end = turn .end in
+    let here = c .before .before .before .before .before .before .before .loop-test .taken in
+    let is = c .before .before .before .before .before .meet-row .ensures .0 in
+    let row = ap length (turn-row arity rules s i at here refl is) in
+    let room : end + length (tidyOnward (record { words = c .before .before .before .before .before .meet-row .last .1 .1 .0; count = 0 }) (ruleRecords arity (drop at s))) ≤ length buf = omega (arith, row, turn-size arity rules s i at here refl, inv .2, inv .3, start .pre .1) in
     let put = c .before .before .put-rule .ensures in
     let from = ap (λ (m : Moved). m .from) (put .0) in
     let to = ap (λ (m : Moved). m .to) (put .0) in
-    let size′ = turn-size arity rules s i at (c .before .before .before .before .before .before .before .before .before .loop-test .taken) from in
-    (omega arith, put .1 .1, c .before .buf .given ∙ inv .2, omega (arith, to, same, size′, inv .3), turn-written arity rules s i at (c .before .before .before .before .before .before .before .before .before .loop-test .taken) from is buf end (omega (arith, same, size, inv .2, inv .3, c .before .before .before .before .before .before .before .before .before .before .before .before .before .pre .1)) (put .1 .0) to ∙ inv .4)
+    (omega arith, put .1 .1, c .before .buf .given ∙ inv .2, omega (arith, to, row, turn-size arity rules s i at here from, inv .3), turn-written arity rules s i at here from is buf end room (put .1 .0) to ∙ inv .4)
 
 same-length : tie.Need-same-length Inv-loop μ-loop
 same-length c = c .before .loop .inv .2
 
 returns : tie.Need-returns Inv-loop μ-loop
 returns c =
-    let s = c .before .before .before .before .args .s .now in
-    let arity = c .before .before .before .before .args .arity in
-    let rules = c .before .before .before .before .args .rules in
-    let at = c .before .loop .at in
-    let i = c .before .loop .i in
-    let inv = c .before .loop .inv in
-    let buf = c .before .loop .buf in
-    let end = c .before .loop .end in
+    let start = c .before .before .before .before in
+    let turn = c .before .loop in
+    let s = start .args .s .now in
+    let arity = start .args .arity in
+    let rules = start .args .rules in
+    let at = turn .at in
+    let i = turn .i in
+    let inv = turn .inv in
+    let buf = turn .buf in
+    let end = turn .end in
     let none = rows-done arity rules s i at (c .loop-test .left) in
-    let to : end ≡ c .before .before .before .before .args .start + length (tidyRows arity rules (drop 3 s)) = omega (arith, inv .3, ap length none) in
+    let to : end ≡ start .args .start + length (tidyRows arity rules (drop 3 s)) = omega (arith, inv .3, ap length none) in
     (to, splice-none buf end ∙ ap (splice buf end) (sym none) ∙ inv .4)
 
 pub put-rules-spec : {M : Type 1} → statement M
@@ -106,7 +106,6 @@ put-rules-spec =
     μ-loop
     loop-holds
     meet-row-requires
-    number-row-requires
     put-rule-requires
     add-i
     loop-less
