@@ -10,10 +10,11 @@ use Rattle.sheet.specs.declared.PatternHead.{PatternHead}
 use Rattle.sheet.specs.declared.PatternHead.the-variants.{Whole, Refused}
 use Rattle.sheet.specs.views.PatternRecord.{recordBytes, recordSpelling, recordsSpelling, patternHead}
 use Rattle.sheet.proofs.Heads.{head-whole}
-use Rattle.tidying.specs.views.Row.{argumentsOf, headThen, rowRecords, ruleRecords}
-use Rattle.tidying.specs.views.Words.{Numbering, numberRecord}
-use Rattle.tidying.specs.views.TidyRow.{tidyIn, tidyOnward, metIn, tidyRow, tidyRows}
-use Rattle.tidying.proofs.RowSteps.{spelled-length, few-bytes, first-spelled}
+use Rattle.tidy_rows.specs.views.Row.{argumentsOf, headThen, rowRecords, ruleRecords}
+use Rattle.tidy_rows.specs.views.Words.{Numbering, numberRecord}
+use Rattle.tidy_rows.specs.views.TidyRow.{tidyIn, tidyOnward, metIn, tidyRow}
+use Rattle.tidying.specs.views.TidyRows.{tidyRows}
+use Rattle.tidy_rows.proofs.RowSteps.{spelled-length, few-bytes, first-spelled}
 
 -- Only a variable's record grows: from 2 bytes to 6 at most.
 grows : (words : List ℕ) (r : PatternRecord) → recordBytes (tidyIn words r) ≤ 3 * recordBytes r

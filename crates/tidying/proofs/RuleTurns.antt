@@ -8,9 +8,10 @@ use lib.Seq.{drop-drop}
 use Rattle.records.specs.Writing.{splice}
 use Rattle.sheet.specs.declared.PatternRecord.{PatternRecord}
 use Rattle.sheet.specs.views.PatternRecord.{recordsSpelling}
-use Rattle.tidying.specs.views.Row.{ruleRecords}
-use Rattle.tidying.specs.views.TidyRow.{tidySpelling, tidyOnward, metIn, tidyRow, tidyRows}
-use Rattle.tidying.proofs.RowSteps.{written-next}
+use Rattle.tidy_rows.specs.views.Row.{ruleRecords}
+use Rattle.tidy_rows.specs.views.TidyRow.{tidySpelling, tidyOnward, metIn, tidyRow}
+use Rattle.tidying.specs.views.TidyRows.{tidyRows}
+use Rattle.tidy_rows.proofs.RowSteps.{written-next}
 use Rattle.tidying.proofs.SameSize.{same-size}
 
 -- With no rule left there is nothing left.

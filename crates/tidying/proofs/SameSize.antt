@@ -12,11 +12,11 @@ use borrow.Author.Tests.{le-ltb, eqb-true}
 use Rattle.sheet.specs.declared.PatternRecord.{PatternRecord}
 use Rattle.sheet.specs.declared.PatternRecord.the-variants.{Anything, Symbol, Range, Compound, Variable, Ranged}
 use Rattle.sheet.specs.views.PatternRecord.{recordBytes}
-use Rattle.tidying.specs.views.Words.{wordHigh, wordUses, slot, Numbering, numberedAt, numberRecord}
-use Rattle.tidying.specs.views.TidyRow.{tidyWord, tidyIn, tidySpelling, metIn, tidyRow}
-use Rattle.tidying.proofs.WordLaws.{tidy-by}
+use Rattle.tidy_rows.specs.views.Words.{wordHigh, wordUses, slot, Numbering, numberedAt, numberRecord}
+use Rattle.tidy_rows.specs.views.TidyRow.{tidyWord, tidyIn, tidySpelling, metIn, tidyRow}
+use Rattle.tidy_rows.proofs.WordLaws.{tidy-by}
 use Rattle.tidying.proofs.Settled.{numberRecords, numberedIn, met-sixteen, row-is}
-use Rattle.tidying.proofs.RowSteps.{first-spelled}
+use Rattle.tidy_rows.proofs.RowSteps.{first-spelled}
 
 -- The bytes of a repeated variable's record.
 repeated-bytes : (w : ℕ) → 2 ≤ wordUses w → recordBytes (tidyWord w) ≡ cond (eqb (wordHigh w) 0x1_0000) 2 6

@@ -25,8 +25,8 @@ use Rattle.tidy.specs.TidySheet.{tidyBytes}
 use Rattle.tidy.specs.Tidied.{tidied}
 use Rattle.tidying.specs.declared.Tidied.the-variants.{Written, Refused}
 use Rattle.tidying.specs.HandedBack.{leftBy}
-use Rattle.tidying.specs.views.TidyRow.{tidyRows}
-use Rattle.tidying.proofs.TidyRows.{rules-tidy}
+use Rattle.tidying.specs.views.TidyRows.{tidyRows}
+use Rattle.tidying.proofs.TidyForms.{rules-tidy}
 
 -- A sheet that its questions refuse.
 pub tidy-refused : (s buffer : List ℕ) {q : ℕ} → acceptSheet s ≡ refused q → leftBy (Refused q) buffer ≡ tidied s buffer

@@ -1,10 +1,10 @@
 // The tidy form of a sheet: its questions, its length, then its bytes.
-use crate::Row;
 use crate::Tidied;
-use crate::names::meet_row;
-use crate::rules::measure_rule;
-use crate::rules::put_rule;
 use sheet_tests::SheetCheck;
+use tidy_rows::Row;
+use tidy_rows::measure_rule;
+use tidy_rows::meet_row;
+use tidy_rows::put_rule;
 ghost use mathlib.Core.Path.{_≡_};
 ghost use Prim.Native.Nat.{_+_, _*_, _≤_};
 ghost use lib.Dec.{leb};
@@ -12,7 +12,7 @@ ghost use lib.ListN.{length, drop};
 ghost use Rattle.records.specs.Writing.{splice};
 ghost use Rattle.tidy.specs.Tidied.{tidied};
 ghost use Rattle.tidying.specs.HandedBack.{leftBy};
-ghost use Rattle.tidying.specs.views.TidyRow.{tidyRows};
+ghost use Rattle.tidying.specs.views.TidyRows.{tidyRows};
 
 // How many bytes the tidy form of a sheet has. Not those of the sheet, nor those of its rules alone.
 fn measure(s: &[u8], arity: u8, rules: u8) -> usize
@@ -29,9 +29,9 @@ fn measure(s: &[u8], arity: u8, rules: u8) -> usize
             patterns: arity as usize,
             most: 680,
         };
-        let mut words = [0x1_0000_0000u64; 16];
-        meet_row(s, row, &mut words);
-        let moved = measure_rule(s, row, &words);
+        let mut known = [0x1_0000_0000u64; 16];
+        meet_row(s, row, &mut known);
+        let moved = measure_rule(s, row, &known);
         at = moved.from;
         size += moved.to;
         i += 1;

@@ -5,7 +5,7 @@ use lib.Dec.{leb}
 use lib.ListN.{length, drop, length-drop}
 use borrow.Author.Tests.{le-leb}
 use native.Mathlib.Omega.{arith}
-use Rattle.tidying.specs.views.TidyRow.{tidyRows}
+use Rattle.tidying.specs.views.TidyRows.{tidyRows}
 use Rattle.tidying.proofs.RowBounds.{rows-three}
 use borrow.Author.Needs.{needs}
 use Rattle.tidying.proofs.sheets.fits.Statement.{statement}

@@ -3,9 +3,9 @@ use mathlib.Core.Path.{_≡_, refl, sym, ap, _∙_}
 use Prim.Native.Nat.{ℕ, _+_, _*_, _-_, _≤_}
 use lib.ListN.{length, drop}
 use native.Mathlib.Omega.{arith}
-use Rattle.tidying.specs.declared.Moved.{Moved}
+use Rattle.tidy_rows.specs.declared.Moved.{Moved}
 use Rattle.tidying.proofs.RuleTurns.{rowsFrom, rows-all, rows-done, turn-measured}
-use Rattle.tidying.specs.views.TidyRow.{tidyRows}
+use Rattle.tidying.specs.views.TidyRows.{tidyRows}
 use borrow.Author.Needs.{needs}
 use Rattle.tidying.proofs.sheets.measure.Statement.{statement}
 use Rattle.tidying.proofs.sheets.measure.Tie as tie

@@ -1,5 +1,5 @@
 -- A loop over the rules: those left, written behind what was written, make the whole.
-use Rattle.tidying.specs.views.Row.{ruleRecords}
+use Rattle.tidy_rows.specs.views.Row.{ruleRecords}
 use Prim.Native.Nat.{ℕ, _+_, _-_, _≤_}
 use mathlib.Core.Path.{_≡_, refl, sym, ap, _∙_}
 use mathlib.Core.List.{List}
@@ -7,8 +7,9 @@ use lib.ListN.{length, drop}
 use native.Mathlib.Omega.{arith}
 use Rattle.records.specs.Writing.{splice}
 use Rattle.records.proofs.Writing.{splice-none}
-use Rattle.tidying.specs.declared.Moved.{Moved}
-use Rattle.tidying.specs.views.TidyRow.{tidyOnward, tidyRows}
+use Rattle.tidy_rows.specs.declared.Moved.{Moved}
+use Rattle.tidy_rows.specs.views.TidyRow.{tidyOnward}
+use Rattle.tidying.specs.views.TidyRows.{tidyRows}
 use Rattle.tidying.proofs.RuleTurns.{rowsFrom, rows-all, rows-done, turn-size, turn-row, turn-written}
 use borrow.Author.Needs.{needs}
 use Rattle.tidying.proofs.sheets.put_rules.Statement.{statement}

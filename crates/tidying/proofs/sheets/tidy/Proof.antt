@@ -7,7 +7,7 @@ use Prim.Native.Nat.{_+_, _≤_}
 use Rattle.records.proofs.ByteLists.{bytes-all}
 use Rattle.sheet_tests.specs.CheckSheet.{sheetCheckValues}
 use Rattle.accepted.proofs.CheckedSheets.{check-refuses}
-use Rattle.tidying.specs.views.TidyRow.{tidyRows}
+use Rattle.tidying.specs.views.TidyRows.{tidyRows}
 use Rattle.tidying.proofs.RowBounds.{rows-few}
 use Rattle.tidying.proofs.TidiedSheets.{tidy-refused, sheet-whole, tidy-large, tidy-written}
 use borrow.Author.Needs.{needs}

@@ -1,0 +1,2 @@
+-- The tidy form of a rule from its records.
+pub mod views

@@ -1,0 +1,4 @@
+-- How the code keeps things.
+pub mod Row
+pub mod Words
+pub mod TidyRow
