@@ -4,7 +4,10 @@
 //! `packed` unpacks. They are inlined, so that a program links only those that it calls.
 
 use crate::packed::unpack;
-use crate::{Answer, Built, GraphSize, PieceSize, Plain, Refusal, SheetSize, Walk, Written, MOST_BYTES};
+use crate::{
+    Answer, Built, GraphSize, PieceSize, Plain, Refusal, SheetSize, Walk, Written, MOST_BYTES,
+    MOST_SHEET_BYTES,
+};
 
 extern "C" {
     fn vt_check_sheet(sheet: *const u8, sheet_len: usize) -> u64;
@@ -20,6 +23,7 @@ extern "C" {
         buffer_len: usize,
     ) -> u64;
     fn vt_build(sheet: *const u8, sheet_len: usize, buffer: *mut u8, buffer_len: usize) -> u64;
+    fn vt_tidy(sheet: *const u8, sheet_len: usize, buffer: *mut u8, buffer_len: usize) -> u64;
     fn vt_walk(
         sheet: *const u8,
         sheet_len: usize,
@@ -145,6 +149,27 @@ pub fn build(sheet: &[u8], buffer: &mut [u8]) -> Result<Built, Refusal> {
     unpack(unsafe { vt_build(sheet.as_ptr(), sheet.len(), buffer.as_mut_ptr(), buffer.len()) })
 }
 
+/// Writes the tidy form of a sheet to the start of a buffer: the sheet's questions, then 31. The bytes after it
+/// stay as they are, and all do on a refusal. Two sheets have the same tidy form exactly when they have the same
+/// arity and, rule for rule, the same tests.
+///
+/// ```
+/// // f(Y, X, X), in variables 0 and 1: Y stands once.
+/// let sheet = [0x10, 3, 1, 0x24, 0, 0x24, 1, 0x24, 1];
+/// let mut buffer = [0xff; 10];
+/// let written = voltunnis::tidy(&sheet, &mut buffer)?;
+/// assert_eq!(written.bytes, 8);
+/// assert_eq!(buffer, [0x10, 3, 1, 0x20, 0x24, 0, 0x24, 0, 0xff, 0xff]);
+/// assert_eq!(voltunnis::tidy(&sheet, &mut buffer[..7]).unwrap_err().number(), 31);
+/// # Ok::<(), voltunnis::Refusal>(())
+/// ```
+#[inline]
+pub fn tidy(sheet: &[u8], buffer: &mut [u8]) -> Result<Written, Refusal> {
+    // SAFETY: the library reads the given bytes, writes to the buffer, which does not overlap them,
+    // and reaches nothing else.
+    unpack(unsafe { vt_tidy(sheet.as_ptr(), sheet.len(), buffer.as_mut_ptr(), buffer.len()) })
+}
+
 /// Walks a graph with its sheet and a piece: the sheet's questions, the piece's, then 20 to 27.
 ///
 /// ```
@@ -195,6 +220,24 @@ pub fn graph(sheet: &[u8]) -> Result<Vec<u8>, Refusal> {
     let mut buffer = vec![0; MOST_BYTES];
     let built = build(sheet, &mut buffer)?;
     buffer.truncate(built.bytes as usize);
+    buffer.shrink_to_fit();
+    Ok(buffer)
+}
+
+/// The tidy form of a sheet, written to a buffer of its own: the sheet's questions.
+///
+/// ```
+/// // f(X, X), the second X from 1 to 9, and the same with variable 7, the first from 1 to 9.
+/// let one = [0x10, 2, 1, 0x24, 0, 0x25, 0, 0, 1, 0, 9];
+/// let other = [0x10, 2, 1, 0x25, 7, 0, 1, 0, 9, 0x24, 7];
+/// assert_eq!(voltunnis::tidy_sheet(&one)?, voltunnis::tidy_sheet(&other)?);
+/// # Ok::<(), voltunnis::Refusal>(())
+/// ```
+#[inline]
+pub fn tidy_sheet(sheet: &[u8]) -> Result<Vec<u8>, Refusal> {
+    let mut buffer = vec![0; MOST_SHEET_BYTES];
+    let written = tidy(sheet, &mut buffer)?;
+    buffer.truncate(written.bytes as usize);
     buffer.shrink_to_fit();
     Ok(buffer)
 }

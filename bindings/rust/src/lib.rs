@@ -23,10 +23,15 @@ mod refusal;
 mod results;
 pub mod window;
 
-pub use calls::{answer, build, check_graph, check_piece, check_sheet, graph, plain, rewrite, wait, walk};
+pub use calls::{
+    answer, build, check_graph, check_piece, check_sheet, graph, plain, rewrite, tidy, tidy_sheet, wait, walk,
+};
 pub use refusal::Refusal;
 pub use results::{Answer, Built, GraphSize, PieceSize, Plain, SheetSize, Walk, Word, Written};
 
 /// The most bytes that a graph has, built or accepted: 5, and for each of 1,024 nodes 8 and 255 cases
 /// of 7.
 pub const MOST_BYTES: usize = 1_836_037;
+
+/// More bytes than a tidy sheet has: 3, and 6 for each of 680 places in 32 rules.
+pub const MOST_SHEET_BYTES: usize = 130_563;

@@ -137,6 +137,10 @@ mod tests {
         let built = Built { nodes: 1024, bytes: 459_781 };
         assert_eq!(pack(&Ok(built)), 0x7_0405_0400 << 8);
         assert_eq!(unpack(pack(&Ok(built))), Ok(built));
+        let written = Written { bytes: 0x0001_0203 };
+        assert_eq!(pack(&Ok(written)), 0x0102_0300);
+        assert_eq!(unpack(0x0102_0300), Ok(written));
+        assert_eq!(unpack::<Written>(31).map_err(u8::from), Err(31));
         let walk = Walk { word: Word::Fail, rule: 0, edges: 64 };
         assert_eq!(pack(&Ok(walk)), 0x4000_0400);
     }

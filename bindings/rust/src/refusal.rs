@@ -1,4 +1,4 @@
-//! Refusals: the questions of document 01, each in its words.
+//! Refusals: the questions of document 01, each in its words, and of requests of document 02.
 
 use std::error::Error;
 use std::fmt;
@@ -15,7 +15,7 @@ use std::fmt;
 pub struct Refusal(u8);
 
 /// The questions, ascending: the number, when it is asked, and its words.
-const QUESTIONS: [(u8, &str, &str); 28] = [
+const QUESTIONS: [(u8, &str, &str); 29] = [
     (1, SHEET, "Does it begin with a whole 10 record?"),
     (2, SHEET, "Is its arity 1 to 8?"),
     (3, SHEET, "Has it at most 32 rules (0 is allowed)?"),
@@ -50,6 +50,7 @@ const QUESTIONS: [(u8, &str, &str); 28] = [
     (25, "Then", "Are no bytes left?"),
     (26, WALKED, "Have fewer than 64 edges been walked?"),
     (27, WALKED, "Is each place it tests in the piece, or below an unknown?"),
+    (31, TIDYING, "Does the tidy sheet fit the lent buffer?"),
     (36, WINDOW, "Is the rule 1 to 64 for commit or execute, 0 for the others?"),
 ];
 
@@ -61,6 +62,7 @@ const BUILDING: &str = "Building, after the sheet";
 const WALKING: &str = "Walking, after sheet and piece";
 const NODE: &str = "At each node";
 const WALKED: &str = "At each switch or pair walked";
+const TIDYING: &str = "Tidying, after the sheet";
 const WINDOW: &str = "At each answer fed";
 
 impl Refusal {
@@ -80,7 +82,7 @@ impl Refusal {
     /// All refusals, ascending.
     ///
     /// ```
-    /// assert_eq!(voltunnis::Refusal::all().count(), 28);
+    /// assert_eq!(voltunnis::Refusal::all().count(), 29);
     /// ```
     pub fn all() -> impl Iterator<Item = Refusal> {
         QUESTIONS.iter().map(|row| Refusal(row.0))
