@@ -20,6 +20,7 @@ pub enum Name {
     CheckSheet,
     Plain,
     CheckGraph,
+    Tidy,
     Build,
     Rewrite,
     Walk,
@@ -39,11 +40,12 @@ impl Role {
 
 impl Name {
     /// All calls, those that are given less first.
-    pub const ALL: [Name; 7] = [
+    pub const ALL: [Name; 8] = [
         Name::CheckPiece,
         Name::CheckSheet,
         Name::Plain,
         Name::CheckGraph,
+        Name::Tidy,
         Name::Build,
         Name::Rewrite,
         Name::Walk,
@@ -56,6 +58,7 @@ impl Name {
             Name::CheckSheet => "check_sheet",
             Name::Plain => "plain",
             Name::CheckGraph => "check_graph",
+            Name::Tidy => "tidy",
             Name::Build => "build",
             Name::Rewrite => "rewrite",
             Name::Walk => "walk",
@@ -69,7 +72,7 @@ impl Name {
             Name::CheckSheet => &[Role::Sheet],
             Name::Plain => &[Role::Sheet, Role::Piece],
             Name::CheckGraph => &[Role::Sheet, Role::Graph],
-            Name::Build => &[Role::Sheet, Role::Buffer],
+            Name::Tidy | Name::Build => &[Role::Sheet, Role::Buffer],
             Name::Rewrite => &[Role::Sheet, Role::Graph, Role::Buffer],
             Name::Walk => &[Role::Sheet, Role::Graph, Role::Piece],
         }

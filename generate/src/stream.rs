@@ -14,6 +14,7 @@ use crate::random::Random;
 use crate::sheets::{sheet, small_sheet};
 use crate::stock::Stock;
 use crate::trees::{piece_bytes, SheetTree};
+use crate::variables::tidy_length;
 use std::collections::VecDeque;
 
 /// The calls, without end. It begins with document 01's example and its marked cases, whatever the seed.
@@ -95,7 +96,7 @@ impl<B: Fn(&[u8]) -> Option<Vec<u8>>> Stream<B> {
     fn opening(&mut self, sheet: &[u8], pieces: &[Vec<u8>]) {
         let own = (self.build)(sheet).unwrap_or_default();
         let buffer = lent(own.len() + 3);
-        for name in [Name::CheckSheet, Name::Build, Name::CheckGraph, Name::Rewrite] {
+        for name in [Name::CheckSheet, Name::Build, Name::CheckGraph, Name::Rewrite, Name::Tidy] {
             self.call(name, sheet, &own, &[], &buffer);
         }
         for piece in pieces {
@@ -157,6 +158,9 @@ impl<B: Fn(&[u8]) -> Option<Vec<u8>>> Stream<B> {
             let buffer = lent(buffer_length(&mut self.random, needed));
             self.call(Name::Build, sheet, &[], &[], &buffer);
         }
+        let needed = SheetTree::read(sheet).map_or(sheet.len(), |(tree, _)| tidy_length(&tree));
+        let buffer = lent(buffer_length(&mut self.random, needed));
+        self.call(Name::Tidy, sheet, &[], &[], &buffer);
         let graph = self.graph(&subject);
         let buffer = lent(buffer_length(&mut self.random, graph.len()));
         self.call(Name::CheckGraph, sheet, &graph, &[], &[]);

@@ -141,6 +141,36 @@ impl SheetTree {
     }
 }
 
+/// The patterns of a rule, each before those in it.
+pub fn all<'a>(rule: &'a [Pattern]) -> Vec<&'a Pattern> {
+    let below = |pattern: &'a Pattern| match pattern {
+        Pattern::Compound(_, arguments) => all(arguments),
+        _ => Vec::new(),
+    };
+    rule.iter().flat_map(|pattern| std::iter::once(pattern).chain(below(pattern))).collect()
+}
+
+/// Does the same to each pattern of a rule, before those in it.
+pub fn visit(rule: &mut [Pattern], change: &mut dyn FnMut(&mut Pattern)) {
+    for pattern in rule {
+        change(pattern);
+        if let Pattern::Compound(_, arguments) = pattern {
+            visit(arguments, change);
+        }
+    }
+}
+
+/// Puts another pattern in the stead of one, which is counted from the rule's first.
+pub fn replace(rule: &mut [Pattern], at: usize, new: &Pattern) {
+    let mut left = at as isize;
+    visit(rule, &mut |pattern| {
+        if left == 0 {
+            *pattern = new.clone();
+        }
+        left -= 1;
+    });
+}
+
 /// The terms of the piece that these bytes begin with, whatever limits it breaks, and the bytes after it.
 pub fn read_piece(bytes: &[u8]) -> Option<(Vec<Term>, &[u8])> {
     let mut from = Reader::new(bytes);

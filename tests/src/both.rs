@@ -84,6 +84,17 @@ pub fn build(sheet: &[u8], len: usize) -> (Result<Built, Refusal>, Vec<u8>) {
     (result, buffer)
 }
 
+/// Tidies a sheet to a buffer of this length; gives the result and the buffer.
+#[inline]
+pub fn tidy(sheet: &[u8], len: usize) -> (Result<Written, Refusal>, Vec<u8>) {
+    let (result, buffer) = lend(len, |buffer| voltunnis::tidy(sheet, buffer));
+    let (expected, bytes) = lend(len, |buffer| reference::tidy(sheet, buffer));
+    let what = || format!("library, reference: sheet {} to {len} bytes", to_hex(sheet));
+    assert_eq!(result, expected, "{}", what());
+    assert!(buffer == bytes, "other bytes in the buffer: {}", what());
+    (result, buffer)
+}
+
 /// Walks a graph; the wait list is compared on refusals too.
 #[inline]
 pub fn walk(sheet: &[u8], graph: &[u8], piece: &[u8]) -> Result<Answer, Refusal> {

@@ -1,6 +1,6 @@
 //! Test programs for the compiler of rule sheets.
 //!
-//! `reference` is a second implementation, written from document 01 alone. `voltunnis` calls the
+//! `reference` is a second implementation, written from documents 01 and 02 alone. `voltunnis` calls the
 //! static library through the crate of that name. Both hand back the types of `results`, so that a
 //! test compares them by `==`; `both` makes a call of each and does so. `fast` is the fastest plain code
 //! for most of the calls, an anchor for speed. `generate` is the package that makes sheets, pieces and

@@ -35,6 +35,11 @@ pub fn build(sheet: &[u8], buffer: &mut [u8]) -> Result<Built, Refusal> {
 }
 
 #[inline]
+pub fn tidy(sheet: &[u8], buffer: &mut [u8]) -> Result<Written, Refusal> {
+    voltunnis::tidy(sheet, buffer).map_err(u8::from)
+}
+
+#[inline]
 pub fn walk(sheet: &[u8], graph: &[u8], piece: &[u8]) -> Result<Walk, Refusal> {
     voltunnis::walk(sheet, graph, piece).map_err(u8::from)
 }

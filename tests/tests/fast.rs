@@ -15,7 +15,7 @@ use voltunnis_tests::generate::stock::Stock;
 use voltunnis_tests::generate::stream::Stream;
 use voltunnis_tests::generate::trees::{piece_bytes, Pattern, SheetTree};
 use voltunnis_tests::reference::own_graph;
-use voltunnis_tests::results::{Built, Refusal};
+use voltunnis_tests::results::{Built, Refusal, Written};
 
 #[path = "../src/bin/bench/cases.rs"]
 mod cases;
@@ -27,14 +27,14 @@ const ENOUGH: usize = 460_000;
 #[derive(Default)]
 struct Count {
     calls: BTreeMap<&'static str, usize>,
-    refusals: [usize; 28],
+    refusals: BTreeMap<Refusal, usize>,
     words: BTreeMap<&'static str, usize>,
 }
 
 impl Count {
     fn add<T: Copy>(&mut self, call: Name, result: Result<T, Refusal>) -> Option<T> {
         *self.calls.entry(call.text()).or_default() += 1;
-        self.refusals[usize::from(result.err().unwrap_or(0))] += 1;
+        *self.refusals.entry(result.err().unwrap_or(0)).or_default() += 1;
         result.ok()
     }
 
@@ -76,6 +76,16 @@ impl Count {
         self.add(Name::Build, result)
     }
 
+    /// Tidies to a buffer of this length.
+    fn tidy(&mut self, sheet: &[u8], len: usize) -> Option<Written> {
+        let (result, buffer) = both::tidy(sheet, len);
+        let (given, bytes) = lend(len, |buffer| fast::tidy(sheet, buffer));
+        let what = || format!("fast, both: sheet {} to {len} bytes", to_hex(sheet));
+        assert_eq!(given, result, "{}", what());
+        assert!(bytes == buffer, "other bytes in the buffer: {}", what());
+        self.add(Name::Tidy, result)
+    }
+
     /// Walks a graph; the answer has the wait list.
     fn walk(&mut self, sheet: &[u8], graph: &[u8], piece: &[u8]) {
         let result = both::walk(sheet, graph, piece);
@@ -96,14 +106,19 @@ impl Count {
             Name::Plain => self.plain(sheet, piece),
             Name::CheckGraph => self.check_graph(sheet, graph),
             Name::Build => drop(self.build(sheet, of(Role::Buffer).len())),
+            Name::Tidy => drop(self.tidy(sheet, of(Role::Buffer).len())),
             Name::Walk => self.walk(sheet, graph, piece),
             Name::Rewrite => {}
         }
     }
 
-    /// Makes the calls on a sheet, its graph and a piece, and builds to buffers of several lengths.
+    /// Makes the calls on a sheet, its graph and a piece, and writes to buffers of several lengths.
     fn all(&mut self, sheet: &[u8], piece: &[u8]) -> Option<Built> {
         self.check_sheet(sheet);
+        if let Some(Written { bytes }) = self.tidy(sheet, ENOUGH) {
+            self.tidy(sheet, bytes as usize - 1);
+            self.tidy(sheet, bytes as usize);
+        }
         self.check_piece(piece);
         self.plain(sheet, piece);
         let Some(graph) = own_graph(sheet) else { return self.build(sheet, ENOUGH) };
@@ -139,8 +154,9 @@ fn the_fast_code_gives_the_same_on_the_stream_of_calls() {
     for name in Name::ALL.into_iter().filter(|name| *name != Name::Rewrite) {
         assert!(count.calls[name.text()] >= 3_000, "{}: few calls", name.text());
     }
-    for (refusal, calls) in count.refusals.iter().enumerate() {
-        assert!(*calls >= 20, "refusal {refusal}: {calls} calls");
+    for refusal in (0..=27).chain([31]) {
+        let calls = count.refusals.get(&refusal).copied().unwrap_or(0);
+        assert!(calls >= 20, "refusal {refusal}: {calls} calls");
     }
     for word in ["commit", "execute", "suspend", "fail"] {
         assert!(count.words[word] >= 500, "{word}: {} answers", count.words[word]);
@@ -179,7 +195,7 @@ fn the_fast_code_builds_the_same_graphs() {
     count.print();
     println!("graphs by nodes from 1, 2, 4, .. {sizes:?}");
     assert!(sizes[..10].iter().all(|graphs| *graphs >= 20), "few graphs of some size: {sizes:?}");
-    assert!(count.refusals[18] >= 20, "{} graphs too large", count.refusals[18]);
+    assert!(count.refusals[&18] >= 20, "{} graphs too large", count.refusals[&18]);
 }
 
 #[test]

@@ -15,6 +15,7 @@ fn refusal(call: &Call) -> u8 {
         Name::CheckPiece => reference::check_piece(piece).map(drop),
         Name::Plain => reference::plain(sheet, piece).map(drop),
         Name::CheckGraph => reference::check_graph(sheet, graph).map(drop),
+        Name::Tidy => reference::tidy(sheet, &mut buffer).map(drop),
         Name::Build => reference::build(sheet, &mut buffer).map(drop),
         Name::Rewrite => reference::rewrite(sheet, graph, &mut buffer).map(drop),
         Name::Walk => reference::walk(sheet, graph, piece).map(drop),
@@ -23,7 +24,7 @@ fn refusal(call: &Call) -> u8 {
 }
 
 /// The smallest calls that each question refuses.
-const SMALLEST: [(u8, &[&str]); 25] = [
+const SMALLEST: [(u8, &[&str]); 26] = [
     (1, &["check_sheet -"]),
     (2, &["check_sheet 100000"]),
     (3, &["check_sheet 100121"]),
@@ -43,7 +44,7 @@ const SMALLEST: [(u8, &[&str]); 25] = [
     (19, &["build 100100 -"]),
     (20, &["plain 100100 11023030", "plain 100200 110130"]),
     (21, &["check_graph 100100 -"]),
-    (22, &["check_graph 100100 1201000001"]),
+    (22, &["check_graph 100100 1201000001", "check_graph 100100 1201000100"]),
     (23, &["check_graph 100100 12010000014200"]),
     (24, &["check_graph 100101210000 1201010001430000020000000044000000004400000000"]),
     (25, &["check_graph 100100 12010000014000"]),
@@ -57,12 +58,14 @@ const SMALLEST: [(u8, &[&str]); 25] = [
     (
         27,
         &[
+            "walk 1001012300000224002400 1201010001470001001600000000 1101310000",
             "walk 10010123000001210000 120101000143000101000000004400000000 1101310000",
             "walk 1002012400230000012400 1202010001470000005600000000 110230310000",
             "walk 1002012300000124002400 1202010001470001005500000000 110231000030",
             "walk 100201230000012400250000000000 120201000143000101000000004400000000 110231000030",
         ],
     ),
+    (31, &["tidy 100100 -"]),
 ];
 
 /// Calls of the stream that this question refuses.

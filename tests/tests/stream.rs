@@ -9,7 +9,8 @@ use voltunnis_tests::generate::crowded::crowded;
 use voltunnis_tests::generate::random::Random;
 use voltunnis_tests::generate::sheets::sheet;
 use voltunnis_tests::generate::stream::{lent, Stream};
-use voltunnis_tests::reference::{own_graph, sheet::Sheet};
+use voltunnis_tests::generate::variables::tidy_length;
+use voltunnis_tests::reference::{own_graph, sheet::Sheet, tidy};
 
 /// What a call of both gives, in a word.
 fn outcome(call: &Call) -> String {
@@ -22,6 +23,7 @@ fn outcome(call: &Call) -> String {
         Name::CheckPiece => both::check_piece(piece).map(|_| "piece".to_string()),
         Name::Plain => both::plain(sheet, piece).map(|plain| format!("plain {}", plain.word.name())),
         Name::CheckGraph => both::check_graph(sheet, graph).map(|_| "graph".to_string()),
+        Name::Tidy => both::tidy(sheet, buffer.len()).0.map(|_| "tidy".to_string()),
         Name::Build => both::build(sheet, buffer.len()).0.map(|_| "built".to_string()),
         Name::Rewrite => both::rewrite(sheet, graph, buffer.len()).0.map(|_| "rewritten".to_string()),
         Name::Walk => both::walk(sheet, graph, piece).map(|answer| answer.walk.word.name().to_string()),
@@ -39,8 +41,8 @@ fn every_refusal_and_every_word_is_met_whatever_the_seed() {
         println!("seed {seed}: {counts:?}");
         let words = ["commit", "execute", "suspend", "fail"];
         let plain = words.map(|word| format!("plain {word}"));
-        let refusals = (1..=27).map(|number| format!("refused {number}"));
-        let accepted = ["sheet", "piece", "graph", "built", "rewritten"].map(String::from);
+        let refusals = (1..=27).chain([31]).map(|number| format!("refused {number}"));
+        let accepted = ["sheet", "piece", "graph", "tidy", "built", "rewritten"].map(String::from);
         for wanted in refusals.chain(words.map(String::from)).chain(plain).chain(accepted) {
             assert!(counts.contains_key(&wanted), "seed {seed}: {wanted} never");
         }
@@ -61,8 +63,8 @@ fn calls_are_read_from_their_lines() {
         assert_eq!(Call::read(&call.to_string()), Ok(call));
     }
     let fault = |line| Call::read(line).expect_err("no call").to_string();
-    assert_eq!(Call::read("tidy 10"), Err(Fault::Unknown("tidy".into())));
-    assert_eq!(fault("tidy 10"), "no call has the name \"tidy\"");
+    assert_eq!(Call::read("overlay 10"), Err(Fault::Unknown("overlay".into())));
+    assert_eq!(fault("overlay 10"), "no call has the name \"overlay\"");
     assert_eq!(fault(""), "no call has the name \"\"");
     assert_eq!(fault("plain 10"), "plain takes 2 arguments, here are 1");
     assert_eq!(fault("check_sheet 1"), "an odd number of hexadecimal digits");
@@ -70,13 +72,14 @@ fn calls_are_read_from_their_lines() {
 }
 
 #[test]
-fn what_sheets_ask_is_what_the_reference_reads() {
+fn what_sheets_ask_and_how_long_they_are_tidy_is_what_the_reference_says() {
     let mut random = Random::new(0x6173_6b65);
     let mut accepted = 0;
     for _ in 0..5_000 {
         let tree = if random.percent(20) { crowded(&mut random) } else { sheet(&mut random) };
         if let Ok(read) = Sheet::read(&tree.bytes()) {
             assert_eq!(Asked::of(&tree), read.asked());
+            assert_eq!(tidy_length(&tree), tidy::sheet(&tree).bytes().len());
             accepted += 1;
         }
     }

@@ -91,6 +91,47 @@ fn bytes_and_text_are_inverse() {
     assert_eq!(folder.says(&["bytes", "--json", "example.sheet"]), json);
 }
 
+const OURS: &str = "\
+-- As we write it.
+sheet 3
+name brass = 3
+name silver = 4
+1: (Core, Core:5..9, Rest)
+2: (brass, 7, _)   -- the token
+";
+
+const THEIRS: &str = "\
+sheet 3
+name messing = 3
+1: (V7:0..9, V7:5..65535, _)
+2: (messing, Y:7, Z)
+";
+
+#[test]
+fn two_offices_have_one_tidy_sheet() {
+    let folder = Folder::new("tidy");
+    folder.write("ours.sheet", OURS);
+    folder.write("theirs.sheet", THEIRS);
+    let tidy = |name: &str| format!("sheet 3\nname {name} = 3\n1: (X:5..9, X:5..9, _)\n2: ({name}, 7, _)\n");
+    assert_eq!(folder.says(&["tidy", "ours.sheet"]), tidy("brass"));
+    assert_eq!(folder.says(&["tidy", "theirs.sheet"]), tidy("messing"));
+    assert_eq!(folder.says(&["tidy", "ours.sheet", "-o", "tidy.sheet"]), "");
+    assert_eq!(folder.read("tidy.sheet"), tidy("brass").as_bytes());
+    assert_eq!(folder.says(&["tidy", "tidy.sheet"]), tidy("brass"));
+    assert_eq!(folder.says(&["tidy", "ours.sheet", "-o", "ours.bin"]), "");
+    assert_eq!(folder.says(&["tidy", "theirs.sheet", "-o", "theirs.bin"]), "");
+    let hex = "10030225000005000925000005000920210003220007000720";
+    assert_eq!(voltunnis_generate::bytes::to_hex(&folder.read("ours.bin")), hex);
+    assert_eq!(folder.read("theirs.bin"), folder.read("ours.bin"));
+    assert_eq!(folder.says(&["tidy", "ours.bin"]), tidy("#3").replace("name #3 = 3\n", ""));
+    let json = folder.says(&["tidy", "--json", "theirs.sheet"]);
+    assert!(json.starts_with("{\n  \"kind\": \"sheet\",\n  \"length\": 25,\n"), "{json}");
+    assert!(json.contains(&format!("\"bytes\": \"{hex}\"")), "{json}");
+    folder.write("low.sheet", "sheet 1\n1: (X:9..5)\n");
+    let refused = "low.sheet:2:5: refused 7: Is low at most high?\n  2 | 1: (X:9..5)\n    |     ^^^^^^\n";
+    folder.complains(&["tidy", "low.sheet"], 1, refused);
+}
+
 #[test]
 fn graphs_are_built_and_shown_in_words() {
     let folder = Folder::new("build");

@@ -53,7 +53,7 @@ fn the_right_maker_passes_and_all_is_covered() {
         assert_eq!((problems.as_str(), status), ("", 0), "{said}");
         assert!(said.starts_with(&format!("10000 calls of seed {seed}: all equal.\n")), "{said}");
         assert!(!said.contains("never met"), "{said}");
-        for number in 1..=27 {
+        for number in (1..=27).chain([31]) {
             assert!(said.contains(&format!(" {number}: ")), "refusal {number}: {said}");
         }
     }
@@ -68,7 +68,7 @@ fn a_short_run_says_what_it_never_met() {
         lines[..2],
         ["3 calls of seed 1: all equal.", "calls       check_sheet 1, check_graph 1, build 1"]
     );
-    assert!(lines.contains(&"never met   calls check_piece, plain, rewrite, walk"), "{said}");
+    assert!(lines.contains(&"never met   calls check_piece, plain, tidy, rewrite, walk"), "{said}");
     assert!(lines.contains(&"never met   answers commit, execute, suspend, fail"), "{said}");
     assert!(lines.iter().any(|line| line.starts_with("never met   refusals 1, 2, 3, ")), "{said}");
 }
@@ -95,6 +95,7 @@ fn every_mistake_comes_down_to_a_few_bytes_whatever_the_seed() {
             ("hasty", "walk 100101210000 12010100014201 110130", "ok commit 1 0 0000000000000000"),
             ("drop", "plain 100101210000 110130", "ok fail 0"),
             ("touch", "build - 00", "refused 1 12"),
+            ("number", "tidy 1001012400 00000000", "refused 31 00000000"),
             ("panic", "check_sheet 1001012200010000", "ended: exit status: 101"),
         ] {
             let (said, _, status) = conform(&format!("--wrong {trap}"), &["--seed", seed]);
@@ -248,7 +249,7 @@ fn faults_of_a_vectors_file_are_told_with_their_line() {
         fs::write(path, text).expect("a file");
         assert_eq!(vt(&["vectors", "--check", path]), (String::new(), format!("vt: {path}:{message}\n"), 2));
     }
-    fs::write(path, "tidy 10\nok 3\ncheck_piece -\nrefused 12\n").expect("a file");
+    fs::write(path, "overlay 10\nok 3\ncheck_piece -\nrefused 12\n").expect("a file");
     assert_eq!(vt(&["vectors", "--check", path]).0, "1 call equal, 0 different, 1 unknown\n");
     fs::write(path, [0xff, 0xfe, b'\n']).expect("a file");
     assert_eq!(vt(&["vectors", "--check", path]).2, 2);

@@ -43,6 +43,7 @@ fn damaged_files_are_refused_or_read() {
         for words in [
             &["check", "sheet.bin", "pieces.bin"][..],
             &["text", "sheet.bin"],
+            &["tidy", "sheet.bin"],
             &["text", "graph.bin"],
             &["draw", "sheet.bin"],
             &["check", "--sheet", "whole.bin", "graph.bin", "pieces.bin"],

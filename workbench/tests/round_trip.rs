@@ -53,6 +53,23 @@ fn accepted_sheets_come_back_as_they_were() {
     }
 }
 
+/// The variables of a tidy sheet are numbered by first appearance, so all are printed by letters.
+#[test]
+fn tidy_sheets_are_printed_by_letters_and_come_back() {
+    let mut random = Random::new(0x7469_6479);
+    let (mut lettered, mut numbered) = (0, 0);
+    for _ in 0..20_000 {
+        let bytes = sheet(&mut random).bytes();
+        let Ok(tidy) = voltunnis::tidy_sheet(&bytes) else { continue };
+        sheet_again(&tidy);
+        let [before, after] = [&bytes, &tidy].map(|bytes| print_sheet(bytes).expect("a sheet"));
+        assert!(!after.contains('V'), "{after}");
+        lettered += usize::from(after.contains('X'));
+        numbered += usize::from(before.contains('V'));
+    }
+    assert!(lettered > 1_000 && numbered > 1_000, "{lettered} with variables, {numbered} numbered before");
+}
+
 #[test]
 fn accepted_pieces_come_back_as_they_were() {
     let mut random = Random::new(0x7069_6563);

@@ -4,6 +4,7 @@ use super::{bytes, graphs, parts, pieces, sheets, Step, Value};
 use crate::calls::{Call, Name, Role};
 use crate::nodes::GraphNodes;
 use crate::trees::{piece_bytes, read_piece, SheetTree, Term};
+use crate::variables::tidy_length;
 use std::collections::BTreeSet;
 
 /// A call, and its arguments as trees, each with the bytes after it, where they can be read.
@@ -24,10 +25,14 @@ fn kept<T>((tree, tail): (T, &[u8])) -> (T, Vec<u8>) {
     (tree, tail.to_vec())
 }
 
-/// How many bytes a writer needs: those of the sheet's own graph, or of the graph that it is given.
-fn needed(call: &Call, own: Option<&[u8]>) -> Option<usize> {
-    match call.name() {
+/// How many bytes a writer needs: those of the sheet's own graph, of its tidy form, or of the graph that it is
+/// given.
+fn needed(name: Name, call: &Call, own: Option<&[u8]>) -> Option<usize> {
+    match name {
         Name::Build => own.map(<[u8]>::len),
+        Name::Tidy => {
+            call.argument(Role::Sheet).and_then(SheetTree::read).map(|(tree, _)| tidy_length(&tree))
+        }
         _ => call.argument(Role::Graph).map(<[u8]>::len),
     }
 }
@@ -40,7 +45,7 @@ impl<'a> Case<'a> {
             piece: call.argument(Role::Piece).and_then(read_piece).map(kept),
             graph: call.argument(Role::Graph).and_then(GraphNodes::read).map(kept),
             own: own.is_some() && call.argument(Role::Graph) == own.as_deref(),
-            needed: needed(&call, own.as_deref()),
+            needed: needed(call.name(), &call, own.as_deref()),
             call,
             build,
         }
@@ -104,17 +109,13 @@ impl<'a> Case<'a> {
     fn simpler(&self, name: Name) -> Option<Call> {
         let of = |role| self.call.argument(role).map(<[u8]>::to_vec);
         let lacks = |role: &Role| self.call.argument(*role).is_none();
-        let fits = |len: usize| vec![0; len];
         if name == self.call.name() || name.roles().iter().any(|role| *role != Role::Buffer && lacks(role)) {
             return None;
         }
-        let own = || self.call.argument(Role::Sheet).and_then(self.build);
-        let buffer = match name {
-            Name::Build => of(Role::Buffer).or_else(|| own().map(|graph| fits(graph.len()))),
-            _ => of(Role::Buffer).or_else(|| of(Role::Graph).map(|graph| fits(graph.len()))),
-        };
+        let own = || of(Role::Sheet).filter(|_| name == Name::Build).and_then(|sheet| (self.build)(&sheet));
+        let fitting = || vec![0; needed(name, &self.call, own().as_deref()).unwrap_or(0)];
         Some(Call::new(name, |role| match role {
-            Role::Buffer => buffer.clone().unwrap_or_default(),
+            Role::Buffer => of(Role::Buffer).unwrap_or_else(fitting),
             other => of(other).unwrap_or_default(),
         }))
     }
@@ -177,7 +178,7 @@ impl<'a> Case<'a> {
         let (Some(buffer), Some(before)) = (call.argument(Role::Buffer), self.needed) else { return call };
         let own =
             if call.name() == Name::Build { call.argument(Role::Sheet).and_then(self.build) } else { None };
-        let Some(needed) = needed(&call, own.as_deref()) else { return call };
+        let Some(needed) = needed(call.name(), &call, own.as_deref()) else { return call };
         let mut buffer = buffer.to_vec();
         buffer.resize((buffer.len() + needed).saturating_sub(before), 0);
         call.with(Role::Buffer, &buffer)

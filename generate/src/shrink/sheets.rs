@@ -1,7 +1,7 @@
 //! Sheets made simpler: fewer rules, fewer arguments, simpler patterns, smaller ids and numbers.
 
 use super::{lower, parts, Value};
-use crate::trees::{Pattern, SheetTree};
+use crate::trees::{all, replace, visit, Pattern, SheetTree};
 use std::collections::BTreeSet;
 use std::ops::Range;
 
@@ -18,25 +18,6 @@ pub enum Step {
     Pattern { rule: usize, at: usize, new: Pattern },
     /// Another number for a variable.
     Variable { rule: usize, from: u8, to: u8 },
-}
-
-/// The patterns of a rule, each before those in it.
-fn all<'a>(rule: &'a [Pattern]) -> Vec<&'a Pattern> {
-    let below = |pattern: &'a Pattern| match pattern {
-        Pattern::Compound(_, arguments) => all(arguments),
-        _ => Vec::new(),
-    };
-    rule.iter().flat_map(|pattern| std::iter::once(pattern).chain(below(pattern))).collect()
-}
-
-/// Does the same to each pattern of a rule, before those in it.
-fn visit(rule: &mut [Pattern], change: &mut dyn FnMut(&mut Pattern)) {
-    for pattern in rule {
-        change(pattern);
-        if let Pattern::Compound(_, arguments) = pattern {
-            visit(arguments, change);
-        }
-    }
 }
 
 /// Simpler ranges: one number, from 0, both ends lower by as much, or one end lower.
@@ -149,15 +130,7 @@ pub fn after(sheet: &SheetTree, step: &Step) -> Option<SheetTree> {
             }
         }
         Step::Lift(at) => lift(&mut sheet, *at)?,
-        Step::Pattern { rule, at, new } => {
-            let mut left = *at as isize;
-            visit(sheet.rules.get_mut(*rule)?, &mut |pattern| {
-                if left == 0 {
-                    *pattern = new.clone();
-                }
-                left -= 1;
-            });
-        }
+        Step::Pattern { rule, at, new } => replace(sheet.rules.get_mut(*rule)?, *at, new),
         Step::Variable { rule, from, to } => visit(sheet.rules.get_mut(*rule)?, &mut |pattern| {
             if let Pattern::Variable(number) | Pattern::Ranged(number, ..) = pattern {
                 if number == from {

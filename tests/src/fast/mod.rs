@@ -14,10 +14,11 @@ mod plain;
 mod records;
 mod rule;
 mod sheet;
+mod tidy;
 mod variables;
 mod walk;
 
-use crate::results::{Answer, Built, GraphSize, PieceSize, Plain, Refusal, SheetSize};
+use crate::results::{Answer, Built, GraphSize, PieceSize, Plain, Refusal, SheetSize, Written};
 use graph::MOST_NODES;
 use piece::Piece;
 use sheet::{Sheet, MOST_RULES};
@@ -60,6 +61,15 @@ pub fn build(sheet: &[u8], buffer: &mut [u8]) -> Result<Built, Refusal> {
     let mut sheet = Sheet::unread(sheet);
     sheet.read(&mut [0; MOST_RULES])?;
     build::build(&sheet, buffer)
+}
+
+/// Writes a sheet's tidy form: the sheet's questions, then 31.
+pub fn tidy(bytes: &[u8], buffer: &mut [u8]) -> Result<Written, Refusal> {
+    let mut sheet = Sheet::unread(bytes);
+    let mut rules = [0; MOST_RULES];
+    sheet.read(&mut rules)?;
+    let bytes = tidy::write(bytes, &rules[..usize::from(sheet.rules)], buffer)?;
+    Ok(Written { bytes })
 }
 
 /// Walks a graph: the sheet's questions, the piece's, then 20 to 27.

@@ -1,4 +1,4 @@
-//! A second implementation of document 01, written from its text alone.
+//! A second implementation of document 01 and of requests of document 02, written from their text alone.
 //!
 //! A sheet is read to the tests of its rules, a piece to a list of its terms ascending by place.
 //! Questions are asked in the order in which the bytes are read; the first no is handed back.
@@ -12,6 +12,7 @@ pub mod piece;
 pub mod places;
 pub mod plain;
 pub mod sheet;
+pub mod tidy;
 pub mod truth;
 pub mod variables;
 pub mod walk;
@@ -19,6 +20,7 @@ pub mod window;
 
 pub use voltunnis_generate::{nodes, records};
 
+use crate::generate::trees::SheetTree;
 use crate::results::{Answer, Built, GraphSize, PieceSize, Plain, Refusal, SheetSize, Written};
 use piece::Piece;
 use sheet::Sheet;
@@ -61,6 +63,15 @@ pub fn build(sheet: &[u8], buffer: &mut [u8]) -> Result<Built, Refusal> {
     let sheet = Sheet::read(sheet)?;
     let nodes = build::nodes(&sheet)?;
     Ok(Built { nodes: nodes.len() as u16, bytes: build::write(&sheet, &nodes, buffer)? })
+}
+
+/// Writes a sheet's tidy form: the sheet's questions, then 31.
+pub fn tidy(sheet: &[u8], buffer: &mut [u8]) -> Result<Written, Refusal> {
+    Sheet::read(sheet)?;
+    let (tree, _) = SheetTree::read(sheet).expect("an accepted sheet can be read");
+    let bytes = tidy::sheet(&tree).bytes();
+    buffer.get_mut(..bytes.len()).ok_or(31)?.copy_from_slice(&bytes);
+    Ok(Written { bytes: bytes.len() as u32 })
 }
 
 /// Walks a graph: the sheet's questions, the piece's, then 20 to 27.

@@ -6,7 +6,7 @@ mod wrong;
 
 use std::io::{stdin, BufRead};
 use voltunnis_tests::bytes::{from_hex, to_hex};
-use voltunnis_tests::reference::{build, check_graph, check_piece, check_sheet, plain, rewrite, walk};
+use voltunnis_tests::reference::{build, check_graph, check_piece, check_sheet, plain, rewrite, tidy, walk};
 
 /// What a call gives: its fields as they stand in the reply, or the number of its refusal.
 type Said = Result<String, u8>;
@@ -25,6 +25,7 @@ fn call(name: &str, arguments: &mut [Vec<u8>]) -> Option<Said> {
         ("build", [sheet, buffer]) => {
             build(sheet, buffer).map(|built| format!("{} {}", built.nodes, built.bytes))
         }
+        ("tidy", [sheet, buffer]) => tidy(sheet, buffer).map(|written| written.bytes.to_string()),
         ("rewrite", [sheet, graph, buffer]) => {
             rewrite(sheet, graph, buffer).map(|written| written.bytes.to_string())
         }
@@ -48,7 +49,8 @@ fn main() {
             Some(Ok(fields)) => format!("ok {fields}"),
             Some(Err(refusal)) => format!("refused {refusal}"),
         };
-        match arguments.last().filter(|_| matches!(name, "build" | "rewrite") && reply != "unknown") {
+        match arguments.last().filter(|_| matches!(name, "tidy" | "build" | "rewrite") && reply != "unknown")
+        {
             Some(buffer) if buffer.is_empty() => println!("{reply} -"),
             Some(buffer) => println!("{reply} {}", to_hex(buffer)),
             None => println!("{reply}"),

@@ -5,6 +5,7 @@
 //! - `drop` drops a rule because its test is not known.
 //! - `spill` writes a zero after a graph, where the buffer is longer.
 //! - `touch` writes to the buffer before it looks whether the graph fits.
+//! - `number` gives a number to every variable of a tidy sheet, also to one that stands once.
 //! - `panic` ends on a sheet with a range whose low is above its high.
 //! - `stale` gives each accepted piece the arity of the first.
 //! - `mute` says nothing at all, `chatter` says each reply twice, `half` knows no graphs.
@@ -12,9 +13,10 @@
 use super::{call as right, Said};
 use std::collections::BTreeSet;
 use std::sync::OnceLock;
+use voltunnis_tests::generate::trees::SheetTree;
 use voltunnis_tests::reference::piece::Piece;
 use voltunnis_tests::reference::sheet::{Rule, Sheet};
-use voltunnis_tests::reference::{build, graph, plain, truth::Truth, walk};
+use voltunnis_tests::reference::{build, graph, plain, tidy, truth::Truth, walk};
 
 type Result<T> = std::result::Result<T, u8>;
 
@@ -88,6 +90,20 @@ fn dropping(sheet: &[u8], piece: &[u8]) -> Result<String> {
     })
 }
 
+/// The tidy sheet in which each variable stands as if it were repeated.
+fn numbered(sheet: &[u8], buffer: &mut [u8]) -> Result<String> {
+    Sheet::read(sheet)?;
+    let (mut tree, _) = SheetTree::read(sheet).ok_or(4)?;
+    for rule in &mut tree.rules {
+        let mut variables = tidy::variables(rule);
+        variables.values_mut().for_each(|variable| variable.places += 1);
+        *rule = tidy::rule(rule, &variables);
+    }
+    let bytes = tree.bytes();
+    buffer.get_mut(..bytes.len()).ok_or(31)?.copy_from_slice(&bytes);
+    Ok(bytes.len().to_string())
+}
+
 /// The arity of the first accepted piece.
 static FIRST: OnceLock<String> = OnceLock::new();
 
@@ -97,6 +113,7 @@ pub fn call(trap: &str, name: &str, arguments: &mut [Vec<u8>]) -> Option<Said> {
         ("chain", ..) => chain(name, arguments),
         ("hasty", "walk", [sheet, graph, piece]) => Some(hasty(sheet, graph, piece)),
         ("drop", "plain", [sheet, piece]) => Some(dropping(sheet, piece)),
+        ("number", "tidy", [sheet, buffer]) => Some(numbered(sheet, buffer)),
         ("spill", "build", _) => {
             let result = right(name, arguments);
             let end = result.clone()?.ok().and_then(|fields| fields.split(' ').nth(1)?.parse::<usize>().ok());

@@ -19,6 +19,7 @@ pub mod source;
 pub mod stop;
 mod table;
 mod text;
+mod tidy;
 mod try_pieces;
 mod vectors;
 
@@ -48,6 +49,7 @@ pub const COMMANDS: &[Command] = &[
     check::COMMAND,
     bytes::COMMAND,
     text::COMMAND,
+    tidy::COMMAND,
     build::COMMAND,
     draw::COMMAND,
     try_pieces::COMMAND,

@@ -27,6 +27,11 @@ pub enum About {
     Graph,
 }
 
+/// Whether a file of this name holds bytes.
+pub fn holds_bytes(path: &str) -> bool {
+    Path::new(path).extension().is_some_and(|ending| ending == "bin")
+}
+
 impl Source {
     /// Reads a file, or standard input for `-`. A file that ends in .bin holds bytes, one that ends in
     /// .sheet, .pieces, .graph or .txt text; any other, and standard input, text unless `--bytes` is
@@ -39,9 +44,8 @@ impl Source {
         };
         read.map_err(|error| Stop::wrong(format!("{name}: {}", reason(&error))))?;
         let is_bytes = match Path::new(path).extension().and_then(OsStr::to_str) {
-            Some("bin") => true,
             Some("sheet" | "pieces" | "graph" | "txt") => false,
-            _ => args.has(BYTES),
+            _ => holds_bytes(path) || args.has(BYTES),
         };
         if is_bytes {
             return Ok(Source { name: name.into(), content: Content::Bytes(bytes) });

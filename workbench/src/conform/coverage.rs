@@ -25,10 +25,10 @@ pub struct Coverage {
 const NODES: [&str; 5] = ["fail", "suspend", "execute", "switch", "pair"];
 
 /// The kinds of cases, in the order of their records.
-/// The calls of the stream feed no window, so the last question that one of them meets is 27.
-const LAST_MET: u8 = 27;
-
 const CASES: [&str; 3] = ["symbol", "compound", "numbers"];
+
+/// The question of a window's calls, which are not in the stream.
+const WINDOW: u8 = 36;
 
 /// Things of one sort, each with how often it was met.
 pub struct Section {
@@ -106,7 +106,7 @@ impl Coverage {
         let words = [Word::Commit, Word::Execute, Word::Suspend, Word::Fail];
         let words = words.map(|word| (word.to_string(), self.words.get(&word).copied().unwrap_or(0)));
         let refusals = Refusal::all()
-            .filter(|refusal| refusal.number() <= LAST_MET)
+            .filter(|refusal| refusal.number() != WINDOW)
             .map(|refusal| (refusal.number().to_string(), self.refusals.get(&refusal).copied().unwrap_or(0)));
         let named = |names: &[&str], counts: &[usize]| {
             names.iter().map(|name| (*name).to_string()).zip(counts.iter().copied()).collect()

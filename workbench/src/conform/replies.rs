@@ -36,7 +36,7 @@ pub fn fields(name: Name) -> &'static [&'static str] {
         Name::Plain => &["answer", "rule"],
         Name::CheckGraph => &["nodes"],
         Name::Build => &["nodes", "bytes"],
-        Name::Rewrite => &["bytes"],
+        Name::Tidy | Name::Rewrite => &["bytes"],
         Name::Walk => &["answer", "rule", "edges", "wait list"],
     }
 }
@@ -61,6 +61,7 @@ pub fn reply(call: &Call) -> Reply {
             voltunnis::plain(sheet, piece).map(|plain| format!("{} {}", said(plain.word), plain.rule))
         }
         Name::CheckGraph => voltunnis::check_graph(sheet, graph).map(|size| size.nodes.to_string()),
+        Name::Tidy => voltunnis::tidy(sheet, lent).map(|written| written.bytes.to_string()),
         Name::Build => voltunnis::build(sheet, lent).map(|built| format!("{} {}", built.nodes, built.bytes)),
         Name::Rewrite => voltunnis::rewrite(sheet, graph, lent).map(|written| written.bytes.to_string()),
         Name::Walk => voltunnis::answer(sheet, graph, piece).map(|answer: Answer| {

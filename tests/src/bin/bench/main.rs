@@ -14,6 +14,7 @@ mod window;
 use cases::Case;
 use table::{outcome, Table};
 use timing::against_both;
+use voltunnis_tests::results::Written;
 use voltunnis_tests::{fast, reference, voltunnis};
 
 fn rows(table: &mut Table, Case { name, sheet, piece }: &Case) {
@@ -37,12 +38,31 @@ fn rows(table: &mut Table, Case { name, sheet, piece }: &Case) {
     table.row(name, "vt_plain", &outcome(&reference::plain(sheet, piece)), times);
 }
 
+/// More bytes than a tidy sheet has.
+const TIDY: usize = 130_563;
+
+fn tidy_row(table: &mut Table, Case { name, sheet, .. }: &Case) {
+    let (one, two, three) = (&mut vec![0; TIDY], &mut vec![0; TIDY], &mut vec![0; TIDY]);
+    let tidied = reference::tidy(sheet, one);
+    let size = match tidied {
+        Ok(Written { bytes }) => format!("{} bytes, tidy {bytes}", sheet.len()),
+        Err(_) => outcome(&tidied),
+    };
+    let times = against_both(
+        || voltunnis::tidy(sheet, one),
+        || reference::tidy(sheet, two),
+        || fast::tidy(sheet, three),
+    );
+    table.row(name, "vt_tidy", &size, times);
+}
+
 fn main() {
     if std::env::args().nth(1).as_deref() == Some(listing::WORD) {
         return listing::print();
     }
     let table = &mut Table::new();
     cases::all().iter().for_each(|case| rows(table, case));
+    cases::all().iter().for_each(|case| tidy_row(table, case));
     cases::for_graphs().iter().for_each(|case| graphs::rows(table, case));
     cases::for_graphs().iter().for_each(|case| listing::row(table, case));
     window::rows(table);
