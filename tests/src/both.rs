@@ -95,6 +95,16 @@ pub fn tidy(sheet: &[u8], len: usize) -> (Result<Written, Refusal>, Vec<u8>) {
     (result, buffer)
 }
 
+/// The tidy form of an accepted sheet, written to a buffer that is long enough: no record grows to more than
+/// three times its length.
+#[inline]
+pub fn tidied(sheet: &[u8]) -> Vec<u8> {
+    let (result, mut buffer) = tidy(sheet, 3 * sheet.len());
+    let Written { bytes } = result.unwrap_or_else(|refusal| panic!("refused {refusal}: {}", to_hex(sheet)));
+    buffer.truncate(bytes as usize);
+    buffer
+}
+
 /// Walks a graph; the wait list is compared on refusals too.
 #[inline]
 pub fn walk(sheet: &[u8], graph: &[u8], piece: &[u8]) -> Result<Answer, Refusal> {

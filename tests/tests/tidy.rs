@@ -1,52 +1,21 @@
-//! Tidy sheets (document 02, request 2): examples and vectors, questions and buffers, the largest; and over random
-//! sheets that all writings with the same tests have one form, others another, with the same graph and answers.
+//! Tidy sheets (document 02, request 2): the shared vectors, examples, limits, questions and buffers; and 30,000
+//! sheets, good, hostile and damaged.
 
-use std::collections::BTreeMap;
-use voltunnis_tests::both::{self, lent};
+use std::cmp::Ordering;
+use voltunnis_tests::both::{self, lent, tidied};
 use voltunnis_tests::bytes::{from_hex, to_hex};
+use voltunnis_tests::count::Count;
 use voltunnis_tests::generate::crowded::crowded;
 use voltunnis_tests::generate::damage::{damaged, noise};
-use voltunnis_tests::generate::disguise::{disguise, near_miss, Change};
+use voltunnis_tests::generate::disguise::disguise;
 use voltunnis_tests::generate::hostile::hostile_sheet;
-use voltunnis_tests::generate::pieces::piece;
 use voltunnis_tests::generate::random::Random;
-use voltunnis_tests::generate::sheets::{sheet, small_sheet};
-use voltunnis_tests::generate::stock::Stock;
-use voltunnis_tests::generate::trees::{all, piece_bytes, Pattern, SheetTree};
-use voltunnis_tests::generate::variables::variables;
-use voltunnis_tests::reference::sheet::{Sheet, Want};
-use voltunnis_tests::results::{Refusal, Word, Written};
-use voltunnis_tests::voltunnis;
+use voltunnis_tests::generate::sheets::sheet;
+use voltunnis_tests::generate::trees::{all, Pattern, SheetTree};
+use voltunnis_tests::results::{Refusal, Written};
 
 /// The vectors of request 2.
 const VECTORS: &str = include_str!("../vectors/tidy.txt");
-
-/// How often each thing was met.
-type Count = BTreeMap<String, usize>;
-
-fn met(count: &mut Count, what: impl ToString) {
-    *count.entry(what.to_string()).or_default() += 1;
-}
-
-/// Each of these was met so often.
-#[track_caller]
-fn often(count: &Count, least: usize, wanted: impl IntoIterator<Item = impl ToString>) {
-    println!("{count:?}");
-    for what in wanted {
-        let what = what.to_string();
-        let times = count.get(&what).copied().unwrap_or(0);
-        assert!(times >= least, "{what}: {times} times, fewer than {least}");
-    }
-}
-
-/// The tidy form of an accepted sheet. No record grows to more than three times its length.
-#[track_caller]
-fn tidy(sheet: &[u8]) -> Vec<u8> {
-    let (result, mut buffer) = both::tidy(sheet, 3 * sheet.len());
-    let Written { bytes } = result.unwrap_or_else(|refusal| panic!("refused {refusal}: {}", to_hex(sheet)));
-    buffer.truncate(bytes as usize);
-    buffer
-}
 
 /// Tidies to a buffer of this length and is refused; no byte of it changes.
 #[track_caller]
@@ -64,28 +33,6 @@ fn fits(sheet: &[u8], form: &[u8], more: usize) {
     assert_eq!(result, Ok(Written { bytes: form.len() as u32 }), "{} to {len} bytes", to_hex(sheet));
     assert!(buffer[..form.len()] == *form, "other bytes than the tidy form");
     assert!(buffer[form.len()..] == lent(len)[form.len()..], "a byte after the tidy form");
-}
-
-/// An accepted sheet at random: few rules, of all sorts, or close to 64 tests.
-fn accepted(random: &mut Random) -> SheetTree {
-    loop {
-        let tree = match random.below(10) {
-            0 => crowded(random),
-            1..=3 => small_sheet(random, Stock::FULL),
-            _ => sheet(random),
-        };
-        if Sheet::read(&tree.bytes()).is_ok() {
-            return tree;
-        }
-    }
-}
-
-/// Rule for rule the tests with what is wanted, and the arity; none if the sheet is refused.
-type Tests = (u8, Vec<(Vec<(u16, Want)>, Vec<(u16, u16)>)>);
-
-fn tests(sheet: &SheetTree) -> Option<Tests> {
-    let Sheet { arity, rules, .. } = Sheet::read(&sheet.bytes()).ok()?;
-    Some((arity, rules.into_iter().map(|rule| (rule.wants, rule.pairs)).collect()))
 }
 
 #[test]
@@ -124,7 +71,7 @@ fn examples_have_their_tidy_form() {
         ("10 01 01 21 00 01", "10 01 01 21 00 01"),
         ("10 01 01 21 00 02", "10 01 01 21 00 02"),
     ] {
-        assert_eq!(to_hex(&tidy(&from_hex(sheet))), to_hex(&from_hex(form)), "{sheet}");
+        assert_eq!(to_hex(&tidied(&from_hex(sheet))), to_hex(&from_hex(form)), "{sheet}");
     }
 }
 
@@ -138,7 +85,7 @@ fn sixteen_twice() -> SheetTree {
 fn all_sixteen_variables_take_numbers() {
     let tree = sixteen_twice();
     assert_eq!(both::check_sheet(&tree.bytes()).map(|size| size.tests), Ok(24));
-    let form = tidy(&tree.bytes());
+    let form = tidied(&tree.bytes());
     let (form, _) = SheetTree::read(&form).expect("a sheet");
     let numbers: Vec<u8> = all(&form.rules[0])
         .into_iter()
@@ -207,11 +154,18 @@ fn question_31_comes_after_the_sheets_questions() {
 #[test]
 fn buffers_of_every_length_are_kept_to() {
     let mut random = Random::new(0x6275_6666);
-    let mut count = Count::new();
-    for _ in 0..2_000 {
-        let bytes = accepted(&mut random).bytes();
-        let form = tidy(&bytes);
-        met(&mut count, format!("{:?} than the sheet", form.len().cmp(&bytes.len())));
+    let mut count = Count::default();
+    for _ in 0..4_000 {
+        let bytes = if random.percent(10) { crowded(&mut random) } else { sheet(&mut random) }.bytes();
+        if both::check_sheet(&bytes).is_err() {
+            continue;
+        }
+        let form = tidied(&bytes);
+        count.met(match form.len().cmp(&bytes.len()) {
+            Ordering::Less => "shorter",
+            Ordering::Equal => "as long",
+            Ordering::Greater => "longer",
+        });
         for more in [0, 1, 64] {
             fits(&bytes, &form, more);
         }
@@ -219,110 +173,8 @@ fn buffers_of_every_length_are_kept_to() {
             refused(&bytes, len, 31);
         }
     }
-    often(&count, 100, ["Less than the sheet", "Equal than the sheet", "Greater than the sheet"]);
-}
-
-/// What became of a record of a sheet in disguise.
-fn becomes(rule: &[Pattern], before: &Pattern, after: &Pattern) -> &'static str {
-    let places = |number: &u8| variables(rule)[number].places;
-    match (before, after) {
-        (Pattern::Anything, Pattern::Variable(_)) => "anything named",
-        (Pattern::Range(..), Pattern::Ranged(..)) => "range named",
-        (Pattern::Variable(_), Pattern::Anything) | (Pattern::Ranged(..), Pattern::Range(..)) => {
-            "name dropped"
-        }
-        (Pattern::Variable(number), Pattern::Ranged(..)) if places(number) > 1 => "range added",
-        (Pattern::Ranged(number, ..), Pattern::Variable(_)) if places(number) > 1 => "range dropped",
-        (Pattern::Ranged(number, low, high), Pattern::Ranged(_, l, h)) if places(number) > 1 => {
-            match (low == l, high == h) {
-                (true, true) => "range as it was",
-                _ => "range moved",
-            }
-        }
-        (Pattern::Variable(number), Pattern::Variable(other)) if places(number) > 1 && number != other => {
-            "other number"
-        }
-        _ => "other",
-    }
-}
-
-#[test]
-fn sheets_in_disguise_have_one_form() {
-    let mut random = Random::new(0x6469_7367);
-    let mut count = Count::new();
-    for _ in 0..10_000 {
-        let tree = accepted(&mut random);
-        let form = tidy(&tree.bytes());
-        for _ in 0..3 {
-            let other = disguise(&mut random, &tree);
-            assert_eq!(to_hex(&tidy(&other.bytes())), to_hex(&form), "{}", to_hex(&other.bytes()));
-            met(&mut count, if other == tree { "same bytes" } else { "other bytes" });
-            for (rule, disguised) in tree.rules.iter().zip(&other.rules) {
-                for (before, after) in all(rule).into_iter().zip(all(disguised)) {
-                    met(&mut count, becomes(rule, before, after));
-                }
-            }
-        }
-    }
-    often(&count, 20_000, ["other bytes"]);
-    let kinds = ["anything named", "range named", "name dropped", "range added", "range dropped"];
-    often(&count, 2_000, kinds.into_iter().chain(["range moved", "other number"]));
-}
-
-#[test]
-fn near_misses_differ_exactly_when_their_tests_do() {
-    let mut random = Random::new(0x6e65_6172);
-    let mut count = Count::new();
-    for _ in 0..10_000 {
-        let tree = accepted(&mut random);
-        let (wanted, form) = (tests(&tree).expect("an accepted sheet"), tidy(&tree.bytes()));
-        let other = disguise(&mut random, &tree);
-        for change in Change::ALL {
-            let Some(miss) = near_miss(&mut random, &other, change) else { continue };
-            let Some(asked) = tests(&miss) else {
-                met(&mut count, format!("{change:?} refused"));
-                continue;
-            };
-            let same = asked == wanted;
-            assert_eq!(tidy(&miss.bytes()) == form, same, "{change:?}: {}", to_hex(&miss.bytes()));
-            met(&mut count, format!("{change:?} {}", if same { "alike" } else { "apart" }));
-        }
-    }
-    often(&count, 1_000, ["Want apart", "End apart", "Pair apart", "Pair alike"]);
-    often(&count, 300, ["VariableEnd apart", "VariableEnd alike"]);
-}
-
-/// The sheet with two neighbouring rules exchanged, one rule left out, or an argument more.
-fn rearranged(random: &mut Random, sheet: &SheetTree) -> SheetTree {
-    let mut sheet = sheet.clone();
-    let at = random.below(sheet.rules.len().max(1));
-    match random.below(3) {
-        0 if at + 1 < sheet.rules.len() => sheet.rules.swap(at, at + 1),
-        1 if at < sheet.rules.len() => drop(sheet.rules.remove(at)),
-        _ => {
-            sheet.arity = sheet.arity % 8 + 1;
-            let arity = usize::from(sheet.arity);
-            sheet.rules.iter_mut().for_each(|rule| rule.resize(arity, Pattern::Anything));
-        }
-    }
-    sheet
-}
-
-#[test]
-fn order_count_and_arity_of_rules_are_kept() {
-    let mut random = Random::new(0x6f72_6465);
-    let mut count = Count::new();
-    for _ in 0..5_000 {
-        let tree = accepted(&mut random);
-        let other = disguise(&mut random, &tree);
-        let other = rearranged(&mut random, &other);
-        let Some(asked) = tests(&other) else { continue };
-        let same = Some(asked) == tests(&tree);
-        assert_eq!(tidy(&other.bytes()) == tidy(&tree.bytes()), same, "{}", to_hex(&other.bytes()));
-        met(&mut count, if same { "alike" } else { "apart" });
-    }
-    often(&count, 20, ["alike"]);
-    often(&count, 3_000, ["apart"]);
+    count.print();
+    count.often(100, ["shorter", "as long", "longer"]);
 }
 
 /// A sheet: good, at or over a limit, damaged, or noise.
@@ -339,7 +191,7 @@ fn any_sheet(random: &mut Random) -> (&'static str, Vec<u8>) {
 #[test]
 fn library_and_reference_agree_on_good_hostile_and_damaged_sheets() {
     let mut random = Random::new(0x7469_6479);
-    let mut count = Count::new();
+    let mut count = Count::default();
     for _ in 0..30_000 {
         let (kind, bytes) = any_sheet(&mut random);
         let len = match random.below(4) {
@@ -352,55 +204,11 @@ fn library_and_reference_agree_on_good_hostile_and_damaged_sheets() {
         assert!(buffer[written..] == lent(len)[written..], "a byte after those written");
         let outcome =
             result.map_or_else(|refusal| format!("refused {refusal}"), |_| format!("{kind} tidied"));
-        met(&mut count, kind);
-        met(&mut count, outcome);
+        count.met(kind);
+        count.met(outcome);
     }
-    often(&count, 2_000, ["good", "hostile", "damaged", "noise", "good tidied", "refused 31"]);
-    often(&count, 200, ["hostile tidied", "damaged tidied"]);
-    often(&count, 20, (1..=11).map(|refusal| format!("refused {refusal}")));
-}
-
-#[test]
-fn tidying_a_tidy_sheet_changes_no_byte() {
-    let mut random = Random::new(0x7477_6963);
-    let mut count = Count::new();
-    for _ in 0..10_000 {
-        let bytes = accepted(&mut random).bytes();
-        let form = tidy(&bytes);
-        assert_eq!(to_hex(&tidy(&form)), to_hex(&form), "{}", to_hex(&bytes));
-        assert_eq!(both::check_sheet(&form), both::check_sheet(&bytes), "{}", to_hex(&bytes));
-        met(&mut count, if form == bytes { "tidy before" } else { "changed" });
-    }
-    often(&count, 1_000, ["tidy before", "changed"]);
-}
-
-/// More bytes than any graph has.
-const ENOUGH: usize = 460_000;
-
-#[test]
-fn the_tidy_sheet_has_the_same_graph_and_the_same_answers() {
-    let mut random = Random::new(0x6772_6166);
-    let mut count = Count::new();
-    let (mut one, mut two) = (vec![0; ENOUGH], vec![0; ENOUGH]);
-    for _ in 0..5_000 {
-        let tree = accepted(&mut random);
-        let bytes = disguise(&mut random, &tree).bytes();
-        let form = tidy(&bytes);
-        let built = voltunnis::build(&bytes, &mut one);
-        assert_eq!(voltunnis::build(&form, &mut two), built, "{}", to_hex(&bytes));
-        let size = built.map_or(0, |built| built.bytes as usize);
-        assert!(one[..size] == two[..size], "another graph: {}", to_hex(&bytes));
-        met(&mut count, built.map_or("no graph", |_| "graph"));
-        for _ in 0..3 {
-            let piece = piece_bytes(&piece(&mut random, &tree, Stock::FULL));
-            let answer = voltunnis::plain(&bytes, &piece);
-            assert_eq!(voltunnis::plain(&form, &piece), answer, "{} on {}", to_hex(&bytes), to_hex(&piece));
-            if let Ok(answer) = answer {
-                met(&mut count, answer.word);
-            }
-        }
-    }
-    often(&count, 3_000, ["graph"]);
-    often(&count, 20, ["no graph"]);
-    often(&count, 500, [Word::Commit, Word::Execute, Word::Suspend, Word::Fail]);
+    count.print();
+    count.often(2_000, ["good", "hostile", "damaged", "noise", "good tidied", "refused 31"]);
+    count.often(200, ["hostile tidied", "damaged tidied"]);
+    count.often(20, (1..=11).map(|refusal| format!("refused {refusal}")));
 }
