@@ -115,7 +115,7 @@ impl Count {
     /// Makes the calls on a sheet, its graph and a piece, and writes to buffers of several lengths.
     fn all(&mut self, sheet: &[u8], piece: &[u8]) -> Option<Built> {
         self.check_sheet(sheet);
-        if let Some(Written { bytes }) = self.tidy(sheet, ENOUGH) {
+        if let Some(Written { bytes }) = self.tidy(sheet, 3 * sheet.len()) {
             self.tidy(sheet, bytes as usize - 1);
             self.tidy(sheet, bytes as usize);
         }

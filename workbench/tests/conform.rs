@@ -159,7 +159,7 @@ fn a_reply_that_is_none_is_shown_as_it_is() {
     assert!(replies("ok 1").contains("\nThe program's line has other fields than arity, rules, tests.\n"));
     assert!(replies("ok 1 2 \u{1b}").contains("\nThe program says: arity 1, rules 2, tests \u{fffd}.\n"));
     assert!(replies("refused 99")
-        .contains("\nThe program refuses by a question that document 01 does not have.\n"));
+        .contains("\nThe program refuses by a question that the library does not have.\n"));
     let (said, _, status) = vt(&["conform", "--program", "true"]);
     assert_eq!((smallest(&said).1, status), ("ended: exit status: 0", 1), "{said}");
 }

@@ -97,7 +97,7 @@ impl Refusal {
         self.0
     }
 
-    /// The question, in document 01's words.
+    /// The question, in document 01's words where it has it.
     ///
     /// ```
     /// let refusal = voltunnis::check_piece(&[0x11, 9]).unwrap_err();
@@ -111,7 +111,7 @@ impl Refusal {
         QUESTIONS.iter().find(|row| row.0 == self.0).expect("a refusal has a question")
     }
 
-    /// When the question is asked, in document 01's words.
+    /// When the question is asked, in document 01's words where it has it.
     ///
     /// ```
     /// let refusal = voltunnis::check_sheet(&[0x10, 1, 1, 0x24, 16]).unwrap_err();

@@ -187,7 +187,7 @@ fn in_words(call: &Call, line: &str) -> String {
             let number = words.next().and_then(|number| number.parse().ok());
             match number.and_then(Refusal::from_number) {
                 Some(refusal) => format!("The program says: {refusal}\n"),
-                None => "The program refuses by a question that document 01 does not have.\n".into(),
+                None => "The program refuses by a question that the library does not have.\n".into(),
             }
         }
         _ => "The program's line is no reply: a reply begins with ok, refused or unknown.\n".into(),
