@@ -6,7 +6,7 @@
 use crate::packed::unpack;
 use crate::{
     Answer, Built, GraphSize, PieceSize, Plain, Refusal, SheetSize, Walk, Written, MOST_BYTES,
-    MOST_SHEET_BYTES,
+    MOST_TIDY_BYTES,
 };
 
 extern "C" {
@@ -235,7 +235,7 @@ pub fn graph(sheet: &[u8]) -> Result<Vec<u8>, Refusal> {
 /// ```
 #[inline]
 pub fn tidy_sheet(sheet: &[u8]) -> Result<Vec<u8>, Refusal> {
-    let mut buffer = vec![0; MOST_SHEET_BYTES];
+    let mut buffer = vec![0; MOST_TIDY_BYTES];
     let written = tidy(sheet, &mut buffer)?;
     buffer.truncate(written.bytes as usize);
     buffer.shrink_to_fit();

@@ -33,5 +33,5 @@ pub use results::{Answer, Built, GraphSize, PieceSize, Plain, SheetSize, Walk, W
 /// of 7.
 pub const MOST_BYTES: usize = 1_836_037;
 
-/// More bytes than a tidy sheet has: 3, and 6 for each of 680 places in 32 rules.
-pub const MOST_SHEET_BYTES: usize = 130_563;
+/// No tidy sheet has more bytes: 3, and 656 for each of 32 rules.
+pub const MOST_TIDY_BYTES: usize = 20_995;
