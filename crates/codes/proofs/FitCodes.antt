@@ -29,10 +29,10 @@ under low high code h = within false low high code (λ f. absurd f) (λ l u. abs
 pub over : (low high code : ℕ) → high < code → leb low code && leb code high ≡ false
 over low high code h = within false low high code (λ f. absurd f) (λ l u. absurd (omega arith))
 
--- The id and the arity of a want fit a record.
+-- The id and the arity of a want, and the low of its range, fit a record.
 abbrev pub WantFields : Want → Type 0
 WantFields (aSymbol a) = Wide a
-WantFields (aNumber l h) = Unit
+WantFields (aNumber l h) = Wide l
 WantFields (aCompound a n) = Wide a × (n < 256)
 
 -- A want at a symbol,

@@ -1,5 +1,6 @@
 -- The laws of cells, comparisons and outcomes by cells.
 pub mod TwoTests
+pub mod RunOutcomes
 pub mod Climbing
 pub mod Comparing
 pub mod PairCells

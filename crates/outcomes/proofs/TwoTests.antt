@@ -17,6 +17,11 @@ either : (x y : Bool) → y ≡ true → x || y ≡ true
 either true y h = refl
 either false y h = h
 
+-- One of two tests is true where the first or the second is.
+pub one-of : (x y : Bool) → (x ≡ true) ⊎ (y ≡ true) → x || y ≡ true
+one-of x y (inl h) = rw h
+one-of x y (inr h) = either x y h
+
 -- One of two numbers is k,
 pub one-is : (a b k : ℕ) → (a ≡ k) ⊎ (eqb b k ≡ true) → eqb a k || eqb b k ≡ true
 one-is a b k (inl h) = rw (eq-eqb a k h)

@@ -1,6 +1,7 @@
 // What stands at the places of a piece that is laid out by place, and the outcomes of tests there.
 use codes::COMPOUNDS;
 use codes::NUMBERS;
+use codes::SYMBOLS;
 use codes::UNKNOWN;
 ghost use mathlib.Core.Path.{_≡_};
 ghost use Prim.Native.Nat.{suc, _+_, _*_, _≤_, _<_};
@@ -8,7 +9,7 @@ ghost use Rattle.places.specs.Numbering.{stride};
 ghost use Rattle.terms.specs.Outcome.{_and_};
 ghost use Rattle.outcomes.specs.views.Look.{nearest, look};
 ghost use Rattle.outcomes.specs.views.CompareCells.{Narrow, compareAt, compareRow};
-ghost use Rattle.outcomes.specs.views.CellOutcome.{outcomeOf, placeCells, pairCells};
+ghost use Rattle.outcomes.specs.views.CellOutcome.{outcomeOf, runLow, runHigh, placeCells, pairCells};
 
 // The value of a test.
 pub enum TestOutcome {
@@ -122,19 +123,42 @@ fn compare_args(
     both(first, others)
 }
 
-// The outcome of the place test at place p that holds at the codes from low to high.
+// The lowest code that what stands at a place with this cell can have. Not an unknown's own, nor one that a symbol cannot have.
+fn lowest(cell: u32) -> u32
+    ensures { λ r. ⌜ r ≡ runLow cell ⌝ }
+{
+    if cell == UNKNOWN {
+        return SYMBOLS;
+    }
+    cell
+}
+
+// The highest code that what stands at a place with this cell can have. Not an unknown's own, nor one below the last.
+fn highest(cell: u32) -> u32
+    ensures { λ r. ⌜ r ≡ runHigh cell ⌝ }
+{
+    if cell == UNKNOWN {
+        return UNKNOWN - 1;
+    }
+    cell
+}
+
+// The outcome of the place test at place p that holds at the codes from low to high. Not "holds" where some of the codes that
+// what stands there can have lie outside, nor "contradicted" where some lie inside.
 pub fn place_outcome(cells: &[u32; 680], p: usize, low: u32, high: u32) -> TestOutcome
     requires { ⌜ p < 680 ⌝ }
     ensures { λ r. ⌜ outcomeOf r ≡ placeCells (now (cells .entry)) p low high ⌝ }
 {
-    let code = look(cells, p);
-    if code == UNKNOWN {
-        return TestOutcome::NotKnown;
+    let cell = look(cells, p);
+    let x = lowest(cell);
+    let y = highest(cell);
+    if y < low || high < x {
+        return TestOutcome::Contradicted;
     }
-    if low <= code && code <= high {
+    if low <= x && y <= high {
         return TestOutcome::Holds;
     }
-    TestOutcome::Contradicted
+    TestOutcome::NotKnown
 }
 
 // The outcome of the equality test at places p and q.

@@ -14,7 +14,7 @@ use Rattle.terms.specs.Pattern.{Patterns}
 use Rattle.terms.specs.RuleTests.{Range, Want, aSymbol, aNumber, aCompound, at, PairTest, both, Occurrence, rangeTest, pairsWith, pairsOf}
 use Rattle.terms.specs.Outcome.{_and_, together, placeOutcome, ruleOutcome}
 use Rattle.terms.specs.Outcome as outcome
-use Rattle.terms.specs.Accepted.{AcceptedRule, AcceptedPiece}
+use Rattle.terms.specs.Accepted.{InCommon, AcceptedRule, AcceptedPiece}
 use Rattle.basics.proofs.Booleans.{cond-holds}
 use Rattle.basics.proofs.ListLaws.{all-join, all-map}
 use Rattle.terms.proofs.Ranges.{WideRange, ranges-wide}
@@ -80,22 +80,23 @@ module _ {arity : ℕ} (piece : Terms) (ok : AcceptedPiece arity piece) (few : a
 
   -- The test of a common range.
   range-right
-      : (p : ℕ) (x : Option Range) → p < 680 → WideRange x
+      : (p : ℕ) (x : Option Range) → p < 680 → InCommon x → WideRange x
       → rangeOutcome cells p (lowEnd x) (highEnd x) ≡ together (placeOutcome piece) (rangeTest p x)
-  range-right p none h wide = refl
-  range-right p (some x) h wide =
+  range-right p none h some-number wide = refl
+  range-right p (some x) h some-number wide =
       let test = placeCells cells p (wantLow (aNumber (x .low) (x .high))) (wantHigh (aNumber (x .low) (x .high))) in
       ap (λ (b : Bool). testedIf b test) (le-leb (x .high) 65535 (omega (arith, wide)))
-      ∙ one-test p (aNumber (x .low) (x .high)) h tt
+      ∙ one-test p (aNumber (x .low) (x .high)) h (omega (arith, some-number, wide))
 
   module _ (rangeOf : ℕ → Option Range) (low high : List ℕ)
       (lows : (v : ℕ) → v < 16 → getD low v 0 ≡ lowEnd (rangeOf v))
-      (highs : (v : ℕ) → v < 16 → getD high v 0 ≡ highEnd (rangeOf v)) (wides : (v : ℕ) → WideRange (rangeOf v)) where
+      (highs : (v : ℕ) → v < 16 → getD high v 0 ≡ highEnd (rangeOf v))
+      (commons : (v : ℕ) → InCommon (rangeOf v)) (wides : (v : ℕ) → WideRange (rangeOf v)) where
     variable-right
         : (p v : ℕ) → p < 680 → v < 16
         → rangeOutcome cells p (getD low v 0) (getD high v 0) ≡ together (placeOutcome piece) (rangeTest p (rangeOf v))
     variable-right p v h small =
-        (λ j. rangeOutcome cells p (lows v small j) (highs v small j)) ∙ range-right p (rangeOf v) h (wides v)
+        (λ j. rangeOutcome cells p (lows v small j) (highs v small j)) ∙ range-right p (rangeOf v) h (commons v) (wides v)
 
     -- The place tests of a record.
     record-right
@@ -103,7 +104,7 @@ module _ {arity : ℕ} (piece : Terms) (ok : AcceptedPiece arity piece) (few : a
         → recordOutcome cells low high p r ≡ together (placeOutcome piece) (recordTests rangeOf p r)
     record-right p Anything h fits = refl
     record-right p (Symbol a) h fits = one-test p (aSymbol a) h fits
-    record-right p (RangeOf l u) h fits = one-test p (aNumber l u) h tt
+    record-right p (RangeOf l u) h fits = one-test p (aNumber l u) h (fits .0)
     record-right p (Compound a k) h fits = one-test p (aCompound a k) h fits
     record-right p (Variable v) h fits = variable-right p v h fits
     record-right p (Ranged v l u) h fits = variable-right p v h (fits .0)
@@ -139,9 +140,10 @@ module _ {arity : ℕ} (piece : Terms) (ok : AcceptedPiece arity piece) (few : a
       let ranges : ℕ → Option Range = rangeIn notes in
       let wides : (v : ℕ) → WideRange (ranges v) =
       λ v. subst WideRange (sym (rule-range rule v)) (ranges-wide rule 4 (accepted .sound) v) in
+      let commons : (v : ℕ) → InCommon (ranges v) = λ v. subst InCommon (sym (rule-range rule v)) (accepted .common v) in
       let places =
       notes-right ranges (lowsOf notes) (highsOf notes) (variable-at (λ (v : ℕ). lowEnd (ranges v)))
-      (variable-at (λ (v : ℕ). highEnd (ranges v))) wides notes placed (rule-fits accepted)
+      (variable-at (λ (v : ℕ). highEnd (ranges v))) commons wides notes placed (rule-fits accepted)
       ∙ ap (together (placeOutcome piece)) (sym (rule-tests accepted)) in
       let pairs =
       pairs-right notes placed

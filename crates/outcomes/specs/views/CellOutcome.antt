@@ -2,10 +2,10 @@
 use Prim.Native.Nat.{ℕ, pred}
 use mathlib.Core.Bool.{_&&_, _||_, cond}
 use mathlib.Core.List.{List}
-use lib.Dec.{leb, eqb}
+use lib.Dec.{leb, ltb, eqb}
 use Rattle.places.specs.Numbering.{levelsAt}
-use Rattle.terms.specs.Outcome.{Outcome, holds, notKnown, contradicted, known}
-use Rattle.codes.specs.views.Codes.{unknownCode}
+use Rattle.terms.specs.Outcome.{Outcome, holds, notKnown, contradicted}
+use Rattle.codes.specs.views.Codes.{symbolCode, unknownCode}
 use Rattle.outcomes.specs.declared.TestOutcome.{TestOutcome}
 use Rattle.outcomes.specs.declared.TestOutcome.the-variants as test
 use Rattle.outcomes.specs.views.Look.{look}
@@ -17,14 +17,23 @@ outcomeOf test.Holds = holds
 outcomeOf test.NotKnown = notKnown
 outcomeOf test.Contradicted = contradicted
 
--- A place test that holds at the codes from low to high, at a code: "it is not known at an unknown and contradicted at anything
--- else".
-abbrev pub codeOutcome : ℕ → ℕ → ℕ → Outcome
-codeOutcome low high code = cond (eqb code unknownCode) notKnown (known (leb low code && leb code high))
+-- What a cell says is a run of codes, of which what stands there has one: a known term has its own, an unknown any from the lowest
+-- to the highest of all. A place that the piece lacks has code 0 alone, which is below every term's.
+abbrev pub runLow : ℕ → ℕ
+runLow cell = cond (eqb cell unknownCode) (symbolCode 0) cell
+
+abbrev pub runHigh : ℕ → ℕ
+runHigh cell = cond (eqb cell unknownCode) (pred unknownCode) cell
+
+-- A place test that holds at the codes from low to high, where what stands there has one of the codes from x to y: it holds if it
+-- holds at each of these, is contradicted if at none, and else is not known.
+abbrev pub runOutcome : ℕ → ℕ → ℕ → ℕ → Outcome
+runOutcome low high x y =
+    cond (leb low x && leb y high) holds (cond (ltb y low || ltb high x) contradicted notKnown)
 
 -- A place test at place p.
 abbrev pub placeCells : List ℕ → ℕ → ℕ → ℕ → Outcome
-placeCells cells p low high = codeOutcome low high (look cells p)
+placeCells cells p low high = runOutcome low high (runLow (look cells p)) (runHigh (look cells p))
 
 -- An equality test at two places with these codes, whose terms compare so: it is contradicted where one of them is
 -- lacking.

@@ -1,0 +1,14 @@
+-- `highest` meets its contract: by the test whether the cell is an unknown's.
+use borrow.Author.Needs.{needs}
+use borrow.Author.Tests.{eq-eqb, ne-eqb}
+use Rattle.outcomes.proofs.highest.Statement.{statement}
+use Rattle.outcomes.proofs.highest.Tie as tie
+
+returns : tie.Need-returns
+returns c = simp (eq-eqb _ _ (c .if1 .taken))
+
+returns-2 : tie.Need-returns-2
+returns-2 c = simp (ne-eqb _ _ (c .if1 .left))
+
+pub highest-spec : {M : Type 1} → statement M
+highest-spec = tie.close (tie.spec (λ c. search needs) returns returns-2)
