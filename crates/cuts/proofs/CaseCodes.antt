@@ -13,7 +13,6 @@ use Rattle.decision.proofs.cases.CasesAccepted.{cases-fields}
 use Rattle.codes.specs.views.Codes.{SoundWant, symbolCode, compoundCode, numberCode}
 use Rattle.decision.specs.views.CaseCodes.{caseLow, caseHigh}
 use Rattle.cuts.specs.views.Runs.{caseOf}
-use Rattle.cuts.proofs.CodeRanges.{sound-want}
 
 case-told : (c : Case) → CaseFields c → caseOf (caseLow c) (caseHigh c) ≡ c
 case-told (symbolCase a) f =
@@ -33,4 +32,4 @@ case-told (numbersCase l h) f =
 pub case-of-run : (ws : List Want) → All SoundWant ws → All (λ (c : Case). caseOf (caseLow c) (caseHigh c) ≡ c) (casesOf ws)
 case-of-run ws sound =
     all-map CaseFields (λ (c : Case). caseOf (caseLow c) (caseHigh c) ≡ c) case-told (casesOf ws)
-    (cases-fields ws (all-map SoundWant _ sound-want ws sound))
+    (cases-fields ws sound)

@@ -10,11 +10,10 @@ use Rattle.terms.specs.RuleTests.{Want, aSymbol, aNumber, aCompound, Range}
 use Rattle.basics.proofs.Booleans.{both-true, true-both, same-truth}
 use Rattle.basics.proofs.Sorted.{pair-before}
 use Rattle.codes.specs.views.Codes.{symbolCode, compoundCode, numberCode}
+use Rattle.decision.specs.Runs.{covers}
 use Rattle.decision.specs.Cases.{Case, symbolCase, compoundCase, numbersCase, isWanted}
 use Rattle.decision.specs.AcceptedGraph.{CaseBefore, CaseFields}
 use Rattle.decision.proofs.cases.Intervals.{both-le, EndsBefore}
-use Rattle.decision.proofs.cases.RangeRuns.{covers}
-use Rattle.decision.proofs.cases.Runs as runs
 use Rattle.codes.specs.views.Codes.{wantLow, wantHigh, SoundWant}
 use Rattle.decision.specs.views.CaseCodes.{caseLow, caseHigh}
 use Rattle.basics.proofs.Numbers.{eq-true}
@@ -25,12 +24,6 @@ wantRange w = record { low = wantLow w; high = wantHigh w }
 
 abbrev pub caseRange : Case → Range
 caseRange c = record { low = caseLow c; high = caseHigh c }
-
--- A want that is sound here is so there.
-pub sound-want : (w : Want) → SoundWant w → runs.SoundWant w
-sound-want (aSymbol a) s = s
-sound-want (aNumber l h) s = s
-sound-want (aCompound a n) s = s
 
 -- Cases that ascend are ranges that ascend.
 pub case-before : (c d : Case) → CaseFields c → CaseFields d → CaseBefore c d → EndsBefore (caseRange c) (caseRange d)

@@ -2,80 +2,49 @@
 -- next.
 use Prim.Native.Nat.{ℕ, suc, _-_, _≤_, _<_}
 use mathlib.Core.Path.{_≡_, refl, sym, ap, subst}
-use mathlib.Core.Bool.{Bool}
 use mathlib.Core.Logic.{inl, inr}
-use mathlib.Core.List.{List, [], _∷_, map}
+use mathlib.Core.List.{List, map}
 use native.Mathlib.Omega.{arith}
 use lib.Dec.{T}
 use Rattle.basics.specs.Lists.{Mem, All}
-use Rattle.basics.specs.Order.{pairBefore}
 use Rattle.terms.specs.Term.{number}
 use Rattle.terms.specs.RuleTests.{Want, aSymbol, aNumber, aCompound, Range}
 use Rattle.basics.proofs.ListLaws.{all-at, all-from, all-always, all-map}
-use Rattle.basics.proofs.Sorted.{StrictOrder, AscendingBy, Ascending, same-members}
-use Rattle.basics.proofs.Sorted.{pair-irreflexive, pair-transitive, pair-total, before-pair}
+use Rattle.basics.proofs.Sorted.{AscendingBy, same-members}
 use Rattle.codes.specs.views.Codes.{numberCode}
 use Rattle.decision.specs.Cases.{Case, symbolCase, compoundCase, numbersCase, takes, isWanted}
-use Rattle.decision.specs.Cases.{symbolsOf, Functor, functorsOf, cutsOf, casesOf}
+use Rattle.decision.specs.Cases.{symbolsOf, Functor, functorsOf, rangesOf, compoundOf, casesOf}
+use Rattle.decision.specs.Runs.{cuts, between, covers, isCovered, runs}
 use Rattle.decision.specs.AcceptedGraph.{CaseBefore, CaseFields}
 use Rattle.basics.proofs.Filters.{mem-map, all-mapped, filter-mem, any-mem}
 use Rattle.basics.proofs.Ascent.{ascending-map}
-use Rattle.decision.proofs.cases.Intervals.{both-le, Contains, EndsBefore, Uncut, between, Between, in-one-only}
+use Rattle.decision.proofs.cases.Intervals.{both-le, Contains, EndsBefore, Uncut, Between, in-one-only}
 use Rattle.decision.proofs.cases.Insertion.{symbol-wanted, functor-wanted}
 use Rattle.decision.proofs.cases.RangeRuns as ranges
-use Rattle.decision.proofs.cases.RangeRuns.{rangeCuts, CutBy, covers, isCovered, rangeRuns, wanted-cut, run-between}
-use Rattle.decision.proofs.cases.WantedRanges.{numberRuns, wantedRanges, wanted-range, case-run, runs-all}
+use Rattle.decision.proofs.cases.RangeRuns.{CutBy, wanted-cut, run-between}
+use Rattle.decision.proofs.cases.RangeOrder.{ascending-imply, range-order, Filled, in-order}
+use Rattle.decision.proofs.cases.WantedRanges.{numberRuns, wanted-range, case-run, runs-all}
 use Rattle.decision.proofs.cases.Runs.{cut-wanted, run-ends, run-wanted, in-run, accepts-range}
-use Rattle.decision.proofs.cases.CaseList.{compoundOf, cases-all, symbol-listed, compound-listed, run-listed}
+use Rattle.decision.proofs.cases.CaseList.{cases-all, symbol-listed, compound-listed, run-listed}
 use Rattle.decision.proofs.cases.CasesAccepted.{cases-ascend, cases-fields}
 use Rattle.codes.specs.views.Codes.{wantLow, wantHigh, SoundWant}
 use Rattle.decision.specs.views.CaseCodes.{caseLow, caseHigh}
-use Rattle.cuts.proofs.CodeRanges.{wantRange, caseRange, sound-want, case-before}
+use Rattle.cuts.proofs.CodeRanges.{wantRange, caseRange, case-before}
 use Rattle.basics.proofs.Numbers.{le-or-lt}
-
--- What is so of an order where the things are such holds in an ascending list of such things.
-ascending-imply
-    : {A : Type 0} (P : A → Type 0) (B C : A → A → Type 0) → ((x y : A) → P x → P y → B x y → C x y) → (xs : List A)
-    → All P xs → AscendingBy B xs → AscendingBy C xs
-ascending-imply P B C f [] p a = tt
-ascending-imply {A} P B C f (x ∷ xs) p a = (
-  all-from (C x) xs (λ y m. f x y (p .0) (all-at P m (p .1)) (all-at (B x) m (a .0))),
-  ascending-imply P B C f xs (p .1) (a .1),
-)
-
--- Ranges in order by their lows, then their highs.
-abbrev rangeBefore : Range → Range → Bool
-rangeBefore r s = pairBefore (r .low) (r .high) (s .low) (s .high)
-
-range-order : StrictOrder rangeBefore
-range-order = record {
-  irreflexive = λ r h. pair-irreflexive (r .low) (r .high) h;
-  transitive = λ r s t h k. pair-transitive (r .low) (r .high) (s .low) (s .high) (t .low) (t .high) h k;
-  total = λ r s h k.
-      let e = pair-total (r .low) (r .high) (s .low) (s .high) h k in
-      λ i. record { low = e .0 i; high = e .1 i };
-}
-
--- Ranges that end before the next begins are in that order.
-in-order
-    : (rs : List Range) → All (λ (r : Range). r .low ≤ r .high) rs → AscendingBy EndsBefore rs → Ascending rangeBefore rs
-in-order rs p a =
-    ascending-imply (λ (r : Range). r .low ≤ r .high) EndsBefore (λ (r : Range) (s : Range). T (rangeBefore r s))
-    (λ r s h k l. before-pair (r .low) (r .high) (s .low) (s .high) (inl (omega arith))) rs p a
 
 module _ (ws : List Want) (sound : All SoundWant ws) where
   abbrev wanted : List Range
   wanted = map wantRange ws
 
   -- A wanted low code is a cut, and so is the code after a wanted high one.
-  want-cut : {w : Want} → Mem w ws → (z : ℕ) → CutBy (wantRange w) z → Mem z (rangeCuts wanted)
+  want-cut : {w : Want} → Mem w ws → (z : ℕ) → CutBy (wantRange w) z → Mem z (cuts wanted)
   want-cut m z d = wanted-cut (mem-map wantRange m) z d
 
   -- A case that begins and ends at cuts, with no cut inside, is a run if its first code is wanted.
   uncut-run
       : (c : Case) (w : Want) → Mem w ws → Contains (wantRange w) (caseLow c) → caseLow c ≤ caseHigh c
-      → Mem (caseLow c) (rangeCuts wanted) → Mem (suc (caseHigh c)) (rangeCuts wanted)
-      → All (Uncut (caseRange c)) (rangeCuts wanted) → Mem (caseRange c) (rangeRuns wanted)
+      → Mem (caseLow c) (cuts wanted) → Mem (suc (caseHigh c)) (cuts wanted)
+      → All (Uncut (caseRange c)) (cuts wanted) → Mem (caseRange c) (runs wanted)
   uncut-run c w m k o begins ends uncut =
       let r = ranges.in-run wanted (wantRange w) (caseLow c) (mem-map wantRange m) k in
       let b = run-between wanted (r .0) (r .1) in
@@ -89,10 +58,10 @@ module _ (ws : List Want) (sound : All SoundWant ws) where
         | inl p ↦ omega (arith, r .2 .0)
         | inr p ↦ elim end [ inl q ↦ omega (arith, r .2 .1) | inr q ↦ omega arith ]
       ] in
-      subst (λ (s : Range). Mem s (rangeRuns wanted)) (λ i. record { low = low i; high = high i }) (r .1)
+      subst (λ (s : Range). Mem s (runs wanted)) (λ i. record { low = low i; high = high i }) (r .1)
 
   -- A number that is a cut is one of codes.
-  number-cut : (z : ℕ) → Mem z (cutsOf ws) → Mem (numberCode z) (rangeCuts wanted)
+  number-cut : (z : ℕ) → Mem z (cuts (rangesOf ws)) → Mem (numberCode z) (cuts wanted)
   number-cut z m =
       let c = cut-wanted ws z .0 m in
       want-cut (c .2) (numberCode z) (elim (c .3) [ inl e ↦ inl (omega arith) | inr e ↦ inr (omega arith) ])
@@ -101,8 +70,8 @@ module _ (ws : List Want) (sound : All SoundWant ws) where
     abbrev run : Range
     run = record { low = l; high = h }
 
-    inside : Between (rangeCuts (wantedRanges ws)) run
-    inside = run-between (wantedRanges ws) run (case-run ws l h m)
+    inside : Between (cuts (rangesOf ws)) run
+    inside = run-between (rangesOf ws) run (case-run ws l h m)
 
     -- No want cuts the codes of a run of numbers.
     want-uncut : (w : Want) → Mem w ws → (z : ℕ) → CutBy (wantRange w) z → Uncut (caseRange (numbersCase l h)) z
@@ -119,11 +88,11 @@ module _ (ws : List Want) (sound : All SoundWant ws) where
           | inr e ↦ elim high [ inl p ↦ inl (omega arith) | inr p ↦ inr (omega arith) ]
         ]
 
-    numbers-uncut : All (Uncut (caseRange (numbersCase l h))) (rangeCuts wanted)
+    numbers-uncut : All (Uncut (caseRange (numbersCase l h))) (cuts wanted)
     numbers-uncut =
         let Cuts : Range → Type 0 = λ r. (z : ℕ) → CutBy r z → Uncut (caseRange (numbersCase l h)) z in
         let each = all-mapped Cuts wantRange ws (all-from (λ (w : Want). Cuts (wantRange w)) ws want-uncut) in
-        all-from (Uncut (caseRange (numbersCase l h))) (rangeCuts wanted)
+        all-from (Uncut (caseRange (numbersCase l h))) (cuts wanted)
         (λ z k. let c = ranges.cut-wanted wanted z k in all-at Cuts (c .1) each z (c .2))
 
     -- The want that accepts a run of numbers wants its first code.
@@ -133,30 +102,30 @@ module _ (ws : List Want) (sound : All SoundWant ws) where
         let s = both-le x l h y .0 t in (omega (arith, s .0), omega (arith, s .1, inside .ordered))
     first-wanted (aCompound a n) t = absurd t
 
-    numbers-run : Mem (caseRange (numbersCase l h)) (rangeRuns wanted)
+    numbers-run : Mem (caseRange (numbersCase l h)) (runs wanted)
     numbers-run =
         let w = run-wanted ws (numbersCase l h) m in
         let ends = run-ends ws l h m in
         let next : numberCode (suc h) ≡ suc (numberCode h) = omega arith in
         uncut-run (numbersCase l h) (w .0) (w .1) (first-wanted (w .0) (w .2)) (omega (arith, inside .ordered))
-        (number-cut l (ends .0)) (subst (λ (z : ℕ). Mem z (rangeCuts wanted)) next (number-cut (suc h) (ends .1)))
+        (number-cut l (ends .0)) (subst (λ (z : ℕ). Mem z (cuts wanted)) next (number-cut (suc h) (ends .1)))
         numbers-uncut
 
   -- A case of one code is a run.
   point-run : (c : Case) (w : Want) → Mem w ws → wantRange w ≡ caseRange c → caseLow c ≡ caseHigh c
-      → Mem (caseRange c) (rangeRuns wanted)
+      → Mem (caseRange c) (runs wanted)
   point-run c w m e o =
       let low : wantLow w ≡ caseLow c = ap (λ (r : Range). r .low) e in
       let high : wantHigh w ≡ caseHigh c = ap (λ (r : Range). r .high) e in
       uncut-run c w m (omega arith, omega arith) (omega arith) (want-cut m (caseLow c) (inl (sym low)))
       (want-cut m (suc (caseHigh c)) (inr (ap suc (sym high))))
       (all-always (Uncut (caseRange c))
-      (λ z. elim (le-or-lt z (caseLow c)) [ inl p ↦ inl p | inr p ↦ inr (omega arith) ]) (rangeCuts wanted))
+      (λ z. elim (le-or-lt z (caseLow c)) [ inl p ↦ inl p | inr p ↦ inr (omega arith) ]) (cuts wanted))
 
   -- Each case is a run,
-  pub cases-in-runs : All (λ (c : Case). Mem (caseRange c) (rangeRuns wanted)) (casesOf ws)
+  pub cases-in-runs : All (λ (c : Case). Mem (caseRange c) (runs wanted)) (casesOf ws)
   cases-in-runs =
-      let InRuns : Case → Type 0 = λ c. Mem (caseRange c) (rangeRuns wanted) in
+      let InRuns : Case → Type 0 = λ c. Mem (caseRange c) (runs wanted) in
       cases-all ws InRuns
       (all-from (λ (a : ℕ). InRuns (symbolCase a)) (symbolsOf ws)
       (λ a m. point-run (symbolCase a) (aSymbol a) (symbol-wanted ws a m) refl refl))
@@ -164,14 +133,14 @@ module _ (ws : List Want) (sound : All SoundWant ws) where
       (λ f m. point-run (compoundOf f) (aCompound (f .name) (f .arity)) (functor-wanted ws f m) refl refl))
       (runs-all ws InRuns numbers-run)
 
-  module _ (r : Range) (m : Mem r (rangeRuns wanted)) where
+  module _ (r : Range) (m : Mem r (runs wanted)) where
     -- A case that has the first code of a run is that run.
     same-run : (c : Case) → Mem c (casesOf ws) → Contains (caseRange c) (r .low) → Mem r (map caseRange (casesOf ws))
     same-run c k h =
         let b = run-between wanted r m in
-        let InRuns : Case → Type 0 = λ d. Mem (caseRange d) (rangeRuns wanted) in
+        let InRuns : Case → Type 0 = λ d. Mem (caseRange d) (runs wanted) in
         let e =
-        in-one-only (rangeRuns wanted) (ranges.runs-ascend wanted) (caseRange c) r (r .low)
+        in-one-only (runs wanted) (ranges.runs-ascend wanted) (caseRange c) r (r .low)
         (all-at InRuns k cases-in-runs) m h (omega arith, b .ordered) in
         subst (λ (s : Range). Mem s (map caseRange (casesOf ws))) e (mem-map caseRange k)
 
@@ -198,7 +167,7 @@ module _ (ws : List Want) (sound : All SoundWant ws) where
     run-in-cases : Mem r (map caseRange (casesOf ws))
     run-in-cases =
         let b = run-between wanted r m in
-        let covered = filter-mem (isCovered wanted) (between (rangeCuts wanted)) m .1 in
+        let covered = filter-mem (isCovered wanted) (between (cuts wanted)) m .1 in
         let w = any-mem (λ (s : Range). covers s r) wanted covered in
         let Goal : Range → Type 0 = λ s. Contains s (r .low) → Mem r (map caseRange (casesOf ws)) in
         let each = all-mapped Goal wantRange ws (all-from (λ (v : Want). Goal (wantRange v)) ws want-case) in
@@ -208,20 +177,19 @@ module _ (ws : List Want) (sound : All SoundWant ws) where
   -- Each case ends before the next begins.
   codes-in-order : AscendingBy (λ (c : Case) (d : Case). caseHigh c < caseLow d) (casesOf ws)
   codes-in-order =
-      let fields = cases-fields ws (all-map SoundWant _ sound-want ws sound) in
+      let fields = cases-fields ws sound in
       ascending-imply CaseFields CaseBefore (λ (c : Case) (d : Case). caseHigh c < caseLow d) case-before (casesOf ws)
       fields (cases-ascend ws)
 
   -- The cases, as ranges of codes, are the runs between neighbouring cuts that a want covers, in this order.
-  pub cases-are-runs : map caseRange (casesOf ws) ≡ rangeRuns wanted
+  pub cases-are-runs : map caseRange (casesOf ws) ≡ runs wanted
   cases-are-runs =
-      let Filled : Range → Type 0 = λ r. r .low ≤ r .high in
       let cs = map caseRange (casesOf ws) in
-      let inRuns : All (λ (r : Range). Mem r (rangeRuns wanted)) cs =
-      all-mapped (λ (r : Range). Mem r (rangeRuns wanted)) caseRange (casesOf ws) cases-in-runs in
+      let inRuns : All (λ (r : Range). Mem r (runs wanted)) cs =
+      all-mapped (λ (r : Range). Mem r (runs wanted)) caseRange (casesOf ws) cases-in-runs in
       let ascend : AscendingBy EndsBefore cs = ascending-map EndsBefore caseRange (casesOf ws) codes-in-order in
-      let filled : (r : Range) → Mem r (rangeRuns wanted) → Filled r = λ r m. run-between wanted r m .ordered in
-      same-members range-order cs (rangeRuns wanted)
-      (in-order cs (all-map (λ (r : Range). Mem r (rangeRuns wanted)) Filled filled cs inRuns) ascend)
-      (in-order (rangeRuns wanted) (all-from Filled (rangeRuns wanted) filled) (ranges.runs-ascend wanted))
-      (λ r m. all-at (λ (s : Range). Mem s (rangeRuns wanted)) m inRuns) run-in-cases
+      let filled : (r : Range) → Mem r (runs wanted) → Filled r = λ r m. run-between wanted r m .ordered in
+      same-members range-order cs (runs wanted)
+      (in-order cs (all-map (λ (r : Range). Mem r (runs wanted)) Filled filled cs inRuns) ascend)
+      (in-order (runs wanted) (all-from Filled (runs wanted) filled) (ranges.runs-ascend wanted))
+      (λ r m. all-at (λ (s : Range). Mem s (runs wanted)) m inRuns) run-in-cases

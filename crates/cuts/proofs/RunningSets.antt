@@ -16,7 +16,7 @@ use Rattle.masks.specs.Mask.{has}
 use Rattle.masks.proofs.Membership.{has-and}
 use Rattle.masks.proofs.Operations.{and-fits}
 use Rattle.terms.specs.RuleTests.{Range}
-use Rattle.decision.proofs.cases.Intervals.{between}
+use Rattle.decision.specs.Runs.{between}
 use Rattle.cuts.specs.views.Cuts.{Cut}
 use Rattle.cuts.specs.views.Runs.{Run, endRun, cutRuns}
 use Rattle.cuts.proofs.Parity.{apart, apart-false, has-xor, parity}

@@ -21,20 +21,21 @@ use Rattle.masks.proofs.Membership.{has-empty, has-pos}
 use Rattle.terms.specs.Pattern.{Patterns}
 use Rattle.terms.specs.RuleTests.{Want, Range}
 use Rattle.decision.specs.Rules.{wantAt, rulesWhere}
+use Rattle.decision.specs.Runs.{cuts as rangeCuts, between, covers, isCovered, runs as rangeRuns}
 use Rattle.decision.specs.Cases.{Case, isWanted, casesOf}
 use Rattle.decision.specs.AcceptedGraph.{CaseFields}
 use Rattle.decision.specs.Edges.{liveWants}
 use Rattle.decision.proofs.cases.CasesAccepted.{cases-fields}
-use Rattle.decision.proofs.cases.Intervals.{both-le, Contains, between, Between, between-cuts}
+use Rattle.decision.proofs.cases.Intervals.{both-le, Contains, Between, between-cuts}
 use Rattle.decision.proofs.cases.RangeRuns as ranges
-use Rattle.decision.proofs.cases.RangeRuns.{rangeCuts, covers, isCovered, rangeRuns, covers-contains, run-between}
+use Rattle.decision.proofs.cases.RangeRuns.{covers-contains, run-between}
 use Rattle.decision.proofs.rules.LiveWants.{want-listed}
 use Rattle.codes.specs.views.Codes.{wantLow, wantHigh, SoundWant}
 use Rattle.decision.specs.views.CaseCodes.{caseLow, caseHigh}
 use Rattle.cuts.specs.views.Cuts.{Cut}
 use Rattle.cuts.specs.views.Runs.{switchRuns}
 use Rattle.cuts.specs.views.CutsOf.{cutsTo, takesFor, caseRun}
-use Rattle.cuts.proofs.CodeRanges.{wantRange, caseRange, sound-want, wanted-covers}
+use Rattle.cuts.proofs.CodeRanges.{wantRange, caseRange, wanted-covers}
 use Rattle.cuts.proofs.CodeRuns.{cases-in-runs, cases-are-runs}
 use Rattle.cuts.proofs.Parity.{apart, parity, turnsBy, cuts-parity}
 use Rattle.cuts.proofs.AscendingCuts.{cuts-ascend}
@@ -48,7 +49,7 @@ wanted-holds
     : (ws : List Want) → All SoundWant ws → (c : Case) (w : Want) → Mem c (casesOf ws) → Mem w ws
     → leb (wantLow w) (caseLow c) && leb (caseLow c) (wantHigh w) ≡ isWanted c w
 wanted-holds ws sound c w m k =
-    let fields = all-at CaseFields m (cases-fields ws (all-map SoundWant _ sound-want ws sound)) in
+    let fields = all-at CaseFields m (cases-fields ws sound) in
     let InRuns : Case → Type 0 = λ d. Mem (caseRange d) (rangeRuns (map wantRange ws)) in
     let b = run-between (map wantRange ws) (caseRange c) (all-at InRuns m (cases-in-runs ws sound)) in
     let all =

@@ -23,9 +23,10 @@ use Rattle.masks.proofs.Operations.{and-fits}
 use Rattle.terms.specs.Pattern.{Patterns}
 use Rattle.terms.specs.RuleTests.{Want, aSymbol, aNumber, aCompound, Range}
 use Rattle.decision.specs.Rules.{wantAt}
+use Rattle.decision.specs.Runs.{cuts as rangeCuts}
 use Rattle.decision.specs.Edges.{liveWants}
 use Rattle.decision.proofs.cases.RangeRuns as ranges
-use Rattle.decision.proofs.cases.RangeRuns.{rangeCuts, CutBy, wanted-cut}
+use Rattle.decision.proofs.cases.RangeRuns.{CutBy, wanted-cut}
 use Rattle.decision.proofs.rules.LiveWants.{want-listed}
 use Rattle.codes.specs.views.Codes.{wantLow, wantHigh, SoundWant}
 use Rattle.cuts.specs.views.Cuts.{Cut}

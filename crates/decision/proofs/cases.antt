@@ -3,6 +3,7 @@ pub mod FunctorOrder
 pub mod Insertion
 pub mod Intervals
 pub mod RangeRuns
+pub mod RangeOrder
 pub mod WantedRanges
 pub mod Runs
 pub mod CaseList

@@ -1,12 +1,12 @@
 -- The cases of a switch (document 01, "Nodes").
-use Prim.Native.Nat.{ℕ, suc, pred}
+use Prim.Native.Nat.{ℕ}
 use mathlib.Core.Bool.{Bool, false, _&&_}
 use mathlib.Core.List.{List, [], _∷_, _++_, map}
 use lib.Dec.{leb, ltb, eqb}
-use Rattle.basics.specs.Lists.{filter, anyOf}
 use Rattle.basics.specs.Order.{insertBy, pairBefore}
 use Rattle.terms.specs.Term.{Term, count, unknown, symbol, number, compound}
-use Rattle.terms.specs.RuleTests.{Want, aSymbol, aNumber, aCompound}
+use Rattle.terms.specs.RuleTests.{Want, aSymbol, aNumber, aCompound, Range}
+use Rattle.decision.specs.Runs.{runs}
 
 -- "44 symbol (wide id, ..), 45 compound (wide id, arity, ..), 46 numbers (wide low, wide high, ..)".
 pub data Case : Type 0 where
@@ -59,22 +59,21 @@ functorsOf (aSymbol a ∷ ws) = functorsOf ws
 functorsOf (aNumber l h ∷ ws) = functorsOf ws
 functorsOf (aCompound a n ∷ ws) = insertBy functorBefore (record { name = a; arity = n }) (functorsOf ws)
 
--- "One for each maximal run of numbers accepted by the same non-empty set of those rules." Numbers are cut at each low and after
--- each high: from one cut to the next the same rules accept, and at each cut another set does.
-abbrev pub cutsOf : List Want → List ℕ
-cutsOf [] = []
-cutsOf (aSymbol a ∷ ws) = cutsOf ws
-cutsOf (aNumber l h ∷ ws) = insertBy ltb l (insertBy ltb (suc h) (cutsOf ws))
-cutsOf (aCompound a n ∷ ws) = cutsOf ws
+-- The ranges of numbers that are wanted.
+abbrev pub rangesOf : List Want → List Range
+rangesOf [] = []
+rangesOf (aSymbol a ∷ ws) = rangesOf ws
+rangesOf (aNumber l h ∷ ws) = record { low = l; high = h } ∷ rangesOf ws
+rangesOf (aCompound a n ∷ ws) = rangesOf ws
 
-abbrev pub runsOf : List ℕ → List Case
-runsOf [] = []
-runsOf (x ∷ []) = []
-runsOf (x ∷ (y ∷ ys)) = numbersCase x (pred y) ∷ runsOf (y ∷ ys)
+-- The case for a compound, and for the numbers of a range.
+abbrev pub compoundOf : Functor → Case
+compoundOf f = compoundCase (f .name) (f .arity)
 
--- The cases for what the live rules want at a place, in the order of the records.
+abbrev pub numbersIn : Range → Case
+numbersIn r = numbersCase (r .low) (r .high)
+
+-- The cases for what the live rules want at a place, in the order of the records; "one for each maximal run of numbers accepted by
+-- the same non-empty set of those rules".
 abbrev pub casesOf : List Want → List Case
-casesOf ws =
-    map symbolCase (symbolsOf ws)
-    ++ map (λ (f : Functor). compoundCase (f .name) (f .arity)) (functorsOf ws)
-    ++ filter (λ (c : Case). anyOf (isWanted c) ws) (runsOf (cutsOf ws))
+casesOf ws = map symbolCase (symbolsOf ws) ++ map compoundOf (functorsOf ws) ++ map numbersIn (runs (rangesOf ws))

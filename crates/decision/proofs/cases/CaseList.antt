@@ -4,13 +4,10 @@ use mathlib.Core.List.{List, _++_, map}
 use Rattle.basics.specs.Lists.{Mem, All}
 use Rattle.terms.specs.RuleTests.{Want, aSymbol, aCompound}
 use Rattle.basics.proofs.ListLaws.{all-join}
-use Rattle.decision.specs.Cases.{Case, symbolCase, compoundCase, symbolsOf, Functor, functorsOf, casesOf}
+use Rattle.decision.specs.Cases.{Case, symbolCase, compoundCase, symbolsOf, Functor, functorsOf, compoundOf, casesOf}
 use Rattle.basics.proofs.Filters.{mem-left, mem-right, mem-map, all-mapped}
 use Rattle.decision.proofs.cases.Insertion.{wanted-symbol, wanted-functor}
 use Rattle.decision.proofs.cases.WantedRanges.{numberRuns}
-
-abbrev pub compoundOf : Functor → Case
-compoundOf f = compoundCase (f .name) (f .arity)
 
 module _ (ws : List Want) where
   abbrev pub symbolCases : List Case

@@ -6,23 +6,25 @@ use mathlib.Core.List.{List, [], _∷_, _++_}
 use native.Mathlib.Omega.{arith}
 use lib.ListN.{length, length-append, length-map}
 use lib.Dec.{ltb}
-use Rattle.basics.specs.Lists.{Mem, here, All, anyOf}
+use Rattle.basics.specs.Lists.{Mem, here, All}
 use Rattle.basics.specs.Order.{insertBy}
 use Rattle.terms.specs.Term.{Wide}
 use Rattle.terms.specs.RuleTests.{Want, aSymbol, aNumber, aCompound}
 use Rattle.basics.proofs.ListLaws.{all-join, all-always, all-at, all-from}
-use Rattle.decision.specs.Cases.{Case, symbolCase, compoundCase, numbersCase, isWanted}
-use Rattle.decision.specs.Cases.{symbolsOf, Functor, functorsOf, cutsOf, runsOf, casesOf}
+use Rattle.decision.specs.Runs.{cuts, between, isCovered, runs}
+use Rattle.decision.specs.Cases.{Case, symbolCase, compoundCase, numbersCase}
+use Rattle.decision.specs.Cases.{symbolsOf, Functor, functorsOf, rangesOf, compoundOf, numbersIn, casesOf}
 use Rattle.decision.specs.Node.{CaseEdge}
 use Rattle.decision.specs.AcceptedGraph.{CaseBefore, LowAtMostHigh, Ascend, CaseFields}
 use Rattle.basics.proofs.Filters.{mem-length, all-mapped, mapped-always, filter-length}
 use Rattle.basics.proofs.Ascent.{ascending-map, ascending-join}
 use Rattle.decision.proofs.cases.Insertion.{number-inserted, functor-inserted}
 use Rattle.decision.proofs.cases.Insertion.{symbol-wanted, symbols-ascend, functor-wanted, functors-ascend}
+use Rattle.decision.proofs.cases.Intervals.{between-length}
 use Rattle.decision.proofs.cases.WantedRanges.{numberRuns, runs-all}
 use Rattle.decision.proofs.cases.Runs.{SoundWant, accepts-range, cut-wanted, run-ends}
 use Rattle.decision.proofs.cases.Runs.{runs-ordered, runs-ascend, in-run}
-use Rattle.decision.proofs.cases.CaseList.{compoundOf, symbolCases, compoundCases, cases-all}
+use Rattle.decision.proofs.cases.CaseList.{symbolCases, compoundCases, cases-all}
 use Rattle.decision.proofs.cases.CaseList.{symbol-listed, compound-listed, run-listed}
 use Rattle.decision.proofs.cases.CasesLaws.{edgesTo}
 use Rattle.basics.proofs.Sorted.{AscendingBy as Ascending}
@@ -85,19 +87,13 @@ pub cases-some : (ws : List Want) → All SoundWant ws → 1 ≤ length ws → 1
 cases-some [] sound h = omega arith
 cases-some (w ∷ ws) sound h = mem-length (want-case (w ∷ ws) w here (sound .0) .1)
 
--- There are no more runs than cuts.
-runs-length : (cuts : List ℕ) → length (runsOf cuts) ≤ length cuts
-runs-length [] = omega arith
-runs-length (x ∷ []) = omega arith
-runs-length (x ∷ (y ∷ ys)) = omega (arith, runs-length (y ∷ ys))
-
 -- Each want adds at most a symbol, a compound or two cuts.
-parts-length : (ws : List Want) → length (symbolsOf ws) + length (functorsOf ws) + length (cutsOf ws) ≤ 2 * length ws
+parts-length : (ws : List Want) → length (symbolsOf ws) + length (functorsOf ws) + length (cuts (rangesOf ws)) ≤ 2 * length ws
 parts-length [] = omega arith
 parts-length (aSymbol a ∷ ws) = omega (arith, number-inserted a (symbolsOf ws) .longer, parts-length ws)
 parts-length (aNumber l h ∷ ws) =
-    let low = number-inserted l (insertBy ltb (suc h) (cutsOf ws)) .longer in
-    let high = number-inserted (suc h) (cutsOf ws) .longer in
+    let low = number-inserted l (insertBy ltb (suc h) (cuts (rangesOf ws))) .longer in
+    let high = number-inserted (suc h) (cuts (rangesOf ws)) .longer in
     omega (arith, parts-length ws)
 parts-length (aCompound a n ∷ ws) =
     omega (arith, functor-inserted (record { name = a; arity = n }) (functorsOf ws) .longer, parts-length ws)
@@ -109,8 +105,9 @@ cases-few ws =
     let names = length-append (symbolCases ws) (compoundCases ws) in
     let symbols = length-map (symbolsOf ws) symbolCase in
     let compounds = length-map (functorsOf ws) compoundOf in
-    let runs = filter-length (λ (c : Case). anyOf (isWanted c) ws) (runsOf (cutsOf ws)) in
-    omega (arith, runs-length (cutsOf ws), parts-length ws)
+    let numbers = length-map (runs (rangesOf ws)) numbersIn in
+    let wanted = filter-length (isCovered (rangesOf ws)) (between (cuts (rangesOf ws))) in
+    omega (arith, between-length (cuts (rangesOf ws)), parts-length ws)
 
 -- What the check of a graph asks of the cases of a switch, whatever they lead to.
 pub record AcceptedCases (cs : List (CaseEdge ℕ)) : Type 0 where

@@ -17,7 +17,7 @@ use Rattle.terms.proofs.Unknown.{IsUnknown}
 use Rattle.basics.proofs.ListLaws.{all-always, all-at}
 use Rattle.basics.proofs.Booleans.{both-true, cond-by}
 use Rattle.decision.specs.Cases.{Case, symbolCase, compoundCase, numbersCase, takes, isWanted}
-use Rattle.decision.specs.Cases.{symbolsOf, Functor, functorsOf, casesOf}
+use Rattle.decision.specs.Cases.{symbolsOf, Functor, functorsOf, compoundOf, casesOf}
 use Rattle.decision.specs.Node.{CaseEdge, follow}
 use Rattle.decision.specs.Edges.{caseKeeps, gatherWants}
 use Rattle.terms.proofs.KnownTests.{holds-true}
@@ -25,7 +25,7 @@ use Rattle.decision.proofs.Truth.{known-contradicted, open-known}
 use Rattle.decision.proofs.cases.WantedRanges.{numberRuns, runs-all}
 use Rattle.decision.proofs.cases.Runs.{run-uncut, in-run}
 use Rattle.decision.proofs.rules.LiveWants.{mem-gather}
-use Rattle.decision.proofs.cases.CaseList.{compoundOf, cases-all, symbol-listed, compound-listed, run-listed}
+use Rattle.decision.proofs.cases.CaseList.{cases-all, symbol-listed, compound-listed, run-listed}
 use Rattle.basics.proofs.Numbers.{eqb-swap}
 
 -- At a symbol a want holds if the symbol's case is wanted, and is contradicted if not;

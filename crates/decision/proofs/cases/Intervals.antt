@@ -1,13 +1,15 @@
 -- Ranges of numbers between ascending cuts: from each cut to the number before the next.
 use Prim.Native.Nat.{ℕ, suc, pred, _≤_, _<_}
-use mathlib.Core.Path.{_≡_}
+use mathlib.Core.Path.{_≡_, refl, ap}
 use mathlib.Core.Bool.{_&&_}
 use mathlib.Core.Logic.{_↔_, _⊎_, inl, inr}
 use mathlib.Core.List.{List, [], _∷_}
 use native.Mathlib.Omega.{arith}
 use lib.Dec.{T, leb, leb→le, le→leb}
+use lib.ListN.{length}
 use Rattle.basics.specs.Lists.{Mem, here, there, All}
 use Rattle.terms.specs.RuleTests.{Range}
+use Rattle.decision.specs.Runs.{between}
 use Rattle.basics.proofs.ListLaws.{all-at, all-map, mem-cases, mem-none}
 use Rattle.basics.proofs.Booleans.{both-true, true-both}
 use Rattle.basics.proofs.Ascent.{ascending-two}
@@ -32,11 +34,6 @@ EndsBefore r s = r .high < s .low
 -- The cut does not fall inside the range.
 abbrev pub Uncut : Range → ℕ → Type 0
 Uncut r z = (z ≤ r .low) ⊎ (r .high < z)
-
-abbrev pub between : List ℕ → List Range
-between [] = []
-between (x ∷ []) = []
-between (x ∷ (y ∷ ys)) = record { low = x; high = pred y } ∷ between (y ∷ ys)
 
 -- The range goes from a cut to the number before another, and no cut falls inside.
 pub record Between (cuts : List ℕ) (r : Range) : Type 0 where
@@ -123,3 +120,9 @@ in-one-only rs a r s v m n h k =
       | inl e ↦ e
       | inr d ↦ (let never : ⊥ = elim d [ inl p ↦ omega arith | inr p ↦ omega arith ] in absurd never)
     ]
+
+-- There is one range less than cuts.
+pub between-length : (zs : List ℕ) → length (between zs) ≡ pred (length zs)
+between-length [] = refl
+between-length (x ∷ []) = refl
+between-length (x ∷ (y ∷ ys)) = ap suc (between-length (y ∷ ys))
