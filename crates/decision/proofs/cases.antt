@@ -10,3 +10,8 @@ pub mod CaseList
 pub mod CasesLaws
 pub mod CasesAccepted
 pub mod CasesSentence
+-- Runs of all numbers, pairs of runs, and the narrowest of them.
+pub mod FramedRuns
+pub mod RunPairs
+pub mod Narrowest
+pub mod NumberPairs
