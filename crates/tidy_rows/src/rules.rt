@@ -121,8 +121,8 @@ pub fn measure_rule(s: &[u8], start: Row, words: &Words) -> Moved
 }
 
 // The tidy form of a rule in a buffer that has room for it, from a position on; how far the rule reaches, and the position behind
-// what was written. Repeated variables are numbered from 0 as they first come: not by their old numbers. Not a byte changes in front
-// of the rule or behind.
+// what was written. Repeated variables are numbered from 0 as they first come: not by their old numbers. Not a byte changes in
+// front of the rule or behind.
 pub fn put_rule(s: &[u8], start: Row, words: &mut Words, buf: &mut [u8], to: usize) -> Moved
     requires { ⌜ Going (now s) start × (start .most ≤ 680) × (length (now words) ≡ 16)
         × (to + length (tidyOnward (record { words = now words; count = 0 }) (recordsFrom (now s) start)) ≤ length (now buf)) ⌝ }

@@ -24,7 +24,7 @@ use Rattle.tidy.specs.TidyRule.{tidyRule}
 use Rattle.tidy.specs.TidySheet.{tidyBytes}
 use Rattle.tidy.specs.Tidied.{tidied}
 use Rattle.tidying.specs.declared.Tidied.the-variants.{Written, Refused}
-use Rattle.tidying.specs.HandedBack.{leftBy}
+use Rattle.tidying.specs.views.HandedBack.{leftBy}
 use Rattle.tidying.specs.views.TidyRows.{tidyRows}
 use Rattle.tidying.proofs.TidyForms.{rules-tidy}
 

@@ -1,3 +1,2 @@
--- What tidying a sheet hands back.
-pub mod HandedBack
+-- Tidying a sheet: its definitions stand in tidy/specs.
 pub mod views

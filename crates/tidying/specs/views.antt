@@ -1,2 +1,3 @@
 -- How the code keeps things.
+pub mod HandedBack
 pub mod TidyRows

@@ -11,7 +11,7 @@ ghost use lib.Dec.{leb};
 ghost use lib.ListN.{length, drop};
 ghost use Rattle.records.specs.Writing.{splice};
 ghost use Rattle.tidy.specs.Tidied.{tidied};
-ghost use Rattle.tidying.specs.HandedBack.{leftBy};
+ghost use Rattle.tidying.specs.views.HandedBack.{leftBy};
 ghost use Rattle.tidying.specs.views.TidyRows.{tidyRows};
 
 // How many bytes the tidy form of a sheet has. Not those of the sheet, nor those of its rules alone.
@@ -77,8 +77,8 @@ fn put_rules(s: &[u8], arity: u8, rules: u8, buf: &mut [u8], start: usize) -> us
     end
 }
 
-// Writes the tidy form of a sheet: the sheet's questions, then 31. Not a byte written where the sheet is refused or its tidy form does
-// not fit, nor a sheet refused whose tidy form just fits.
+// Writes the tidy form of a sheet: the sheet's questions, then 31. Not a byte written where the sheet is refused or its tidy form
+// does not fit, nor a sheet refused whose tidy form just fits.
 pub fn tidy(sheet: &[u8], buffer: &mut [u8]) -> Tidied
     ensures { λ r. ⌜ leftBy r (now (buffer .exit)) ≡ tidied (now (sheet .entry)) (now (buffer .entry)) ⌝ }
 {

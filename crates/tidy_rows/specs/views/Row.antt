@@ -1,5 +1,5 @@
--- The records of a rule in a row, as the code goes over its bytes: a compound's arguments follow it, so all that need be kept on the
--- way is how many patterns are still to come.
+-- The records of a rule in a row, as the code goes over its bytes: a compound's arguments follow it, so all that need be kept on
+-- the way is how many patterns are still to come.
 use Prim.Native.Nat.{ℕ, zero, suc, _+_, _*_, _≤_}
 use mathlib.Core.Path.{_≡_}
 use mathlib.Core.List.{List, [], _∷_}

@@ -1,7 +1,7 @@
 -- The values of the call, packed, and the buffer that it leaves.
 use mathlib.Core.Path.{sym, ap, _∙_, subst}
 use Rattle.records.specs.Written.{Result}
-use Rattle.tidying.specs.HandedBack.{leftBy}
+use Rattle.tidying.specs.views.HandedBack.{leftBy}
 use Rattle.voltunnis.specs.Packed.{Packs, writtenFields}
 use borrow.Author.Needs.{needs}
 use Rattle.voltunnis.proofs.vt_tidy.Statement.{statement}
