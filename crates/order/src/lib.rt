@@ -1,0 +1,7 @@
+// The reading order of the owner's machine (document 02, request 1): a loaded table of 680 places.
+
+// What the check of a table answers: it is accepted, or the number of the question that got a no.
+pub enum TableCheck {
+    Accepted,
+    Refused(u8),
+}
