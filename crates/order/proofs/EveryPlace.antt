@@ -80,9 +80,10 @@ once-apart [] e = tt
 once-apart (p ∷ places) e =
     let outer = and-both (ltb p 680 && not (anyOf (eqb p) places)) (eachOnce places) e in
     let inner = and-both (ltb p 680) (not (anyOf (eqb p) places)) (outer .0) in
-    let new = T-not (anyOf (eqb p) places) (is-true (inner .1)) in
-    (all-from (Differ p) places (λ q m same. new (mem-found p (subst (λ (x : ℕ). Mem x places) (sym same) m))),
-    once-apart places (outer .1))
+    let new = T-not (anyOf (eqb p) places) (is-true (inner .1)) in (
+      all-from (Differ p) places (λ q m same. new (mem-found p (subst (λ (x : ℕ). Mem x places) (sym same) m))),
+      once-apart places (outer .1),
+    )
 
 -- "680 wide place numbers", none out of range or twice, are all 680 places.
 pub every-place

@@ -1,3 +1,7 @@
--- The laws of tables: all places stand in them, and none before one above it.
+-- The laws of tables: all places stand in them, none before one above it, and they give asking orders.
 pub mod EveryPlace
 pub mod PlacesAbove
+pub mod TableAsks
+-- How a table is read:
+pub mod ReadOn
+pub mod TableLoop

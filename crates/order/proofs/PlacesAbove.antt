@@ -99,7 +99,7 @@ from-here seen (p ∷ places) m closed e =
     let gone : Mem (parentAt p) places → ⊥ =
     λ k. T-not (anyOf (eqb (parentAt p)) places) (is-true (both .0)) (mem-found (parentAt p) k) in (
       all-from (λ (r : ℕ). Above p r → ⊥) places
-      (λ r k above. m .parted r (above-seen m closed gone r (all-at (λ (x : ℕ). x < 680) k (m .below .1)) above) (there k)),
+          (λ r k above. m .parted r (above-seen m closed gone r (all-at (λ (x : ℕ). x < 680) k (m .below .1)) above) (there k)),
       from-here (p ∷ seen) places (midway-next m) (closed-next m closed gone) (both .1),
     )
 

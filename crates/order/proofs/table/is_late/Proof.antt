@@ -1,0 +1,22 @@
+-- `order::table::is_late` meets its contract: the entry of a place's parent, or of 680, is read.
+use mathlib.Core.Path.{_≡_, ap}
+use native.Mathlib.Omega.{arith}
+use borrow.Author.Needs.{needs}
+use lib.Dec.{eqb}
+use lib.ListN.{getD}
+use Prim.Native.Nat.{ℕ}
+use Rattle.order.proofs.ReadOn.{parent-inside}
+use Rattle.order.proofs.table.is_late.Statement.{statement}
+use Rattle.order.proofs.table.is_late.Tie as tie
+
+parent-requires : tie.Need-parent-requires
+parent-requires c κs = search needs
+
+element-copy-out-result : tie.Need-element-copy-out-result
+element-copy-out-result c = omega (arith, c .parent .ensures, parent-inside (c .before .args .p) (c .before .pre))
+
+returns : tie.Need-returns
+returns c = ap (λ (q : ℕ). eqb (getD (c .before .before .args .down .now) q 0) 0) (c .before .parent .ensures)
+
+pub is-late-spec : {M : Type 1} → statement M
+is-late-spec = tie.close (tie.spec parent-requires element-copy-out-result returns)
