@@ -1,6 +1,6 @@
 -- The table of the reading order of the owner's machine (document 02, request 1): "A laundrette chain mounts its metal coil last
--- and wants it asked last. A loaded table of 680 wide place numbers replaces the ascending order of places". In what order a sheet's
--- tests are then asked is `orderBy`, decision/specs/PlaceOrder.
+-- and wants it asked last. A loaded table of 680 wide place numbers replaces the ascending order of places". In what order a
+-- sheet's tests are then asked is `orderBy`, decision/specs/PlaceOrder.
 use Prim.Native.Nat.{ℕ, _*_}
 use mathlib.Core.Bool.{Bool, true, _&&_, not}
 use mathlib.Core.List.{List, [], _∷_, map}
