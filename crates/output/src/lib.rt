@@ -5,6 +5,7 @@ use graph_check::GraphCheck;
 use graph_check::index_graph;
 use piece::Prefix;
 use sheet_tests::TestsRead;
+use walk::Sizes;
 use walk::Walked;
 use walk::call::walk_checked;
 ghost use Prim.Native.Nat.{ℕ, _+_, _≤_, min};
@@ -24,14 +25,6 @@ ghost use Rattle.output.specs.views.Turned.{turned, Within, pieceOutput}
 pub enum Turn {
     More(usize, usize),
     Last(usize),
-}
-
-// What was read once of a sheet and a graph: arity, rules, pairs among the tests, and nodes.
-pub struct Sizes {
-    pub arity: u8,
-    pub rules: u8,
-    pub pairs: usize,
-    pub nodes: u16,
 }
 
 // The walk of a piece of so many arguments that was read into the cells: question 20, then over the graph. Not 20 for a piece of
@@ -54,18 +47,7 @@ fn walk_read(
     if arity != sizes.arity {
         return Walked::Refused(20);
     }
-    walk_checked(
-        sheet,
-        graph,
-        starts,
-        sizes.nodes,
-        sizes.arity,
-        sizes.rules,
-        words,
-        codes,
-        sizes.pairs,
-        cells,
-    )
+    walk_checked(sheet, graph, starts, words, codes, sizes, cells)
 }
 
 // The line of the piece that the input begins with, at a position. Not a line for a piece whose walk is refused, nor a refusal that

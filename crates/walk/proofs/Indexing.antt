@@ -31,12 +31,15 @@ use Rattle.graph.proofs.AcceptedNodes.{accepted-asked}
 use Rattle.graph.proofs.Spelled.{graph-read}
 use Rattle.node_check.specs.views.CheckNode.{isPair, keptTest, startsFrom}
 use Rattle.node_check.proofs.Starts.{start-reads}
-use Rattle.walk.specs.views.CodeSteps.{NearNode}
+use Rattle.steps.specs.views.CodeSteps.{NearNode}
 use Rattle.sheet_tests.specs.views.TestsRead.{keptTests}
-use Rattle.walk.specs.views.TestNumbers.{NearTest}
-use Rattle.walk.specs.views.Following.{nodeFrom, nodesAt, GoodNode, Index}
-use Rattle.walk.specs.views.Ready.{LeafNode}
-use Rattle.walk.proofs.StepsAgree.{FieldsFit}
+use Rattle.leaves.specs.views.TestNumbers.{NearTest}
+use Rattle.leaves.proofs.KeptNumbers.{code-place, code-pair}
+use Rattle.path.specs.views.Following.{nodeFrom, nodesAt, GoodNode, Index}
+use Rattle.walk.specs.views.Ready.{LeafNode, AsksKept}
+use Rattle.walk.proofs.MetAsked.{Coded}
+use Rattle.walk.proofs.PairsApart.{pairs-apart}
+use Rattle.steps.proofs.StepsAgree.{FieldsFit}
 use Rattle.basics.proofs.Positions.{mem-at}
 use Rattle.decision.proofs.rules.NearTests.{Near}
 
@@ -131,6 +134,44 @@ module _ (sheet : Sheet) (sound : SoundSheet sheet) (s : List ℕ) (bytes : All 
   nodes-leaves =
       all-map (AcceptedNode (sheet .rules) (length nodes)) (LeafNode (length (sheet .rules))) node-leaf nodes (accepted .acceptedNodes)
 
+  node-coded : (n : Node ℕ) → AcceptedNode (sheet .rules) (length nodes) n → Coded n
+  node-coded (end l) a = tt
+  node-coded (switch p cs x y) a =
+      let small : p < 680 = near (place p) (a .tested) in
+      let code = p * 0x1_0000 + p in
+      let half : code / 0x1_0000 ≡ p = omega arith in
+      let same : code / 0x1_0000 ≡ code % 0x1_0000 = omega arith in
+      code-place code same ∙ ap place half
+  node-coded (pairNode p q x y) a =
+      let small = near (pair p q) (a .0) in
+      let apart : p < q = pairs-apart (sheet .arity) (sheet .rules) (sound .acceptedRules) p q (a .0) in
+      let code = p * 0x1_0000 + q in
+      let first : code / 0x1_0000 ≡ p = omega (arith, small .1) in
+      let second : code % 0x1_0000 ≡ q = omega (arith, small .1) in
+      let two : code / 0x1_0000 ≡ code % 0x1_0000 → ⊥ = λ e. omega (arith, e, first, second, apart) in
+      code-pair code two ∙ (λ i. pair (first i) (second i))
+
+  -- The codes of its nodes are those of their tests.
+  pub nodes-coded : All Coded nodes
+  nodes-coded = all-map (AcceptedNode (sheet .rules) (length nodes)) Coded node-coded nodes (accepted .acceptedNodes)
+
+  module _ (words codes : List ℕ) (count : ℕ) (kept : sheetTests (sheet .rules) ≡ keptTests words codes count) where
+    mem-test : (t : Test) → Mem t (sheetTests (sheet .rules)) → NearTest t × T (keptTest words codes count t)
+    mem-test t m = (near-test t (near t m), mem-kept words codes count t (subst (Mem t) kept m))
+
+    abbrev Kept : Test → Type 0
+    Kept t = NearTest t × T (keptTest words codes count t)
+
+    node-asks : (n : Node ℕ) → AcceptedNode (sheet .rules) (length nodes) n → AsksKept words codes count n
+    node-asks (end l) a = tt
+    node-asks (switch p cs x y) a = (subst Kept (sym (node-coded (switch p cs x y) a)) (mem-test (place p) (a .tested)), tt)
+    node-asks (pairNode p q x y) a = (subst Kept (sym (node-coded (pairNode p q x y) a)) (mem-test (pair p q) (a .0)), tt)
+
+    -- The tests that they ask are kept.
+    pub nodes-asked : All (AsksKept words codes count) nodes
+    nodes-asked =
+        all-map (AcceptedNode (sheet .rules) (length nodes)) (AsksKept words codes count) node-asks nodes (accepted .acceptedNodes)
+
   module _ (starts : List ℕ) (are : take (length nodes) starts ≡ startsFrom 5 nodes) where
     reads : (k : ℕ) → k < length nodes
         → readRecord (drop (getD starts k 0) s) ≡ took (length (nodeBytes (getD nodes k (end failNode)))) (getD nodes k (end failNode))
@@ -153,32 +194,26 @@ module _ (sheet : Sheet) (sound : SoundSheet sheet) (s : List ℕ) (bytes : All 
         listed (nodeFrom s starts) 0 nodes
         (λ k h. let none : 0 + k ≡ k = omega arith in ap (nodeFrom s starts) none ∙ here-is k h)
 
-    module _ (words codes : List ℕ) (count : ℕ) (kept : sheetTests (sheet .rules) ≡ keptTests words codes count) where
-      mem-test : (t : Test) → Mem t (sheetTests (sheet .rules)) → T (keptTest words codes count t)
-      mem-test t m = mem-kept words codes count t (subst (Mem t) kept m)
+    good : (n : Node ℕ) → AcceptedNode (sheet .rules) (length nodes) n → GoodNode (length nodes) n
+    good (end l) a = record { near = tt; inside = tt }
+    good (switch p cs x y) a = record {
+      near = near (place p) (a .tested);
+      inside =
+          all-join (λ (m : ℕ). m < length nodes) (map (λ (c : CaseEdge ℕ). c .target) cs) (x ∷ y ∷ [])
+          (all-mapped (λ (m : ℕ). m < length nodes) (λ (c : CaseEdge ℕ). c .target) cs (a .casesInside))
+          (a .neitherInside, (a .unknownInside, tt));
+    }
+    good (pairNode p q x y) a = record { near = near (pair p q) (a .0); inside = (a .1, (a .2, tt)) }
 
-      good : (n : Node ℕ) → AcceptedNode (sheet .rules) (length nodes) n → GoodNode (keptTest words codes count) (length nodes) n
-      good (end l) a = record { near = tt; kept = tt; inside = tt }
-      good (switch p cs x y) a = record {
-        near = near (place p) (a .tested);
-        kept = mem-test (place p) (a .tested);
-        inside =
-            all-join (λ (m : ℕ). m < length nodes) (map (λ (c : CaseEdge ℕ). c .target) cs) (x ∷ y ∷ [])
-            (all-mapped (λ (m : ℕ). m < length nodes) (λ (c : CaseEdge ℕ). c .target) cs (a .casesInside))
-            (a .neitherInside, (a .unknownInside, tt));
-      }
-      good (pairNode p q x y) a =
-          record { near = near (pair p q) (a .0); kept = mem-test (pair p q) (a .0); inside = (a .1, (a .2, tt)) }
-
-      -- and the starts are an index of them.
-      pub index-made : Index s starts (keptTest words codes count) (length nodes)
-      index-made = record {
-        someNode = accepted .someNode;
-        fewNodes = accepted .fewNodes;
-        begins = λ k h. read-within s (getD starts k 0) (subst IsTook (sym (reads k h)) tt);
-        whole = λ k h. subst IsTook (sym (reads k h)) tt;
-        good = λ k h.
-            subst (GoodNode (keptTest words codes count) (length nodes)) (sym (here-is k h))
-            (good (getD nodes k (end failNode))
-            (all-at (AcceptedNode (sheet .rules) (length nodes)) (mem-at (end failNode) nodes k h) (accepted .acceptedNodes)));
-      }
+    -- and the starts are an index of them.
+    pub index-made : Index s starts (length nodes)
+    index-made = record {
+      someNode = accepted .someNode;
+      fewNodes = accepted .fewNodes;
+      begins = λ k h. read-within s (getD starts k 0) (subst IsTook (sym (reads k h)) tt);
+      whole = λ k h. subst IsTook (sym (reads k h)) tt;
+      good = λ k h.
+          subst (GoodNode (length nodes)) (sym (here-is k h))
+          (good (getD nodes k (end failNode))
+          (all-at (AcceptedNode (sheet .rules) (length nodes)) (mem-at (end failNode) nodes k h) (accepted .acceptedNodes)));
+    }

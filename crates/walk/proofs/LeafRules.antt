@@ -1,23 +1,24 @@
--- The rule of the leaf at which a walk ends is one of the sheet's.
+-- The rule of the leaf at which a walk ends is one of the sheet's, and so are the tests that it met.
 use Prim.Native.Nat.{ℕ, zero, suc}
 use mathlib.Core.Path.{_≡_, sym, subst}
 use mathlib.Core.Bool.{Bool, true, false, _||_, cond}
-use mathlib.Core.List.{List}
+use mathlib.Core.List.{List, [], _∷_}
 use lib.Dec.{eqb}
 use lib.ListN.{getD}
 use Rattle.basics.specs.Lists.{All}
 use Rattle.terms.specs.Outcome.{Outcome, holds, notKnown, contradicted}
-use Rattle.sheet_tests.specs.SheetTests.{Test}
 use Rattle.outcomes.specs.views.Look.{look}
 use Rattle.outcomes.specs.views.CellOutcome.{pairCells}
 use Rattle.decision.specs.Key.{Leaf, failNode}
 use Rattle.decision.specs.Node.{Node, end, switch, pairNode}
-use Rattle.decision.specs.Path.{Step, stop, goTo, noWay, Path, through, byComparison, lastStep, nextStep, pathBy}
-use Rattle.walk.specs.views.CodeSteps.{stepCells}
-use Rattle.walk.specs.views.Following.{Ended, reached, stopped, endOf, cellsPath, cellsEnd}
-use Rattle.walk.specs.views.LeafAnswers.{LeafIn}
-use Rattle.walk.specs.views.Ready.{LeafNode}
-use Rattle.walk.proofs.PathsAgree.{nodes-each}
+use Rattle.decision.specs.Path.{Step, stop, goTo, noWay, Path, through, byComparison, lastStep, nextStep, pathBy, nodeAt}
+use Rattle.steps.specs.views.CodeSteps.{stepCells}
+use Rattle.path.specs.views.Following.{Ended, reached, stopped, askedCodes, metCodes, endOf, cellsPath, cellsEnd}
+use Rattle.walk.specs.views.LeafWalks.{LeafIn}
+use Rattle.walk.specs.views.Ready.{LeafNode, AsksKept}
+use Rattle.leaves.specs.views.TestNumbers.{KeptCode}
+use Rattle.path.proofs.PathsAgree.{nodes-each}
+use Rattle.basics.proofs.ListLaws.{all-join}
 use Rattle.records.specs.Reading.{refused, took}
 
 module _ (count : ℕ) where
@@ -68,15 +69,36 @@ module _ (count : ℕ) where
   path-leaf step h zero n = last-leaf n (step n) (h n)
   path-leaf step h (suc more) n = next-leaf (pathBy step more) (path-leaf step h more) n (step n) (h n)
 
-  module _ (tests : List Test) (nodes : List (Node ℕ)) (cells : List ℕ) (leaves : All (LeafNode count) nodes) where
-    pub cells-leaf : LeafPath (cellsPath tests nodes cells)
+  module _ (nodes : List (Node ℕ)) (cells : List ℕ) (leaves : All (LeafNode count) nodes) where
+    pub cells-leaf : LeafPath (cellsPath nodes cells)
     cells-leaf =
         path-leaf (λ n. stepCells cells (getD nodes n (end failNode)))
         (λ n. step-leaf cells (getD nodes n (end failNode)) (nodes-each (LeafNode count) nodes tt leaves n)) 64 0
 
-    end-leaf : (p : Path) → LeafPath p → LeafEnd (endOf tests nodes cells p)
+    end-leaf : (p : Path) → LeafPath p → LeafEnd (endOf nodes p)
     end-leaf (took a w) h = h
     end-leaf (refused q) h = tt
 
-    pub reached-leaf : {l : Leaf} {edges met : ℕ} → reached l edges met ≡ cellsEnd tests nodes cells → LeafIn count l
-    reached-leaf e = subst LeafEnd (sym e) (end-leaf (cellsPath tests nodes cells) cells-leaf)
+    pub reached-leaf : {l : Leaf} {edges : ℕ} {met : List ℕ} → reached l edges met ≡ cellsEnd nodes cells → LeafIn count l
+    reached-leaf e = subst LeafEnd (sym e) (end-leaf (cellsPath nodes cells) cells-leaf)
+
+-- The tests that nodes ask are kept, so those met are.
+module _ (words codes : List ℕ) (pairs : ℕ) (nodes : List (Node ℕ)) (asked : All (AsksKept words codes pairs) nodes) where
+  abbrev KeptEnd : Ended → Type 0
+  KeptEnd (reached l edges met) = All (KeptCode words codes pairs) met
+  KeptEnd (stopped q) = Unit
+
+  met-kept : (walked : List ℕ) → All (KeptCode words codes pairs) (metCodes nodes walked)
+  met-kept [] = tt
+  met-kept (n ∷ walked) =
+      all-join (KeptCode words codes pairs) (askedCodes (nodeAt nodes n)) (metCodes nodes walked)
+      (nodes-each (AsksKept words codes pairs) nodes tt asked n) (met-kept walked)
+
+  end-kept : (p : Path) → KeptEnd (endOf nodes p)
+  end-kept (took a w) = met-kept (w .walked)
+  end-kept (refused q) = tt
+
+  pub reached-kept
+      : (cells : List ℕ) {l : Leaf} {edges : ℕ} {met : List ℕ} → reached l edges met ≡ cellsEnd nodes cells
+      → All (KeptCode words codes pairs) met
+  reached-kept cells e = subst KeptEnd (sym e) (end-kept (cellsPath nodes cells))

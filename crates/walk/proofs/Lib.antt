@@ -1,21 +1,7 @@
 -- The laws of the walk, for the proofs of this crate and of those that use it.
-pub mod HandedBack
-pub mod CodeCases
-pub mod RowsLeft
-pub mod CasesLeft
-pub mod NodeSteps
-pub mod StepsAgree
-pub mod Numbers
-pub mod KeptNumbers
-pub mod MetTests
-pub mod GoingOn
-pub mod Indexed
-pub mod Standing
-pub mod PathsAgree
+pub mod PairsApart
+pub mod MetAsked
 pub mod Indexing
-pub mod OpenSets
-pub mod RulesLeft
-pub mod OwnWaits
 pub mod LeafRules
 pub mod WalksAgree
 pub mod Replies

@@ -14,7 +14,6 @@ use Rattle.sheet.specs.Sheet.{Sheet, SoundSheet}
 use Rattle.sheet.specs.ReadSheet.{readRules}
 use Rattle.sheet.proofs.ReadsSound.{sheet-sound}
 use Rattle.sheet_tests.specs.views.TestedPlaces.{placesIn}
-use Rattle.sheet_tests.specs.views.TestsRead.{keptTests}
 use Rattle.sheet_tests.specs.CheckSheet.{acceptSheet}
 use Rattle.accepted.proofs.CheckedSheets.{accepted-read}
 use Rattle.accepted.specs.views.AcceptedAs.{AcceptedTests}
@@ -23,17 +22,17 @@ use Rattle.piece.specs.ReadPiece.{readPiece}
 use Rattle.decision.specs.Walk.{Walk, walk}
 use Rattle.graph.specs.ReadGraph.{readGraph}
 use Rattle.graph.specs.views.Rewriting.{IsTook, readOr}
-use Rattle.node_check.specs.views.CheckNode.{keptTest, startsFrom}
+use Rattle.node_check.specs.views.CheckNode.{startsFrom}
 use Rattle.graph_check.specs.views.GraphIndex.{AcceptedGraphAs}
 use Rattle.walk.specs.declared.Walked.{Walked}
 use Rattle.walk.specs.declared.Walked.the-variants.{Answered, Refused}
-use Rattle.walk.specs.views.TestNumbers.{Once}
-use Rattle.walk.specs.views.Following.{Index, cellsEnd, nodesAt}
-use Rattle.walk.specs.views.LeafAnswers.{endWalk}
-use Rattle.walk.specs.views.Ready.{LeafNode, Ready, Checked}
+use Rattle.leaves.specs.views.TestNumbers.{Once}
+use Rattle.path.specs.views.Following.{Index, cellsEnd, nodesAt}
+use Rattle.walk.specs.views.LeafWalks.{endWalk}
+use Rattle.walk.specs.views.Ready.{LeafNode, AsksKept, Ready, Checked}
 use Rattle.walk.specs.Walking.{graphReply, pieceReply, walkReply, replyValues, walkedValues, walkedReading}
-use Rattle.walk.proofs.Numbers.{sheet-once}
-use Rattle.walk.proofs.Indexing.{nodes-are, nodes-leaves, index-made}
+use Rattle.leaves.proofs.Numbers.{sheet-once}
+use Rattle.walk.proofs.Indexing.{nodes-are, nodes-leaves, nodes-asked, index-made}
 use Rattle.walk.proofs.WalksAgree.{tests-all-near, walk-agrees}
 use Rattle.plain.specs.views.ReadAs.{ReadAs}
 
@@ -109,25 +108,27 @@ module _ (s g words codes : List ℕ) {arity count pairs : ℕ} (t : AcceptedTes
       fewTests = fewTests;
       near = tests-all-near sheet sound (t .tests);
       once = subst Once (t .tests) (sheet-once (sheet .rules));
-      index =
-          subst (Index g starts (keptTest words codes pairs)) (f .countIs)
-          (index-made sheet sound g g-bytes (f .read) starts begin words codes pairs (t .tests));
+      index = subst (Index g starts) (f .countIs) (index-made sheet sound g g-bytes (f .read) starts begin);
       leaves =
           subst (λ (n : ℕ). All (LeafNode count) (nodesAt g starts n)) (f .countIs)
           (subst (All (LeafNode count)) (sym (nodes-are sheet sound g g-bytes (f .read) starts begin))
           (subst (λ (n : ℕ). All (LeafNode n) (f .nodes)) (t .countIs) (nodes-leaves sheet sound g g-bytes (f .read))));
+      asked =
+          subst (λ (n : ℕ). All (AsksKept words codes pairs) (nodesAt g starts n)) (f .countIs)
+          (subst (All (AsksKept words codes pairs)) (sym (nodes-are sheet sound g g-bytes (f .read) starts begin))
+          (nodes-asked sheet sound g g-bytes (f .read) words codes pairs (t .tests)));
     }
 
     -- which gives the reply.
     pub graph-walked
         : (p cells : List ℕ) (k : ReadAs p cells arity)
         → endWalk (readOr [] (readRules arity count (drop 3 s))) words codes pairs cells
-        (cellsEnd (keptTests words codes pairs) (nodesAt g starts nodes) cells)
+        (cellsEnd (nodesAt g starts nodes) cells)
         ≡ graphReply sheet g (k .piece .terms)
     graph-walked p cells k =
         (λ i.
         endWalk (readOr [] (t .read .rulesRead i)) words codes pairs (k .laid i)
-        (cellsEnd (keptTests words codes pairs) (nodesAt g starts (sym (f .countIs) i)) (k .laid i)))
+        (cellsEnd (nodesAt g starts (sym (f .countIs) i)) (k .laid i)))
         ∙ walk-agrees sheet sound words codes pairs room (t .tests) fewTests (k .piece .terms)
         (subst (λ (n : ℕ). AcceptedPiece n (k .piece .terms)) (sym (t .read .arityIs)) (k .accepted)) (f .nodes) g g-bytes (f .read)
         starts begin

@@ -13,6 +13,7 @@ use Rattle.terms.specs.Pattern.{Patterns, pnil}
 use Rattle.terms.specs.Outcome.{Outcome, holds, notKnown, contradicted, ruleOutcome}
 use Rattle.terms.specs.Accepted.{AcceptedRule, AcceptedPiece}
 use Rattle.terms.specs.Answer.{ruleAt, onlyRule}
+use Rattle.terms.specs.Answer as answers
 use Rattle.basics.proofs.ListLaws.{all-at, all-from}
 use Rattle.sheet.specs.Sheet.{Sheet, SoundSheet}
 use Rattle.sheet.specs.views.Noted.{ruleNotes}
@@ -29,13 +30,16 @@ use Rattle.decision.specs.Walk.{testNotKnown, executeWaits, atEnd, walk, atLeaf
 use Rattle.graph.specs.ReadGraph.{readGraph}
 use Rattle.graph.proofs.TestedPlaces.{tests-near}
 use Rattle.node_check.specs.views.CheckNode.{startsFrom}
-use Rattle.walk.specs.views.TestNumbers.{NearTest}
-use Rattle.walk.specs.views.Following.{cellsEnd, nodesAt}
-use Rattle.walk.specs.views.LeafAnswers.{ownWaits, waitsOf, executed, endWalk, LeafIn, leafWalk}
+use Rattle.leaves.specs.views.TestNumbers.{NearTest}
+use Rattle.leaves.specs.views.OpenTests.{metWaits}
+use Rattle.path.specs.views.Following.{metCodes, endOf, cellsEnd, nodesAt}
+use Rattle.leaves.specs.views.LeafAnswers.{ownWaits, waitsOf, executed}
+use Rattle.walk.specs.views.LeafWalks.{walkAfter, endWalk, LeafIn, leafWalk}
 use Rattle.walk.specs.Walking.{graphReply}
-use Rattle.walk.proofs.OwnWaits.{own-right}
-use Rattle.walk.proofs.PathsAgree.{pieceEnd, paths-same, path-agrees}
-use Rattle.walk.proofs.Indexing.{near-test, nodes-near, nodes-fit, nodes-are, nodes-leaves}
+use Rattle.leaves.proofs.OwnWaits.{own-right}
+use Rattle.path.proofs.PathsAgree.{paths-same}
+use Rattle.walk.proofs.MetAsked.{Coded, met-same}
+use Rattle.walk.proofs.Indexing.{near-test, nodes-near, nodes-fit, nodes-coded, nodes-are, nodes-leaves}
 use Rattle.walk.proofs.LeafRules.{LeafPath, cells-leaf}
 use Rattle.basics.proofs.Positions.{mem-at}
 
@@ -89,12 +93,15 @@ module _ (sheet : Sheet) (sound : SoundSheet sheet) where
 
     -- What is answered at a leaf,
     leaf-agrees
-        : (walked : List ℕ) (l : Leaf) → LeafIn (length rules) l
-        → leafWalk rules words codes pairs cells l (pred (length walked)) (suspendWaits rules nodes piece walked)
-        ≡ atLeaf rules nodes piece walked l
-    leaf-agrees walked failNode inside = refl
-    leaf-agrees walked suspendNode inside = refl
-    leaf-agrees walked (executeNode i) inside =
+        : All Coded nodes → (walked : List ℕ) (l : Leaf) → LeafIn (length rules) l
+        → leafWalk rules words codes pairs cells l (pred (length walked)) (metCodes nodes walked) ≡ atLeaf rules nodes piece walked l
+    leaf-agrees coded walked failNode inside = refl
+    leaf-agrees coded walked suspendNode inside =
+        ap (λ (w : ℕ). record { answer = answers.suspend; edges = pred (length walked); waits = w })
+        (ap (λ (ts : List Test). metWaits ts cells (metCodes nodes walked)) (sym tests)
+        ∙ met-same (sheet .arity) piece ok (sound .fewArguments) nodes coded rules
+        (λ t m. near-test t (tests-near sheet sound t m)) walked)
+    leaf-agrees coded walked (executeNode i) inside =
         let few = sound .fewArguments in
         let rule : AcceptedRule (sheet .arity) (ruleAt rules i) =
         all-at (AcceptedRule (sheet .arity)) (mem-at pnil rules (pred i) (omega (arith, inside .0, inside .1))) (sound .acceptedRules) in
@@ -103,23 +110,25 @@ module _ (sheet : Sheet) (sound : SoundSheet sheet) where
         own-right (sheet .arity) rules few (sound .acceptedRules) words codes pairs room tests fewTests (tests-all-near tests) piece ok i
         (inside .0) (inside .1) in
         let waits = waits-by rules piece i (ruleOutcome (ruleAt rules i) piece) own in
-        ap (λ (o : Outcome). executed i (pred (length walked)) o (ownWaits words codes pairs cells (ruleNotes (ruleAt rules i)))) outcome
+        ap
+        (λ (o : Outcome). walkAfter (pred (length walked)) (executed i o (ownWaits words codes pairs cells (ruleNotes (ruleAt rules i)))))
+        outcome
         ∙ ap
         (λ (w : ℕ). record { answer = onlyRule i (ruleOutcome (ruleAt rules i) piece); edges = pred (length walked); waits = w })
         waits
 
     -- and at the end of a path that takes no bytes.
     end-agrees
-        : (p : Path) → LeafPath (length rules) p → NoBytes p
-        → endWalk rules words codes pairs cells (pieceEnd rules nodes piece p) ≡ atEnd rules nodes piece p
-    end-agrees (took a w) inside none = λ i. took (sym none i) (leaf-agrees (w .walked) (w .last) inside i)
-    end-agrees (refused q) inside none = refl
+        : All Coded nodes → (p : Path) → LeafPath (length rules) p → NoBytes p
+        → endWalk rules words codes pairs cells (endOf nodes p) ≡ atEnd rules nodes piece p
+    end-agrees coded (took a w) inside none = λ i. took (sym none i) (leaf-agrees coded (w .walked) (w .last) inside i)
+    end-agrees coded (refused q) inside none = refl
 
     module _ (g : List ℕ) (bytes : All IsByte g) {size : ℕ} (read : readGraph sheet g ≡ took size nodes) where
       -- The walk by cells, over the nodes at the starts, is the walk of the piece.
       pub walk-agrees
           : (starts : List ℕ) → take (length nodes) starts ≡ startsFrom 5 nodes
-          → endWalk rules words codes pairs cells (cellsEnd (keptTests words codes pairs) (nodesAt g starts (length nodes)) cells)
+          → endWalk rules words codes pairs cells (cellsEnd (nodesAt g starts (length nodes)) cells)
           ≡ graphReply sheet g piece
       walk-agrees starts are =
           let near = nodes-near sheet sound g bytes read in
@@ -128,10 +137,9 @@ module _ (sheet : Sheet) (sound : SoundSheet sheet) where
           let same = paths-same (sheet .arity) piece ok few nodes near fit 64 0 in
           let leaf =
           subst (LeafPath (length rules)) same
-          (cells-leaf (length rules) (sheetTests rules) nodes cells (nodes-leaves sheet sound g bytes read)) in
-          ap (λ (ns : List (Node ℕ)). endWalk rules words codes pairs cells (cellsEnd (keptTests words codes pairs) ns cells))
+          (cells-leaf (length rules) nodes cells (nodes-leaves sheet sound g bytes read)) in
+          ap (λ (ns : List (Node ℕ)). endWalk rules words codes pairs cells (cellsEnd ns cells))
           (nodes-are sheet sound g bytes read starts are)
-          ∙ ap (endWalk rules words codes pairs cells)
-          (path-agrees (sheet .arity) piece ok few nodes near fit rules (λ t m. near-test t (tests-near sheet sound t m)) (sym tests))
-          ∙ end-agrees (path nodes piece) leaf (no-bytes nodes piece mostEdges 0)
+          ∙ ap (λ (p : Path). endWalk rules words codes pairs cells (endOf nodes p)) same
+          ∙ end-agrees (nodes-coded sheet sound g bytes read) (path nodes piece) leaf (no-bytes nodes piece mostEdges 0)
           ∙ sym (ap (λ r. andThen r (λ _ ns. walk rules ns piece)) read)

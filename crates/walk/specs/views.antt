@@ -1,8 +1,3 @@
 -- How the code keeps things.
-pub mod CodeSteps
-pub mod TestNumbers
-pub mod Following
-pub mod Course
-pub mod TakenNotes
-pub mod LeafAnswers
+pub mod LeafWalks
 pub mod Ready

@@ -1,66 +1,68 @@
 // The walk of a piece over a graph, for a sheet.
-use crate::Followed;
+use crate::Sizes;
+use crate::Walk;
 use crate::Walked;
-use crate::leaf::at_leaf;
-use crate::path::follow_path;
+use crate::leaf::at_execute;
+use graph::Leaf;
 use graph_check::GraphCheck;
 use graph_check::index_graph;
+use leaves::waits::suspend_waits;
+use path::Followed;
+use path::follow_path;
 use piece::PieceCheck;
+use plain::Answer;
 use sheet_tests::TestsRead;
-ghost use Prim.Native.Nat.{ℕ, _+_, _≤_};
+ghost use Prim.Native.Nat.{ℕ};
 ghost use mathlib.Core.Path.{_≡_};
 ghost use mathlib.Core.List.{List, []};
 ghost use lib.ListN.{length};
 ghost use Rattle.sheet.specs.ReadSheet.{readRules};
-ghost use Rattle.sheet_tests.specs.views.TestedPlaces.{placesIn};
-ghost use Rattle.sheet_tests.specs.views.TestsRead.{keptTests};
 ghost use Rattle.accepted.specs.views.AcceptedAs.{AcceptedTests};
 ghost use Rattle.outcomes.specs.views.CompareCells.{Narrow};
 ghost use Rattle.plain.specs.views.ReadAs.{ReadAs};
 ghost use Rattle.graph.specs.views.Rewriting.{readOr};
-ghost use Rattle.walk.specs.views.Following.{cellsEnd, nodesAt};
-ghost use Rattle.walk.specs.views.LeafAnswers.{endWalk};
-ghost use Rattle.walk.specs.views.Ready.{Ready, Arrays, SomePiece, Checked};
+ghost use Rattle.path.specs.views.Following.{cellsEnd, nodesAt};
+ghost use Rattle.leaves.specs.views.Kept.{Arrays};
+ghost use Rattle.walk.specs.views.LeafWalks.{endWalk};
+ghost use Rattle.walk.specs.views.Ready.{Ready, SomePiece, Checked};
 ghost use Rattle.walk.specs.Walking.{graphReply, pieceReply, walkReply, replyValues, walkedValues, walkedReading};
 
-// Follows the edges of an accepted graph, and answers at the leaf.
+// Follows the edges of an accepted graph, and answers at the leaf: a fail waits for nothing, a suspend for the tests met that are
+// not known.
 fn walk_nodes(
     s: &[u8],
     graph: &[u8],
     starts: &[u32; 1024],
-    nodes: u16,
-    arity: u8,
-    count: u8,
     words: &[u64; 11],
     codes: &[u32; 65],
-    pairs: usize,
+    sizes: Sizes,
     cells: &[u32; 680],
 ) -> Walked
-    requires { ⌜ Arrays (now words) (now codes) pairs × (length (now starts) ≡ 1024) × Narrow (now cells) ⌝ }
-    requires { ⌜ Ready (now s) (now graph) (now starts) (now words) (now codes) arity count pairs nodes ⌝ }
+    requires { ⌜ Arrays (now words) (now codes) (sizes .pairs) × (length (now starts) ≡ 1024) × Narrow (now cells) ⌝ }
+    requires { ⌜ Ready (now s) (now graph) (now starts) (now words) (now codes) (sizes .arity) (sizes .rules)
+        (sizes .pairs) (sizes .nodes) ⌝ }
     ensures { λ r. ⌜ walkedReading r
-        ≡ endWalk (readOr [] (readRules arity count (now (s .entry)))) (now (words .entry))
-        (now (codes .entry)) pairs (now (cells .entry))
-        (cellsEnd (keptTests (now (words .entry)) (now (codes .entry)) pairs)
-        (nodesAt (now (graph .entry)) (now (starts .entry)) nodes) (now (cells .entry))) ⌝ }
+        ≡ endWalk (readOr [] (readRules (sizes .arity) (sizes .rules) (now (s .entry)))) (now (words .entry))
+        (now (codes .entry)) (sizes .pairs) (now (cells .entry))
+        (cellsEnd (nodesAt (now (graph .entry)) (now (starts .entry)) (sizes .nodes)) (now (cells .entry))) ⌝ }
 {
-    let followed = follow_path(graph, starts, nodes, words, codes, pairs, cells);
+    let mut met = [0u32; 64];
+    let followed = follow_path(graph, starts, sizes.nodes, cells, &mut met);
     match followed {
         Followed::Refused(q) => Walked::Refused(q),
-        Followed::Reached(leaf, edges, met) => {
-            at_leaf(
-                s,
-                arity as usize,
-                count,
-                leaf,
-                edges,
-                met,
-                words,
-                codes,
-                pairs,
-                cells,
-            )
-        }
+        Followed::Reached(leaf, edges) => match leaf {
+            Leaf::Fail => Walked::Answered(Walk {
+                answer: Answer::Fail,
+                edges: edges,
+                waits: 0,
+            }),
+            Leaf::Suspend => Walked::Answered(Walk {
+                answer: Answer::Suspend,
+                edges: edges,
+                waits: suspend_waits(&met, edges, words, codes, sizes.pairs, cells),
+            }),
+            Leaf::Execute(rule) => at_execute(s, rule, edges, words, codes, sizes, cells),
+        },
     }
 }
 
@@ -70,68 +72,57 @@ pub fn walk_checked(
     sheet: &[u8],
     graph: &[u8],
     starts: &[u32; 1024],
-    nodes: u16,
-    arity: u8,
-    count: u8,
     words: &[u64; 11],
     codes: &[u32; 65],
-    pairs: usize,
+    sizes: Sizes,
     cells: &[u32; 680],
 ) -> Walked
-    requires { ⌜ Arrays (now words) (now codes) pairs × (length (now starts) ≡ 1024) × SomePiece (now cells) arity ⌝ }
-    requires { ⌜ Checked (now sheet) (now graph) (now starts) (now words) (now codes) arity count pairs nodes ⌝ }
-    ensures { λ r. ⌜ ((t : AcceptedTests (now (sheet .entry)) (now (words .entry)) (now
-        (codes .entry)) arity count pairs) (p : List ℕ) (k : ReadAs p (now (cells .entry)) arity)
+    requires { ⌜ Arrays (now words) (now codes) (sizes .pairs) × (length (now starts) ≡ 1024)
+        × SomePiece (now cells) (sizes .arity) ⌝ }
+    requires { ⌜ Checked (now sheet) (now graph) (now starts) (now words) (now codes) (sizes .arity) (sizes .rules)
+        (sizes .pairs) (sizes .nodes) ⌝ }
+    ensures { λ r. ⌜ ((t : AcceptedTests (now (sheet .entry)) (now (words .entry)) (now (codes .entry)) (sizes .arity)
+        (sizes .rules) (sizes .pairs)) (p : List ℕ) (k : ReadAs p (now (cells .entry)) (sizes .arity))
         → walkedReading r ≡ graphReply (t .read .sheet) (now (graph .entry)) (k .piece .terms)) ⌝ }
 {
-    walk_nodes(
-        &sheet[3..],
-        graph,
-        starts,
-        nodes,
-        arity,
-        count,
-        words,
-        codes,
-        pairs,
-        cells,
-    )
+    walk_nodes(&sheet[3..], graph, starts, words, codes, sizes, cells)
 }
 
 // The walk of a piece that was read over a graph, for an accepted sheet: questions 21 to 25, then 26 and 27 on the way.
 fn walk_graph(
     sheet: &[u8],
     graph: &[u8],
-    arity: u8,
-    count: u8,
     words: &[u64; 11],
     codes: &[u32; 65],
-    pairs: usize,
+    sizes: Sizes,
     cells: &[u32; 680],
 ) -> Walked
-    requires { ⌜ Arrays (now words) (now codes) pairs × SomePiece (now cells) arity ⌝ }
-    requires { ⌜ AcceptedTests (now sheet) (now words) (now codes) arity count pairs ⌝ }
-    ensures { λ r. ⌜ ((t : AcceptedTests (now (sheet .entry)) (now (words .entry)) (now
-        (codes .entry)) arity count pairs) (p : List ℕ) (k : ReadAs p (now (cells .entry)) arity)
+    requires { ⌜ Arrays (now words) (now codes) (sizes .pairs) × SomePiece (now cells) (sizes .arity) ⌝ }
+    requires { ⌜ AcceptedTests (now sheet) (now words) (now codes) (sizes .arity) (sizes .rules) (sizes .pairs) ⌝ }
+    ensures { λ r. ⌜ ((t : AcceptedTests (now (sheet .entry)) (now (words .entry)) (now (codes .entry)) (sizes .arity)
+        (sizes .rules) (sizes .pairs)) (p : List ℕ) (k : ReadAs p (now (cells .entry)) (sizes .arity))
         → walkedReading r ≡ graphReply (t .read .sheet) (now (graph .entry)) (k .piece .terms)) ⌝ }
 {
     let mut starts = [0u32; 1024];
-    let index = index_graph(graph, words, codes, pairs, arity, count, &mut starts);
+    let index = index_graph(
+        graph,
+        words,
+        codes,
+        sizes.pairs,
+        sizes.arity,
+        sizes.rules,
+        &mut starts,
+    );
     match index {
         GraphCheck::Refused(q) => Walked::Refused(q),
         GraphCheck::Accepted(nodes) => {
-            walk_checked(
-                sheet,
-                graph,
-                &starts,
+            let all = Sizes {
+                arity: sizes.arity,
+                rules: sizes.rules,
+                pairs: sizes.pairs,
                 nodes,
-                arity,
-                count,
-                words,
-                codes,
-                pairs,
-                cells,
-            )
+            };
+            walk_checked(sheet, graph, &starts, words, codes, all, cells)
         }
     }
 }
@@ -141,15 +132,14 @@ fn walk_piece(
     sheet: &[u8],
     graph: &[u8],
     piece: &[u8],
-    arity: u8,
-    count: u8,
     words: &[u64; 11],
     codes: &[u32; 65],
-    pairs: usize,
+    sizes: Sizes,
 ) -> Walked
-    requires { ⌜ (length (now words) ≡ 11) × (length (now codes) ≡ 65) × (length (placesIn (now words)) + pairs ≤ 64) ⌝ }
-    requires { ⌜ AcceptedTests (now sheet) (now words) (now codes) arity count pairs ⌝ }
-    ensures { λ r. ⌜ ((t : AcceptedTests (now (sheet .entry)) (now (words .entry)) (now (codes .entry)) arity count pairs)
+    requires { ⌜ Arrays (now words) (now codes) (sizes .pairs) ⌝ }
+    requires { ⌜ AcceptedTests (now sheet) (now words) (now codes) (sizes .arity) (sizes .rules) (sizes .pairs) ⌝ }
+    ensures { λ r. ⌜ ((t : AcceptedTests (now (sheet .entry)) (now (words .entry)) (now (codes .entry)) (sizes .arity)
+        (sizes .rules) (sizes .pairs))
         → walkedReading r ≡ pieceReply (t .read .sheet) (now (graph .entry)) (now (piece .entry))) ⌝ }
 {
     let mut cells = [0u32; 680];
@@ -157,10 +147,10 @@ fn walk_piece(
     match read {
         PieceCheck::Refused(q) => Walked::Refused(q),
         PieceCheck::Accepted(n) => {
-            if n != arity {
+            if n != sizes.arity {
                 return Walked::Refused(20);
             }
-            walk_graph(sheet, graph, arity, count, words, codes, pairs, &cells)
+            walk_graph(sheet, graph, words, codes, sizes, &cells)
         }
     }
 }
@@ -175,8 +165,14 @@ pub fn walk(sheet: &[u8], graph: &[u8], piece: &[u8]) -> Walked
     let read = sheet_tests::read_tests(sheet, &mut words, &mut codes);
     match read {
         TestsRead::Refused(q) => Walked::Refused(q),
-        TestsRead::Accepted(arity, count, _, pairs) => {
-            walk_piece(sheet, graph, piece, arity, count, &words, &codes, pairs)
+        TestsRead::Accepted(arity, rules, _, pairs) => {
+            let sizes = Sizes {
+                arity,
+                rules,
+                pairs,
+                nodes: 0,
+            };
+            walk_piece(sheet, graph, piece, &words, &codes, sizes)
         }
     }
 }

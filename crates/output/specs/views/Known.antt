@@ -8,7 +8,7 @@ use Rattle.sheet_tests.specs.views.TestedPlaces.{placesIn}
 use Rattle.decision.specs.Node.{Node}
 use Rattle.graph_check.specs.CheckGraph.{graphReading}
 use Rattle.walk.specs.views.Ready.{Checked}
-use Rattle.output.specs.declared.Sizes.{Sizes}
+use Rattle.walk.specs.declared.Sizes.{Sizes}
 
 -- The check accepts the bytes g as a graph for the sheet of bytes s, with so many nodes.
 pub record GraphFor (s g : List ℕ) (count : ℕ) : Type 0 where

@@ -8,14 +8,12 @@ use Rattle.sheet_tests.specs.views.TestedPlaces.{placesIn}
 use Rattle.sheet_tests.specs.views.TestsRead.{keptTests}
 use Rattle.decision.specs.Node.{Node, end, switch, pairNode}
 use Rattle.graph.specs.views.Rewriting.{IsTook}
-use Rattle.node_check.specs.views.CheckNode.{keptTest}
 use Rattle.accepted.specs.views.AcceptedAs.{AcceptedTests}
 use Rattle.graph_check.specs.views.GraphIndex.{AcceptedGraphAs}
-use Rattle.walk.specs.views.TestNumbers.{NearTest, Once}
-use Rattle.walk.specs.views.Following.{Index, nodesAt}
-use Rattle.walk.specs.views.LeafAnswers.{LeafIn}
 use Rattle.plain.specs.views.ReadAs.{ReadAs}
-use mathlib.Core.Path.{_≡_}
+use Rattle.path.specs.views.Following.{Index, askedCodes, nodesAt}
+use Rattle.leaves.specs.views.TestNumbers.{NearTest, Once, KeptCode}
+use Rattle.walk.specs.views.LeafWalks.{LeafIn}
 
 -- "Are its nodes and rule in range": so with the rule of an execute node.
 abbrev pub LeafNode : ℕ → Node ℕ → Type 0
@@ -23,33 +21,21 @@ LeafNode count (end l) = LeafIn count l
 LeafNode count (switch n cs x y) = Unit
 LeafNode count (pairNode p q x y) = Unit
 
--- Rules, so many, that s begins with; the tests that are kept, 64 at most; and the index of a graph whose rules are among them.
+-- "Its place or pair among the sheet's tests" (question 23): the test that a node asks is kept.
+abbrev pub AsksKept : List ℕ → List ℕ → ℕ → Node ℕ → Type 0
+AsksKept words codes pairs n = All (KeptCode words codes pairs) (askedCodes n)
+
+-- Rules, so many, that s begins with; the tests that are kept, 64 at most; and the index of a graph whose rules and tests are among
+-- them.
 pub record Ready (s graph starts words codes : List ℕ) (arity count pairs nodes : ℕ) : Type 0 where
   pub fewArguments : arity ≤ 8
   pub rulesRead : IsTook (readRules arity count s)
   pub fewTests : length (placesIn words) + pairs ≤ 64
   pub near : All NearTest (keptTests words codes pairs)
   pub once : Once (keptTests words codes pairs)
-  pub index : Index graph starts (keptTest words codes pairs) nodes
+  pub index : Index graph starts nodes
   pub leaves : All (LeafNode count) (nodesAt graph starts nodes)
-
--- The arrays of a sheet's tests have their sizes, and hold 64 tests at most.
-pub record Arrays (words codes : List ℕ) (pairs : ℕ) : Type 0 where
-  pub allWords : length words ≡ 11
-  pub allCodes : length codes ≡ 65
-  pub fewTests : length (placesIn words) + pairs ≤ 64
-
--- The same, with tests of places among the 680.
-pub record KeptNear (words codes : List ℕ) (pairs : ℕ) : Type 0 where
-  pub arrays : Arrays words codes pairs
-  pub near : All NearTest (keptTests words codes pairs)
-
--- A rule, from 1, of the rules, so many, that s begins with.
-pub record RuleRead (s : List ℕ) (arity count rule : ℕ) : Type 0 where
-  pub fewArguments : arity ≤ 8
-  pub fromOne : 1 ≤ rule
-  pub inside : rule ≤ count
-  pub rulesRead : IsTook (readRules arity count s)
+  pub asked : All (AsksKept words codes pairs) (nodesAt graph starts nodes)
 
 -- Some bytes are an accepted piece of this arity, and these are its cells.
 pub record SomePiece (cells : List ℕ) (arity : ℕ) : Type 0 where

@@ -1,11 +1,11 @@
 -- `walk::call::walk` meets its contract: the sheet is refused, or the piece is asked about.
-use Rattle.walk.proofs.Replies.{values-read, sheet-refuses, sheet-accepts}
-use Rattle.walk.specs.Walking.{replyValues}
-use Rattle.accepted.proofs.FoundTests.{found-accepts, found-refuses}
-use Rattle.sheet_tests.specs.views.TestsRead.{Counted}
-use denote.Ref.{now}
-use native.Mathlib.Omega.{arith}
 use mathlib.Core.Path.{ap, subst, _∙_}
+use native.Mathlib.Omega.{arith}
+use denote.Ref.{now}
+use Rattle.sheet_tests.specs.views.TestsRead.{Counted}
+use Rattle.accepted.proofs.FoundTests.{found-accepts, found-refuses}
+use Rattle.walk.specs.Walking.{replyValues}
+use Rattle.walk.proofs.Replies.{values-read, sheet-refuses, sheet-accepts}
 use borrow.Author.Needs.{needs}
 use Rattle.walk.proofs.call.walk.Statement.{statement}
 use Rattle.walk.proofs.call.walk.Tie as tie
@@ -28,8 +28,10 @@ walk-piece-requires c κs =
     let words = c .before .before .before .before .before .read-tests .last .1 .0 in
     let codes = c .before .before .before .before .before .read-tests .last .1 .1 .0 in
     let held = c .before .before .before .before .before .read-tests .ensures .1 in
-    let counted = subst (Counted words) (c .before .before .before .read2 .given .1) (held .counted) in
-    ((held .allWords, held .allCodes, omega (arith, counted .0, counted .1)), found-accepts s words codes (c .before .before .before .before .before .read-tests .ensures .0) (c .before .before .before .read2 .given .1))
+    let counted = subst (Counted words) (c .before .before .before .read2 .given .1) (held .counted) in (
+      record { allWords = held .allWords; allCodes = held .allCodes; fewTests = omega (arith, counted .0, counted .1) },
+      found-accepts s words codes (c .before .before .before .before .before .read-tests .ensures .0) (c .before .before .before .read2 .given .1),
+    )
 
 returns : tie.Need-returns
 returns c =

@@ -34,16 +34,12 @@ walk-checked-requires c κs =
     ((pre .0, index-graph .ensures .1, pre .1), record { sheet = t; graph = f })
 
 returns : tie.Need-returns
-returns c t p k =
+returns c = λ t p k.
     let a = c .before .before .before .before .before .before .before .args in
     let index-graph = c .before .before .before .index-graph in
-    let s = now (a .sheet) in
-    let g = now (a .graph) in
-    let words = now (a .words) in
-    let codes = now (a .codes) in
     let starts = index-graph .last .1 .1 .1 .1 .1 .1 .0 in
-    graph-refuses s g words codes t (k .piece)
-    (index-refuses s g words codes starts t (index-graph .result) (index-graph .ensures .0) (c .before .index .given .1))
+    graph-refuses (now (a .sheet)) (now (a .graph)) (now (a .words)) (now (a .codes)) t (k .piece)
+    (index-refuses (now (a .sheet)) (now (a .graph)) (now (a .words)) (now (a .codes)) starts t (index-graph .result) (index-graph .ensures .0) (c .before .index .given .1))
 
 returns-2 : tie.Need-returns-2
 returns-2 c = c .walk-checked .ensures
@@ -51,4 +47,10 @@ returns-2 c = c .walk-checked .ensures
 pub walk-graph-spec : {M : Type 1} → statement M
 walk-graph-spec =
     tie.close
-    (tie.spec index-graph-requires enum-known-index enum-known-index-2 walk-checked-requires returns returns-2)
+    (tie.spec
+    index-graph-requires
+    enum-known-index
+    enum-known-index-2
+    walk-checked-requires
+    returns
+    returns-2)

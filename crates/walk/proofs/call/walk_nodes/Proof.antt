@@ -1,39 +1,34 @@
 -- `walk::call::walk_nodes` meets its contract: the walk is refused on the way, or answered at its leaf.
-use Rattle.walk.proofs.LeafRules.{reached-leaf}
-use Rattle.walk.proofs.OwnWaits.{kept-length}
-use Rattle.walk.specs.views.LeafAnswers.{endWalk}
-use Rattle.walk.specs.views.Following.{endedOf, nodesAt}
-use Rattle.graph.specs.views.Rewriting.{readOr}
-use Rattle.sheet_tests.specs.views.TestsRead.{keptTests}
-use Rattle.sheet.specs.ReadSheet.{readRules}
-use denote.Ref.{now}
-use native.Mathlib.Omega.{arith}
+use Prim.Native.Nat.{ℕ}
 use mathlib.Core.List.{[]}
-use mathlib.Core.Path.{sym, ap, _∙_}
+use mathlib.Core.Path.{sym, ap, subst, _∙_}
+use native.Mathlib.Omega.{arith}
+use lib.ListN.{take, length-replicate}
+use denote.Ref.{now}
+use Rattle.records.specs.Reading.{took}
+use Rattle.terms.specs.Answer as answers
+use Rattle.sheet.specs.ReadSheet.{readRules}
+use Rattle.graph.specs.declared.Leaf.{Leaf}
+use Rattle.graph.specs.views.NodeRecord.{leafOf}
+use Rattle.graph.specs.views.Rewriting.{readOr}
+use Rattle.path.specs.views.Following.{reached, nodesAt, endedOf, edgesOf}
+use Rattle.leaves.proofs.OwnWaits.{kept-length}
+use Rattle.walk.specs.views.LeafWalks.{LeafIn, endWalk}
+use Rattle.walk.proofs.LeafRules.{reached-leaf, reached-kept}
 use borrow.Author.Needs.{needs}
 use Rattle.walk.proofs.call.walk_nodes.Statement.{statement}
 use Rattle.walk.proofs.call.walk_nodes.Tie as tie
 
 follow-path-requires : tie.Need-follow-path-requires
 follow-path-requires c κs =
-    let a = c .before .before .args in
-    let pre = c .before .before .pre in
-    let ready = pre .1 in
+    let a = c .before .before .before .args in
+    let pre = c .before .before .before .pre .0 in
+    let ready = c .before .before .before .pre .1 in
     let words = now (a .words) in
     let codes = now (a .codes) in
     let cells = now (a .cells) in
-    let most = kept-length words codes (a .pairs) (omega (arith, pre .0 .0 .allCodes, ready .fewTests)) in (
-      pre .0 .2,
-      record {
-        size = pre .0 .0 .allWords;
-        allCodes = pre .0 .0 .allCodes;
-        fewPairs = omega (arith, ready .fewTests);
-        allStarts = pre .0 .1;
-        few = omega (arith, most, ready .fewTests);
-        once = ready .once;
-        index = ready .index;
-      },
-    )
+    let sizes = a .sizes in
+    ((pre .2, pre .1, length-replicate {A = ℕ} 64 0), ready .index)
 
 enum-known-followed : tie.Need-enum-known-followed
 enum-known-followed c = search needs
@@ -41,42 +36,95 @@ enum-known-followed c = search needs
 enum-known-followed-2 : tie.Need-enum-known-followed-2
 enum-known-followed-2 c = search needs
 
-at-leaf-requires : tie.Need-at-leaf-requires
-at-leaf-requires c κs =
-    let a = c .before .before .before .before .before .before .args in
-    let pre = c .before .before .before .before .before .before .pre in
-    let ready = pre .1 in
+enum-told : tie.Need-enum-told
+enum-told c = search needs
+
+enum-told-2 : tie.Need-enum-told-2
+enum-told-2 c = search needs
+
+suspend-waits-requires : tie.Need-suspend-waits-requires
+suspend-waits-requires c κs =
+    let a = c .before .before .before .before .before .before .before .before .before .before .args in
+    let pre = c .before .before .before .before .before .before .before .before .before .before .pre .0 in
+    let ready = c .before .before .before .before .before .before .before .before .before .before .pre .1 in
     let words = now (a .words) in
     let codes = now (a .codes) in
     let cells = now (a .cells) in
-    let ends = sym (ap endedOf (c .before .followed2 .given .1)) ∙ c .before .before .before .follow-path .ensures in (
-      (
-        ready .fewArguments,
-        reached-leaf (a .count) (keptTests words codes (a .pairs)) (nodesAt (now (a .graph)) (now (a .starts)) (a .nodes)) cells (ready .leaves) ends,
-        ready .rulesRead,
-      ),
-      (record { arrays = pre .0 .0; near = ready .near }, pre .0 .2),
+    let sizes = a .sizes in
+    let ends = sym (ap (endedOf (c .before .before .before .before .before .before .follow-path .last .1 .1 .1 .1 .0)) (c .before .before .before .before .followed2 .given .1)) ∙ c .before .before .before .before .before .before .follow-path .ensures .0 in
+    let most = kept-length words codes (sizes .pairs) (omega (arith, pre .0 .allCodes, ready .fewTests)) in (
+      (record { allWords = pre .0 .allWords; allCodes = pre .0 .allCodes; fewPairs = omega (arith, ready .fewTests); few = omega (arith, most, ready .fewTests); once = ready .once }, c .before .before .before .before .before .before .follow-path .ensures .1 .0, omega (arith, c .before .before .before .before .before .before .follow-path .ensures .1 .1, ap edgesOf (c .before .before .before .before .followed2 .given .1)), pre .2),
+      reached-kept words codes (sizes .pairs) (nodesAt (now (a .graph)) (now (a .starts)) (sizes .nodes)) (ready .asked) cells ends,
+    )
+
+enum-known-leaf : tie.Need-enum-known-leaf
+enum-known-leaf c = search needs
+
+at-execute-requires : tie.Need-at-execute-requires
+at-execute-requires c κs =
+    let a = c .before .before .before .before .before .before .before .before .before .before .args in
+    let pre = c .before .before .before .before .before .before .before .before .before .before .pre .0 in
+    let ready = c .before .before .before .before .before .before .before .before .before .before .pre .1 in
+    let words = now (a .words) in
+    let codes = now (a .codes) in
+    let cells = now (a .cells) in
+    let sizes = a .sizes in
+    let ends = sym (ap (endedOf (c .before .before .before .before .before .before .follow-path .last .1 .1 .1 .1 .0)) (c .before .before .before .before .followed2 .given .1)) ∙ c .before .before .before .before .before .before .follow-path .ensures .0 in
+    let inside =
+    subst (λ (l : Leaf). LeafIn (sizes .rules) (leafOf l)) (c .before .leaf .given .1)
+    (reached-leaf (sizes .rules) (nodesAt (now (a .graph)) (now (a .starts)) (sizes .nodes)) cells (ready .leaves) ends) in (
+      (record { fewArguments = ready .fewArguments; fromOne = inside .0; inside = inside .1; rulesRead = ready .rulesRead }, pre .2),
+      record { arrays = pre .0; near = ready .near },
     )
 
 returns : tie.Need-returns
 returns c =
-    let a = c .before .before .before .before .before .before .args in
-    let pre = c .before .before .before .before .before .before .pre in
-    let ready = pre .1 in
+    let a = c .before .before .before .before .before .before .before .args in
+    let pre = c .before .before .before .before .before .before .before .pre .0 in
+    let ready = c .before .before .before .before .before .before .before .pre .1 in
     let words = now (a .words) in
     let codes = now (a .codes) in
     let cells = now (a .cells) in
-    ap (endWalk (readOr [] (readRules (a .arity) (a .count) (now (a .s)))) words codes (a .pairs) cells) (sym (ap endedOf (c .before .followed .given .1)) ∙ c .before .before .before .follow-path .ensures)
+    let sizes = a .sizes in
+    ap (endWalk (readOr [] (readRules (sizes .arity) (sizes .rules) (now (a .s)))) words codes (sizes .pairs) cells) (sym (ap (endedOf (c .before .before .before .follow-path .last .1 .1 .1 .1 .0)) (c .before .followed .given .1)) ∙ c .before .before .before .follow-path .ensures .0)
 
 returns-2 : tie.Need-returns-2
 returns-2 c =
-    let a = c .before .before .before .before .before .before .before .args in
-    let pre = c .before .before .before .before .before .before .before .pre in
-    let ready = pre .1 in
+    let a = c .before .before .before .before .before .before .before .before .before .args in
+    let pre = c .before .before .before .before .before .before .before .before .before .pre .0 in
+    let ready = c .before .before .before .before .before .before .before .before .before .pre .1 in
     let words = now (a .words) in
     let codes = now (a .codes) in
     let cells = now (a .cells) in
-    c .at-leaf .ensures ∙ ap (endWalk (readOr [] (readRules (a .arity) (a .count) (now (a .s)))) words codes (a .pairs) cells) (sym (ap endedOf (c .before .before .followed2 .given .1)) ∙ c .before .before .before .before .follow-path .ensures)
+    let sizes = a .sizes in
+    let ends = sym (ap (endedOf (c .before .before .before .before .before .follow-path .last .1 .1 .1 .1 .0)) (c .before .before .before .followed2 .given .1)) ∙ c .before .before .before .before .before .follow-path .ensures .0 in
+    ap (endWalk (readOr [] (readRules (sizes .arity) (sizes .rules) (now (a .s)))) words codes (sizes .pairs) cells) (ap (λ (l : Leaf). reached (leafOf l) (c .before .before .before .followed2 .given .0 .1 .0) (take (c .before .before .before .followed2 .given .0 .1 .0) (c .before .before .before .before .before .follow-path .last .1 .1 .1 .1 .0))) (sym (c .enum-told .given .1)) ∙ ends)
+
+returns-3 : tie.Need-returns-3
+returns-3 c =
+    let a = c .before .before .before .before .before .before .before .before .before .before .before .args in
+    let pre = c .before .before .before .before .before .before .before .before .before .before .before .pre .0 in
+    let ready = c .before .before .before .before .before .before .before .before .before .before .before .pre .1 in
+    let words = now (a .words) in
+    let codes = now (a .codes) in
+    let cells = now (a .cells) in
+    let sizes = a .sizes in
+    let ends = sym (ap (endedOf (c .before .before .before .before .before .before .before .follow-path .last .1 .1 .1 .1 .0)) (c .before .before .before .before .before .followed2 .given .1)) ∙ c .before .before .before .before .before .before .before .follow-path .ensures .0 in
+    ap (λ (w : ℕ). took 0 (record { answer = answers.suspend; edges = (c .before .before .before .before .before .followed2 .given .0 .1 .0); waits = w })) (c .suspend-waits .ensures)
+    ∙ ap (endWalk (readOr [] (readRules (sizes .arity) (sizes .rules) (now (a .s)))) words codes (sizes .pairs) cells) (ap (λ (l : Leaf). reached (leafOf l) (c .before .before .before .before .before .followed2 .given .0 .1 .0) (take (c .before .before .before .before .before .followed2 .given .0 .1 .0) (c .before .before .before .before .before .before .before .follow-path .last .1 .1 .1 .1 .0))) (sym (c .before .before .enum-told2 .given .1)) ∙ ends)
+
+returns-4 : tie.Need-returns-4
+returns-4 c =
+    let a = c .before .before .before .before .before .before .before .before .before .before .before .args in
+    let pre = c .before .before .before .before .before .before .before .before .before .before .before .pre .0 in
+    let ready = c .before .before .before .before .before .before .before .before .before .before .before .pre .1 in
+    let words = now (a .words) in
+    let codes = now (a .codes) in
+    let cells = now (a .cells) in
+    let sizes = a .sizes in
+    let ends = sym (ap (endedOf (c .before .before .before .before .before .before .before .follow-path .last .1 .1 .1 .1 .0)) (c .before .before .before .before .before .followed2 .given .1)) ∙ c .before .before .before .before .before .before .before .follow-path .ensures .0 in
+    c .at-execute .ensures
+    ∙ ap (endWalk (readOr [] (readRules (sizes .arity) (sizes .rules) (now (a .s)))) words codes (sizes .pairs) cells) (ap (λ (l : Leaf). reached (leafOf l) (c .before .before .before .before .before .followed2 .given .0 .1 .0) (take (c .before .before .before .before .before .followed2 .given .0 .1 .0) (c .before .before .before .before .before .before .before .follow-path .last .1 .1 .1 .1 .0))) (sym (c .before .before .leaf .given .1)) ∙ ends)
 
 pub walk-nodes-spec : {M : Type 1} → statement M
 walk-nodes-spec =
@@ -85,6 +133,12 @@ walk-nodes-spec =
     follow-path-requires
     enum-known-followed
     enum-known-followed-2
-    at-leaf-requires
+    enum-told
+    enum-told-2
+    suspend-waits-requires
+    enum-known-leaf
+    at-execute-requires
     returns
-    returns-2)
+    returns-2
+    returns-3
+    returns-4)

@@ -1,14 +1,14 @@
 -- `walk::call::walk_piece` meets its contract: the piece is refused, or the graph is asked about.
-use Rattle.walk.proofs.Replies.{piece-refuses, arities-differ, piece-accepts}
+use mathlib.Core.Path.{sym, subst, _∙_}
+use native.Mathlib.Omega.{arith}
+use denote.Ref.{now}
+use Rattle.records.proofs.ByteLists.{bytes-all}
 use Rattle.plain.specs.views.ReadAs.{ReadAs}
 use Rattle.plain.proofs.PiecesRead.{reader-refused, reader-accepted}
-use denote.Ref.{now}
-use native.Mathlib.Omega.{arith}
-use mathlib.Core.Path.{sym, subst, _∙_}
+use Rattle.walk.proofs.Replies.{piece-refuses, arities-differ, piece-accepts}
 use borrow.Author.Needs.{needs}
 use Rattle.walk.proofs.call.walk_piece.Statement.{statement}
 use Rattle.walk.proofs.call.walk_piece.Tie as tie
-use Rattle.records.proofs.ByteLists.{bytes-all}
 
 read-piece-requires : tie.Need-read-piece-requires
 read-piece-requires c κs = search needs
@@ -21,24 +21,24 @@ enum-known-read-2 c = search needs
 
 returns : tie.Need-returns
 returns c =
-    let a = c .before .before .before .before .before .before .before .before .before .args in
-    let p = now (a .piece) in
-    let g = now (a .graph) in
-    let cells = c .before .before .before .before .read-piece .last .1 .0 in
-    let bytes = bytes-all p (λ i. omega (arith, c .before .before .before .before .before .before .shared-slice-known3 .given i)) in
-    let k = reader-accepted p cells (c .before .before .before .before .read-piece .result) (c .before .before .before .before .read-piece .ensures) (c .before .before .read2 .given .1) bytes in
-    λ t. arities-differ (t .read .sheet) g p (k .read) (λ e. c .if1 .taken (sym (k .arityIs) ∙ e ∙ t .read .arityIs))
-
-walk-graph-requires : tie.Need-walk-graph-requires
-walk-graph-requires c κs =
     let a = c .before .before .before .before .before .before .before .before .before .before .args in
     let p = now (a .piece) in
     let g = now (a .graph) in
     let cells = c .before .before .before .before .before .read-piece .last .1 .0 in
     let bytes = bytes-all p (λ i. omega (arith, c .before .before .before .before .before .before .before .shared-slice-known3 .given i)) in
     let k = reader-accepted p cells (c .before .before .before .before .before .read-piece .result) (c .before .before .before .before .before .read-piece .ensures) (c .before .before .before .read2 .given .1) bytes in
-    let pre = c .before .before .before .before .before .before .before .before .before .before .pre in
-    ((record { allWords = pre .0 .0; allCodes = pre .0 .1; fewTests = pre .0 .2 }, record { bytes = p; readAs = subst (ReadAs p cells) (c .before .if1 .left) k }), pre .1)
+    λ t. arities-differ (t .read .sheet) g p (k .read) (λ e. c .if1 .taken (sym (k .arityIs) ∙ e ∙ t .read .arityIs))
+
+walk-graph-requires : tie.Need-walk-graph-requires
+walk-graph-requires c κs =
+    let a = c .before .before .before .before .before .before .before .before .before .before .before .args in
+    let p = now (a .piece) in
+    let g = now (a .graph) in
+    let cells = c .before .before .before .before .before .before .read-piece .last .1 .0 in
+    let bytes = bytes-all p (λ i. omega (arith, c .before .before .before .before .before .before .before .before .shared-slice-known3 .given i)) in
+    let k = reader-accepted p cells (c .before .before .before .before .before .before .read-piece .result) (c .before .before .before .before .before .before .read-piece .ensures) (c .before .before .before .before .read2 .given .1) bytes in
+    let pre = c .before .before .before .before .before .before .before .before .before .before .before .pre in
+    ((pre .0, record { bytes = p; readAs = subst (ReadAs p cells) (c .before .if1 .left) k }), pre .1)
 
 returns-2 : tie.Need-returns-2
 returns-2 c =
@@ -50,12 +50,12 @@ returns-2 c =
 
 returns-3 : tie.Need-returns-3
 returns-3 c =
-    let a = c .before .before .before .before .before .before .before .before .before .before .before .args in
+    let a = c .before .before .before .before .before .before .before .before .before .before .before .before .args in
     let p = now (a .piece) in
     let g = now (a .graph) in
-    let cells = c .before .before .before .before .before .before .read-piece .last .1 .0 in
-    let bytes = bytes-all p (λ i. omega (arith, c .before .before .before .before .before .before .before .before .shared-slice-known3 .given i)) in
-    let k = reader-accepted p cells (c .before .before .before .before .before .before .read-piece .result) (c .before .before .before .before .before .before .read-piece .ensures) (c .before .before .before .before .read2 .given .1) bytes in
+    let cells = c .before .before .before .before .before .before .before .read-piece .last .1 .0 in
+    let bytes = bytes-all p (λ i. omega (arith, c .before .before .before .before .before .before .before .before .before .shared-slice-known3 .given i)) in
+    let k = reader-accepted p cells (c .before .before .before .before .before .before .before .read-piece .result) (c .before .before .before .before .before .before .before .read-piece .ensures) (c .before .before .before .before .before .read2 .given .1) bytes in
     λ t.
     c .walk-graph .ensures t p (subst (ReadAs p cells) (c .before .before .if1 .left) k)
     ∙ piece-accepts (t .read .sheet) g p (k .read) (k .arityIs ∙ c .before .before .if1 .left ∙ sym (t .read .arityIs))

@@ -1,0 +1,79 @@
+-- `leaves::waits::suspend_waits` meets its contract: a loop over the tests met that builds the set.
+use Prim.Native.Nat.{ℕ, _-_, _≤_}
+use mathlib.Core.Path.{_≡_, ap, _∙_}
+use native.Mathlib.Omega.{arith}
+use lib.ListN.{take}
+use denote.Ref.{now}
+use Rattle.sheet_tests.specs.views.TestsRead.{keptTests}
+use Rattle.leaves.specs.views.OpenTests.{metWaits}
+use Rattle.leaves.proofs.MetTests.{met-none, met-at, met-turn}
+use borrow.Author.Needs.{needs}
+use Rattle.leaves.proofs.waits.suspend_waits.Statement.{statement}
+use Rattle.leaves.proofs.waits.suspend_waits.Tie as tie
+
+abbrev Inv-loop : tie.InvT-loop
+Inv-loop met edges words codes pairs cells set₀ i₀ set i =
+    (i ≤ edges) × (set ≡ metWaits (keptTests words codes pairs) cells (take i met))
+
+abbrev μ-loop : tie.MeasureT-loop
+μ-loop met edges words codes pairs cells set₀ i₀ set i = edges - i
+
+loop-holds : tie.Need-loop-holds Inv-loop μ-loop
+loop-holds c =
+    let a = c .args in
+    let pre = c .pre in
+    let cells = now (a .cells) in
+    let met = now (a .met) in
+    (omega arith, met-none (keptTests (now (a .words)) (now (a .codes)) (a .pairs)) cells)
+
+mul-with-open : tie.Need-mul-with-open Inv-loop μ-loop
+mul-with-open c = search needs
+
+element-copy-out-with-open : tie.Need-element-copy-out-with-open Inv-loop μ-loop
+element-copy-out-with-open c = search needs
+
+with-open-requires : tie.Need-with-open-requires Inv-loop μ-loop
+with-open-requires c κs =
+    let a = c .before .before .before .args in
+    let pre = c .before .before .before .pre in
+    let cells = now (a .cells) in
+    let met = now (a .met) in
+    (pre .0 .0, met-at (pre .0 .0) cells met (a .edges) (c .before .before .loop .i) (pre .1) (c .before .loop-test .taken) (omega (arith, pre .0 .1, pre .0 .2)), pre .0 .3)
+
+add-i : tie.Need-add-i Inv-loop μ-loop
+add-i c = search needs
+
+loop-less : tie.Need-loop-less Inv-loop μ-loop
+loop-less c = search needs
+
+loop-again : tie.Need-loop-again Inv-loop μ-loop
+loop-again c =
+    let a = c .before .before .before .before .args in
+    let pre = c .before .before .before .before .pre in
+    let cells = now (a .cells) in
+    let met = now (a .met) in
+    (omega arith, c .with-open .ensures ∙ met-turn (pre .0 .0) cells met (a .edges) (c .before .before .before .loop .i) (pre .1) (c .before .before .loop-test .taken) (omega (arith, pre .0 .1, pre .0 .2)) (c .before .before .before .loop .inv .1))
+
+returns : tie.Need-returns Inv-loop μ-loop
+returns c =
+    let a = c .before .before .args in
+    let pre = c .before .before .pre in
+    let cells = now (a .cells) in
+    let met = now (a .met) in
+    let done : c .before .loop .i ≡ a .edges = omega arith in
+    c .before .loop .inv .1 ∙ ap (λ (n : ℕ). metWaits (keptTests (now (a .words)) (now (a .codes)) (a .pairs)) cells (take n met)) done
+
+pub suspend-waits-spec : {M : Type 1} → statement M
+suspend-waits-spec =
+    tie.close
+    (tie.spec
+    Inv-loop
+    μ-loop
+    loop-holds
+    mul-with-open
+    element-copy-out-with-open
+    with-open-requires
+    add-i
+    loop-less
+    loop-again
+    returns)

@@ -1,0 +1,2 @@
+-- What is answered at a leaf.
+pub mod views

@@ -1,0 +1,6 @@
+-- How the code keeps things.
+pub mod TestNumbers
+pub mod OpenTests
+pub mod TakenNotes
+pub mod Kept
+pub mod LeafAnswers

@@ -1,0 +1,13 @@
+// What is answered at a leaf, and the tests that it waits for.
+pub mod number; // the numbers of tests
+pub mod own; // the tests of a rule that are not known
+pub mod rule; // the answer at an execute of a rule
+pub mod waits; // the tests met that are not known
+
+use plain::Answer;
+
+// What an execute of a rule comes to: the answer, and the set of tests that it waits for.
+pub struct Executed {
+    pub answer: Answer,
+    pub waits: u64,
+}

@@ -1,0 +1,84 @@
+// The answer at an execute of a rule.
+use crate::Executed;
+use crate::own::own_waits;
+use outcomes::TestOutcome;
+use plain::Answer;
+use plain::rule::rule_outcome;
+use sheet::Took;
+ghost use Prim.Native.Nat.{_≤_};
+ghost use mathlib.Core.Path.{_≡_};
+ghost use mathlib.Core.List.{[]};
+ghost use mathlib.Core.Option.{some};
+ghost use lib.ListN.{length};
+ghost use Rattle.basics.specs.Lists.{All};
+ghost use Rattle.terms.specs.Answer.{ruleAt};
+ghost use Rattle.sheet.specs.views.Noted.{ruleNotes};
+ghost use Rattle.sheet.specs.views.NoteArray.{notesIn};
+ghost use Rattle.sheet.specs.ReadSheet.{readRules};
+ghost use Rattle.sheet_tests.specs.views.NoteTests.{Placed};
+ghost use Rattle.outcomes.specs.views.CompareCells.{Narrow};
+ghost use Rattle.plain.specs.views.NotesOutcome.{notesOutcome};
+ghost use Rattle.graph.specs.views.Rewriting.{readOr};
+ghost use Rattle.leaves.specs.views.LeafAnswers.{executed, executedOf, ownWaits};
+ghost use Rattle.leaves.specs.views.TakenNotes.{takenNotes, countOf};
+ghost use Rattle.leaves.specs.views.Kept.{KeptNear, RuleRead};
+
+// The notes of a rule, from 1, of the rules, so many, that the input begins with: its bytes, and how many notes there are. The
+// rules were read before, so none is refused here. Not the notes of the rule after it, nor those of the first.
+pub fn notes_at(s: &[u8], arity: usize, count: u8, rule: u8, notes: &mut [u64; 680]) -> Took
+    requires { ⌜ RuleRead (now s) arity count rule × (length (now notes) ≡ 680) ⌝ }
+    ensures { λ r. ⌜ takenNotes (now (notes .exit)) r
+        ≡ some (ruleNotes (ruleAt (readOr [] (readRules arity count (now (s .entry)))) rule)) ⌝ }
+    ensures { λ r. ⌜ (countOf r ≤ 680) × (length (now (notes .exit)) ≡ 680)
+        × All Placed (notesIn (now (notes .exit)) (countOf r)) ⌝ }
+{
+    let mut at: usize = 0;
+    let mut i: u8 = 0;
+    while i < count {
+        let read = sheet::read_rule(&s[at..], arity, notes);
+        let Took::Used(bytes, _) = read else {
+            return read;
+        };
+        i += 1;
+        if i == rule {
+            return read;
+        }
+        at += bytes;
+    }
+    Took::Used(at, 0)
+}
+
+// The answer at an execute of the rule with these notes: all its tests are made. Not commit where a test is not known, nor a wait
+// list beside a commit or a fail.
+pub fn at_rule(
+    notes: &[u64; 680],
+    n: usize,
+    rule: u8,
+    words: &[u64; 11],
+    codes: &[u32; 65],
+    pairs: usize,
+    cells: &[u32; 680],
+) -> Executed
+    requires { ⌜ (n ≤ 680) × (length (now notes) ≡ 680) × All Placed (notesIn (now notes) n) × Narrow (now cells) ⌝ }
+    requires { ⌜ KeptNear (now words) (now codes) pairs ⌝ }
+    ensures { λ r. ⌜ executedOf r
+        ≡ executed rule (notesOutcome (now (cells .entry)) (notesIn (now (notes .entry)) n))
+        (ownWaits (now (words .entry)) (now (codes .entry)) pairs (now (cells .entry))
+        (notesIn (now (notes .entry)) n)) ⌝ }
+{
+    let outcome = rule_outcome(notes, n, cells);
+    match outcome {
+        TestOutcome::Holds => Executed {
+            answer: Answer::Commit(rule),
+            waits: 0,
+        },
+        TestOutcome::NotKnown => Executed {
+            answer: Answer::Execute(rule),
+            waits: own_waits(notes, n, words, codes, pairs, cells),
+        },
+        TestOutcome::Contradicted => Executed {
+            answer: Answer::Fail,
+            waits: 0,
+        },
+    }
+}

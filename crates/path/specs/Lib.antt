@@ -1,0 +1,2 @@
+-- What the path of a walk is.
+pub mod views

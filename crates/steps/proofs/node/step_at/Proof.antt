@@ -1,0 +1,137 @@
+-- `steps::node::step_at` meets its contract, for each kind of node.
+use Prim.Native.Nat.{ℕ}
+use mathlib.Core.Path.{_≡_, sym, ap, subst, _∙_}
+use mathlib.Core.List.{List, []}
+use denote.Ref.{now}
+use lib.ListN.{drop}
+use Rattle.outcomes.specs.views.Look.{look}
+use Rattle.records.proofs.Parts.{rest}
+use Rattle.graph.specs.declared.NodeRecord.the-variants.{Switch, Pair}
+use Rattle.graph.specs.declared.NodeHead.the-variants.{Whole}
+use Rattle.graph.specs.views.Rewriting.{readOr}
+use Rattle.graph.specs.ReadGraph.{readCases}
+use Rattle.graph.specs.views.NodeRecord.{nodeHead}
+use Rattle.node_check.proofs.CopiedNodes.{node-there}
+use Rattle.sheet_tests.specs.views.KeptPairs.{pairCode}
+use Rattle.steps.specs.declared.Step.the-variants.{Stop}
+use Rattle.steps.specs.views.CodeSteps.{stepMade, nodeStep, NearNode, codeStep}
+use Rattle.steps.proofs.StepsMade.{leaf-back}
+use Rattle.steps.proofs.NodeSteps.{leaf-node, pair-node, switch-node, cases-inside, cases-begin, cases-read}
+use borrow.Author.Needs.{needs}
+use Rattle.steps.proofs.node.step_at.Statement.{statement}
+use Rattle.steps.proofs.node.step_at.Tie as tie
+
+sub-node-head : tie.Need-sub-node-head
+sub-node-head c = search needs
+
+part-node-head-start : tie.Need-part-node-head-start
+part-node-head-start c = search needs
+
+part-node-head-end : tie.Need-part-node-head-end
+part-node-head-end c = search needs
+
+node-head-requires : tie.Need-node-head-requires
+node-head-requires c κs = search needs
+
+enum-known-head : tie.Need-enum-known-head
+enum-known-head c = search needs
+
+enum-told : tie.Need-enum-told
+enum-told c = search needs
+
+node-refusal-requires : tie.Need-node-refusal-requires
+node-refusal-requires c κs = search needs
+
+returns : tie.Need-returns
+returns c =
+    let a = c .before .before .before .before .before .before .args in
+    let s = now (a .graph) in
+    let cells = now (a .cells) in
+    let read = ap nodeHead (sym (rest s (a .at))) ∙ sym (c .before .before .before .node-head .ensures) in
+    absurd (node-there (drop (a .at) s) (c .before .before .before .before .before .before .pre .0 .whole) (read ∙ c .before .enum-told .given .1))
+
+enum-known-node : tie.Need-enum-known-node
+enum-known-node c = search needs
+
+enum-known-node-2 : tie.Need-enum-known-node-2
+enum-known-node-2 c = search needs
+
+add-switch-step : tie.Need-add-switch-step
+add-switch-step c = search needs
+
+switch-step-requires : tie.Need-switch-step-requires
+switch-step-requires c κs =
+    let a = c .before .before .before .before .before .before .before .before .before .args in
+    let s = now (a .graph) in
+    let cells = now (a .cells) in
+    let read = ap nodeHead (sym (rest s (a .at))) ∙ sym (c .before .before .before .before .before .before .node-head .ensures) in
+    let switching : nodeHead (drop (a .at) s) ≡ Whole (Switch (c .before .node2 .given .0 .0) (c .before .node2 .given .0 .1 .0) (c .before .node2 .given .0 .1 .1 .0) (c .before .node2 .given .0 .1 .1 .1 .0)) = read ∙ c .before .before .before .before .head .given .1 ∙ ap Whole (c .before .node2 .given .1) in (
+      cases-inside s (a .at) (c .before .before .before .before .before .before .before .before .before .pre .0 .begins) switching,
+      cases-read s (a .at) (c .before .before .before .before .before .before .before .before .before .pre .0 .begins) switching (c .before .before .before .before .before .before .before .before .before .pre .0 .whole),
+      subst NearNode (sym (switch-node (drop (a .at) s) switching (c .before .before .before .before .before .before .before .before .before .pre .0 .whole))) (c .before .before .before .before .before .before .before .before .before .pre .0 .near),
+    )
+
+enum-known-node-3 : tie.Need-enum-known-node-3
+enum-known-node-3 c = search needs
+
+pair-step-requires : tie.Need-pair-step-requires
+pair-step-requires c κs =
+    let a = c .before .before .before .before .before .before .before .before .before .args in
+    let s = now (a .graph) in
+    let cells = now (a .cells) in
+    let read = ap nodeHead (sym (rest s (a .at))) ∙ sym (c .before .before .before .before .before .before .node-head .ensures) in
+    let pairing : nodeHead (drop (a .at) s) ≡ Whole (Pair (c .before .node3 .given .0 .0) (c .before .node3 .given .0 .1 .0) (c .before .node3 .given .0 .1 .1 .0) (c .before .node3 .given .0 .1 .1 .1 .0)) = read ∙ c .before .before .before .before .head .given .1 ∙ ap Whole (c .before .node3 .given .1) in
+    let near = subst NearNode (sym (pair-node (drop (a .at) s) pairing)) (c .before .before .before .before .before .before .before .before .before .pre .0 .near) in
+    (near .0, near .1, c .before .before .before .before .before .before .before .before .before .pre .1)
+
+returns-2 : tie.Need-returns-2
+returns-2 c =
+    let a = c .before .before .before .before .before .before .before .before .before .args in
+    let s = now (a .graph) in
+    let cells = now (a .cells) in
+    let read = ap nodeHead (sym (rest s (a .at))) ∙ sym (c .before .before .before .before .before .before .node-head .ensures) in
+    let leaf = leaf-node (drop (a .at) s) (c .before .node .given .0 .0) (read ∙ c .before .before .before .before .head .given .1 ∙ ap Whole (c .before .node .given .1)) in
+    ap Stop (leaf-back (c .before .node .given .0 .0)) ∙ ap (nodeStep cells) leaf
+
+returns-3 : tie.Need-returns-3
+returns-3 c =
+    let a = c .before .before .before .before .before .before .before .before .before .before .args in
+    let s = now (a .graph) in
+    let cells = now (a .cells) in
+    let read = ap nodeHead (sym (rest s (a .at))) ∙ sym (c .before .before .before .before .before .before .before .node-head .ensures) in
+    let switching : nodeHead (drop (a .at) s) ≡ Whole (Switch (c .before .before .node2 .given .0 .0) (c .before .before .node2 .given .0 .1 .0) (c .before .before .node2 .given .0 .1 .1 .0) (c .before .before .node2 .given .0 .1 .1 .1 .0)) = read ∙ c .before .before .before .before .before .head .given .1 ∙ ap Whole (c .before .before .node2 .given .1) in
+    let node = switch-node (drop (a .at) s) switching (c .before .before .before .before .before .before .before .before .before .before .pre .0 .whole) in
+    let same = ap (λ (l : List ℕ). codeStep (readOr [] (readCases (c .before .before .node2 .given .0 .1 .0) l)) (c .before .before .node2 .given .0 .1 .1 .0) (c .before .before .node2 .given .0 .1 .1 .1 .0) (look cells (c .before .before .node2 .given .0 .0))) (sym (cases-begin s (a .at) (c .before .before .before .before .before .before .before .before .before .before .pre .0 .begins) switching)) in
+    c .switch-step .ensures ∙ ap (stepMade (pairCode (c .before .before .node2 .given .0 .0) (c .before .before .node2 .given .0 .0))) same ∙ ap (nodeStep cells) node
+
+returns-4 : tie.Need-returns-4
+returns-4 c =
+    let a = c .before .before .before .before .before .before .before .before .before .before .args in
+    let s = now (a .graph) in
+    let cells = now (a .cells) in
+    let read = ap nodeHead (sym (rest s (a .at))) ∙ sym (c .before .before .before .before .before .before .before .node-head .ensures) in
+    let pairing : nodeHead (drop (a .at) s) ≡ Whole (Pair (c .before .before .node3 .given .0 .0) (c .before .before .node3 .given .0 .1 .0) (c .before .before .node3 .given .0 .1 .1 .0) (c .before .before .node3 .given .0 .1 .1 .1 .0)) = read ∙ c .before .before .before .before .before .head .given .1 ∙ ap Whole (c .before .before .node3 .given .1) in
+    let node = pair-node (drop (a .at) s) pairing in
+    c .pair-step .ensures ∙ ap (nodeStep cells) node
+
+pub step-at-spec : {M : Type 1} → statement M
+step-at-spec =
+    tie.close
+    (tie.spec
+    sub-node-head
+    part-node-head-start
+    part-node-head-end
+    node-head-requires
+    enum-known-head
+    enum-told
+    node-refusal-requires
+    returns
+    enum-known-node
+    enum-known-node-2
+    add-switch-step
+    switch-step-requires
+    enum-known-node-3
+    pair-step-requires
+    returns-2
+    returns-3
+    returns-4)

@@ -1,0 +1,2 @@
+-- What the steps of a walk are.
+pub mod views

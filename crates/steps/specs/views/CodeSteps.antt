@@ -1,0 +1,78 @@
+-- What happens at a node (document 01, "The walk"), as the cells of a piece tell it: a number for what stands at each place.
+use Prim.Native.Nat.{ℕ, _<_, _≤_}
+use mathlib.Core.Bool.{Bool, _&&_, _||_, cond}
+use mathlib.Core.List.{List, [], _∷_}
+use lib.Dec.{leb, eqb}
+use lib.ListN.{length, drop}
+use Rattle.terms.specs.Outcome.{Outcome}
+use Rattle.codes.specs.views.Codes.{unknownCode}
+use Rattle.sheet_tests.specs.views.KeptPairs.{pairCode}
+use Rattle.outcomes.specs.views.Look.{look}
+use Rattle.outcomes.specs.views.CellOutcome.{pairCells}
+use Rattle.decision.specs.Key.{Leaf, failNode, suspendNode, executeNode}
+use Rattle.decision.specs.Cases.{Case}
+use Rattle.decision.specs.Node.{Node, CaseEdge, end, switch, pairNode}
+use Rattle.decision.specs.Path.{Step, stop, goTo, noWay, byComparison}
+use Rattle.decision.specs.views.CaseCodes.{caseLow, caseHigh}
+use Rattle.graph.specs.declared.Leaf as leaf
+use Rattle.graph.specs.ReadGraph.{readRecord}
+use Rattle.graph.specs.views.Rewriting.{IsTook, readOr}
+use Rattle.steps.specs.declared.Step as step
+
+-- "44 symbol (wide id, ..), 45 compound (wide id, arity, ..), 46 numbers (wide low, wide high, ..)": a case takes the terms whose
+-- codes lie from its first to its last.
+abbrev pub takesCode : Case → ℕ → Bool
+takesCode c code = leb (caseLow c) code && leb code (caseHigh c)
+
+-- Where a code leads at a switch: by the first case that takes it, or by the "node for neither".
+abbrev pub followCode : List (CaseEdge ℕ) → ℕ → ℕ → ℕ
+followCode [] neither code = neither
+followCode (c ∷ cs) neither code = cond (takesCode (c .case) code) (c .target) (followCode cs neither code)
+
+-- The step at a switch where its place has this code, 0 where the piece lacks it: "27 Is each place it tests in the piece, or
+-- below an unknown?" An unknown leads by the "node for unknown".
+abbrev pub codeStep : List (CaseEdge ℕ) → ℕ → ℕ → ℕ → Step ℕ
+codeStep cs neither unknownEdge code =
+    cond (eqb code 0) noWay (goTo (cond (eqb code unknownCode) unknownEdge (followCode cs neither code)))
+
+-- The step at a pair where its places have these codes and its test this outcome: by the "node for no" where they differ, else by
+-- the "node for other".
+abbrev pub codesStep : ℕ → ℕ → ℕ → ℕ → Outcome → Step ℕ
+codesStep differ other a b outcome = cond (eqb a 0 || eqb b 0) noWay (byComparison differ other outcome)
+
+abbrev pub stepCells : List ℕ → Node ℕ → Step ℕ
+stepCells cells (end l) = stop l
+stepCells cells (switch n cs x y) = codeStep cs x y (look cells n)
+stepCells cells (pairNode p q x y) = codesStep x y (look cells p) (look cells q) (pairCells cells p q)
+
+-- "A walk meets the tests that its nodes ask": the test of a node as one number, place p as the pair p, p. A leaf asks none.
+abbrev pub nodeCode : Node ℕ → ℕ
+nodeCode (end l) = 0
+nodeCode (switch n cs x y) = pairCode n n
+nodeCode (pairNode p q x y) = pairCode p q
+
+-- A leaf, and the step at a node that asks the test with this code, as they are handed back.
+abbrev pub leafMade : Leaf → leaf.Leaf
+leafMade failNode = leaf.the-variants.Fail
+leafMade suspendNode = leaf.the-variants.Suspend
+leafMade (executeNode i) = leaf.the-variants.Execute i
+
+abbrev pub stepMade : ℕ → Step ℕ → step.Step
+stepMade code (stop l) = step.the-variants.Stop (leafMade l)
+stepMade code (goTo n) = step.the-variants.GoTo n code
+stepMade code noWay = step.the-variants.NoWay
+
+abbrev pub nodeStep : List ℕ → Node ℕ → step.Step
+nodeStep cells n = stepMade (nodeCode n) (stepCells cells n)
+
+-- "Places are numbered 0 to 679": those that a node tests are among them.
+abbrev pub NearNode : Node ℕ → Type 0
+NearNode (end l) = Unit
+NearNode (switch n cs x y) = n < 680
+NearNode (pairNode p q x y) = (p < 680) × (q < 680)
+
+-- At a position of the graph a whole record of a node begins, whose places are among the 680.
+pub record NodeStands (graph : List ℕ) (at : ℕ) : Type 0 where
+  pub begins : at ≤ length graph
+  pub whole : IsTook (readRecord (drop at graph))
+  pub near : NearNode (readOr (end failNode) (readRecord (drop at graph)))
