@@ -1,4 +1,3 @@
--- The laws of this crate: of records in a row, of the words of variables, and of going on by one record.
-pub mod NextRecords
-pub mod WordLaws
+-- The laws of this crate: what a variable becomes by its word, and going on by one record.
+pub mod TidyWords
 pub mod RowSteps

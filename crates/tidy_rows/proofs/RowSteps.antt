@@ -9,9 +9,9 @@ use Rattle.records.proofs.Writing.{splice-more}
 use Rattle.sheet.specs.declared.PatternRecord.{PatternRecord}
 use Rattle.sheet.specs.declared.PatternRecord.the-variants.{Anything, Symbol, Range, Compound, Variable, Ranged}
 use Rattle.sheet.specs.views.PatternRecord.{recordBytes, recordSpelling, recordsSpelling}
-use Rattle.tidy_rows.specs.declared.Row.{Row}
-use Rattle.tidy_rows.specs.views.Row.{recordsFrom}
-use Rattle.tidy_rows.specs.views.Words.{Numbering, numberRecord}
+use Rattle.rule_rows.specs.declared.Row.{Row}
+use Rattle.rule_rows.specs.views.Row.{recordsFrom}
+use Rattle.rule_rows.specs.views.Words.{Numbering, numberRecord}
 use Rattle.tidy_rows.specs.views.TidyRow.{tidyIn, tidySpelling, tidyOnward}
 
 -- A record has as many bytes as spell it, at most 6.

@@ -23,10 +23,10 @@ use Rattle.sheet.specs.views.NoteRanges.{recordRange, lowEnd, highEnd, forVaria
 use Rattle.sheet.proofs.CommonRanges.{common-none, common-assoc}
 use Rattle.sheet.proofs.RangeArrays.{variable-at, variables-same, variable-set}
 use Rattle.tidy.proofs.TidyRecords.{patternRecords, patternsRecords}
-use Rattle.tidy_rows.specs.views.Words.{packedWord, wordLow, wordHigh, wordUses, freshWord, freshWords, slot}
-use Rattle.tidy_rows.specs.views.Words.{metWord, metAt, metRecord, metRecords}
+use Rattle.rule_rows.specs.views.Words.{packedWord, wordLow, wordHigh, wordUses, freshWord, freshWords, slot}
+use Rattle.rule_rows.specs.views.Words.{metWord, metAt, metRecord, metRecords}
 use Rattle.tidy_rows.specs.views.TidyRow.{metIn}
-use Rattle.tidy_rows.proofs.WordLaws.{word-parts, one-more}
+use Rattle.rule_rows.proofs.WordLaws.{word-parts, one-more}
 
 -- The variable that a record names, if it is one, and those of records in a row.
 abbrev pub recordName : PatternRecord → List ℕ

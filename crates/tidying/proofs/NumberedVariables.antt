@@ -21,8 +21,8 @@ use Rattle.sheet_tests.proofs.NumberLists.{filter-append}
 use Rattle.tidy.specs.TidyRule.{isNamed, isRepeated, appearsFirst, newNumber}
 use Rattle.tidy.proofs.InOrder.{appears-next, number-next}
 use Rattle.tidy.proofs.Uses.{uses, repeated-uses}
-use Rattle.tidy_rows.specs.views.Words.{packedWord, slot, Numbering, numberedAt}
-use Rattle.tidy_rows.proofs.WordLaws.{word-parts, number-none, number-given}
+use Rattle.rule_rows.specs.views.Words.{packedWord, slot, Numbering, numberedAt}
+use Rattle.rule_rows.proofs.WordLaws.{word-parts, number-none, number-given}
 use Rattle.tidying.proofs.MetVariables.{nameAt, knownWord, EndsFit}
 
 -- Numbers given to the variables of a list, one after another.

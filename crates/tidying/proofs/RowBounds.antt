@@ -10,8 +10,8 @@ use Rattle.sheet.specs.declared.PatternHead.{PatternHead}
 use Rattle.sheet.specs.declared.PatternHead.the-variants.{Whole, Refused}
 use Rattle.sheet.specs.views.PatternRecord.{recordBytes, recordSpelling, recordsSpelling, patternHead}
 use Rattle.sheet.proofs.Heads.{head-whole}
-use Rattle.tidy_rows.specs.views.Row.{argumentsOf, headThen, rowRecords, ruleRecords}
-use Rattle.tidy_rows.specs.views.Words.{Numbering, numberRecord}
+use Rattle.rule_rows.specs.views.Row.{argumentsOf, headThen, rowRecords, ruleRecords}
+use Rattle.rule_rows.specs.views.Words.{Numbering, numberRecord}
 use Rattle.tidy_rows.specs.views.TidyRow.{tidyIn, tidyOnward, metIn, tidyRow}
 use Rattle.tidying.specs.views.TidyRows.{tidyRows}
 use Rattle.tidy_rows.proofs.RowSteps.{spelled-length, few-bytes, first-spelled}

@@ -19,8 +19,8 @@ use Rattle.sheet.specs.views.PatternRecord.{recordBytes, recordSpelling}
 use Rattle.sheet.proofs.HeadBytes.{WideFields, spelled-head}
 use Rattle.sheet.proofs.SpelledReads.{sounds-level}
 use Rattle.tidy.proofs.TidyRecords.{patternRecords, patternsRecords}
-use Rattle.tidy_rows.specs.views.Row.{argumentsOf, rowRecords, ruleRecords}
-use Rattle.tidy_rows.proofs.NextRecords.{row-more, row-last}
+use Rattle.rule_rows.specs.views.Row.{argumentsOf, rowRecords, ruleRecords}
+use Rattle.rule_rows.proofs.NextRecords.{row-more, row-last}
 
 -- Behind the bytes that spell a record come the others.
 spelled-rest : (r : PatternRecord) (rest : List ℕ) → drop (recordBytes r) (recordSpelling r ++ rest) ≡ rest

@@ -8,7 +8,7 @@ use lib.Seq.{drop-drop}
 use Rattle.records.specs.Writing.{splice}
 use Rattle.sheet.specs.declared.PatternRecord.{PatternRecord}
 use Rattle.sheet.specs.views.PatternRecord.{recordsSpelling}
-use Rattle.tidy_rows.specs.views.Row.{ruleRecords}
+use Rattle.rule_rows.specs.views.Row.{ruleRecords}
 use Rattle.tidy_rows.specs.views.TidyRow.{tidySpelling, tidyOnward, metIn, tidyRow}
 use Rattle.tidying.specs.views.TidyRows.{tidyRows}
 use Rattle.tidy_rows.proofs.RowSteps.{written-next}

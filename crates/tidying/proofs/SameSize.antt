@@ -12,9 +12,9 @@ use borrow.Author.Tests.{le-ltb, eqb-true}
 use Rattle.sheet.specs.declared.PatternRecord.{PatternRecord}
 use Rattle.sheet.specs.declared.PatternRecord.the-variants.{Anything, Symbol, Range, Compound, Variable, Ranged}
 use Rattle.sheet.specs.views.PatternRecord.{recordBytes}
-use Rattle.tidy_rows.specs.views.Words.{wordHigh, wordUses, slot, Numbering, numberedAt, numberRecord}
+use Rattle.rule_rows.specs.views.Words.{wordHigh, wordUses, slot, Numbering, numberedAt, numberRecord}
 use Rattle.tidy_rows.specs.views.TidyRow.{tidyWord, tidyIn, tidySpelling, metIn, tidyRow}
-use Rattle.tidy_rows.proofs.WordLaws.{tidy-by}
+use Rattle.tidy_rows.proofs.TidyWords.{tidy-by}
 use Rattle.tidying.proofs.Settled.{numberRecords, numberedIn, met-sixteen, row-is}
 use Rattle.tidy_rows.proofs.RowSteps.{first-spelled}
 

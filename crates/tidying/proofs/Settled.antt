@@ -12,7 +12,7 @@ use borrow.Author.Tests.{eqb-true, eqb-false}
 use Rattle.sheet.specs.declared.PatternRecord.{PatternRecord}
 use Rattle.sheet.specs.declared.PatternRecord.the-variants.{Anything, Symbol, Range, Compound, Variable, Ranged}
 use Rattle.sheet.specs.views.PatternRecord.{recordSpelling}
-use Rattle.tidy_rows.specs.views.Words.{freshWords, slot, metRecord, metRecords, Numbering, numberedAt, numberRecord}
+use Rattle.rule_rows.specs.views.Words.{freshWords, slot, metRecord, metRecords, Numbering, numberedAt, numberRecord}
 use Rattle.tidy_rows.specs.views.TidyRow.{tidyWord, tidyIn, tidySpelling, tidyOnward, metIn, tidyRow}
 
 -- The numbers that records give, and those of a rule's records.

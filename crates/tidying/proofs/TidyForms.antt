@@ -32,11 +32,12 @@ use Rattle.tidy.proofs.NewNumbers.{number-lt}
 use Rattle.tidy.proofs.TidyAccepted.{all-names-small}
 use Rattle.tidy.proofs.TidyRecords.{patternsRecords, records-spell, singleRecord, repeatedRecord, tidyRecord, tidy-spelling}
 use Rattle.tidy.proofs.Uses.{uses, repeated-uses}
-use Rattle.tidy_rows.specs.views.Row.{ruleRecords}
-use Rattle.tidy_rows.specs.views.Words.{packedWord, wordHigh, wordUses, slot, Numbering}
+use Rattle.rule_rows.specs.views.Row.{ruleRecords}
+use Rattle.rule_rows.specs.views.Words.{packedWord, wordHigh, wordUses, slot, Numbering}
 use Rattle.tidy_rows.specs.views.TidyRow.{tidyWord, tidyIn, tidySpelling, metIn, tidyRow}
 use Rattle.tidying.specs.views.TidyRows.{tidyRows}
-use Rattle.tidy_rows.proofs.WordLaws.{word-parts, tidy-by}
+use Rattle.rule_rows.proofs.WordLaws.{word-parts}
+use Rattle.tidy_rows.proofs.TidyWords.{tidy-by}
 use Rattle.tidying.proofs.Settled.{numberRecords, numberedIn, row-is}
 use Rattle.tidying.proofs.RuleRecords.{records-fit, rule-row}
 use Rattle.tidying.proofs.MetVariables.{recordNames, times, rangeOver, nameAt, patterns-names, patterns-over}

@@ -1,9 +1,9 @@
 // The tidy form of a sheet: its questions, its length, then its bytes.
 use crate::Tidied;
+use rule_rows::Row;
+use rule_rows::meet_row;
 use sheet_tests::SheetCheck;
-use tidy_rows::Row;
 use tidy_rows::measure_rule;
-use tidy_rows::meet_row;
 use tidy_rows::put_rule;
 ghost use mathlib.Core.Path.{_≡_};
 ghost use Prim.Native.Nat.{_+_, _*_, _≤_};

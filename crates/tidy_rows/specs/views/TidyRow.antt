@@ -7,7 +7,7 @@ use lib.ListN.{getD}
 use Rattle.sheet.specs.declared.PatternRecord.{PatternRecord}
 use Rattle.sheet.specs.declared.PatternRecord.the-variants.{Anything, Symbol, Range, Compound, Variable, Ranged}
 use Rattle.sheet.specs.views.PatternRecord.{recordSpelling, recordsSpelling}
-use Rattle.tidy_rows.specs.views.Words.{wordLow, wordHigh, wordUses, slot, freshWords, metRecords, Numbering, numberRecord}
+use Rattle.rule_rows.specs.views.Words.{wordLow, wordHigh, wordUses, slot, freshWords, metRecords, Numbering, numberRecord}
 
 -- What a variable becomes, by its word.
 unfoldable pub tidyWord : ℕ → PatternRecord

@@ -3,9 +3,9 @@ use mathlib.Core.Path.{_≡_, refl, sym, ap, _∙_}
 use Prim.Native.Nat.{ℕ, _+_, _*_, _≤_}
 use lib.ListN.{length}
 use native.Mathlib.Omega.{arith}
-use Rattle.tidy_rows.proofs.NextRecords.{goes, ends, behind-it}
+use Rattle.rule_rows.proofs.NextRecords.{goes, ends, behind-it}
 use Rattle.tidy_rows.proofs.RowSteps.{few-bytes, endFrom, sizeFrom, ends-here, nothing-left, ends-same, size-next}
-use Rattle.tidy_rows.specs.views.Row.{Going}
+use Rattle.rule_rows.specs.views.Row.{Going}
 use Rattle.tidy_rows.specs.views.TidyRow.{tidyIn}
 use Rattle.sheet.specs.views.PatternRecord.{recordBytes}
 use borrow.Author.Needs.{needs}

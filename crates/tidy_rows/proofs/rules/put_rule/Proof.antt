@@ -8,10 +8,10 @@ use Rattle.records.specs.Writing.{splice}
 use Rattle.records.proofs.Writing.{splice-none}
 use Rattle.sheet.specs.declared.PatternRecord.{PatternRecord}
 use Rattle.sheet.specs.views.PatternRecord.{recordSpelling}
-use Rattle.tidy_rows.specs.views.Row.{recordsFrom, Going}
-use Rattle.tidy_rows.specs.views.Words.{Numbering}
+use Rattle.rule_rows.specs.views.Row.{recordsFrom, Going}
+use Rattle.rule_rows.specs.views.Words.{Numbering}
 use Rattle.tidy_rows.specs.views.TidyRow.{tidyIn, tidyOnward}
-use Rattle.tidy_rows.proofs.NextRecords.{goes, ends, behind-it}
+use Rattle.rule_rows.proofs.NextRecords.{goes, ends, behind-it}
 use Rattle.tidy_rows.proofs.RowSteps.{endFrom, ends-here, nothing-onward, ends-same, onward-next, written-next}
 use borrow.Author.Needs.{needs}
 use Rattle.tidy_rows.proofs.rules.put_rule.Statement.{statement}

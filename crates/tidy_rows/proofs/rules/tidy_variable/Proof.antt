@@ -2,7 +2,7 @@
 use mathlib.Core.Bool.{true, false}
 use Prim.Native.Nat.{_/_, _%_}
 use borrow.Author.Tests.{lt-ltb, le-ltb, not-true, not-false}
-use Rattle.tidy_rows.proofs.WordLaws.{tidy-by}
+use Rattle.tidy_rows.proofs.TidyWords.{tidy-by}
 use borrow.Author.Needs.{needs}
 use Rattle.tidy_rows.proofs.rules.tidy_variable.Statement.{statement}
 use Rattle.tidy_rows.proofs.rules.tidy_variable.Tie as tie

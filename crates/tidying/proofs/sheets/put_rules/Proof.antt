@@ -1,5 +1,5 @@
 -- A loop over the rules: those left, written behind what was written, make the whole.
-use Rattle.tidy_rows.specs.views.Row.{ruleRecords}
+use Rattle.rule_rows.specs.views.Row.{ruleRecords}
 use Prim.Native.Nat.{ℕ, _+_, _-_, _≤_}
 use mathlib.Core.Path.{_≡_, refl, sym, ap, _∙_}
 use mathlib.Core.List.{List}

@@ -6,7 +6,7 @@ use sheet::PatternRecord;
 ghost use mathlib.Core.Path.{_≡_};
 ghost use Prim.Native.Nat.{_≤_};
 ghost use Rattle.sheet.specs.views.PatternRecord.{recordBytes};
-ghost use Rattle.tidy_rows.specs.views.Row.{argumentsOf, recordsFrom, recordsWith, Going, GoesOn};
+ghost use Rattle.rule_rows.specs.views.Row.{argumentsOf, recordsFrom, recordsWith, Going, GoesOn};
 
 // How many bytes a record has: its kind byte counts.
 pub fn record_length(what: PatternRecord) -> usize

@@ -1,8 +1,8 @@
 -- The parts are taken out, met, and put together again.
-use Rattle.tidy_rows.proofs.WordLaws.{met-is}
+use Rattle.rule_rows.proofs.WordLaws.{met-is}
 use borrow.Author.Needs.{needs}
-use Rattle.tidy_rows.proofs.names.met.Statement.{statement}
-use Rattle.tidy_rows.proofs.names.met.Tie as tie
+use Rattle.rule_rows.proofs.names.met.Statement.{statement}
+use Rattle.rule_rows.proofs.names.met.Tie as tie
 
 add-smaller : tie.Need-add-smaller
 add-smaller c = search needs

@@ -3,8 +3,8 @@ use Prim.Native.Nat.{_%_}
 use mathlib.Core.Path.{_≡_, ap, _∙_}
 use lib.ListN.{length-set, set}
 use borrow.Author.Needs.{needs}
-use Rattle.tidy_rows.proofs.names.meet_variable.Statement.{statement}
-use Rattle.tidy_rows.proofs.names.meet_variable.Tie as tie
+use Rattle.rule_rows.proofs.names.meet_variable.Statement.{statement}
+use Rattle.rule_rows.proofs.names.meet_variable.Tie as tie
 
 cast-i : tie.Need-cast-i
 cast-i c = search needs

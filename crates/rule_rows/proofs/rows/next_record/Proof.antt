@@ -1,10 +1,10 @@
 -- The head of what is left, and what follows it.
 use mathlib.Core.Path.{sym, ap, _∙_}
 use native.Mathlib.Omega.{arith}
-use Rattle.tidy_rows.proofs.NextRecords.{ends-full, ends-last, ends-cut, record-there, goes-next, goes-on}
+use Rattle.rule_rows.proofs.NextRecords.{ends-full, ends-last, ends-cut, record-there, goes-next, goes-on}
 use borrow.Author.Needs.{needs}
-use Rattle.tidy_rows.proofs.rows.next_record.Statement.{statement}
-use Rattle.tidy_rows.proofs.rows.next_record.Tie as tie
+use Rattle.rule_rows.proofs.rows.next_record.Statement.{statement}
+use Rattle.rule_rows.proofs.rows.next_record.Tie as tie
 
 returns : tie.Need-returns
 returns c =

@@ -4,12 +4,12 @@ use Prim.Native.Nat.{ℕ}
 use mathlib.Core.List.{List}
 use lib.ListN.{length}
 use native.Mathlib.Omega.{arith}
-use Rattle.tidy_rows.proofs.NextRecords.{goes, ends, behind-it}
-use Rattle.tidy_rows.specs.views.Row.{recordsFrom, Going}
-use Rattle.tidy_rows.specs.views.Words.{metRecords}
+use Rattle.rule_rows.proofs.NextRecords.{goes, ends, behind-it}
+use Rattle.rule_rows.specs.views.Row.{recordsFrom, Going}
+use Rattle.rule_rows.specs.views.Words.{metRecords}
 use borrow.Author.Needs.{needs}
-use Rattle.tidy_rows.proofs.names.meet_row.Statement.{statement}
-use Rattle.tidy_rows.proofs.names.meet_row.Tie as tie
+use Rattle.rule_rows.proofs.names.meet_row.Statement.{statement}
+use Rattle.rule_rows.proofs.names.meet_row.Tie as tie
 
 abbrev Inv-loop : tie.InvT-loop
 Inv-loop s words₀ row₀ words row =

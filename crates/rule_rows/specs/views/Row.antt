@@ -9,9 +9,9 @@ use Rattle.sheet.specs.declared.PatternRecord.the-variants.{Anything, Symbol, R
 use Rattle.sheet.specs.declared.PatternHead.{PatternHead}
 use Rattle.sheet.specs.declared.PatternHead.the-variants.{Whole, Refused}
 use Rattle.sheet.specs.views.PatternRecord.{recordBytes, patternHead}
-use Rattle.tidy_rows.specs.declared.Row.{Row}
-use Rattle.tidy_rows.specs.declared.Next.{Next}
-use Rattle.tidy_rows.specs.declared.Next.the-variants.{Record, Done}
+use Rattle.rule_rows.specs.declared.Row.{Row}
+use Rattle.rule_rows.specs.declared.Next.{Next}
+use Rattle.rule_rows.specs.declared.Next.the-variants.{Record, Done}
 
 -- How many patterns follow a record as its arguments.
 abbrev pub argumentsOf : PatternRecord → ℕ

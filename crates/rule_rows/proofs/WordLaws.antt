@@ -1,17 +1,13 @@
--- What a variable's word says, test by test.
-use Prim.Native.Nat.{ℕ, suc, _+_, _*_, _/_, _%_, _≤_, _<_, min, max}
+-- What a variable's word says: its parts, and the word with one more use or with a number.
+use Prim.Native.Nat.{ℕ, suc, _+_, _*_, _/_, _%_, _<_, min, max}
 use mathlib.Core.Path.{_≡_, sym, ap, _∙_}
-use mathlib.Core.Bool.{Bool, true, false, cond, not}
+use mathlib.Core.Bool.{Bool, cond}
 use mathlib.Core.List.{List}
 use native.Mathlib.Numerals.{add-one}
 use native.Mathlib.Omega.{arith}
-use lib.Dec.{eqb, ltb}
 use lib.ListN.{set}
-use borrow.Author.Tests.{lt-ltb, le-ltb, eq-eqb, ne-eqb, not-true, not-false}
-use Rattle.sheet.specs.declared.PatternRecord.{PatternRecord}
-use Rattle.sheet.specs.declared.PatternRecord.the-variants.{Anything, Range, Variable, Ranged}
-use Rattle.tidy_rows.specs.views.Words.{packedWord, wordLow, wordHigh, wordUses, slot, metWord, Numbering, numberedIf}
-use Rattle.tidy_rows.specs.views.TidyRow.{tidyWord}
+use borrow.Author.Tests.{eq-eqb, ne-eqb}
+use Rattle.rule_rows.specs.views.Words.{packedWord, wordLow, wordHigh, wordUses, slot, metWord, Numbering, numberedIf}
 
 -- The parts of a word, whose fields fit their bits.
 pub record Parts (n u h l : ℕ) : Type 0 where
@@ -63,17 +59,3 @@ module _ (v w : ℕ) (words : List ℕ) (count : ℕ) where
       (record { words = set words (slot v) (w + (count * 4 + 1) * 0x2_0000_0000); count = suc count })
       before)
       (eq-eqb (w / 0x2_0000_0000) 2 is))
-
--- What a variable becomes, by the two tests of its word.
-pub tidy-by
-    : (w : ℕ) (a b : Bool) → ltb (wordUses w) 2 ≡ a → eqb (wordHigh w) 0x1_0000 ≡ b
-    → cond a (cond b Anything (Range (wordLow w) (w / 0x1_0000 % 0x1_0000)))
-    (cond b (Variable (w / 0x8_0000_0000 % 256)) (Ranged (w / 0x8_0000_0000 % 256) (wordLow w) (w / 0x1_0000 % 0x1_0000)))
-    ≡ tidyWord w
-unfolding tidyWord
-tidy-by w a b p q =
-    sym
-    (λ j.
-    cond (p j) (cond (q j) Anything (Range (wordLow w) (w / 0x1_0000 % 0x1_0000)))
-    (cond (q j) (Variable (w / 0x8_0000_0000 % 256))
-    (Ranged (w / 0x8_0000_0000 % 256) (wordLow w) (w / 0x1_0000 % 0x1_0000))))

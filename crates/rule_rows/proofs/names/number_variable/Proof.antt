@@ -3,10 +3,10 @@ use Prim.Native.Nat.{_%_}
 use mathlib.Core.Path.{_≡_, ap, _∙_}
 use lib.ListN.{getD, length-set}
 use native.Mathlib.Omega.{arith}
-use Rattle.tidy_rows.proofs.WordLaws.{number-none, number-given}
+use Rattle.rule_rows.proofs.WordLaws.{number-none, number-given}
 use borrow.Author.Needs.{needs}
-use Rattle.tidy_rows.proofs.names.number_variable.Statement.{statement}
-use Rattle.tidy_rows.proofs.names.number_variable.Tie as tie
+use Rattle.rule_rows.proofs.names.number_variable.Statement.{statement}
+use Rattle.rule_rows.proofs.names.number_variable.Tie as tie
 
 cast-i : tie.Need-cast-i
 cast-i c = search needs

@@ -2,10 +2,10 @@
 use mathlib.Core.Path.{_≡_, sym, ap, _∙_}
 use native.Mathlib.Omega.{arith}
 use Rattle.sheet.specs.declared.PatternRecord.{PatternRecord}
-use Rattle.tidy_rows.specs.views.Words.{Numbering, numberRecord}
+use Rattle.rule_rows.specs.views.Words.{Numbering, numberRecord}
 use borrow.Author.Needs.{needs}
-use Rattle.tidy_rows.proofs.names.number_record.Statement.{statement}
-use Rattle.tidy_rows.proofs.names.number_record.Tie as tie
+use Rattle.rule_rows.proofs.names.number_record.Statement.{statement}
+use Rattle.rule_rows.proofs.names.number_record.Tie as tie
 
 enum-told : tie.Need-enum-told
 enum-told c = search needs

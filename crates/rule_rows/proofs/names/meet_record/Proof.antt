@@ -1,9 +1,9 @@
 -- Only a variable's record counts.
 use mathlib.Core.Path.{_≡_, sym, ap, _∙_}
-use Rattle.tidy_rows.specs.views.Words.{metRecord}
+use Rattle.rule_rows.specs.views.Words.{metRecord}
 use borrow.Author.Needs.{needs}
-use Rattle.tidy_rows.proofs.names.meet_record.Statement.{statement}
-use Rattle.tidy_rows.proofs.names.meet_record.Tie as tie
+use Rattle.rule_rows.proofs.names.meet_record.Statement.{statement}
+use Rattle.rule_rows.proofs.names.meet_record.Tie as tie
 
 enum-told : tie.Need-enum-told
 enum-told c = search needs

@@ -11,10 +11,10 @@ use Rattle.sheet.specs.declared.PatternHead.{PatternHead}
 use Rattle.sheet.specs.declared.PatternHead.the-variants.{Whole, Refused}
 use Rattle.sheet.specs.views.PatternRecord.{recordBytes, patternHead}
 use Rattle.sheet.proofs.Heads.{head-whole}
-use Rattle.tidy_rows.specs.declared.Row.{Row}
-use Rattle.tidy_rows.specs.declared.Next.{Next}
-use Rattle.tidy_rows.specs.declared.Next.the-variants.{Record, Done}
-use Rattle.tidy_rows.specs.views.Row.{argumentsOf, headThen, rowRecords, recordsFrom, recordsWith, Going, GoesOn}
+use Rattle.rule_rows.specs.declared.Row.{Row}
+use Rattle.rule_rows.specs.declared.Next.{Next}
+use Rattle.rule_rows.specs.declared.Next.the-variants.{Record, Done}
+use Rattle.rule_rows.specs.views.Row.{argumentsOf, headThen, rowRecords, recordsFrom, recordsWith, Going, GoesOn}
 
 -- There is no record where none may come, nor where no pattern is to come, nor where none begins.
 row-none : (most patterns : ℕ) (s : List ℕ) → most ≡ 0 → rowRecords most patterns s ≡ []

@@ -6,9 +6,9 @@ use sheet::PatternRecord;
 ghost use mathlib.Core.Path.{_≡_};
 ghost use Prim.Native.Nat.{_+_, _≤_, min, max};
 ghost use lib.ListN.{length};
-ghost use Rattle.tidy_rows.specs.views.Row.{recordsFrom, Going};
-ghost use Rattle.tidy_rows.specs.views.Words.{metWord, metAt, metRecord, metRecords};
-ghost use Rattle.tidy_rows.specs.views.Words.{numberedAt, numberRecord};
+ghost use Rattle.rule_rows.specs.views.Row.{recordsFrom, Going};
+ghost use Rattle.rule_rows.specs.views.Words.{metWord, metAt, metRecord, metRecords};
+ghost use Rattle.rule_rows.specs.views.Words.{numberedAt, numberRecord};
 
 // What is known of each of the 16 variables of a rule.
 pub type Words = [u64; 16];

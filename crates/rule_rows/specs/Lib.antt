@@ -1,0 +1,2 @@
+-- The records of a rule in a row.
+pub mod views
