@@ -1,13 +1,13 @@
 -- 680 numbers below 680, none of them twice, are all numbers below 680.
 use Prim.Native.Nat.{ℕ, zero, suc, _≤_, _<_}
 use mathlib.Core.Path.{_≡_, refl, sym, ap, subst, _∙_}
-use mathlib.Core.Bool.{Bool, true, false, not, _&&_}
+use mathlib.Core.Bool.{Bool, true, not, _&&_}
 use mathlib.Core.List.{List, [], _∷_}
 use native.Mathlib.Omega.{arith}
 use borrow.Author.Tests.{ne-eqb, ltb-true}
 use lib.Dec.{T, T-not, eqb, ltb, eqb→eq, eqb-refl}
 use lib.ListN.{length}
-use Rattle.basics.specs.Lists.{Mem, here, there, All, filter, anyOf}
+use Rattle.basics.specs.Lists.{Mem, All, filter, anyOf}
 use Rattle.basics.proofs.Booleans.{by-test, and-both, cond-by, is-true}
 use Rattle.basics.proofs.Numbers.{eq-true}
 use Rattle.basics.proofs.ListLaws.{all-map, all-from, all-at}

@@ -1,12 +1,12 @@
 -- A table in which no place stands before its parent has none before a place above it.
 use Prim.Native.Nat.{ℕ, _<_}
-use mathlib.Core.Path.{_≡_, refl, sym, ap, subst, _∙_}
-use mathlib.Core.Bool.{Bool, true, false, not, _&&_, _||_}
+use mathlib.Core.Path.{_≡_, refl, sym, subst}
+use mathlib.Core.Bool.{true, not}
 use mathlib.Core.Logic.{_⊎_, inl, inr, by-cases}
 use mathlib.Core.List.{List, [], _∷_}
 use native.Mathlib.Decide.{ℕ-discrete}
 use native.Mathlib.Omega.{arith}
-use lib.Dec.{T, T-not, eqb, eqb→eq}
+use lib.Dec.{T, T-not, eqb}
 use lib.ListN.{length}
 use Rattle.basics.specs.Lists.{Mem, here, there, All, anyOf}
 use Rattle.basics.proofs.Booleans.{and-both, is-true, true-is}
@@ -16,7 +16,7 @@ use Rattle.places.proofs.Parents.{parent-before}
 use Rattle.places.proofs.Below.{at-or-below-range, below-parent, not-above-end}
 use Rattle.decision.proofs.keys.OrderByPlaces.{Apart, Above, AboveFirst}
 use Rattle.order.specs.Table.{eachOnce, parentsFirst}
-use Rattle.order.proofs.EveryPlace.{found-mem, mem-found, once-below, once-apart, every-place}
+use Rattle.order.proofs.EveryPlace.{mem-found, once-below, once-apart, every-place}
 
 -- A table that is read up to some place: those seen and those still to come are all places, each once.
 pub record Midway (seen places : List ℕ) : Type 0 where

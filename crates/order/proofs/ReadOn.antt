@@ -1,6 +1,6 @@
 -- Reading a table place by place, with 30 remembered, asks the questions in their order.
 use Prim.Native.Nat.{ℕ, suc, _<_}
-use mathlib.Core.Path.{_≡_, refl, sym, ap, subst, _∙_}
+use mathlib.Core.Path.{_≡_, refl, sym, ap, _∙_}
 use mathlib.Core.Bool.{Bool, true, false, not, _&&_, _||_, cond}
 use mathlib.Core.Logic.{inl, inr, by-cases}
 use mathlib.Core.List.{List, [], _∷_}
@@ -10,14 +10,14 @@ use borrow.Author.Tests.{eq-eqb, ne-eqb, ltb-true}
 use lib.Dec.{T, T-not, not-T, eqb, ltb, eqb→eq}
 use lib.ListN.{length, getD, set, length-set, replicate, length-replicate, getD-replicate}
 use lib.Seq.{getD-set-same, getD-set-other}
-use Rattle.basics.specs.Lists.{Mem, here, there, anyOf, allOf}
+use Rattle.basics.specs.Lists.{Mem, there, anyOf, allOf}
 use Rattle.basics.proofs.Booleans.{by-test, same-truth, either-true, true-left, true-right}
 use Rattle.basics.proofs.Numbers.{eqb-swap, eq-true}
 use Rattle.basics.proofs.ListLaws.{all-at}
 use Rattle.places.specs.Numbering.{parentAt}
 use Rattle.places.proofs.Parents.{parent-before}
 use Rattle.order.specs.Table.{eachOnce, parentsFirst}
-use Rattle.order.specs.views.TableRead.{noneDown, isNew, isLate, refusalOn}
+use Rattle.order.specs.views.TableRead.{noneDown, isLate, refusalOn}
 use Rattle.order.proofs.EveryPlace.{found-mem, mem-found}
 use Rattle.order.proofs.PlacesAbove.{Midway, midway-start, midway-next, parent-seen}
 

@@ -2,14 +2,14 @@
 use Prim.Native.Nat.{ℕ, _*_}
 use mathlib.Core.Path.{_≡_, refl, sym, ap, subst, _∙_}
 use mathlib.Core.Bool.{Bool, true, false}
-use mathlib.Core.List.{List, map}
+use mathlib.Core.List.{List}
 use lib.Dec.{eqb}
 use lib.ListN.{length, length-map}
 use Rattle.basics.specs.Lists.{countFrom}
 use Rattle.basics.proofs.Clash.{clash}
 use Rattle.basics.proofs.Counting.{count-length}
 use Rattle.records.specs.Fields.{wideAt}
-use Rattle.records.specs.Reading.{Reading, took, refused, ask}
+use Rattle.records.specs.Reading.{took, ask}
 use Rattle.sheet.specs.Sheet.{Sheet}
 use Rattle.sheet_tests.specs.CheckSheet.{AcceptedSheet}
 use Rattle.decision.specs.AskingOrder.{AskingOrder}

@@ -10,7 +10,7 @@ use Rattle.outcomes.specs.views.Look.{look}
 use Rattle.outcomes.specs.views.CellOutcome.{pairCells}
 use Rattle.decision.specs.Key.{Leaf}
 use Rattle.decision.specs.Node.{Node, end, switch, pairNode}
-use Rattle.decision.specs.Path.{Step, stop, goTo, noWay, byComparison, nodeAt}
+use Rattle.decision.specs.Path.{stop, goTo, noWay, byComparison, nodeAt}
 use Rattle.steps.specs.views.CodeSteps.{stepCells, nodeCode}
 use Rattle.path.specs.views.Following.{askedCodes, metCodes}
 

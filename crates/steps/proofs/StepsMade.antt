@@ -1,6 +1,6 @@
 -- A step that is handed back says which step it is, and which test its node asks.
 use Prim.Native.Nat.{ℕ}
-use mathlib.Core.Path.{_≡_, refl, sym, ap, _∙_}
+use mathlib.Core.Path.{_≡_, refl, ap, _∙_}
 use native.Mathlib.Omega.{arith}
 use Rattle.decision.specs.Key as key
 use Rattle.decision.specs.Path.{Step, stop, goTo, noWay}

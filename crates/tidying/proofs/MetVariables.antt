@@ -1,5 +1,5 @@
 -- What the words say behind a row of records: how often each variable stands, and its common range.
-use Prim.Native.Nat.{ℕ, suc, pred, _+_, _*_, _/_, _%_, _≤_, _<_, min, max}
+use Prim.Native.Nat.{ℕ, suc, pred, _+_, _≤_, _<_, min, max}
 use mathlib.Core.Path.{_≡_, refl, sym, ap, _∙_}
 use mathlib.Core.Bool.{Bool, true, false, cond}
 use mathlib.Core.List.{List, [], _∷_, _++_, map, append-assoc}
@@ -23,7 +23,7 @@ use Rattle.sheet.specs.views.NoteRanges.{recordRange, lowEnd, highEnd, forVaria
 use Rattle.sheet.proofs.CommonRanges.{common-none, common-assoc}
 use Rattle.sheet.proofs.RangeArrays.{variable-at, variables-same, variable-set}
 use Rattle.tidy.proofs.TidyRecords.{patternRecords, patternsRecords}
-use Rattle.rule_rows.specs.views.Words.{packedWord, wordLow, wordHigh, wordUses, freshWord, freshWords, slot}
+use Rattle.rule_rows.specs.views.Words.{packedWord, freshWords, slot}
 use Rattle.rule_rows.specs.views.Words.{metWord, metAt, metRecord, metRecords}
 use Rattle.tidy_rows.specs.views.TidyRow.{metIn}
 use Rattle.rule_rows.proofs.WordLaws.{word-parts, one-more}

@@ -1,6 +1,6 @@
 -- What tidying a sheet answers, by the check of the sheet.
 use Prim.Native.Nat.{ℕ, _+_, _≤_, _<_}
-use mathlib.Core.Path.{_≡_, sym, ap, subst, _∙_}
+use mathlib.Core.Path.{_≡_, sym, ap, _∙_}
 use mathlib.Core.Bool.{Bool}
 use mathlib.Core.List.{List, [], _∷_, _++_, map}
 use native.Mathlib.Omega.{arith}
@@ -11,8 +11,6 @@ use Rattle.records.specs.Reading.{Reading, took, refused, ask, andThen}
 use Rattle.records.specs.Writing.{splice}
 use Rattle.records.specs.Written.{resultOf, askFits}
 use Rattle.records.proofs.Writing.{splice-more}
-use Rattle.basics.specs.Lists.{All}
-use Rattle.terms.specs.Accepted.{AcceptedRule}
 use Rattle.sheet.specs.Sheet.{Sheet}
 use Rattle.sheet_tests.specs.CheckSheet.{SheetValues, acceptSheet, sheetCheckValues, sheetValues}
 use Rattle.sheet_tests.specs.declared.SheetCheck.the-variants.{Accepted}

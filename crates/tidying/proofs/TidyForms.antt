@@ -1,11 +1,11 @@
 -- The tidy form of an accepted sheet, rule by rule and record by record.
-use Prim.Native.Nat.{ℕ, suc, _+_, _*_, _/_, _%_, _≤_, _<_, min}
+use Prim.Native.Nat.{ℕ, suc, _+_, _/_, _%_, _≤_, _<_, min}
 use mathlib.Core.Path.{_≡_, refl, sym, ap, subst, _∙_}
 use mathlib.Core.Bool.{Bool, true, false, cond, _&&_}
 use mathlib.Core.List.{List, [], _∷_, _++_, map}
 use mathlib.Core.Option.{Option, some, none}
 use native.Mathlib.Omega.{arith}
-use lib.Dec.{T, eqb}
+use lib.Dec.{eqb}
 use lib.ListN.{length, getD, drop}
 use lib.Seq.{drop-at}
 use borrow.Author.Tests.{lt-ltb, le-ltb, eq-eqb, ne-eqb, leb-false}
@@ -32,7 +32,6 @@ use Rattle.tidy.proofs.NewNumbers.{number-lt}
 use Rattle.tidy.proofs.TidyAccepted.{all-names-small}
 use Rattle.tidy.proofs.TidyRecords.{patternsRecords, records-spell, singleRecord, repeatedRecord, tidyRecord, tidy-spelling}
 use Rattle.tidy.proofs.Uses.{uses, repeated-uses}
-use Rattle.rule_rows.specs.views.Row.{ruleRecords}
 use Rattle.rule_rows.specs.views.Words.{packedWord, wordHigh, wordUses, slot, Numbering}
 use Rattle.tidy_rows.specs.views.TidyRow.{tidyWord, tidyIn, tidySpelling, metIn, tidyRow}
 use Rattle.tidying.specs.views.TidyRows.{tidyRows}
@@ -40,9 +39,9 @@ use Rattle.rule_rows.proofs.WordLaws.{word-parts}
 use Rattle.tidy_rows.proofs.TidyWords.{tidy-by}
 use Rattle.tidying.proofs.Settled.{numberRecords, numberedIn, row-is}
 use Rattle.tidying.proofs.RuleRecords.{records-fit, rule-row}
-use Rattle.tidying.proofs.MetVariables.{recordNames, times, rangeOver, nameAt, patterns-names, patterns-over}
+use Rattle.tidying.proofs.MetVariables.{recordNames, times, nameAt, patterns-names, patterns-over}
 use Rattle.tidying.proofs.MetVariables.{knownWord, EndsFit, range-fits, met-says}
-use Rattle.tidying.proofs.NumberedVariables.{numberNames, wordWith, isGiven, wordsAfter, after, known-upper, numbered-all}
+use Rattle.tidying.proofs.NumberedVariables.{numberNames, wordWith, isGiven, wordsAfter, after, numbered-all}
 
 -- The word of a repeated variable is written as one, with its number,
 repeated-word

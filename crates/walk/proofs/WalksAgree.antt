@@ -26,7 +26,7 @@ use Rattle.decision.specs.Key.{failNode, suspendNode, executeNode, Leaf}
 use Rattle.decision.specs.Node.{Node}
 use Rattle.decision.specs.Rules.{testAt, hasTest, testsWhere}
 use Rattle.decision.specs.Path.{Path, path, through, pathFrom, Step, stop, goTo, noWay, stepAt, nodeAt, lastStep, nextStep, mostEdges}
-use Rattle.decision.specs.Walk.{testNotKnown, executeWaits, atEnd, walk, atLeaf, suspendWaits}
+use Rattle.decision.specs.Walk.{testNotKnown, executeWaits, atEnd, walk, atLeaf}
 use Rattle.graph.specs.ReadGraph.{readGraph}
 use Rattle.graph.proofs.TestedPlaces.{tests-near}
 use Rattle.node_check.specs.views.CheckNode.{startsFrom}

@@ -1,7 +1,6 @@
 -- The path of a piece over the nodes of a graph, as the piece's cells tell it, and what is handed back of it (document 01, "The
 -- walk").
 use Prim.Native.Nat.{ℕ, pred, _<_, _≤_}
-use mathlib.Core.Path.{_≡_}
 use mathlib.Core.List.{List, [], _∷_, _++_, map}
 use lib.ListN.{length, getD, take, drop}
 use Rattle.basics.specs.Lists.{All, countFrom}

@@ -1,6 +1,5 @@
 -- `leaves::rule::at_rule` meets its contract, for each outcome.
 use Rattle.leaves.specs.views.LeafAnswers.{ownWaits, executed}
-use Rattle.plain.specs.views.NotesOutcome.{notesOutcome}
 use Rattle.outcomes.specs.views.CellOutcome.{outcomeOf}
 use Rattle.terms.specs.Outcome.{Outcome}
 use Rattle.sheet.specs.views.NoteArray.{notesIn}

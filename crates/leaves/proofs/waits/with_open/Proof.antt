@@ -4,7 +4,6 @@ use mathlib.Core.Path.{sym, ap, _∙_}
 use denote.Ref.{now}
 use Rattle.sheet_tests.specs.views.TestsRead.{keptTests}
 use Rattle.leaves.specs.views.TestNumbers.{testNumber, codeTest, withIf}
-use borrow.Author.Needs.{needs}
 use Rattle.leaves.proofs.waits.with_open.Statement.{statement}
 use Rattle.leaves.proofs.waits.with_open.Tie as tie
 

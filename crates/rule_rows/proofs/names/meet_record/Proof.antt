@@ -1,5 +1,5 @@
 -- Only a variable's record counts.
-use mathlib.Core.Path.{_≡_, sym, ap, _∙_}
+use mathlib.Core.Path.{sym, ap, _∙_}
 use Rattle.rule_rows.specs.views.Words.{metRecord}
 use borrow.Author.Needs.{needs}
 use Rattle.rule_rows.proofs.names.meet_record.Statement.{statement}

@@ -1,6 +1,6 @@
 -- The variable's word is met.
 use Prim.Native.Nat.{_%_}
-use mathlib.Core.Path.{_≡_, ap, _∙_}
+use mathlib.Core.Path.{ap, _∙_}
 use lib.ListN.{length-set, set}
 use borrow.Author.Needs.{needs}
 use Rattle.rule_rows.proofs.names.meet_variable.Statement.{statement}

@@ -1,5 +1,5 @@
 -- Only a variable's record counts.
-use mathlib.Core.Path.{_≡_, sym, ap, _∙_}
+use mathlib.Core.Path.{sym, ap, _∙_}
 use native.Mathlib.Omega.{arith}
 use Rattle.sheet.specs.declared.PatternRecord.{PatternRecord}
 use Rattle.rule_rows.specs.views.Words.{Numbering, numberRecord}

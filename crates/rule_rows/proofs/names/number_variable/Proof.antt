@@ -1,6 +1,6 @@
 -- A repeated variable without a number gets the next one.
 use Prim.Native.Nat.{_%_}
-use mathlib.Core.Path.{_≡_, ap, _∙_}
+use mathlib.Core.Path.{_∙_}
 use lib.ListN.{getD, length-set}
 use native.Mathlib.Omega.{arith}
 use Rattle.rule_rows.proofs.WordLaws.{number-none, number-given}

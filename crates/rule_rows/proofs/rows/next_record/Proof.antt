@@ -1,5 +1,4 @@
 -- The head of what is left, and what follows it.
-use mathlib.Core.Path.{sym, ap, _∙_}
 use native.Mathlib.Omega.{arith}
 use Rattle.rule_rows.proofs.NextRecords.{ends-full, ends-last, ends-cut, record-there, goes-next, goes-on}
 use borrow.Author.Needs.{needs}

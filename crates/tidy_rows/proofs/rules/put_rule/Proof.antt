@@ -1,7 +1,6 @@
 -- A loop over the records: what is left, written behind what was written, makes the whole.
 use mathlib.Core.Path.{_≡_, refl, sym, ap, _∙_}
 use Prim.Native.Nat.{_+_, _≤_}
-use mathlib.Core.List.{List}
 use lib.ListN.{length, length-append}
 use native.Mathlib.Omega.{arith}
 use Rattle.records.specs.Writing.{splice}

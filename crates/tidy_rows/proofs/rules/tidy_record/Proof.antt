@@ -1,5 +1,5 @@
 -- Only a variable's record changes.
-use mathlib.Core.Path.{_≡_, sym, ap, _∙_}
+use mathlib.Core.Path.{sym, ap, _∙_}
 use Rattle.tidy_rows.specs.views.TidyRow.{tidyIn}
 use borrow.Author.Needs.{needs}
 use Rattle.tidy_rows.proofs.rules.tidy_record.Statement.{statement}

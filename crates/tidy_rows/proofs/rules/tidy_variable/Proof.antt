@@ -1,6 +1,5 @@
 -- Two tests of the word: whether the variable is repeated, and whether it has a range.
 use mathlib.Core.Bool.{true, false}
-use Prim.Native.Nat.{_/_, _%_}
 use borrow.Author.Tests.{lt-ltb, le-ltb, not-true, not-false}
 use Rattle.tidy_rows.proofs.TidyWords.{tidy-by}
 use borrow.Author.Needs.{needs}

@@ -1,13 +1,12 @@
 -- Three times as much room is enough; else it is measured.
-use mathlib.Core.Path.{_≡_, sym, ap}
-use Prim.Native.Nat.{ℕ, _+_, _≤_}
+use mathlib.Core.Path.{sym, ap}
+use Prim.Native.Nat.{ℕ, _+_}
 use lib.Dec.{leb}
 use lib.ListN.{length, drop, length-drop}
 use borrow.Author.Tests.{le-leb}
 use native.Mathlib.Omega.{arith}
 use Rattle.tidying.specs.views.TidyRows.{tidyRows}
 use Rattle.tidying.proofs.RowBounds.{rows-three}
-use borrow.Author.Needs.{needs}
 use Rattle.tidying.proofs.sheets.fits.Statement.{statement}
 use Rattle.tidying.proofs.sheets.fits.Tie as tie
 

@@ -1,5 +1,5 @@
 -- The sheet's questions, then 31; then the header and the rules are written.
-use mathlib.Core.Path.{_≡_, sym, ap, _∙_}
+use mathlib.Core.Path.{sym, ap, _∙_}
 use lib.ListN.{length, drop}
 use borrow.Author.Tests.{leb-true, leb-false, not-true, not-false}
 use native.Mathlib.Omega.{arith}

@@ -1,6 +1,6 @@
 -- `walk::leaf::at_execute` meets its contract: the notes of the rule, and the answer by them.
 use Prim.Native.Nat.{ℕ}
-use mathlib.Core.List.{List, []}
+use mathlib.Core.List.{List}
 use mathlib.Core.Path.{sym, ap, subst, _∙_}
 use native.Mathlib.Omega.{arith}
 use denote.Ref.{now}
