@@ -29,9 +29,9 @@ takes-code (compoundCase a n) (number b) h ok = same-known _ false (number-fits 
 takes-code (compoundCase a n) (compound b ts) h ok =
     same-known _ (eqb a b && eqb n (count ts)) (compound-fits (aCompound a n) b ts h (ok .0) (ok .2))
 takes-code (numbersCase l u) unknown h ok = over (numberCode l) (numberCode u) unknownCode (omega (arith, h .1))
-takes-code (numbersCase l u) (symbol b) h ok = same-known _ false (symbol-fits (aNumber l u) b tt ok)
-takes-code (numbersCase l u) (number b) h ok = same-known _ (leb l b && leb b u) (number-fits (aNumber l u) b tt)
-takes-code (numbersCase l u) (compound b ts) h ok = same-known _ false (compound-fits (aNumber l u) b ts tt (ok .0) (ok .2))
+takes-code (numbersCase l u) (symbol b) h ok = same-known _ false (symbol-fits (aNumber l u) b (h .0) ok)
+takes-code (numbersCase l u) (number b) h ok = same-known _ (leb l b && leb b u) (number-fits (aNumber l u) b (h .0))
+takes-code (numbersCase l u) (compound b ts) h ok = same-known _ false (compound-fits (aNumber l u) b ts (h .0) (ok .0) (ok .2))
 
 -- So the code of a term leads where the term does.
 pub follow-code
