@@ -33,7 +33,8 @@ few-bytes (Ranged v l h) = omega arith
 
 -- The first record's bytes, and those of the others.
 pub first-spelled
-    : (r : PatternRecord) (rs : List PatternRecord) → length (recordsSpelling (r ∷ rs)) ≡ recordBytes r + length (recordsSpelling rs)
+    : (r : PatternRecord) (rs : List PatternRecord)
+    → length (recordsSpelling (r ∷ rs)) ≡ recordBytes r + length (recordsSpelling rs)
 first-spelled r rs =
     length-append (recordSpelling r) (recordsSpelling rs) ∙ ap (λ (k : ℕ). k + length (recordsSpelling rs)) (spelled-length r)
 

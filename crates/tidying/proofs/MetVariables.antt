@@ -53,7 +53,8 @@ rangeOver (r ∷ rs) v = commonPart (recordRange r v) (rangeOver rs v)
 
 names-join : (rs qs : List PatternRecord) → recordNames (rs ++ qs) ≡ recordNames rs ++ recordNames qs
 names-join [] qs = refl
-names-join (r ∷ rs) qs = ap (recordName r ++_) (names-join rs qs) ∙ sym (append-assoc (recordName r) (recordNames rs) (recordNames qs))
+names-join (r ∷ rs) qs =
+    ap (recordName r ++_) (names-join rs qs) ∙ sym (append-assoc (recordName r) (recordNames rs) (recordNames qs))
 
 range-join
     : (rs qs : List PatternRecord) (v : ℕ) → rangeOver (rs ++ qs) v ≡ commonPart (rangeOver rs v) (rangeOver qs v)

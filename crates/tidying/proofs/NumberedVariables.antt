@@ -113,7 +113,9 @@ module _ (b e : ℕ) (os : List Occurrence) (up : Ascends variablePlace b e os) 
         ∙ variable-at (λ (u : ℕ). wordWith (isGiven xs u) u) v small
         ∙ ap (λ (c : Bool). wordWith c v) h
 
-    counted : {c : Bool} → appearsFirst os o ≡ c → length (filter (appearsFirst os) more) ≡ length (filter (appearsFirst os) xs) + cond c 1 0
+    counted
+        : {c : Bool} → appearsFirst os o ≡ c
+        → length (filter (appearsFirst os) more) ≡ length (filter (appearsFirst os) xs) + cond c 1 0
     counted {c} h =
         ap length (filter-append (appearsFirst os) xs (o ∷ []))
         ∙ length-append (filter (appearsFirst os) xs) (filter (appearsFirst os) (o ∷ []))

@@ -79,7 +79,8 @@ row-inside (suc most) (suc patterns) s =
         → ((r : PatternRecord)
         → length (recordsSpelling (rowRecords most (patterns + argumentsOf r) (drop (recordBytes r) s)))
         ≤ length (drop (recordBytes r) s))
-        → length (recordsSpelling (headThen h (λ r. rowRecords most (patterns + argumentsOf r) (drop (recordBytes r) s)))) ≤ length s
+        → length (recordsSpelling (headThen h (λ r. rowRecords most (patterns + argumentsOf r) (drop (recordBytes r) s))))
+        ≤ length s
     go (Whole r) e rest =
         let others = rowRecords most (patterns + argumentsOf r) (drop (recordBytes r) s) in
         omega (arith, first-spelled r others, rest r, length-drop (recordBytes r) s, head-whole s e)

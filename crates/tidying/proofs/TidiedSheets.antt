@@ -32,7 +32,8 @@ unfolding tidied
 tidy-refused s buffer e =
     sym (ap (λ (x : Reading Sheet). resultOf buffer (andThen x (λ _ sheet. askFits 31 buffer (tidyBytes sheet)))) e)
 
-module _ (s : List ℕ) (bytes : AreBytes s) (a n t : ℕ) (told : sheetCheckValues (Accepted a n t) ≡ sheetValues (acceptSheet s)) where
+module _ (s : List ℕ) (bytes : AreBytes s) (a n t : ℕ)
+    (told : sheetCheckValues (Accepted a n t) ≡ sheetValues (acceptSheet s)) where
   known : AcceptedAs s a n
   known = check-accepts s a n t told
 
@@ -60,7 +61,8 @@ module _ (s : List ℕ) (bytes : AreBytes s) (a n t : ℕ) (told : sheetCheckVal
       (λ j. 0x10 ∷ arity j ∷ count j ∷ tidyRows (arity j) (count j) (drop 3 (sym spelled j)))
       ∙ ap (λ (l : List ℕ). 0x10 ∷ sheet .arity ∷ length (sheet .rules) ∷ l)
       (rules-tidy (sheet .arity) (sheet .rules) few (accepted .sound .acceptedRules))
-      ∙ ap (λ (k : ℕ). 0x10 ∷ sheet .arity ∷ k ∷ rulesBytes (map tidyRule (sheet .rules))) (sym (length-map (sheet .rules) tidyRule))
+      ∙ ap (λ (k : ℕ). 0x10 ∷ sheet .arity ∷ k ∷ rulesBytes (map tidyRule (sheet .rules)))
+      (sym (length-map (sheet .rules) tidyRule))
 
   module _ (buffer : List ℕ) where
     asked : tidied s buffer ≡ resultOf buffer (askFits 31 buffer (header ++ rows))

@@ -1,2 +1,2 @@
--- Tidying a sheet: its definitions stand in tidy/specs.
+-- What tidying a sheet leaves, as the code keeps it.
 pub mod views
