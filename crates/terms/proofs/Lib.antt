@@ -38,3 +38,5 @@ pub mod MarkedPlain
 pub mod Matching
 pub mod VariableSentences
 pub mod Meaning
+-- Spans of numbers, beside a range and beside one another.
+pub mod Spans
