@@ -31,7 +31,8 @@ use Rattle.test_list.proofs.TestsListed.{under-rows}
 use Rattle.rows.proofs.TestsRight.{tests-listed}
 use Rattle.compiled.specs.views.Compiling.{Compiling}
 use Rattle.build.specs.declared.Built.the-variants.{Refused}
-use Rattle.build.specs.BuildOutcome.{graphWritten, sheetBuilt, buildOutcome, leftBy}
+use Rattle.order.specs.Asking.{lowest, readAsking}
+use Rattle.build.specs.BuildOutcome.{graphWritten, sheetBuilt, outcomeIn, buildOutcome, leftBy}
 use Rattle.build.specs.views.Tabled.{SheetHeld}
 
 module _ {s words codes : List ℕ} {arity count pairs : ℕ} {sheet : Sheet} (k : SheetHeld s words codes arity count pairs sheet) where
@@ -113,8 +114,8 @@ few-tests words codes same held = let counted = read-counted words codes same he
 -- Where the sheet is refused so is the build.
 pub outcome-refused
     : (s buffer : List ℕ) {q : ℕ} → acceptSheet s ≡ refused q → leftBy (Refused q) buffer ≡ buildOutcome s buffer
-unfolding buildOutcome
-outcome-refused s buffer e = sym (ap (λ (r : Reading Sheet). sheetBuilt r buffer) e)
+unfolding outcomeIn
+outcome-refused s buffer e = sym (ap (λ (r : Reading Sheet). sheetBuilt r (readAsking lowest) buffer) e)
 
 module _ (s words codes : List ℕ) (arity count pairs : ℕ) (found : AcceptedTests s words codes arity count pairs) where
   -- Where it is accepted its rules follow its first 3 bytes,
@@ -136,8 +137,8 @@ module _ (s words codes : List ℕ) (arity count pairs : ℕ) (found : AcceptedT
 pub outcome-kept
     : (s buffer words codes : List ℕ) (arity count pairs : ℕ) (found : AcceptedTests s words codes arity count pairs)
     → graphWritten arity count (graphOf (found .read .sheet .rules)) buffer ≡ buildOutcome s buffer
-unfolding buildOutcome
+unfolding outcomeIn
 outcome-kept s buffer words codes arity count pairs found =
     let read = found .read in
     (λ i. graphWritten (sym (read .arityIs) i) (sym (found .countIs) i) (graphOf (read .sheet .rules)) buffer)
-    ∙ sym (ap (λ (r : Reading Sheet). sheetBuilt r buffer) (read .accepted))
+    ∙ sym (ap (λ (r : Reading Sheet). sheetBuilt r (readAsking lowest) buffer) (read .accepted))

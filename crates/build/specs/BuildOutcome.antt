@@ -8,11 +8,13 @@ use lib.Dec.{leb}
 use lib.ListN.{length}
 use Rattle.records.specs.Reading.{Reading, took, refused}
 use Rattle.records.specs.Writing.{splice}
+use Rattle.terms.specs.Pattern.{Patterns}
 use Rattle.sheet.specs.Sheet.{Sheet}
 use Rattle.sheet_tests.specs.CheckSheet.{acceptSheet}
 use Rattle.decision.specs.Node.{Node}
-use Rattle.decision.specs.Graph.{graphOf}
+use Rattle.decision.specs.Graph.{graphIn}
 use Rattle.decision.specs.GraphBytes.{graphBytes}
+use Rattle.order.specs.Asking.{Asking, lowest, byTable, readAsking}
 use Rattle.build.specs.declared.Built.{Built}
 use Rattle.build.specs.declared.Built.the-variants.{Written, Refused}
 
@@ -46,13 +48,22 @@ abbrev pub graphWritten : ℕ → ℕ → Option (List (Node ℕ)) → List ℕ 
 graphWritten arity rules none buffer = notBuilt 18 buffer
 graphWritten arity rules (some nodes) buffer = nodesWritten arity rules nodes buffer
 
--- The sheet's questions come first.
-abbrev pub sheetBuilt : Reading Sheet → List ℕ → BuildOutcome
-sheetBuilt (took k sheet) buffer = graphWritten (sheet .arity) (length (sheet .rules)) (graphOf (sheet .rules)) buffer
-sheetBuilt (refused q) buffer = notBuilt q buffer
+-- The sheet's questions come first, then those of a table. The graph asks the tests in this order.
+abbrev pub sheetBuilt : Reading Sheet → Reading (List Patterns → List ℕ) → List ℕ → BuildOutcome
+sheetBuilt (refused q) order buffer = notBuilt q buffer
+sheetBuilt (took k sheet) (refused q) buffer = notBuilt q buffer
+sheetBuilt (took k sheet) (took n order) buffer =
+    graphWritten (sheet .arity) (length (sheet .rules)) (graphIn (sheet .rules) (order (sheet .rules))) buffer
 
-unfoldable pub buildOutcome : List ℕ → List ℕ → BuildOutcome
-buildOutcome s buffer = sheetBuilt (acceptSheet s) buffer
+unfoldable pub outcomeIn : Asking → List ℕ → List ℕ → BuildOutcome
+outcomeIn asking s buffer = sheetBuilt (acceptSheet s) (readAsking asking) buffer
+
+-- In document 01's order, and by a loaded table.
+abbrev pub buildOutcome : List ℕ → List ℕ → BuildOutcome
+buildOutcome s buffer = outcomeIn lowest s buffer
+
+abbrev pub orderedOutcome : List ℕ → List ℕ → List ℕ → BuildOutcome
+orderedOutcome s table buffer = outcomeIn (byTable table) s buffer
 
 -- The values of what is handed back.
 abbrev pub builtValues : Built → BuildValues

@@ -2,6 +2,7 @@
 pub mod EveryPlace
 pub mod PlacesAbove
 pub mod TableAsks
+pub mod Questions
 -- How a table is read:
 pub mod ReadOn
 pub mod TableLoop

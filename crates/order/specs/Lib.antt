@@ -1,3 +1,4 @@
 -- The table of a reading order, and the questions that it is asked.
 pub mod Table
+pub mod Asking
 pub mod views
