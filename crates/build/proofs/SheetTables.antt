@@ -48,12 +48,12 @@ module _ {s words codes : List ℕ} {arity count pairs : ℕ} {sheet : Sheet} (k
   -- The tests that are listed are the sheet's, and its rules are put in where there is room for their cuts.
   module _ (entries : length codes ≡ 65) (few : length (placesIn words) + pairs ≤ 64) {numbers s′ : List ℕ}
       (made : numbers ≡ numberAll (placesIn words) 0 (replicate 680 0))
-      (listed : s′ ≡ underPut (testsPut (placesIn words) (take pairs codes) (set (replicate 260 0) 0 count))) where
+      (listed : s′ ≡ underPut (testsPut (placesIn words) (take pairs codes) (set (replicate 324 0) 0 count))) where
     abbrev blank : List ℕ
-    blank = set (replicate 260 0) 0 count
+    blank = set (replicate 324 0) 0 count
 
-    long : length blank ≡ 260
-    long = length-set (replicate {A = ℕ} 260 0) 0 count ∙ length-replicate {A = ℕ} 260 0
+    long : length blank ≡ 324
+    long = length-set (replicate {A = ℕ} 324 0) 0 count ∙ length-replicate {A = ℕ} 324 0
 
     kept : length (take pairs codes) ≡ pairs
     kept = length-take-le pairs codes (omega arith)
@@ -62,7 +62,7 @@ module _ {s words codes : List ℕ} {arity count pairs : ℕ} {sheet : Sheet} (k
     enough = omega (arith, kept)
 
     rules-in : rulesIn blank ≡ count
-    rules-in = getD-set-same (replicate {A = ℕ} 260 0) 0 count 0 (omega (arith, length-replicate {A = ℕ} 260 0))
+    rules-in = getD-set-same (replicate {A = ℕ} 324 0) 0 count 0 (omega (arith, length-replicate {A = ℕ} 324 0))
 
     pub kept-listed : TestsOf (sheet .rules) numbers s′
     kept-listed =
@@ -83,8 +83,8 @@ module _ {s words codes : List ℕ} {arity count pairs : ℕ} {sheet : Sheet} (k
           noRows = λ i l h.
               ap (λ (x : List ℕ). getD x i 0) listed
               ∙ under-rows (placesIn words) (take pairs codes) blank long enough i l h
-              ∙ getD-set-other (replicate {A = ℕ} 260 0) 0 i count 0 (λ e. let z : ⊥ = omega arith in z)
-              ∙ zeros 260 i;
+              ∙ getD-set-other (replicate {A = ℕ} 324 0) 0 i count 0 (λ e. let z : ⊥ = omega arith in z)
+              ∙ zeros 324 i;
           room = omega (arith, room, length-replicate {A = ℕ} size 0);
           noCuts = zeros size;
         }

@@ -4,6 +4,7 @@ use crate::Built;
 use emit::row::put_graph;
 use keys::Measured;
 use keys::grow::grow;
+use order::TableCheck;
 use sheet_tests::TestsRead;
 use tables::Tables;
 ghost use mathlib.Core.Path.{_≡_};
@@ -79,30 +80,31 @@ fn build_large(b: &[u8], arity: u8, numbers: &[u8; 680], s: &mut Tables, buf: &m
     build_cut(b, arity, numbers, s, &mut c, buf)
 }
 
-// The graph of a sheet whose rules follow its first record and whose tests the arrays hold.
-fn build_rules(
-    b: &[u8],
-    arity: u8,
+// The graph of the rules that the input begins with, whose tests are listed, asked in the order that the tables have.
+fn build_listed(b: &[u8], arity: u8, numbers: &[u8; 680], s: &mut Tables, buf: &mut [u8]) -> Built
+    requires { ⌜ ((order : List ℕ) × (all : List Patterns) × Listed arity (now b) (now numbers) (now s) order all) ⌝ }
+    ensures { λ r. ⌜ ((order : List ℕ) (all : List Patterns)
+        → Listed arity (now (b .entry)) (now (numbers .entry)) (now (s .entry)) order all
+        → leftBy r (now (buf .exit)) ≡ graphWritten arity (length all) (graphIn all order) (now (buf .entry))) ⌝ }
+{
+    if cuts::part(tables::rules(s), tables::place_tests(s)) <= 320 {
+        return build_small(b, arity, numbers, s, buf);
+    }
+    build_large(b, arity, numbers, s, buf)
+}
+
+// Lists the tests of a sheet of so many rules in its tables, asked lowest first.
+fn list_sheet(
     rules: u8,
     words: &[u64; 11],
     codes: &[u32; 65],
     pairs: usize,
-    buf: &mut [u8],
-) -> Built
-    requires { ⌜ (length (now words) ≡ 11) × (length (now codes) ≡ 65) × (length (placesIn (now words)) + pairs ≤ 64) ⌝ }
-    requires { ⌜ ((sheet : Sheet) × SheetHeld (now b) (now words) (now codes) arity rules pairs sheet) ⌝ }
-    ensures { λ r. ⌜ ((sheet : Sheet)
-        → SheetHeld (now (b .entry)) (now (words .entry)) (now (codes .entry)) arity rules pairs sheet
-        → leftBy r (now (buf .exit)) ≡ graphWritten arity rules (graphOf (sheet .rules)) (now (buf .entry))) ⌝ }
-{
-    let mut s = [0u64; 260];
-    let mut numbers = [0u8; 680];
+    s: &mut Tables,
+    numbers: &mut [u8; 680],
+) {
     s[0] = rules as u64;
-    test_list::list_tests(words, codes, pairs, &mut s, &mut numbers);
-    if cuts::part(rules as usize, tables::place_tests(&s)) <= 320 {
-        return build_small(b, arity, &numbers, &mut s, buf);
-    }
-    build_large(b, arity, &numbers, &mut s, buf)
+    test_list::list_tests(words, codes, pairs, s, numbers);
+    turns::lowest_first(s);
 }
 
 // Builds the graph of a sheet: the sheet's questions, then 18, then 19. Not a root that always suspends, one stored graph for every
@@ -115,14 +117,39 @@ pub fn build(sheet: &[u8], buf: &mut [u8]) -> Built
     let read = sheet_tests::read_tests(sheet, &mut words, &mut codes);
     match read {
         TestsRead::Refused(q) => Built::Refused(q),
-        TestsRead::Accepted(arity, rules, _, pairs) => build_rules(
-            &sheet[3..],
-            arity,
-            rules,
-            &words,
-            &codes,
-            pairs,
-            buf,
-        ),
+        TestsRead::Accepted(arity, rules, _, pairs) => {
+            let mut s = [0u64; 324];
+            let mut numbers = [0u8; 680];
+            list_sheet(rules, &words, &codes, pairs, &mut s, &mut numbers);
+            build_listed(&sheet[3..], arity, &numbers, &mut s, buf)
+        }
+    }
+}
+
+// Builds the graph of a sheet in the order of a table: the sheet's questions, the table's, then 18, then 19. Not the tests in
+// ascending order under every table, nor a table's refusal before the sheet's.
+pub fn build_ordered(sheet: &[u8], table: &[u8], buf: &mut [u8]) -> Built
+    ensures { λ r. ⌜ leftBy r (now (buf .exit))
+        ≡ orderedOutcome (now (sheet .entry)) (now (table .entry)) (now (buf .entry)) ⌝ }
+{
+    let mut words = [0u64; 11];
+    let mut codes = [0u32; 65];
+    let read = sheet_tests::read_tests(sheet, &mut words, &mut codes);
+    match read {
+        TestsRead::Refused(q) => Built::Refused(q),
+        TestsRead::Accepted(arity, rules, _, pairs) => {
+            let mut places = [0u16; 680];
+            let checked = order::read_table(table, &mut places);
+            match checked {
+                TableCheck::Refused(q) => Built::Refused(q),
+                TableCheck::Accepted => {
+                    let mut s = [0u64; 324];
+                    let mut numbers = [0u8; 680];
+                    list_sheet(rules, &words, &codes, pairs, &mut s, &mut numbers);
+                    turns::by_places(&places, &numbers, &mut s);
+                    build_listed(&sheet[3..], arity, &numbers, &mut s, buf)
+                }
+            }
+        }
     }
 }

@@ -2,6 +2,7 @@
 pub mod graph_of; // from bytes to the graph's bytes
 
 pub use graph_of::build;
+pub use graph_of::build_ordered;
 
 // What building answers: the nodes of the graph and its bytes, or the number of the question that got a no.
 pub enum Built {

@@ -44,7 +44,7 @@ columning-start i row s h = record {
 
 module _ (i row : ℕ) (s₀ s : List ℕ) (left : ℕ) (c : Columning i row s₀ s left) where
   -- A turn puts it into the column of the lowest member left.
-  module _ (some : 0 < left) (long : length s₀ ≡ 260) where
+  module _ (some : 0 < left) (long : length s₀ ≡ 324) where
     abbrev t : ℕ
     t = trailingZeros 64 left
 

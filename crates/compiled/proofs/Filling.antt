@@ -69,7 +69,7 @@ module _ {arity : ℕ} {b numbers s₀ c₀ : List ℕ} {all : List Patterns} (g
 
   -- The first i rules are in the tables and the cuts.
   pub record Filled (i : ℕ) (s c : List ℕ) : Type 0 where
-    pub entries : length s ≡ 260
+    pub entries : length s ≡ 324
     pub same : (k : ℕ) → (k < 68) ⊎ (196 ≤ k) → getD s k 0 ≡ getD s₀ k 0
     pub rows : (j : ℕ) → j < i → rowIn s j ≡ testsWhere all (hasTest all j)
     pub columns : (t : ℕ) → t < many → columnIn s t ≡ maskOf i (λ j. hasTest all j t)

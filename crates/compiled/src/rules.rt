@@ -21,7 +21,7 @@ ghost use Rattle.compiled.specs.views.Compiling.{Compiling, Compiled};
 // Rule i has these tests: its row, and the rule in the column of each. Not in the column of another test, nor the row of another
 // rule.
 fn put_row(s: &mut Tables, i: usize, row: u64)
-    requires { ⌜ (i < 64) × (length (now s) ≡ 260) ⌝ }
+    requires { ⌜ (i < 64) × (length (now s) ≡ 324) ⌝ }
     ensures { λ _. ⌜ Columned i row (set (now (s .entry)) (68 + i) row) (now (s .exit)) ⌝ }
 {
     s[68 + i] = row;

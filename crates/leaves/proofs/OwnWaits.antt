@@ -42,13 +42,13 @@ use Rattle.basics.proofs.Positions.{mem-at, getD-any}
 -- Tables with the kept tests list these.
 pub listed-as
     : (words codes : List ℕ) (pairs : ℕ) → Arrays words codes pairs → {listed s : List ℕ} → listed ≡ placesIn words
-    → s ≡ testsPut listed (take pairs codes) (replicate 260 0)
+    → s ≡ testsPut listed (take pairs codes) (replicate 324 0)
     → Counted s × (placeTestsIn s ≡ length (placesIn words)) × (pairsListed s ≡ take pairs codes)
 listed-as words codes pairs arrays {listed} {s} are put =
-    let blank = replicate {A = ℕ} 260 0 in
+    let blank = replicate {A = ℕ} 324 0 in
     let ps = placesIn words in
     let cs = take pairs codes in
-    let long : length blank ≡ 260 = length-replicate {A = ℕ} 260 0 in
+    let long : length blank ≡ 324 = length-replicate {A = ℕ} 324 0 in
     let few : length ps + length cs ≤ 64 =
     omega (arith, arrays .fewTests, arrays .allCodes, length-take-le pairs codes (omega (arith, arrays .fewTests, arrays .allCodes))) in
     let e : s ≡ testsPut ps cs blank = put ∙ ap (λ (l : List ℕ). testsPut l cs blank) are in (

@@ -95,7 +95,7 @@ pub fn own_waits(
     let count = test_list::list_places(words, &mut places);
     let mut numbers = [0u8; 680];
     test_list::numbers::number_places(&places, count, &mut numbers);
-    let mut s = [0u64; 260];
+    let mut s = [0u64; 324];
     test_list::put_tests(&places, count, codes, pairs, &mut s);
     let ranges = sheet::variable_ranges(notes, n);
     let own = rows::rule_row(notes, n, ranges, &numbers, &s);

@@ -38,7 +38,7 @@ use Rattle.rows.proofs.UnderRight.{under-right}
 
 -- What listing the tests leaves.
 module _ (rules : List Patterns) (ps cs s : List ℕ) (tests : sheetTests rules ≡ map place ps ++ map codePair cs)
-    (few : length ps + length cs ≤ 64) (entries : length s ≡ 260) (rulesAre : rulesIn s ≡ length rules) where
+    (few : length ps + length cs ≤ 64) (entries : length s ≡ 324) (rulesAre : rulesIn s ≡ length rules) where
   abbrev put : List ℕ
   put = testsPut ps cs s
 

@@ -2,10 +2,11 @@
 // plane of 64 numbers for each thing that is asked of a rule or a test.
 ghost use mathlib.Core.Path.{_≡_};
 ghost use Prim.Native.Nat.{_<_};
-ghost use Rattle.tables.specs.views.Planes.{rulesIn, testsIn, placeTestsIn, testIn, rowIn, columnIn, underIn, firstAskedIn};
+ghost use Rattle.tables.specs.views.Planes.{rulesIn, testsIn, placeTestsIn, testIn, rowIn, columnIn, underIn};
+ghost use Rattle.tables.specs.views.Planes.{beforeIn, firstAskedIn};
 
-// Room for the counts and four planes.
-pub type Tables = [u64; 260];
+// Room for the counts and five planes.
+pub type Tables = [u64; 324];
 
 // The same number at another width.
 fn wide(x: u64) -> usize
@@ -67,10 +68,25 @@ pub fn under(s: &Tables, t: usize) -> u64
     s[196 + t]
 }
 
-// The pending test that is asked first: the lowest. Nothing else picks a test.
+// The set of the tests that are asked before test t.
+pub fn before(s: &Tables, t: usize) -> u64
+    requires { ⌜ t < 64 ⌝ }
+    ensures { λ r. ⌜ r ≡ beforeIn (now (s .entry)) t ⌝ }
+{
+    s[260 + t]
+}
+
+// The pending test that is asked first. Nothing else picks a test. Not the lowest where another is asked before it, nor one that is
+// not pending.
 pub fn first_asked(s: &Tables, pending: u64) -> usize
     requires { ⌜ 0 < pending ⌝ }
     ensures { λ r. ⌜ (r ≡ firstAskedIn (now (s .entry)) pending) × (r < 64) ⌝ }
 {
-    u64::trailing_zeros(pending) as usize
+    let mut t = u64::trailing_zeros(pending) as usize;
+    let mut earlier = pending & before(s, t);
+    while earlier != 0 {
+        t = u64::trailing_zeros(earlier) as usize;
+        earlier = earlier & (earlier - 1) & before(s, t);
+    }
+    t
 }

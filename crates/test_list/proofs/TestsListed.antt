@@ -11,7 +11,7 @@ use Rattle.tables.specs.views.Planes.{rulesIn, testsIn, placeTestsIn, testIn}
 use Rattle.test_list.specs.views.Tests.{putAll, spotCode, testsPut, Counted, pairsListed, settledIn, underPut}
 use Rattle.test_list.proofs.PutLists.{put-length, put-other, put-at}
 
-module _ (ps cs s : List ℕ) (entries : length s ≡ 260) (few : length ps + length cs ≤ 64) where
+module _ (ps cs s : List ℕ) (entries : length s ≡ 324) (few : length ps + length cs ≤ 64) where
   abbrev spots : List ℕ
   spots = map spotCode ps
 
@@ -24,7 +24,7 @@ module _ (ps cs s : List ℕ) (entries : length s ≡ 260) (few : length ps + le
   abbrev counted : List ℕ
   counted = set both 1 (length ps + length cs)
 
-  long : length both ≡ 260
+  long : length both ≡ 324
   long = put-length cs (4 + length ps) first ∙ put-length spots 4 s ∙ entries
 
   -- The counts are beside the entries from 4 on.
@@ -45,7 +45,7 @@ module _ (ps cs s : List ℕ) (entries : length s ≡ 260) (few : length ps + le
   listed-places =
       getD-set-same counted 2 (length ps) 0 (omega (arith, length-set both 1 (length ps + length cs), long))
 
-  pub listed-long : length (testsPut ps cs s) ≡ 260
+  pub listed-long : length (testsPut ps cs s) ≡ 324
   unfolding testsPut
   listed-long = length-set counted 2 (length ps) ∙ length-set both 1 (length ps + length cs) ∙ long
 

@@ -30,7 +30,7 @@ fn wide(x: u32) -> u64
 
 // Writes down the listed places, from number 0 on.
 fn put_places(places: &[u16; 64], count: usize, s: &mut Tables)
-    requires { ⌜ (count ≤ 64) × (length (now places) ≡ 64) × (length (now s) ≡ 260) ⌝ }
+    requires { ⌜ (count ≤ 64) × (length (now places) ≡ 64) × (length (now s) ≡ 324) ⌝ }
     ensures { λ _. ⌜ now (s .exit) ≡ putAll 4 (map spotCode (take count (now (places .entry)))) (now (s .entry)) ⌝ }
 {
     let mut t: usize = 0;
@@ -42,7 +42,7 @@ fn put_places(places: &[u16; 64], count: usize, s: &mut Tables)
 
 // Writes down the pairs, behind so many places.
 fn put_pairs(codes: &[u32; 65], pairs: usize, count: usize, s: &mut Tables)
-    requires { ⌜ (count + pairs ≤ 64) × (length (now codes) ≡ 65) × (length (now s) ≡ 260) ⌝ }
+    requires { ⌜ (count + pairs ≤ 64) × (length (now codes) ≡ 65) × (length (now s) ≡ 324) ⌝ }
     ensures { λ _. ⌜ now (s .exit) ≡ putAll (4 + count) (take pairs (now (codes .entry))) (now (s .entry)) ⌝ }
 {
     let mut t: usize = 0;
@@ -54,7 +54,7 @@ fn put_pairs(codes: &[u32; 65], pairs: usize, count: usize, s: &mut Tables)
 
 // Writes down the listed places, the pairs, and how many there are. Not a pair before a place, nor a count without the pairs.
 pub fn put_tests(places: &[u16; 64], count: usize, codes: &[u32; 65], pairs: usize, s: &mut Tables)
-    requires { ⌜ (count + pairs ≤ 64) × (length (now places) ≡ 64) × (length (now codes) ≡ 65) × (length (now s) ≡ 260) ⌝ }
+    requires { ⌜ (count + pairs ≤ 64) × (length (now places) ≡ 64) × (length (now codes) ≡ 65) × (length (now s) ≡ 324) ⌝ }
     ensures { λ _. ⌜ now (s .exit)
         ≡ testsPut (take count (now (places .entry))) (take pairs (now (codes .entry))) (now (s .entry)) ⌝ }
 {
@@ -131,7 +131,7 @@ pub fn list_tests(
     numbers: &mut [u8; 680],
 )
     requires { ⌜ (length (now words) ≡ 11) × (length (now codes) ≡ 65) × (length (placesIn (now words)) + pairs ≤ 64)
-        × (length (now s) ≡ 260) × (length (now numbers) ≡ 680) ⌝ }
+        × (length (now s) ≡ 324) × (length (now numbers) ≡ 680) ⌝ }
     ensures { λ _. ⌜ now (s .exit)
         ≡ underPut (testsPut (placesIn (now (words .entry))) (take pairs (now (codes .entry))) (now (s .entry))) ⌝ }
     ensures { λ _. ⌜ now (numbers .exit) ≡ numberAll (placesIn (now (words .entry))) 0 (now (numbers .entry)) ⌝ }

@@ -1,4 +1,5 @@
 // The static library. Every call takes byte slices and hands back one number, the refusal's number in its lowest byte.
+mod order_calls; // the calls of a reading order
 mod window_calls; // the calls of a window
 
 use build::Built;

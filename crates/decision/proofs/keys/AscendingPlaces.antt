@@ -16,18 +16,20 @@ use Rattle.sheet.specs.Sheet.{Sheet}
 use Rattle.sheet_tests.specs.SheetTests.{Test, place, pair, before, allTests, sheetTests}
 use Rattle.sheet_tests.specs.CheckSheet.{AcceptedSheet}
 use Rattle.sheet_tests.proofs.TestOrder.{before-order, ascending-ascends}
-use Rattle.decision.specs.Rules.{testAt}
+use Rattle.decision.specs.Rules.{sameTest, testAt}
 use Rattle.decision.specs.Graph.{lowestFirst}
 use Rattle.decision.specs.PlaceOrder.{isPair, orderBy}
 use Rattle.decision.proofs.keys.AskedFirst.{ascending-at}
-use Rattle.decision.proofs.keys.OrderByPlaces.{order-mem, order-whole, order-ascends, sheet-near}
+use Rattle.decision.proofs.keys.OrderByPlaces.{order-mem, order-whole, where-ascends, order-ascends, sheet-near}
 
 -- "Replaces the ascending order of places": all places, ascending, ask the lowest pending test first.
 pub identity-asks
     : (sheet : Sheet) → AcceptedSheet sheet → orderBy (countFrom 0 680) (sheet .rules) ≡ lowestFirst (sheet .rules)
 identity-asks sheet accepted =
     same-members number-order (orderBy all rules) (lowestFirst rules)
-    (order-ascends rules (λ (t : ℕ) (u : ℕ). T (ltb t u)) (λ (p : ℕ) (r : ℕ). T (ltb p r)) (count-ascends 0 count)
+    (order-ascends rules (λ (t : ℕ) (u : ℕ). T (ltb t u)) (λ (p : ℕ) (r : ℕ). T (ltb p r))
+    (λ p. where-ascends rules (λ (t : ℕ) (u : ℕ). T (ltb t u)) (count-ascends 0 count) (sameTest (place p)))
+    (where-ascends rules (λ (t : ℕ) (u : ℕ). T (ltb t u)) (count-ascends 0 count) isPair)
     (λ p r t u l e f h k.
     lower t u h k
     (subst (λ (x : Test). T (before (testAt rules t) x)) (sym f) (subst (λ (x : Test). T (before x (place r))) (sym e) l)))

@@ -49,7 +49,7 @@ count-apart n (suc k) =
 
 module _ (rules : List Patterns) where
   -- The numbers of the tests that pass are those of the sheet's tests that do.
-  where-mem : (f : Test → Bool) {t : ℕ} → Mem t (numbersWhere f rules) → (t < length (sheetTests rules)) × T (f (testAt rules t))
+  pub where-mem : (f : Test → Bool) {t : ℕ} → Mem t (numbersWhere f rules) → (t < length (sheetTests rules)) × T (f (testAt rules t))
   where-mem f {t} m =
       let r = filter-mem (λ (u : ℕ). f (testAt rules u)) (lowestFirst rules) m in
       (omega (arith, count-mem 0 (length (sheetTests rules)) t (r .0)), r .1)
@@ -63,7 +63,7 @@ module _ (rules : List Patterns) where
   AskedBy places t =
       (t < length (sheetTests rules)) × (((p : ℕ) × Mem p places × (testAt rules t ≡ place p)) ⊎ T (isPair (testAt rules t)))
 
-  place-at : (p t : ℕ) → T (sameTest (place p) (testAt rules t)) → testAt rules t ≡ place p
+  pub place-at : (p t : ℕ) → T (sameTest (place p) (testAt rules t)) → testAt rules t ≡ place p
   place-at p t h = sym (same-test (place p) (testAt rules t) h)
 
   -- The order has no other tests,
@@ -105,21 +105,26 @@ module _ (rules : List Patterns) where
       go (place p) e inside = order-place places p t (all p inside) h e
       go (pair p q) e inside = order-pair places t h (subst (λ (x : Test). T (isPair x)) (sym e) tt)
 
-  -- Where ascending numbers ascend by some relation of tests, and so do the tests of places that ascend by a relation of places,
-  -- and each place comes before each pair, the order ascends by it.
-  module _ (Before : ℕ → ℕ → Type 0) (Places : ℕ → ℕ → Type 0) (lowest : AscendingBy Before (lowestFirst rules))
+  -- The numbers that pass ascend by every relation by which ascending numbers do.
+  pub where-ascends
+      : (Before : ℕ → ℕ → Type 0) → AscendingBy Before (lowestFirst rules) → (f : Test → Bool)
+      → AscendingBy Before (numbersWhere f rules)
+  where-ascends Before lowest f = ascending-filter Before (λ (t : ℕ). f (testAt rules t)) (lowestFirst rules) lowest
+
+  -- Where the tests of one place and those of pairs ascend by some relation of tests, and so do the tests of places that ascend by a
+  -- relation of places, and each place comes before each pair, the order ascends by it.
+  module _ (Before : ℕ → ℕ → Type 0) (Places : ℕ → ℕ → Type 0)
+      (one : (p : ℕ) → AscendingBy Before (numbersWhere (sameTest (place p)) rules))
+      (late : AscendingBy Before (numbersWhere isPair rules))
       (two : (p r t u : ℕ) → Places p r → testAt rules t ≡ place p → testAt rules u ≡ place r
       → t < length (sheetTests rules) → u < length (sheetTests rules) → Before t u)
       (pairs : (p t u : ℕ) → testAt rules t ≡ place p → T (isPair (testAt rules u))
       → t < length (sheetTests rules) → u < length (sheetTests rules) → Before t u) where
-    where-ascends : (f : Test → Bool) → AscendingBy Before (numbersWhere f rules)
-    where-ascends f = ascending-filter Before (λ (t : ℕ). f (testAt rules t)) (lowestFirst rules) lowest
-
     pub order-ascends : (places : List ℕ) → AscendingBy Places places → AscendingBy Before (orderBy places rules)
-    order-ascends [] up = where-ascends isPair
+    order-ascends [] up = late
     order-ascends (p ∷ places) up =
         ascending-join Before (numbersWhere (sameTest (place p)) rules) (orderBy places rules)
-        (where-ascends (sameTest (place p))) (order-ascends places (up .1))
+        (one p) (order-ascends places (up .1))
         (all-from (λ (t : ℕ). All (Before t) (orderBy places rules)) (numbersWhere (sameTest (place p)) rules)
         (λ t m.
         all-from (Before t) (orderBy places rules)
@@ -135,7 +140,8 @@ module _ (rules : List Patterns) where
   -- Places each of which stands once ask each test once.
   pub order-apart : (places : List ℕ) → Apart places → Apart (orderBy places rules)
   order-apart places up =
-      order-ascends Differ Differ (count-apart 0 (length (sheetTests rules)))
+      let each = where-ascends Differ (count-apart 0 (length (sheetTests rules))) in
+      order-ascends Differ Differ (λ p. each (sameTest (place p))) (each isPair)
       (λ p r t u differ e f h k same. let q : p ≡ r = cc (ap (testAt rules) same) in differ q)
       (λ p t u e is h k same. subst (λ (x : Test). T (isPair x)) (ap (testAt rules) (sym same) ∙ e) is)
       places up
@@ -155,8 +161,9 @@ module _ (rules : List Patterns) where
   -- Places of which none stands before one above it ask no test before one that must be asked first.
   pub order-ordered : (places : List ℕ) → AboveFirst places → Ordered rules (orderBy places rules)
   order-ordered places up =
+      let each = where-ascends Later (ordered-later (lowestFirst rules) (lowest-first rules .ordered)) in
       later-ordered (orderBy places rules)
-      (order-ascends Later (λ (p : ℕ) (r : ℕ). Above p r → ⊥) (ordered-later (lowestFirst rules) (lowest-first rules .ordered))
+      (order-ascends Later (λ (p : ℕ) (r : ℕ). Above p r → ⊥) (λ p. each (sameTest (place p))) (each isPair)
       (λ p r t u apart e f h k must.
       apart (subst (λ (x : Test). MustPrecede x (place p)) f (subst (MustPrecede (testAt rules u)) e must)))
       (λ p t u e is h k must. pair-late (testAt rules u) (testAt rules t) is must) places up)

@@ -30,7 +30,7 @@ testsPut places pairs s =
 
 -- The tables say how many tests they hold.
 pub record Counted (s : List ℕ) : Type 0 where
-  pub entries : length s ≡ 260
+  pub entries : length s ≡ 324
   pub few : testsIn s ≤ 64
   pub places : placeTestsIn s ≤ testsIn s
 

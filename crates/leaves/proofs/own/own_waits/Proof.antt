@@ -31,7 +31,7 @@ put-tests-requires : tie.Need-put-tests-requires
 put-tests-requires c κs =
     let listed = c .before .before .before .before .before .list-places .ensures .1 in
     let arrays = c .before .before .before .before .before .before .before .pre .1 .arrays in
-    (omega (arith, listed .0, arrays .fewTests), listed .1, arrays .allCodes, length-replicate {A = ℕ} 260 0)
+    (omega (arith, listed .0, arrays .fewTests), listed .1, arrays .allCodes, length-replicate {A = ℕ} 324 0)
 
 ranges-requires : tie.Need-ranges-requires
 ranges-requires c κs = search needs
