@@ -14,7 +14,7 @@ use Rattle.basics.specs.Lists.{All, countFrom}
 use Rattle.basics.proofs.Counting.{count-length}
 use Rattle.decision.specs.Key.{Key}
 use Rattle.decision.specs.Node.{Node, mapNode}
-use Rattle.decision.specs.Graph.{graphOf, lowestFirst}
+use Rattle.decision.specs.Graph.{graphIn}
 use Rattle.decision.specs.GraphBytes.{nodesBytes, graphBytes}
 use Rattle.tables.specs.views.Planes.{rulesIn, placeTestsIn}
 use Rattle.cuts.specs.views.Cuts.{Parted}
@@ -32,18 +32,15 @@ use Rattle.keys.proofs.GraphGrown.{graph-grown, graph-none}
 use Rattle.emit.specs.views.Written.{Wrote}
 use Rattle.build.specs.BuildOutcome.{notBuilt, writtenIf, graphWritten, leftBy}
 use Rattle.build.specs.declared.Built.the-variants.{Written}
-use Rattle.build.specs.views.Tabled.{nodesIf, graphIn}
+use Rattle.build.specs.views.Tabled.{nodesIf, grownIn}
 
 -- What is grown from the tables and cuts of accepted rules is their graph.
 pub graph-is
-    : (arity : ℕ) (rules : List Patterns) (s c : List ℕ) → All (AcceptedRule arity) rules → Compiled rules s c
-    → graphIn s c ≡ graphOf rules
-graph-is arity rules s c accepted t = go (keysFrom s c) refl
+    : (arity : ℕ) (rules : List Patterns) (order s c : List ℕ) → All (AcceptedRule arity) rules → Compiled rules order s c
+    → grownIn s c ≡ graphIn rules order
+graph-is arity rules order s c accepted t = go (keysFrom s c) refl
   where
-    order : List ℕ
-    order = lowestFirst rules
-
-    go : (x : Option (List Key)) → keysFrom s c ≡ x → nodesIf s c x ≡ graphOf rules
+    go : (x : Option (List Key)) → keysFrom s c ≡ x → nodesIf s c x ≡ graphIn rules order
     go none e =
         sym
         (graph-none rules (t .tablesAre .fewRules) order s c
@@ -57,14 +54,15 @@ graph-is arity rules s c accepted t = go (keysFrom s c) refl
 
 -- So are its bytes.
 pub compiled-written
-    : (arity : ℕ) {rules : List Patterns} {s c : List ℕ} (buffer : List ℕ) → All (AcceptedRule arity) rules → Compiled rules s c
-    → graphWritten arity (rulesIn s) (graphIn s c) buffer ≡ graphWritten arity (length rules) (graphOf rules) buffer
-compiled-written arity {rules} {s} {c} buffer accepted t =
-    λ i. graphWritten arity (t .tablesAre .rulesAre i) (graph-is arity rules s c accepted t i) buffer
+    : (arity : ℕ) {rules : List Patterns} {order s c : List ℕ} (buffer : List ℕ) → All (AcceptedRule arity) rules
+    → Compiled rules order s c
+    → graphWritten arity (rulesIn s) (grownIn s c) buffer ≡ graphWritten arity (length rules) (graphIn rules order) buffer
+compiled-written arity {rules} {order} {s} {c} buffer accepted t =
+    λ i. graphWritten arity (t .tablesAre .rulesAre i) (graph-is arity rules order s c accepted t i) buffer
 
 pub compiled-parted
-    : {rules : List Patterns} {s c : List ℕ} → Compiled rules s c → Parted (rulesIn s) (placeTestsIn s) c
-compiled-parted {rules} {s} {c} t = subst (λ (r : ℕ). Parted r (placeTestsIn s) c) (sym (t .tablesAre .rulesAre)) (t .parted)
+    : {rules : List Patterns} {order s c : List ℕ} → Compiled rules order s c → Parted (rulesIn s) (placeTestsIn s) c
+compiled-parted {rules} {order} {s} {c} t = subst (λ (r : ℕ). Parted r (placeTestsIn s) c) (sym (t .tablesAre .rulesAre)) (t .parted)
 
 -- What growing says where it met all keys, and where there are too many.
 module _ (s c t : List ℕ) (r : Measured) (grown : Grown s c r t) where
@@ -80,7 +78,7 @@ grown-most most r h e = subst (AtMost most) e h
 
 module _ (arity rules : ℕ) (s c buffer : List ℕ) where
   -- Question 18: there are too many keys.
-  pub built-many : keysFrom s c ≡ none → notBuilt 18 buffer ≡ graphWritten arity rules (graphIn s c) buffer
+  pub built-many : keysFrom s c ≡ none → notBuilt 18 buffer ≡ graphWritten arity rules (grownIn s c) buffer
   built-many e = sym (ap (λ (x : Option (List Key)). graphWritten arity rules (nodesIf s c x) buffer) e)
 
   module _ (t : List ℕ) (bytes : ℕ) (all : keysFrom s c ≡ some (keysIn t))
@@ -96,13 +94,13 @@ module _ (arity rules : ℕ) (s c buffer : List ℕ) where
 
     fits-as
         : (b : Bool) → leb (length graph) (length buffer) ≡ b
-        → graphWritten arity rules (graphIn s c) buffer ≡ writtenIf b (length nodes) graph buffer
+        → graphWritten arity rules (grownIn s c) buffer ≡ writtenIf b (length nodes) graph buffer
     fits-as b e =
         ap (λ (x : Option (List Key)). graphWritten arity rules (nodesIf s c x) buffer) all
         ∙ ap (λ (x : Bool). writtenIf x (length nodes) graph buffer) e
 
     -- Question 19: the graph does not fit.
-    pub built-short : length buffer < 5 + bytes → notBuilt 19 buffer ≡ graphWritten arity rules (graphIn s c) buffer
+    pub built-short : length buffer < 5 + bytes → notBuilt 19 buffer ≡ graphWritten arity rules (grownIn s c) buffer
     built-short h = sym (fits-as false (lt-leb (length graph) (length buffer) (omega (arith, graph-size))))
 
     count-is : length nodes ≡ countIn t
@@ -114,7 +112,7 @@ module _ (arity rules : ℕ) (s c buffer : List ℕ) where
     -- The graph fits and was written.
     pub built-whole
         : (count end : ℕ) (after : List ℕ) → 5 + bytes ≤ length buffer → count ≡ countIn t → Wrote buffer 0 graph end after
-        → leftBy (Written count end) after ≡ graphWritten arity rules (graphIn s c) buffer
+        → leftBy (Written count end) after ≡ graphWritten arity rules (grownIn s c) buffer
     built-whole count end after h many wrote =
         let nodesAre : count ≡ length nodes = many ∙ sym count-is in
         let bytesAre : end ≡ length graph = omega (arith, wrote .0) in

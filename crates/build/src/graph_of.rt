@@ -9,23 +9,23 @@ use sheet_tests::TestsRead;
 use tables::Tables;
 ghost use mathlib.Core.Path.{_≡_};
 ghost use mathlib.Core.List.{List};
-ghost use Prim.Native.Nat.{_+_, _≤_};
-ghost use lib.ListN.{length, replicate};
+ghost use Prim.Native.Nat.{ℕ, _+_, _≤_};
+ghost use lib.ListN.{length, take, replicate};
 ghost use Rattle.terms.specs.Pattern.{Patterns};
-ghost use Rattle.sheet.specs.Sheet.{Sheet};
 ghost use Rattle.sheet_tests.specs.views.TestedPlaces.{placesIn};
-ghost use Rattle.decision.specs.Graph.{graphOf};
+ghost use Rattle.decision.specs.Graph.{graphIn};
 ghost use Rattle.tables.specs.views.Planes.{rulesIn, placeTestsIn};
 ghost use Rattle.cuts.specs.views.Cuts.{Parted};
+ghost use Rattle.test_list.specs.views.Numbers.{numberAll};
 ghost use Rattle.compiled.specs.views.Compiling.{Compiling};
-ghost use Rattle.build.specs.BuildOutcome.{graphWritten, buildOutcome, leftBy};
-ghost use Rattle.build.specs.views.Tabled.{SheetHeld, graphIn};
+ghost use Rattle.build.specs.BuildOutcome.{graphWritten, buildOutcome, orderedOutcome, leftBy};
+ghost use Rattle.build.specs.views.Tabled.{Listed, testsFor, grownIn};
 
 // The graph that is grown from tables and cuts: questions 18 and 19. Not a graph of other tables, nor a byte changed behind it.
 fn build_tables(arity: u8, s: &Tables, c: &[u64], buf: &mut [u8]) -> Built
     requires { ⌜ Parted (rulesIn (now s)) (placeTestsIn (now s)) (now c) ⌝ }
     ensures { λ r. ⌜ leftBy r (now (buf .exit))
-        ≡ graphWritten arity (rulesIn (now (s .entry))) (graphIn (now (s .entry)) (now (c .entry))) (now (buf .entry)) ⌝ }
+        ≡ graphWritten arity (rulesIn (now (s .entry))) (grownIn (now (s .entry)) (now (c .entry))) (now (buf .entry)) ⌝ }
 {
     let mut keys = [0u64; 4097];
     let mut runs = [0u64; 384];
@@ -49,10 +49,10 @@ fn build_cut(
     c: &mut [u64],
     buf: &mut [u8],
 ) -> Built
-    requires { ⌜ ((all : List Patterns) × Compiling arity (now b) (now numbers) (now s) (now c) all) ⌝ }
-    ensures { λ r. ⌜ ((all : List Patterns)
-        → Compiling arity (now (b .entry)) (now (numbers .entry)) (now (s .entry)) (now (c .entry)) all
-        → leftBy r (now (buf .exit)) ≡ graphWritten arity (length all) (graphOf all) (now (buf .entry))) ⌝ }
+    requires { ⌜ ((order : List ℕ) × (all : List Patterns) × Compiling arity (now b) (now numbers) (now s) (now c) order all) ⌝ }
+    ensures { λ r. ⌜ ((order : List ℕ) (all : List Patterns)
+        → Compiling arity (now (b .entry)) (now (numbers .entry)) (now (s .entry)) (now (c .entry)) order all
+        → leftBy r (now (buf .exit)) ≡ graphWritten arity (length all) (graphIn all order) (now (buf .entry))) ⌝ }
 {
     compiled::table_rules(b, arity as usize, numbers, s, c);
     build_tables(arity, s, c, buf)
@@ -61,20 +61,22 @@ fn build_cut(
 // The same in room for the cuts of a small sheet, and of every sheet: a large array takes longer to clear than a small graph to
 // build.
 fn build_small(b: &[u8], arity: u8, numbers: &[u8; 680], s: &mut Tables, buf: &mut [u8]) -> Built
-    requires { ⌜ ((all : List Patterns) × Compiling arity (now b) (now numbers) (now s) (replicate 320 0) all) ⌝ }
-    ensures { λ r. ⌜ ((all : List Patterns)
-        → Compiling arity (now (b .entry)) (now (numbers .entry)) (now (s .entry)) (replicate 320 0) all
-        → leftBy r (now (buf .exit)) ≡ graphWritten arity (length all) (graphOf all) (now (buf .entry))) ⌝ }
+    requires { ⌜ ((order : List ℕ) × (all : List Patterns)
+        × Compiling arity (now b) (now numbers) (now s) (replicate 320 0) order all) ⌝ }
+    ensures { λ r. ⌜ ((order : List ℕ) (all : List Patterns)
+        → Compiling arity (now (b .entry)) (now (numbers .entry)) (now (s .entry)) (replicate 320 0) order all
+        → leftBy r (now (buf .exit)) ≡ graphWritten arity (length all) (graphIn all order) (now (buf .entry))) ⌝ }
 {
     let mut c = [0u64; 320];
     build_cut(b, arity, numbers, s, &mut c, buf)
 }
 
 fn build_large(b: &[u8], arity: u8, numbers: &[u8; 680], s: &mut Tables, buf: &mut [u8]) -> Built
-    requires { ⌜ ((all : List Patterns) × Compiling arity (now b) (now numbers) (now s) (replicate 8256 0) all) ⌝ }
-    ensures { λ r. ⌜ ((all : List Patterns)
-        → Compiling arity (now (b .entry)) (now (numbers .entry)) (now (s .entry)) (replicate 8256 0) all
-        → leftBy r (now (buf .exit)) ≡ graphWritten arity (length all) (graphOf all) (now (buf .entry))) ⌝ }
+    requires { ⌜ ((order : List ℕ) × (all : List Patterns)
+        × Compiling arity (now b) (now numbers) (now s) (replicate 8256 0) order all) ⌝ }
+    ensures { λ r. ⌜ ((order : List ℕ) (all : List Patterns)
+        → Compiling arity (now (b .entry)) (now (numbers .entry)) (now (s .entry)) (replicate 8256 0) order all
+        → leftBy r (now (buf .exit)) ≡ graphWritten arity (length all) (graphIn all order) (now (buf .entry))) ⌝ }
 {
     let mut c = [0u64; 8256];
     build_cut(b, arity, numbers, s, &mut c, buf)
@@ -93,7 +95,8 @@ fn build_listed(b: &[u8], arity: u8, numbers: &[u8; 680], s: &mut Tables, buf: &
     build_large(b, arity, numbers, s, buf)
 }
 
-// Lists the tests of a sheet of so many rules in its tables, asked lowest first.
+// Lists the tests of a sheet of so many rules in its tables, asked lowest first. Not the tests of another sheet, nor asked in the
+// order of the rules.
 fn list_sheet(
     rules: u8,
     words: &[u64; 11],
@@ -101,7 +104,12 @@ fn list_sheet(
     pairs: usize,
     s: &mut Tables,
     numbers: &mut [u8; 680],
-) {
+)
+    requires { ⌜ (length (now words) ≡ 11) × (length (now codes) ≡ 65) × (length (placesIn (now words)) + pairs ≤ 64) ⌝ }
+    requires { ⌜ (now s ≡ replicate 324 0) × (now numbers ≡ replicate 680 0) ⌝ }
+    ensures { λ _. ⌜ now (s .exit) ≡ testsFor (placesIn (now (words .entry))) (take pairs (now (codes .entry))) rules ⌝ }
+    ensures { λ _. ⌜ now (numbers .exit) ≡ numberAll (placesIn (now (words .entry))) 0 (replicate 680 0) ⌝ }
+{
     s[0] = rules as u64;
     test_list::list_tests(words, codes, pairs, s, numbers);
     turns::lowest_first(s);

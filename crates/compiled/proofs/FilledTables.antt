@@ -4,18 +4,22 @@ use mathlib.Core.Path.{_≡_, sym, ap, _∙_, subst}
 use mathlib.Core.List.{List}
 use mathlib.Core.Logic.{inl, inr}
 use native.Mathlib.Omega.{arith}
+use native.Mathlib.Nat.{lt-of-lt-of-le}
 use lib.Dec.{ltb}
 use lib.ListN.{length, getD}
+use lib.Pow.{pow-mono}
 use Rattle.basics.specs.Lists.{All}
 use Rattle.basics.proofs.ListLaws.{all-at}
 use Rattle.basics.proofs.Positions.{mem-at}
 use Rattle.masks.specs.Mask.{maskOf}
+use Rattle.masks.proofs.Membership.{has-lt}
 use Rattle.terms.specs.Pattern.{Patterns}
 use Rattle.sheet_tests.specs.SheetTests.{sheetTests}
 use Rattle.decision.specs.Rules.{hasTest}
-use Rattle.decision.specs.Graph.{lowestFirst}
 use Rattle.tables.specs.views.Planes.{rulesIn, placeTestsIn}
 use Rattle.tables.specs.views.TablesOf.{TablesOf}
+use Rattle.tables.specs.views.Turns.{Turns}
+use Rattle.tables.proofs.FirstAsked.{same-turns, first-asked}
 use Rattle.cuts.specs.views.Cuts.{Cut, cutWith, partAt, countAt, cutAt, cutsIn, Parted}
 use Rattle.cuts.specs.views.CutsOf.{cutsTo, CutsOf}
 use Rattle.cuts.proofs.AscendingCuts.{cuts-coded}
@@ -25,10 +29,9 @@ use Rattle.rows.proofs.TestsRight.{tests-are, tests-near, tests-coded, tests-sp
 use Rattle.compiled.specs.views.Compiling.{Compiling, Compiled}
 use Rattle.compiled.proofs.PartReads.{cuts-count}
 use Rattle.compiled.proofs.SoundCodes.{rules-sound}
-use Rattle.compiled.proofs.FirstLowest.{first-asked}
 use Rattle.compiled.proofs.Filling.{Filled, few-tests, filled-few}
 
-module _ {arity : ℕ} {b numbers s₀ c₀ : List ℕ} {all : List Patterns} (g : Compiling arity b numbers s₀ c₀ all) (s c : List ℕ)
+module _ {arity : ℕ} {b numbers s₀ c₀ order : List ℕ} {all : List Patterns} (g : Compiling arity b numbers s₀ c₀ order all) (s c : List ℕ)
     (f : Filled g (rulesIn s₀) s c) where
   abbrev rules : ℕ
   rules = rulesIn s₀
@@ -39,7 +42,11 @@ module _ {arity : ℕ} {b numbers s₀ c₀ : List ℕ} {all : List Patterns} (g
   places : placeTestsIn s ≡ placeTestsIn s₀
   places = f .same 2 (inl (omega arith))
 
-  tables-are : TablesOf all (lowestFirst all) s
+  -- The plane of turns is as it was.
+  turns-are : Turns s order
+  turns-are = same-turns (λ t. f .same (260 + t) (inr (omega arith))) (g .turns)
+
+  tables-are : TablesOf all order s
   tables-are = record {
     fewRules = omega (arith, are, g .fewRules);
     fewTests = few-tests g;
@@ -62,7 +69,9 @@ module _ {arity : ℕ} {b numbers s₀ c₀ : List ℕ} {all : List Patterns} (g
     under = λ t n h is.
         f .same (196 + t) (inr (omega arith))
         ∙ unknown-settles arity all (g .arguments) (g .accepted) numbers s₀ (g .listed) t n h is;
-    first = λ set within pending. first-asked (length (sheetTests all)) set (few-tests g) within pending;
+    first = λ set within pending.
+        first-asked s order set turns-are (lt-of-lt-of-le within (pow-mono (few-tests g))) pending
+        (λ t h. g .asked t (has-lt (length (sheetTests all)) set t within h));
   }
 
   cuts-are : CutsOf all c
@@ -97,7 +106,7 @@ module _ {arity : ℕ} {b numbers s₀ c₀ : List ℕ} {all : List Patterns} (g
         coded = coded;
       })
 
-  pub filled-done : Compiled all s c
+  pub filled-done : Compiled all order s c
   filled-done = record {
     tablesAre = tables-are;
     cutsAre = cuts-are;

@@ -57,7 +57,7 @@ column-yes i p {m} e h is =
 column-no : (i : ℕ) (p : ℕ → Bool) {m : ℕ} → m ≡ maskOf i p → p i ≡ false → m ≡ maskOf (suc i) p
 column-no i p e is = turn-no i p e is ∙ ap (λ (n : ℕ). maskOf n p) (add-one i)
 
-module _ {arity : ℕ} {b numbers s₀ c₀ : List ℕ} {all : List Patterns} (g : Compiling arity b numbers s₀ c₀ all) where
+module _ {arity : ℕ} {b numbers s₀ c₀ order : List ℕ} {all : List Patterns} (g : Compiling arity b numbers s₀ c₀ order all) where
   abbrev l : TestsOf all numbers s₀
   l = g .listed
 

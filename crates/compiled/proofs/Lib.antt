@@ -5,7 +5,6 @@ pub mod ColumnTurns
 pub mod NoteTurns
 pub mod SoundCodes
 pub mod RuleWants
-pub mod FirstLowest
 pub mod Filling
 pub mod FilledTables
 pub mod RulesTabled

@@ -18,7 +18,8 @@ use Rattle.compiled.proofs.FilledTables.{filled-done}
 
 module _ (arity : ℕ) (b numbers s₀ c₀ : List ℕ) where
   -- Behind the first i rules, which take so many bytes: these are left, and the first are in the tables and the cuts.
-  pub record Left (all : List Patterns) (g : Compiling arity b numbers s₀ c₀ all) (i at : ℕ) (s c : List ℕ) : Type 0 where
+  pub record Left (order : List ℕ) (all : List Patterns) (g : Compiling arity b numbers s₀ c₀ order all) (i at : ℕ) (s c : List ℕ)
+      : Type 0 where
     pub used : ℕ
     pub left : List Patterns
     pub read : readRules arity (rulesIn s₀ - i) (drop at b) ≡ took used left
@@ -26,11 +27,12 @@ module _ (arity : ℕ) (b numbers s₀ c₀ : List ℕ) where
     pub filled : Filled g i s c
 
   abbrev pub Tabling : ℕ → ℕ → List ℕ → List ℕ → Type 0
-  Tabling i at s c = (all : List Patterns) (g : Compiling arity b numbers s₀ c₀ all) → Left all g i at s c
+  Tabling i at s c =
+      (order : List ℕ) (all : List Patterns) (g : Compiling arity b numbers s₀ c₀ order all) → Left order all g i at s c
 
   -- Before the first rule all are left,
   pub tabling-start : Tabling 0 0 s₀ c₀
-  tabling-start all g =
+  tabling-start order all g =
       let whole : rulesIn s₀ - 0 ≡ rulesIn s₀ = omega arith in
       record {
         used = g .bytes;
@@ -40,25 +42,25 @@ module _ (arity : ℕ) (b numbers s₀ c₀ : List ℕ) where
         filled = filled-start g;
       }
 
-  module _ (i at : ℕ) (s c : List ℕ) (tabling : Tabling i at s c) (all : List Patterns)
-      (g : Compiling arity b numbers s₀ c₀ all) where
+  module _ (i at : ℕ) (s c : List ℕ) (tabling : Tabling i at s c) (order : List ℕ) (all : List Patterns)
+      (g : Compiling arity b numbers s₀ c₀ order all) where
     -- and after the last all are in.
-    pub tabling-end : i ≡ rulesIn s₀ → Compiled all s c
-    tabling-end e = filled-done g s c (subst (λ (k : ℕ). Filled g k s c) e (tabling all g .filled))
+    pub tabling-end : i ≡ rulesIn s₀ → Compiled all order s c
+    tabling-end e = filled-done g s c (subst (λ (k : ℕ). Filled g k s c) e (tabling order all g .filled))
 
     module _ (h : i < rulesIn s₀) where
       -- Where a rule is refused, so are all.
       pub tabling-refused : {C : Type 0} {q : ℕ} → readRule arity (drop at b) ≡ refused q → C
       tabling-refused no-rule =
           let none = row-refused [] _∷_ (readRule arity) (rulesIn s₀ - i) (drop at b) (omega arith) no-rule in
-          let d = sym (tabling all g .read) ∙ none in
+          let d = sym (tabling order all g .read) ∙ none in
           clash (cc)
 
       module _ {k : ℕ} (rule : Patterns) (one : readRule arity (drop at b) ≡ took k rule) where
         others : (used : ℕ) × (rs : List Patterns) × (readRules arity (rulesIn s₀ - i - 1) (drop k (drop at b)) ≡ took used rs)
             × (drop i all ≡ rule ∷ rs)
         others =
-            let l = tabling all g in
+            let l = tabling order all g in
             let next = sym (row-next [] _∷_ (readRule arity) (rulesIn s₀ - i) (drop at b) (omega arith) one) ∙ l .read in
             let (used, rs, read, sum, joined) = after-took k (λ (rs : List Patterns). rule ∷ rs) _ next in
             (used, rs, read, l .rest ∙ joined)
@@ -72,7 +74,7 @@ module _ (arity : ℕ) (b numbers s₀ c₀ : List ℕ) where
             ∙ ap (λ (j : ℕ). getD all j pnil) zero-more
 
         -- With it one less is left.
-        pub tabling-turn : {s′ c′ : List ℕ} → Filled g (i + 1) s′ c′ → Left all g (i + 1) (at + k) s′ c′
+        pub tabling-turn : {s′ c′ : List ℕ} → Filled g (i + 1) s′ c′ → Left order all g (i + 1) (at + k) s′ c′
         tabling-turn f =
             let less : rulesIn s₀ - (i + 1) ≡ rulesIn s₀ - i - 1 = omega arith in
             record {

@@ -4,7 +4,7 @@ use sheet::Took;
 use tables::Tables;
 ghost use mathlib.Core.Path.{_≡_};
 ghost use mathlib.Core.List.{List};
-ghost use Prim.Native.Nat.{_+_, _≤_, _<_};
+ghost use Prim.Native.Nat.{ℕ, _+_, _≤_, _<_};
 ghost use lib.ListN.{length, set};
 ghost use Rattle.basics.specs.Lists.{All};
 ghost use Rattle.terms.specs.Pattern.{Patterns};
@@ -68,10 +68,10 @@ fn table_rule(
 // Puts the rules that the input begins with into the tables and the cuts, which hold none yet. Not the rows of a sheet with its
 // rules in another order, nor the cuts of another sheet with these tests.
 pub fn table_rules(b: &[u8], arity: usize, numbers: &[u8; 680], s: &mut Tables, c: &mut [u64])
-    requires { ⌜ ((all : List Patterns) × Compiling arity (now b) (now numbers) (now s) (now c) all) ⌝ }
-    ensures { λ _. ⌜ ((all : List Patterns)
-        → Compiling arity (now (b .entry)) (now (numbers .entry)) (now (s .entry)) (now (c .entry)) all
-        → Compiled all (now (s .exit)) (now (c .exit))) ⌝ }
+    requires { ⌜ ((order : List ℕ) × (all : List Patterns) × Compiling arity (now b) (now numbers) (now s) (now c) order all) ⌝ }
+    ensures { λ _. ⌜ ((order : List ℕ) (all : List Patterns)
+        → Compiling arity (now (b .entry)) (now (numbers .entry)) (now (s .entry)) (now (c .entry)) order all
+        → Compiled all order (now (s .exit)) (now (c .exit))) ⌝ }
 {
     let rules = tables::rules(s);
     let mut notes = [0u64; 680];

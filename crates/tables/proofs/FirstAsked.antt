@@ -13,7 +13,8 @@ use lib.Dec.{eqb}
 use borrow.Author.Tests.{ne-eqb}
 use Rattle.basics.specs.Lists.{Mem, All}
 use Rattle.basics.proofs.Booleans.{by-test, and-both}
-use Rattle.basics.proofs.ListLaws.{mem-cases, mem-none, all-at}
+use Rattle.basics.proofs.ListLaws.{mem-cases, mem-none, all-at, all-map}
+use Rattle.basics.proofs.Sorted.{AscendingBy}
 use Rattle.masks.specs.Mask.{has}
 use Rattle.masks.proofs.Membership.{has-and, has-pos}
 use Rattle.masks.proofs.Operations.{and-fits}
@@ -132,3 +133,20 @@ first-asked s order set turns small pending whole =
     let (f, is, first) =
     order-first s set order turns (trailingZeros 64 set) (trailing-in 64 set small (omega arith)) whole in
     is ∙ ap some (sym (first-is s set f first small))
+
+-- Tables with the same plane ask in the same order.
+pub same-turns
+    : {s u order : List ℕ} → ((t : ℕ) → beforeIn u t ≡ beforeIn s t) → Turns s order → Turns u order
+same-turns {s} {u} {order} same turns = record {
+  apart = all-map (λ (t : ℕ). has (beforeIn s t) t ≡ false) (λ (t : ℕ). has (beforeIn u t) t ≡ false)
+      (λ t h. ap (λ (m : ℕ). has m t) (same t) ∙ h) order (turns .apart);
+  ascends = go order (turns .ascends);
+}
+  where
+    go : (l : List ℕ) → AscendingBy (Asks s) l → AscendingBy (Asks u) l
+    go [] up = tt
+    go (t ∷ l) up = (
+      all-map (Asks s t) (Asks u t)
+          (λ v h. (ap (λ (m : ℕ). has m t) (same v) ∙ h .0, ap (λ (m : ℕ). has m v) (same t) ∙ h .1)) l (up .0),
+      go l (up .1),
+    )

@@ -10,8 +10,8 @@ table-rules-requires c κs = search needs
 
 build-tables-requires : tie.Need-build-tables-requires
 build-tables-requires c κs =
-    let (all, g) = c .before .before .before .before .before .before .before .before .before .before .before .pre in
-    compiled-parted (c .before .before .before .before .before .table-rules .ensures all g)
+    let (order, all, g) = c .before .before .before .before .before .before .before .before .before .before .before .pre in
+    compiled-parted (c .before .before .before .before .before .table-rules .ensures order all g)
 
 same-length : tie.Need-same-length
 same-length c = search needs
@@ -20,10 +20,10 @@ same-length-2 : tie.Need-same-length-2
 same-length-2 c = search needs
 
 returns : tie.Need-returns
-returns c all g =
+returns c order all g =
     let a = c .before .before .before .before .before .before .before .before .before .before .before .before .before .before .args in
     c .before .before .build-tables .ensures
-    ∙ compiled-written (a .arity) (a .buf .now) (g .accepted) (c .before .before .before .before .before .before .before .before .table-rules .ensures all g)
+    ∙ compiled-written (a .arity) (a .buf .now) (g .accepted) (c .before .before .before .before .before .before .before .before .table-rules .ensures order all g)
 
 pub build-cut-spec : {M : Type 1} → statement M
 build-cut-spec =

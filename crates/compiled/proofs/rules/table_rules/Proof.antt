@@ -43,18 +43,18 @@ part-read-rule-end : tie.Need-part-read-rule-end Inv-loop μ-loop
 part-read-rule-end c = search needs
 
 read-rule-requires : tie.Need-read-rule-requires Inv-loop μ-loop
-read-rule-requires c κs = (c .before .before .before .before .before .before .before .before .pre .1 .arguments, c .before .before .before .loop .inv .2)
+read-rule-requires c κs = (c .before .before .before .before .before .before .before .before .pre .2 .arguments, c .before .before .before .loop .inv .2)
 
 enum-told : tie.Need-enum-told Inv-loop μ-loop
 enum-told c = search needs
 
 same-length : tie.Need-same-length Inv-loop μ-loop
 same-length c =
-    let (all, g) = c .before .before .before .before .before .before .before .before .before .before .before .pre in
-    c .before .before .before .before .before .before .loop .inv .3 all g .filled .long
+    let (order, all, g) = c .before .before .before .before .before .before .before .before .before .before .before .pre in
+    c .before .before .before .before .before .before .loop .inv .3 order all g .filled .long
 
 returns : tie.Need-returns Inv-loop μ-loop
-returns c all g =
+returns c order all g =
     let top = c .before .before .before .before .before .before in
     let turn = top .loop in
     let start = top .before .before .before .before .before in
@@ -63,7 +63,7 @@ returns c all g =
     let read = c .before .before .read-rule in
     let notes = read .last .1 .1 .0 in
     let none = rule-refused (a .arity) (turn .at) s notes (read .result) (read .ensures .0) (c .enum-told .given .1) in
-    tabling-refused (a .arity) s (a .numbers .now) (a .s .now) (a .c .now) (turn .i) (turn .at) (turn .s) (turn .c) (turn .inv .3) all g
+    tabling-refused (a .arity) s (a .numbers .now) (a .s .now) (a .c .now) (turn .i) (turn .at) (turn .s) (turn .c) (turn .inv .3) order all g
     (omega (arith, c .before .before .before .before .before .loop-test .taken, top .before .rules .ensures)) none
 
 enum-known-read : tie.Need-enum-known-read Inv-loop μ-loop
@@ -80,13 +80,13 @@ table-rule-requires c κs =
     let notes = read .last .1 .1 .0 in
     let known = top .before .before .before .before .shared-slice-known .given in
     let bytes = bytes-known s (λ i. omega (arith, known i)) in
-    let (all, g) = start .pre in
+    let (order, all, g) = start .pre in
     let rule =
     rule-read (a .arity) (turn .at) s notes (read .result) (read .ensures .0) (g .arguments) bytes (c .before .before .before .before .read .given .1)
     (read .ensures .1) in
     let inside : turn .i < rulesIn (a .s .now) = omega (arith, c .before .before .before .before .before .before .before .before .before .loop-test .taken, top .before .rules .ensures) in
-    let filled = turn .inv .3 all g .filled in
-    let own = tabling-rule (a .arity) s (a .numbers .now) (a .s .now) (a .c .now) (turn .i) (turn .at) (turn .s) (turn .c) (turn .inv .3) all g inside (rule .rule) (rule .read) in (
+    let filled = turn .inv .3 order all g .filled in
+    let own = tabling-rule (a .arity) s (a .numbers .now) (a .s .now) (a .c .now) (turn .i) (turn .at) (turn .s) (turn .c) (turn .inv .3) order all g inside (rule .rule) (rule .read) in (
       (
         rule .made,
         read .ensures .1 .entries,
@@ -110,7 +110,7 @@ add-at c =
     let notes = read .last .1 .1 .0 in
     let known = top .before .before .before .before .shared-slice-known .given in
     let bytes = bytes-known s (λ i. omega (arith, known i)) in
-    let (all, g) = start .pre in
+    let (order, all, g) = start .pre in
     let rule =
     rule-read (a .arity) (turn .at) s notes (read .result) (read .ensures .0) (g .arguments) bytes (c .before .before .before .before .before .before .before .read .given .1)
     (read .ensures .1) in
@@ -133,7 +133,7 @@ loop-again c =
     let notes = read .last .1 .1 .0 in
     let known = top .before .before .before .before .shared-slice-known .given in
     let bytes = bytes-known s (λ i. omega (arith, known i)) in
-    let (all, g) = start .pre in
+    let (order, all, g) = start .pre in
     let rule =
     rule-read (a .arity) (turn .at) s notes (read .result) (read .ensures .0) (g .arguments) bytes (c .before .before .before .before .before .before .before .read .given .1)
     (read .ensures .1) in
@@ -142,25 +142,25 @@ loop-again c =
       omega arith,
       omega (arith, rule .used),
       read .ensures .1 .entries,
-      λ all′ g′.
-          tabling-turn (a .arity) s (a .numbers .now) (a .s .now) (a .c .now) (turn .i) (turn .at) (turn .s) (turn .c) (turn .inv .3) all′ g′ inside (rule .rule) (rule .read)
-          (filled-turn g′ (turn .i) (turn .s) (turn .c) (turn .inv .3 all′ g′ .filled) inside _
-          (rule .noted ∙ ap ruleNotes (tabling-rule (a .arity) s (a .numbers .now) (a .s .now) (a .c .now) (turn .i) (turn .at) (turn .s) (turn .c) (turn .inv .3) all′ g′ inside (rule .rule) (rule .read)))
+      λ order′ all′ g′.
+          tabling-turn (a .arity) s (a .numbers .now) (a .s .now) (a .c .now) (turn .i) (turn .at) (turn .s) (turn .c) (turn .inv .3) order′ all′ g′ inside (rule .rule) (rule .read)
+          (filled-turn g′ (turn .i) (turn .s) (turn .c) (turn .inv .3 order′ all′ g′ .filled) inside _
+          (rule .noted ∙ ap ruleNotes (tabling-rule (a .arity) s (a .numbers .now) (a .s .now) (a .c .now) (turn .i) (turn .at) (turn .s) (turn .c) (turn .inv .3) order′ all′ g′ inside (rule .rule) (rule .read)))
           (put .0) (put .1)),
     )
 
 same-length-2 : tie.Need-same-length-2 Inv-loop μ-loop
 same-length-2 c =
-    let (all, g) = c .before .before .before .before .before .before .pre in
-    c .before .loop .inv .3 all g .filled .long
+    let (order, all, g) = c .before .before .before .before .before .before .pre in
+    c .before .loop .inv .3 order all g .filled .long
 
 returns-2 : tie.Need-returns-2 Inv-loop μ-loop
-returns-2 c all g =
+returns-2 c order all g =
     let start = c .before .before .before .before .before .before in
     let turn = c .before .loop in
     let a = start .args in
     let s = a .b .now in
-    tabling-end (a .arity) s (a .numbers .now) (a .s .now) (a .c .now) (turn .i) (turn .at) (turn .s) (turn .c) (turn .inv .3) all g
+    tabling-end (a .arity) s (a .numbers .now) (a .s .now) (a .c .now) (turn .i) (turn .at) (turn .s) (turn .c) (turn .inv .3) order all g
     (omega (arith, c .loop-test .left, turn .inv .0, c .before .before .rules .ensures))
 
 pub table-rules-spec : {M : Type 1} → statement M
