@@ -16,7 +16,7 @@ use Rattle.sheet_tests.specs.CheckSheet.{acceptSheet, AcceptedSheet}
 use Rattle.accepted.proofs.WrittenBytes.{sheet-bytes}
 use Rattle.accepted.proofs.Acceptance.{sheet-accepted}
 use Rattle.decision.specs.Node.{Node}
-use Rattle.decision.specs.Graph.{lowestFirst, graphOf}
+use Rattle.decision.specs.Graph.{graphIn}
 use Rattle.decision.specs.GraphBytes.{graphBytes}
 use Rattle.decision.specs.AcceptedGraph.{AcceptedGraph}
 use Rattle.decision.proofs.built.BuiltGraph.{built-graph-accepted}
@@ -45,12 +45,12 @@ module _ (sheet : Sheet) (accepted : AcceptedSheet sheet) where
   written-brought nodes ok =
       ap (λ r. andThen r (λ _ x. readGraph x (written nodes))) sheet-read ∙ graph-brought sheet (accepted .sound) nodes ok
 
-  -- The bytes of a built graph are accepted by the check.
+  -- The bytes of a graph built in whatever order are accepted by the check.
   pub built-checked
-      : (nodes : List (Node ℕ)) → graphOf (sheet .rules) ≡ some nodes
+      : (order : List ℕ) (nodes : List (Node ℕ)) → graphIn (sheet .rules) order ≡ some nodes
       → graphValues (graphReading (sheetBytes sheet) (written nodes)) ≡ record { refusal = 0; nodes = length nodes }
-  built-checked nodes built =
-      ap graphValues (written-brought nodes (built-graph-accepted sheet accepted (lowestFirst (sheet .rules)) nodes built))
+  built-checked order nodes built =
+      ap graphValues (written-brought nodes (built-graph-accepted sheet accepted order nodes built))
 
 module _ (s g : List ℕ) (s-bytes : All IsByte s) (g-bytes : All IsByte g) where
   graph-written : {k : ℕ} {nodes : List (Node ℕ)} → graphReading s g ≡ took k nodes → WrittenGraph s g nodes

@@ -14,8 +14,8 @@ use Rattle.basics.specs.Lists.{All}
 use Rattle.sheet.specs.Sheet.{Sheet}
 use Rattle.accepted.proofs.Acceptance.{sheet-accepted}
 use Rattle.decision.specs.Node.{Node}
-use Rattle.decision.specs.Graph.{lowestFirst}
 use Rattle.decision.proofs.built.BuiltGraph.{built-graph-accepted}
+use Rattle.order.specs.Asking.{lowest}
 use Rattle.graph_check.specs.CheckGraph.{graphReading}
 use Rattle.graph_check.proofs.GraphBytes.{written-brought}
 use Rattle.lines.specs.Lines.{refusedLine}
@@ -41,8 +41,8 @@ pub built-refused
     : (s input : List ℕ) (q : ℕ) {g : List ℕ} → outcome (Refused q) g ≡ buildOutcome s emptyGraph → refusedLine q ≡ listed s input
 unfolding listed
 built-refused s input zero e =
-    let made = outcome-built s emptyGraph (sym (ap (λ (x : BuildOutcome). x .values .refusal) e)) in
-    absurd (omega (arith, ap (λ (x : BuildOutcome). x .values .bytes) (e ∙ built-outcome s emptyGraph made)))
+    let made = outcome-built lowest s emptyGraph (sym (ap (λ (x : BuildOutcome). x .values .refusal) e)) in
+    absurd (omega (arith, ap (λ (x : BuildOutcome). x .values .bytes) (e ∙ built-outcome lowest s emptyGraph made)))
 built-refused s input (suc q) {g = g} e =
     let asked : eqb (suc q) 0 ≡ false = ne-eqb (suc q) 0 (λ (z : suc q ≡ 0). omega arith) in
     sym (ap (λ (b : Bool). cond b (builtLines s (take 0 g) 0 input) (refusedLine (suc q))) asked) ∙ ap (linesAfter s input) e
@@ -56,8 +56,8 @@ built-written s input e = ap (linesAfter s input) e
 
 -- A build that is not refused leaves the graph of its sheet at the front of its buffer:
 module _ (s buf : List ℕ) {n b : ℕ} {g : List ℕ} (e : outcome (Written n b) g ≡ buildOutcome s buf) where
-  made : Building s buf
-  made = outcome-built s buf (sym (ap (λ (x : BuildOutcome). x .values .refusal) e))
+  made : Building lowest s buf
+  made = outcome-built lowest s buf (sym (ap (λ (x : BuildOutcome). x .values .refusal) e))
 
   abbrev sheet : Sheet
   sheet = made .sheet
@@ -66,7 +66,7 @@ module _ (s buf : List ℕ) {n b : ℕ} {g : List ℕ} (e : outcome (Written n b
   nodes = made .nodes
 
   is : outcome (Written n b) g ≡ writtenIf true (length nodes) (bytesOf sheet nodes) buf
-  is = e ∙ built-outcome s buf made
+  is = e ∙ built-outcome lowest s buf made
 
   many : n ≡ length nodes
   many = ap (λ (x : BuildOutcome). x .values .nodes) is
@@ -85,7 +85,7 @@ module _ (s buf : List ℕ) {n b : ℕ} {g : List ℕ} (e : outcome (Written n b
   pub built-accepted : All IsByte s → GraphFor s (take b g) n
   built-accepted areBytes =
       let (ok, same, all) = sheet-accepted s areBytes (made .taken) sheet .0 (made .accepted) in
-      let accepted = built-graph-accepted sheet ok (lowestFirst (sheet .rules)) nodes (made .graph) in
+      let accepted = built-graph-accepted sheet ok (made .order (sheet .rules)) nodes (made .graph) in
       record {
         nodes = nodes;
         read =

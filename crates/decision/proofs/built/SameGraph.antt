@@ -2,16 +2,16 @@
 -- the same equality tests have one graph, in whatever order the tests are asked.
 use Prim.Native.Nat.{ℕ}
 use mathlib.Core.Path.{_≡_, refl, ap, _∙_}
-use mathlib.Core.Bool.{true, _&&_, not, cond}
-use mathlib.Core.List.{List, [], _∷_, map}
+use mathlib.Core.Bool.{Bool, true, _&&_, not, cond}
+use mathlib.Core.List.{List, [], _∷_, _++_, map}
 use mathlib.Core.Option.{Option, some, none}
 use lib.ListN.{length}
 use Rattle.masks.specs.Mask.{has, members}
-use Rattle.basics.specs.Lists.{anyBelow, countFrom}
+use Rattle.basics.specs.Lists.{filter, anyBelow, countFrom}
 use Rattle.terms.specs.Pattern.{Patterns}
 use Rattle.terms.specs.RuleTests.{placeTests, pairTests}
 use Rattle.sheet_tests.specs.SheetTests.{Test, place, pair, sheetTests}
-use Rattle.decision.specs.Rules.{testAt, hasTest, wantAt, rulesWhere, testsWhere}
+use Rattle.decision.specs.Rules.{sameTest, testAt, hasTest, wantAt, rulesWhere, testsWhere}
 use Rattle.decision.specs.Key.{Key, Vertex, leaf, asking, suspendNode, twoOrMore, sameVertex}
 use Rattle.decision.specs.Key.{isHeld, keyOf, rootKey, settled, vertexWith, vertexOf}
 use Rattle.decision.specs.Cases.{Case, casesOf}
@@ -19,6 +19,7 @@ use Rattle.decision.specs.Node.{switch, pairNode, edges, mapNode}
 use Rattle.decision.specs.Edges.{firstIn, settledByUnknown, caseKeeps, gatherWants, liveWants, leadsTo, butTest}
 use Rattle.decision.specs.Edges.{byCase, byNone, byUnknown, byOther, askNode, askFirst, nodeOf}
 use Rattle.decision.specs.Graph.{explore, numberIn, mostNodes, vertices, numberedIf, graphIn, lowestFirst, graphOf}
+use Rattle.decision.specs.PlaceOrder.{isPair, numbersWhere, orderBy}
 use Rattle.decision.proofs.rules.SameTests.{same-tests-same-count, same-tests-same-tests, same-test-at, same-has-test}
 use Rattle.decision.proofs.rules.SameTests.{same-want-at, same-rules-where, same-tests-where}
 
@@ -126,7 +127,17 @@ module _
     pub same-tests-same-graph-in : (order : List ℕ) → graphIn rules order ≡ graphIn others order
     same-tests-same-graph-in order = ap (numberedIf rules order) (vertices-same order) ∙ numbered-if order (vertices others order)
 
+    -- The tests are numbered alike, and a list of places asks them in the same order.
+    pub same-tests-same-numbers : lowestFirst rules ≡ lowestFirst others
+    same-tests-same-numbers = λ i. countFrom 0 (length (tests i))
+
+    numbers-where : (f : Test → Bool) → numbersWhere f rules ≡ numbersWhere f others
+    numbers-where f = λ i. filter (λ (t : ℕ). f (test-at i t)) (same-tests-same-numbers i)
+
+    pub same-tests-same-order : (asked : List ℕ) → orderBy asked rules ≡ orderBy asked others
+    same-tests-same-order [] = numbers-where isPair
+    same-tests-same-order (p ∷ asked) = λ i. numbers-where (sameTest (place p)) i ++ same-tests-same-order asked i
+
     pub same-tests-same-graph : graphOf rules ≡ graphOf others
     same-tests-same-graph =
-        same-tests-same-graph-in (lowestFirst rules)
-        ∙ ap (λ (l : List Test). graphIn others (countFrom 0 (length l))) tests
+        same-tests-same-graph-in (lowestFirst rules) ∙ ap (graphIn others) same-tests-same-numbers

@@ -19,7 +19,7 @@ use Rattle.decision.specs.Key.{suspendNode}
 use Rattle.decision.specs.Node.{Node}
 use Rattle.decision.specs.Path.{nodeAt, mostEdges}
 use Rattle.decision.specs.Walk.{Walk, isMet, atLeaf, atEnd, walk}
-use Rattle.decision.specs.Graph.{lowestFirst, graphOf}
+use Rattle.decision.specs.Graph.{graphIn}
 use Rattle.decision.specs.AcceptedGraph.{AcceptedGraph}
 use Rattle.decision.specs.Waiting.{IsTest, ListedNotKnown}
 use Rattle.decision.proofs.waiting.SameStep.{StillNotKnown, not-known-earlier}
@@ -65,14 +65,13 @@ wait-sentence-accepted rules nodes accepted piece further more w e suspends list
         same-waits rules nodes piece walked further met-still (λ t h. not-known-earlier more (testAt rules t) h) in
         cc
 
--- If a walk of the graph built for an accepted sheet suspends, and every listed test is still not known in a piece
--- filled in further, the walk of that piece suspends, with the same edges and the same wait list.
+-- If a walk of the graph built for an accepted sheet, in whatever order, suspends, and every listed test is still not known in a
+-- piece filled in further, the walk of that piece suspends, with the same edges and the same wait list.
 pub wait-sentence-built
-    : (sheet : Sheet) → AcceptedSheet sheet → (nodes : List (Node ℕ)) → graphOf (sheet .rules) ≡ some nodes
+    : (sheet : Sheet) → AcceptedSheet sheet → (order : List ℕ) (nodes : List (Node ℕ)) → graphIn (sheet .rules) order ≡ some nodes
     → (piece further : Terms) → FilledFurther piece further
     → (w : Walk) → walk (sheet .rules) nodes piece ≡ took 0 w → w .answer ≡ answers.suspend
     → ListedNotKnown (sheet .rules) (w .waits) further
     → walk (sheet .rules) nodes further ≡ took 0 w
-wait-sentence-built sheet accepted nodes built =
-    let graph = built-graph-accepted sheet accepted (lowestFirst (sheet .rules)) nodes built in
-    wait-sentence-accepted (sheet .rules) nodes graph
+wait-sentence-built sheet accepted order nodes built =
+    wait-sentence-accepted (sheet .rules) nodes (built-graph-accepted sheet accepted order nodes built)

@@ -1,5 +1,5 @@
--- Demand 3 for the walk over a built graph, for every accepted sheet and every accepted piece of its arity, whichever
--- of its readings are missing: the walk is refused by no question, its answer is right, it has few edges, it is the
+-- Demand 3 for the walk over a graph built in any asking order, for every accepted sheet and every accepted piece of its arity,
+-- whichever of its readings are missing: the walk is refused by no question, its answer is right, it has few edges, it is the
 -- plain answer, it keeps what it promises for a piece filled in further, and it is the same in every asking order.
 use Prim.Native.Nat.{ℕ, _≤_}
 use mathlib.Core.Path.{_≡_}
@@ -19,10 +19,9 @@ use Rattle.sheet.specs.Sheet.{Sheet}
 use Rattle.sheet_tests.specs.SheetTests.{sheetTests}
 use Rattle.sheet_tests.specs.CheckSheet.{AcceptedSheet, mostTests}
 use Rattle.decision.specs.Node.{Node}
-use Rattle.decision.specs.Graph.{graphIn, lowestFirst, graphOf}
+use Rattle.decision.specs.Graph.{graphIn}
 use Rattle.decision.specs.AskingOrder.{AskingOrder}
 use Rattle.decision.specs.Walk.{Walk, walk}
-use Rattle.decision.proofs.keys.AskedFirst.{lowest-first}
 use Rattle.decision.proofs.walking.BuiltWalk.{WalksRight, given, walk-answers, answer-right, answer-few, walks-right}
 use Rattle.records.specs.Reading.{took}
 
@@ -48,10 +47,10 @@ module _ (sheet : Sheet) (accepted : AcceptedSheet sheet) where
       let other = right-in-every-order q asksQ second builtQ piece ok in
       one-right (sheet .rules) piece (v .answer) (w .answer) (answer-right one e) (answer-right other d)
 
-  module _ (nodes : List (Node ℕ)) (built : graphOf (sheet .rules) ≡ some nodes) where
-    -- The graph of a sheet asks the lowest pending test first, which is an asking order.
+  module _ (order : List ℕ) (asks : AskingOrder (sheet .rules) order) (nodes : List (Node ℕ))
+      (built : graphIn (sheet .rules) order ≡ some nodes) where
     walks : (piece : Terms) → AcceptedPiece (sheet .arity) piece → WalksRight (sheet .rules) nodes piece
-    walks = right-in-every-order (lowestFirst (sheet .rules)) (lowest-first (sheet .rules)) nodes built
+    walks = right-in-every-order order asks nodes built
 
     -- Demand 3: the walk of every accepted piece answers, and the answer is right: it is commit i, execute i, fail or
     -- suspend exactly when the fillings of the piece, met by the rules or not, ask for that.
