@@ -11,6 +11,7 @@ use lib.Dec.{leb, eqb}
 use lib.ListN.{length}
 use Rattle.records.specs.Reading.{Reading, took, refused, ask, andThen, mapReading}
 use Rattle.records.specs.Written.{askFits, resultOf}
+use Rattle.terms.specs.Pattern.{Patterns}
 use Rattle.terms.specs.Answer.{Answer, plainAnswer}
 use Rattle.sheet.specs.Sheet.{Sheet}
 use Rattle.sheet_tests.specs.CheckSheet.{acceptSheet, sheetValues}
@@ -19,24 +20,27 @@ use Rattle.piece.specs.ReadPiece.{readPiece}
 use Rattle.piece.specs.CheckPiece.{pieceValues}
 use Rattle.plain.specs.Plain.{pieceReading, plainReading, readingValues}
 use Rattle.decision.specs.Node.{Node}
-use Rattle.decision.specs.Graph.{graphOf}
+use Rattle.decision.specs.Graph.{graphIn}
 use Rattle.decision.specs.GraphBytes.{graphBytes}
 use Rattle.decision.specs.Walk.{Walk, walk}
 use Rattle.graph.specs.ReadGraph.{readGraph}
 use Rattle.graph_check.specs.CheckGraph.{graphReading, graphValues}
 use Rattle.graph_check.specs.Rewritten.{bytesReading, rewritten}
-use Rattle.build.specs.BuildOutcome.{writtenIf, graphWritten, sheetBuilt, buildOutcome}
+use Rattle.order.specs.Asking.{Asking, lowest, byTable, readAsking}
+use Rattle.order.proofs.Questions.{asking-named}
+use Rattle.build.specs.BuildOutcome.{notBuilt, writtenIf, graphWritten, sheetBuilt, outcomeIn}
 use Rattle.tidy.specs.TidySheet.{tidyBytes}
 use Rattle.tidy.specs.Tidied.{tidied}
 use Rattle.walk.specs.Walking.{graphReply, pieceReply, walkReply, replyValues}
 use Rattle.accepted.proofs.Named.{Named, ask-named, then-named, named-wider}
 use Rattle.accepted.proofs.Questions.{sheet-named}
-use Rattle.promises.specs.Questions.{PieceQuestion, GraphQuestion, PathQuestion, PlainQuestion, CheckQuestion}
-use Rattle.promises.specs.Questions.{RewriteQuestion, TidyQuestion, WalkQuestion, AnswersOr, BuildEnds, WriterEnds}
+use Rattle.promises.specs.Questions.{PieceQuestion, GraphQuestion, PathQuestion, PlainQuestion, AskedQuestion}
+use Rattle.promises.specs.Questions.{CheckQuestion, RewriteQuestion, TidyQuestion, WalkQuestion}
+use Rattle.promises.specs.Questions.{AnswersOr, BuildEnds, WriterEnds}
 use Rattle.promises.proofs.PieceQuestions.{piece-named}
 use Rattle.promises.proofs.GraphQuestions.{graph-named, mapped-named, walk-named}
 use Rattle.promises.proofs.PathEdges.{edges-are-the-path, path-few}
-use Rattle.accepted.specs.Questions.{SheetQuestion}
+use Rattle.accepted.specs.Questions.{Between, SheetQuestion}
 
 -- Each check answers or refuses,
 pub sheet-check-answers : (s : List ℕ) → AnswersOr SheetQuestion (sheetValues (acceptSheet s) .refusal)
@@ -115,22 +119,45 @@ walk-answers s g p = go (walkReply s g p) (walk-reply-named s g p)
 pub edges-within : (s g p : List ℕ) {k : ℕ} {w : Walk} → walkReply s g p ≡ took k w → w .edges ≤ 64
 edges-within s g p e = path-few (edges-are-the-path e)
 
--- The calls that write answer, or refuse and leave the buffer as it was: a build,
-pub build-answers : (s buffer : List ℕ) → BuildEnds buffer (buildOutcome s buffer)
-unfolding buildOutcome
-build-answers s buffer = read (acceptSheet s) (sheet-named s)
+-- Before its graph a build asks the sheet's questions and those of its table.
+sheet-asked : (asking : Asking) (s : List ℕ) → Named (AskedQuestion asking) (acceptSheet s)
+sheet-asked lowest s = sheet-named s
+sheet-asked (byTable table) s =
+    named-wider SheetQuestion (AskedQuestion (byTable table)) (λ q h. inl h) (acceptSheet s) (sheet-named s)
+
+order-asked : (asking : Asking) → Named (AskedQuestion asking) (readAsking asking)
+order-asked lowest = tt
+order-asked (byTable table) =
+    named-wider (Between 28 30) (AskedQuestion (byTable table)) (λ q h. inr h) (readAsking (byTable table))
+    (asking-named (byTable table))
+
+-- The calls that write answer, or refuse and leave the buffer as it was: a build, in document 01's order or by a table,
+pub build-answers : (asking : Asking) (s buffer : List ℕ) → BuildEnds asking buffer (outcomeIn asking s buffer)
+unfolding outcomeIn
+build-answers asking s buffer = read (acceptSheet s) (sheet-asked asking s) (readAsking asking) (order-asked asking)
   where
-    fit : (b : Bool) (n : ℕ) (bytes : List ℕ) → BuildEnds buffer (writtenIf b n bytes buffer)
+    fit : (b : Bool) (n : ℕ) (bytes : List ℕ) → BuildEnds asking buffer (writtenIf b n bytes buffer)
     fit true n bytes = inl refl
     fit false n bytes = inr (inr (omega arith, omega arith), refl)
 
-    grown : (a r : ℕ) (g : Option (List (Node ℕ))) → BuildEnds buffer (graphWritten a r g buffer)
+    grown : (a r : ℕ) (g : Option (List (Node ℕ))) → BuildEnds asking buffer (graphWritten a r g buffer)
     grown a r none = inr (inr (omega arith, omega arith), refl)
     grown a r (some nodes) = fit (leb (length (graphBytes a r nodes)) (length buffer)) (length nodes) (graphBytes a r nodes)
 
-    read : (r : Reading Sheet) → Named SheetQuestion r → BuildEnds buffer (sheetBuilt r buffer)
-    read (took k sheet) h = grown (sheet .arity) (length (sheet .rules)) (graphOf (sheet .rules))
-    read (refused q) h = inr (inl h, refl)
+    read
+        : (r : Reading Sheet) → Named (AskedQuestion asking) r
+        → (o : Reading (List Patterns → List ℕ)) → Named (AskedQuestion asking) o → BuildEnds asking buffer (sheetBuilt r o buffer)
+    read (refused q) h o i = inr (inl h, refl)
+    read (took k sheet) h (refused q) i = inr (inl i, refl)
+    read (took k sheet) h (took n order) i =
+        grown (sheet .arity) (length (sheet .rules)) (graphIn (sheet .rules) (order (sheet .rules)))
+
+-- A refusal hands back no nodes and no bytes and "changes no byte of a lent buffer".
+pub build-refusal-keeps
+    : (asking : Asking) (s buffer : List ℕ) → (outcomeIn asking s buffer .values .refusal ≡ 0 → ⊥)
+    → outcomeIn asking s buffer ≡ notBuilt (outcomeIn asking s buffer .values .refusal) buffer
+build-refusal-keeps asking s buffer not-accepted =
+    elim (build-answers asking s buffer) [ inl e ↦ absurd (not-accepted e) | inr (_, kept) ↦ kept ]
 
 -- and so do all other writers, by their own questions:
 writer-ends

@@ -17,26 +17,29 @@ use Rattle.sheet.specs.Sheet.{Sheet}
 use Rattle.sheet_tests.specs.CheckSheet.{acceptSheet, AcceptedSheet}
 use Rattle.accepted.proofs.Acceptance.{sheet-accepted}
 use Rattle.decision.specs.Node.{Node}
-use Rattle.decision.specs.Graph.{lowestFirst, graphOf}
+use Rattle.decision.specs.Graph.{graphIn}
 use Rattle.decision.specs.GraphBytes.{graphBytes}
+use Rattle.decision.specs.AskingOrder.{AskingOrder}
 use Rattle.decision.specs.AcceptedGraph.{AcceptedGraph}
 use Rattle.decision.proofs.built.BuiltGraph.{built-graph-accepted}
 use Rattle.graph.specs.ReadGraph.{readGraph}
 use Rattle.graph.proofs.Spelled.{graph-brought, graph-read}
 use Rattle.graph_check.specs.CheckGraph.{graphReading, graphValues}
 use Rattle.graph_check.specs.Rewritten.{rewritten}
-use Rattle.build.specs.BuildOutcome.{BuildOutcome, buildOutcome}
+use Rattle.order.specs.Asking.{Asking}
+use Rattle.build.specs.BuildOutcome.{BuildOutcome, outcomeIn}
 use Rattle.build.proofs.BuiltBytes.{built-outcome, outcome-built}
 use Rattle.promises.specs.BuiltGraph.{BuiltGraph}
+use Rattle.promises.proofs.AskingOrders.{asking-asks}
 use Rattle.build.specs.Building.{bytesOf, Building}
 
 -- A built graph is that of an accepted sheet,
-module _ {s buffer g : List ℕ} (built : BuiltGraph s buffer g) where
-  pub built-from : Building s buffer
-  built-from = outcome-built s buffer (built .notRefused)
+module _ {asking : Asking} {s buffer g : List ℕ} (built : BuiltGraph asking s buffer g) where
+  pub built-from : Building asking s buffer
+  built-from = outcome-built asking s buffer (built .notRefused)
 
   -- which is the sheet that its bytes are accepted as.
-  abbrev pub building : {k : ℕ} {sheet : Sheet} → acceptSheet s ≡ took k sheet → Building s buffer
+  abbrev pub building : {k : ℕ} {sheet : Sheet} → acceptSheet s ≡ took k sheet → Building asking s buffer
   building {k} {sheet} accepted =
       let b = built-from in
       let read : took (b .taken) (b .sheet) ≡ took k sheet = sym (b .accepted) ∙ accepted in
@@ -45,32 +48,39 @@ module _ {s buffer g : List ℕ} (built : BuiltGraph s buffer g) where
         sheet = sheet;
         taken = k;
         accepted = accepted;
+        order = b .order;
+        tableTaken = b .tableTaken;
+        ordered = b .ordered;
         nodes = b .nodes;
-        graph = subst (λ (x : Sheet). graphOf (x .rules) ≡ some (b .nodes)) same (b .graph);
+        graph = subst (λ (x : Sheet). graphIn (x .rules) (b .order (x .rules)) ≡ some (b .nodes)) same (b .graph);
         fits = subst (λ (x : Sheet). length (bytesOf x (b .nodes)) ≤ length buffer) same (b .fits);
       }
 
   -- "The graph written for a sheet is, to the byte, the one document 01 lays down."
-  pub graph-to-the-byte : (b : Building s buffer) → g ≡ bytesOf (b .sheet) (b .nodes)
+  pub graph-to-the-byte : (b : Building asking s buffer) → g ≡ bytesOf (b .sheet) (b .nodes)
   graph-to-the-byte b =
       let bytes = bytesOf (b .sheet) (b .nodes) in
       built .wrote
-      ∙ ap (λ (x : BuildOutcome). take (x .values .bytes) (x .buffer)) (built-outcome s buffer b)
+      ∙ ap (λ (x : BuildOutcome). take (x .values .bytes) (x .buffer)) (built-outcome asking s buffer b)
       ∙ take-append-seam bytes (drop (0 + length bytes) buffer)
 
   -- It stands at the front of the buffer, and what stood after it is as it was.
-  pub rest-of-buffer : buildOutcome s buffer .buffer ≡ splice buffer 0 g
+  pub rest-of-buffer : outcomeIn asking s buffer .buffer ≡ splice buffer 0 g
   rest-of-buffer =
-      ap (λ (x : BuildOutcome). x .buffer) (built-outcome s buffer built-from)
+      ap (λ (x : BuildOutcome). x .buffer) (built-outcome asking s buffer built-from)
       ∙ ap (λ (bytes : List ℕ). splice buffer 0 bytes) (sym (graph-to-the-byte built-from))
 
-  module _ (areBytes : AreBytes s) (b : Building s buffer) where
+  module _ (areBytes : AreBytes s) (b : Building asking s buffer) where
     pub accepted-sheet : AcceptedSheet (b .sheet)
     accepted-sheet = sheet-accepted s areBytes (b .taken) (b .sheet) .0 (b .accepted) .0
 
+    -- It asks the tests in an asking order.
+    pub built-asks : AskingOrder (b .sheet .rules) (b .order (b .sheet .rules))
+    built-asks = asking-asks asking (b .ordered) (b .sheet) accepted-sheet
+
     pub accepted-graph : AcceptedGraph (b .sheet .rules) (b .nodes)
     accepted-graph =
-        built-graph-accepted (b .sheet) accepted-sheet (lowestFirst (b .sheet .rules)) (b .nodes) (b .graph)
+        built-graph-accepted (b .sheet) accepted-sheet (b .order (b .sheet .rules)) (b .nodes) (b .graph)
 
     pub graph-read-back : readGraph (b .sheet) g ≡ took (length g) (b .nodes)
     graph-read-back =

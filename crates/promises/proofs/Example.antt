@@ -14,7 +14,8 @@ use Rattle.sheet_tests.specs.CheckSheet.{acceptSheet}
 use Rattle.decision.specs.Key.{suspendNode, executeNode}
 use Rattle.decision.specs.Cases.{symbolCase}
 use Rattle.decision.specs.Node.{Node, CaseEdge, end, switch, pairNode}
-use Rattle.decision.specs.Graph.{graphOf}
+use Rattle.decision.specs.Graph.{lowestFirst, graphOf}
+use Rattle.order.specs.Asking.{lowest}
 use Rattle.build.specs.BuildOutcome.{BuildOutcome, buildOutcome}
 use Rattle.build.proofs.BuiltBytes.{built-outcome}
 use Rattle.basics.specs.Lists.{anyBelow, allBelow}
@@ -52,20 +53,23 @@ example-nodes = refl
 pub example-built
     : buildOutcome exampleSheet exampleBuffer
     ≡ record { values = record { refusal = 0; nodes = 7; bytes = 58 }; buffer = exampleGraph }
-example-built = built-outcome exampleSheet exampleBuffer building ∙ refl
+example-built = built-outcome lowest exampleSheet exampleBuffer building ∙ refl
   where
-    building : Building exampleSheet exampleBuffer
+    building : Building lowest exampleSheet exampleBuffer
     building = record {
       sheet = exampleRead;
       taken = 13;
       accepted = example-accepted;
+      order = lowestFirst;
+      tableTaken = 0;
+      ordered = refl;
       nodes = exampleNodes;
       graph = example-nodes;
       fits = omega arith;
     }
 
 -- So its 58 bytes are a built graph.
-pub example-graph : BuiltGraph exampleSheet exampleBuffer exampleGraph
+pub example-graph : BuiltGraph lowest exampleSheet exampleBuffer exampleGraph
 example-graph = record {
   notRefused = ap (λ (y : BuildOutcome). y .values .refusal) example-built;
   wrote = sym (ap (λ (y : BuildOutcome). take (y .values .bytes) (y .buffer)) example-built);

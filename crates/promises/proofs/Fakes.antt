@@ -13,8 +13,9 @@ use Rattle.sheet.specs.ReadSheet.{readPattern, readHeader, readSheet}
 use Rattle.sheet_tests.specs.CheckSheet.{acceptSheet}
 use Rattle.decision.specs.Key.{failNode}
 use Rattle.decision.specs.Node.{end}
-use Rattle.decision.specs.Graph.{graphOf}
+use Rattle.decision.specs.Graph.{lowestFirst, graphOf}
 use Rattle.decision.specs.Walk.{Walk}
+use Rattle.order.specs.Asking.{lowest}
 use Rattle.walk.specs.Walking.{WalkValues, walkReply, replyValues}
 use Rattle.build.specs.BuildOutcome.{BuildOutcome, buildOutcome}
 use Rattle.build.proofs.BuiltBytes.{built-outcome}
@@ -48,13 +49,16 @@ unfolding has maskOf members anyBelow
 empty-nodes = refl
 
 empty-built : getD (buildOutcome emptySheet exampleBuffer .buffer) 1 0 ≡ 1
-empty-built = ap (λ (y : BuildOutcome). getD (y .buffer) 1 0) (built-outcome emptySheet exampleBuffer building)
+empty-built = ap (λ (y : BuildOutcome). getD (y .buffer) 1 0) (built-outcome lowest emptySheet exampleBuffer building)
   where
-    building : Building emptySheet exampleBuffer
+    building : Building lowest emptySheet exampleBuffer
     building = record {
       sheet = emptyRead;
       taken = 3;
       accepted = empty-accepted;
+      order = lowestFirst;
+      tableTaken = 0;
+      ordered = refl;
       nodes = end failNode ∷ [];
       graph = empty-nodes;
       fits = omega arith;

@@ -15,6 +15,7 @@ use Rattle.promises.specs.AcceptedBytes.{AcceptedBytes}
 use Rattle.plain.specs.Plain.{PlainValues, plainReading, answerValues, readingValues, answerOf, plainValues}
 use Rattle.promises.proofs.PlainBytes.{plain-bytes-right, plain-bytes-keep}
 use Rattle.decision.specs.Walk.{Walk}
+use Rattle.order.specs.Asking.{Asking}
 use Rattle.walk.specs.declared.Walk as given
 use Rattle.walk.specs.declared.Walked as walked
 use Rattle.walk.specs.Walking.{WalkValues, walkReply, replyValues, walkValues, walkedValues}
@@ -112,7 +113,7 @@ plain-call-keeps ok okFurther more r t e d =
       subst (λ (x : Answer). Keeps x (answerOf b)) (sym same) (subst (λ (x : Answer). Keeps due x) (sym sameLater) keeps),
     )
 
-module _ {s buffer g p : List ℕ} {sheet : Sheet} {piece : Piece} (built : BuiltGraph s buffer g)
+module _ {asking : Asking} {s buffer g p : List ℕ} {sheet : Sheet} {piece : Piece} (built : BuiltGraph asking s buffer g)
     (ok : AcceptedBytes s p sheet piece) where
   -- What `walk` hands back over a built graph is an answer and no refusal, and the answer is right.
   pub walk-call-right

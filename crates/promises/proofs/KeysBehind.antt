@@ -15,7 +15,7 @@ use Rattle.terms.specs.Pattern.{Patterns}
 use Rattle.decision.specs.Key.{Key, failNode, Vertex, leaf, rootKey, vertexOf, sameVertex}
 use Rattle.decision.specs.Node.{Node, CaseEdge, end, switch, pairNode, edges, mapCase, mapNode}
 use Rattle.decision.specs.Edges.{nodeOf}
-use Rattle.decision.specs.Graph.{nextVertices, vertices, numbered, numberedIf, lowestFirst, graphOf}
+use Rattle.decision.specs.Graph.{nextVertices, vertices, numbered, numberedIf, graphIn}
 use Rattle.decision.specs.Sharing.{SameLeaf, KeyBehind, root, along}
 use Rattle.decision.proofs.built.BuiltNodes.{numberOf, edges-met, node-at, root-met, root-number}
 use Rattle.decision.proofs.keys.EdgeKeys.{LedTo, ledKey, edges-led}
@@ -45,10 +45,7 @@ get-map f d e (x ∷ xs) zero h = refl
 get-map f d e (x ∷ xs) (suc i) h = get-map f d e xs i (omega arith)
 
 -- In a graph whose vertices are listed, the vertex of the key behind a number is listed with that number.
-module _ (rules : List Patterns) (vs : List Vertex) (listed : vertices rules (lowestFirst rules) ≡ some vs) where
-  abbrev order : List ℕ
-  order = lowestFirst rules
-
+module _ (rules : List Patterns) (order : List ℕ) (vs : List Vertex) (listed : vertices rules order ≡ some vs) where
   abbrev nodes : List (Node ℕ)
   nodes = numbered rules order vs
 
@@ -64,7 +61,7 @@ module _ (rules : List Patterns) (vs : List Vertex) (listed : vertices rules (lo
       let node = subst (λ (x : ℕ). getD nodes x (end failNode) ≡ mapNode number (nodeOf rules order v)) numbers at in
       ap edges node ∙ map-edges number (nodeOf rules order v)
 
-  behind : {n : ℕ} {key : Key} → KeyBehind rules nodes n key → Mem (vertexOf rules key) vs × (number (vertexOf rules key) ≡ n)
+  behind : {n : ℕ} {key : Key} → KeyBehind rules order nodes n key → Mem (vertexOf rules key) vs × (number (vertexOf rules key) ≡ n)
   behind root = (root-met rules order vs listed, root-number rules order vs listed)
   behind (along {n} {m} {key} {next} before i inside carries leads) =
       let (member, numbers) = behind before in
@@ -81,8 +78,8 @@ module _ (rules : List Patterns) (vs : List Vertex) (listed : vertices rules (lo
 
   -- Each edge of its node has a key behind it.
   next-behind
-      : {n : ℕ} {key : Key} → KeyBehind rules nodes n key → (i : ℕ) → i < length (edges (getD nodes n (end failNode)))
-      → (next : Key) × KeyBehind rules nodes (getD (edges (getD nodes n (end failNode))) i 0) next
+      : {n : ℕ} {key : Key} → KeyBehind rules order nodes n key → (i : ℕ) → i < length (edges (getD nodes n (end failNode)))
+      → (next : Key) × KeyBehind rules order nodes (getD (edges (getD nodes n (end failNode))) i 0) next
   next-behind {n} {key} before i inside =
       let (member, numbers) = behind before in
       let next = nextVertices rules order (vertexOf rules key) in
@@ -94,22 +91,23 @@ module _ (rules : List Patterns) (vs : List Vertex) (listed : vertices rules (lo
   -- Each listed vertex is that of a key behind its number: the root, or what an edge of a vertex with a smaller number leads to.
   vertex-behind
       : (most : ℕ) (v : Vertex) → Mem v vs → number v < most
-      → (key : Key) × (vertexOf rules key ≡ v) × KeyBehind rules nodes (number v) key
+      → (key : Key) × (vertexOf rules key ≡ v) × KeyBehind rules order nodes (number v) key
   vertex-behind zero v m less = absurd (let z : ⊥ = omega arith in z)
   vertex-behind (suc most) v m less =
       elim (listing rules order vs listed .reached v m) [
         | inl e ↦ (
           rootKey rules,
           sym e,
-          subst (λ (n : ℕ). KeyBehind rules nodes n (rootKey rules)) (sym (ap number e ∙ root-number rules order vs listed)) root,
+          subst (λ (n : ℕ). KeyBehind rules order nodes n (rootKey rules))
+              (sym (ap number e ∙ root-number rules order vs listed)) root,
         )
         | inr r ↦ from (r .0) (r .1) (r .2) (vertex-behind most (r .0) (r .1) (omega (arith, r .3)))
       ]
     where
       from
           : (u : Vertex) → Mem u vs → Mem v (nextVertices rules order u)
-          → ((key : Key) × (vertexOf rules key ≡ u) × KeyBehind rules nodes (number u) key)
-          → (key : Key) × (vertexOf rules key ≡ v) × KeyBehind rules nodes (number v) key
+          → ((key : Key) × (vertexOf rules key ≡ u) × KeyBehind rules order nodes (number u) key)
+          → (key : Key) × (vertexOf rules key ≡ v) × KeyBehind rules order nodes (number v) key
       from u member edge (key, is, before) =
           let next = nextVertices rules order u in
           let (i, inside, at) = number-of (leaf failNode) next edge in
@@ -123,7 +121,7 @@ module _ (rules : List Patterns) (vs : List Vertex) (listed : vertices rules (lo
             along before i (subst (λ (l : List ℕ). i < length l) (sym same) short) carries leads,
           )
 
-  node-behind : (n : ℕ) → n < length nodes → (key : Key) × KeyBehind rules nodes n key
+  node-behind : (n : ℕ) → n < length nodes → (key : Key) × KeyBehind rules order nodes n key
   node-behind n inside =
       let short : n < length vs =
       omega (arith, inside, length-map vs (λ (x : Vertex). mapNode number (nodeOf rules order x))) in
@@ -132,10 +130,10 @@ module _ (rules : List Patterns) (vs : List Vertex) (listed : vertices rules (lo
       let right = number-right sameVertex (nextVertices rules order) same-vertex vertex-same (leaf failNode) v vs member in
       let one = one-number (leaf failNode) vs (listing rules order vs listed .once) (number v) n (right .0) short (right .1) in
       let (key, is, behind) = vertex-behind (suc (number v)) v member (omega arith) in
-      (key, subst (λ (m : ℕ). KeyBehind rules nodes m key) one behind)
+      (key, subst (λ (m : ℕ). KeyBehind rules order nodes m key) one behind)
 
   numbers-share
-      : {m n : ℕ} {k l : Key} → KeyBehind rules nodes m k → KeyBehind rules nodes n l
+      : {m n : ℕ} {k l : Key} → KeyBehind rules order nodes m k → KeyBehind rules order nodes n l
       → (m ≡ n) ↔ ((k ≡ l) ⊎ SameLeaf rules k l)
   numbers-share {m} {n} {k} {l} first second =
       let (first-met, is-m) = behind first in
@@ -143,24 +141,28 @@ module _ (rules : List Patterns) (vs : List Vertex) (listed : vertices rules (lo
       let one = one-node-exactly rules order vs listed k l first-met second-met in
       (λ e. one .0 (is-m ∙ e ∙ sym is-n), λ h. sym is-m ∙ one .1 h ∙ is-n)
 
--- What is so of the nodes of every graph.
-pub record Shared (rules : List Patterns) (nodes : List (Node ℕ)) : Type 0 where
-  pub nodeKey : (n : ℕ) → n < length nodes → (key : Key) × KeyBehind rules nodes n key
+-- What is so of the nodes of every graph, in whatever order it asks the tests.
+pub record Shared (rules : List Patterns) (order : List ℕ) (nodes : List (Node ℕ)) : Type 0 where
+  pub nodeKey : (n : ℕ) → n < length nodes → (key : Key) × KeyBehind rules order nodes n key
   pub edgeKey
-      : {n : ℕ} {key : Key} → KeyBehind rules nodes n key → (i : ℕ) → i < length (edges (getD nodes n (end failNode)))
-      → (next : Key) × KeyBehind rules nodes (getD (edges (getD nodes n (end failNode))) i 0) next
+      : {n : ℕ} {key : Key} → KeyBehind rules order nodes n key → (i : ℕ) → i < length (edges (getD nodes n (end failNode)))
+      → (next : Key) × KeyBehind rules order nodes (getD (edges (getD nodes n (end failNode))) i 0) next
   pub equalKeys
-      : {m n : ℕ} {key other : Key} → KeyBehind rules nodes m key → KeyBehind rules nodes n other
+      : {m n : ℕ} {key other : Key} → KeyBehind rules order nodes m key → KeyBehind rules order nodes n other
       → (m ≡ n) ↔ ((key ≡ other) ⊎ SameLeaf rules key other)
 
-pub graph-shared : (rules : List Patterns) (nodes : List (Node ℕ)) → graphOf rules ≡ some nodes → Shared rules nodes
-graph-shared rules nodes graph = go (vertices rules (lowestFirst rules)) refl graph
+pub graph-shared
+    : (rules : List Patterns) (order : List ℕ) (nodes : List (Node ℕ)) → graphIn rules order ≡ some nodes → Shared rules order nodes
+graph-shared rules order nodes graph = go (vertices rules order) refl graph
   where
     go
-        : (x : Option (List Vertex)) → vertices rules (lowestFirst rules) ≡ x
-        → numberedIf rules (lowestFirst rules) x ≡ some nodes → Shared rules nodes
+        : (x : Option (List Vertex)) → vertices rules order ≡ x → numberedIf rules order x ≡ some nodes → Shared rules order nodes
     go none d e = let z : _≡_ {A = ℕ} 0 1 = cc in absurd (omega arith)
     go (some vs) d e =
-        let same : numbered rules (lowestFirst rules) vs ≡ nodes = cc in
-        subst (Shared rules) same
-        record { nodeKey = node-behind rules vs d; edgeKey = next-behind rules vs d; equalKeys = numbers-share rules vs d }
+        let same : numbered rules order vs ≡ nodes = cc in
+        subst (Shared rules order) same
+        record {
+          nodeKey = node-behind rules order vs d;
+          edgeKey = next-behind rules order vs d;
+          equalKeys = numbers-share rules order vs d;
+        }

@@ -1,8 +1,9 @@
--- Which questions refuse what, the path behind an edge count, the keys behind node numbers:
+-- Which questions refuse what, the path behind an edge count, the keys behind node numbers, the order of a build:
 pub mod PieceQuestions
 pub mod GraphQuestions
 pub mod PathEdges
 pub mod KeysBehind
+pub mod AskingOrders
 -- The demands:
 pub mod Demand1
 pub mod Demand2

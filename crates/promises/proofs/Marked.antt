@@ -1,6 +1,6 @@
 -- The cases that document 01 marks (M), through bytes: one list, and one theorem for the list.
 use Prim.Native.Nat.{ℕ}
-use mathlib.Core.Path.{_≡_, refl, sym, ap, _∙_}
+use mathlib.Core.Path.{_≡_, refl, sym, ap, subst, _∙_}
 use mathlib.Core.Bool.{Bool, true, _&&_}
 use mathlib.Core.List.{List, [], _∷_}
 use mathlib.Core.Option.{Option, some, none}
@@ -11,6 +11,7 @@ use Rattle.records.specs.Fields.{AreBytes}
 use Rattle.records.specs.Reading.{took, readRow}
 use Rattle.basics.specs.Lists.{All, allBelow}
 use Rattle.basics.proofs.Booleans.{both-true}
+use Rattle.terms.specs.Pattern.{Patterns}
 use Rattle.terms.specs.Answer.{Answer}
 use Rattle.terms.specs.Marked.{MarkedWalk, MarkedCase, markedCases}
 use Rattle.sheet.specs.ReadSheet.{readPattern, readHeader, readSheet}
@@ -18,14 +19,16 @@ use Rattle.sheet_tests.specs.CheckSheet.{acceptSheet}
 use Rattle.piece.specs.ReadPiece.{readTerm, readPrefix, readPiece}
 use Rattle.promises.specs.AcceptedBytes.{AcceptedBytes}
 use Rattle.decision.specs.Node.{Node}
-use Rattle.decision.specs.Graph.{graphOf}
+use Rattle.decision.specs.Graph.{graphIn, lowestFirst, graphOf}
 use Rattle.decision.specs.Walk.{Walk}
 use Rattle.decision.proofs.marked.MarkedWalks.{Told, walkedIf, toldBy, walkIn, AsMarked, marked-walks}
+use Rattle.order.specs.Asking.{lowest}
 use Rattle.build.specs.BuildOutcome.{BuildOutcome, buildOutcome}
 use Rattle.build.proofs.BuiltBytes.{built-outcome}
 use Rattle.walk.specs.Walking.{walkReply}
 use Rattle.promises.specs.BuiltGraph.{BuiltGraph}
 use Rattle.promises.specs.Marked.{caseSheet, casePiece, caseSheetBytes, casePieceBytes, AsMarkedWith, WalksAsMarked}
+use Rattle.promises.proofs.AskingOrders.{order-is}
 use Rattle.promises.proofs.Demand2.{building}
 use Rattle.promises.proofs.Demand3.{demand-3, walks}
 use Rattle.build.specs.Building.{bytesOf, Building}
@@ -52,15 +55,18 @@ has-graph x marked = go (graphOf (x .rules)) refl marked
     go (some nodes) e m = (nodes, e)
 
 -- and is built in a buffer of its length.
-case-built : (x : MarkedCase) → Spelled x → AsMarked x → (buffer g : List ℕ) × BuiltGraph (caseSheetBytes x) buffer g
+case-built : (x : MarkedCase) → Spelled x → AsMarked x → (buffer g : List ℕ) × BuiltGraph lowest (caseSheetBytes x) buffer g
 case-built x spelled marked =
     let (nodes, graph) = has-graph x marked in
     let buffer = bytesOf (caseSheet x) nodes in
-    let b : Building (caseSheetBytes x) buffer =
+    let b : Building lowest (caseSheetBytes x) buffer =
     record {
       sheet = caseSheet x;
       taken = spelled .sheetTaken;
       accepted = spelled .sheetRead;
+      order = lowestFirst;
+      tableTaken = 0;
+      ordered = refl;
       nodes = nodes;
       graph = graph;
       fits = omega arith;
@@ -68,7 +74,7 @@ case-built x spelled marked =
       buffer,
       take (buildOutcome (caseSheetBytes x) buffer .values .bytes) (buildOutcome (caseSheetBytes x) buffer .buffer),
       record {
-        notRefused = ap (λ (y : BuildOutcome). y .values .refusal) (built-outcome (caseSheetBytes x) buffer b);
+        notRefused = ap (λ (y : BuildOutcome). y .values .refusal) (built-outcome lowest (caseSheetBytes x) buffer b);
         wrote = refl;
       },
     )
@@ -94,12 +100,15 @@ case-walks x spelled marked = record { isBuilt = case-built x spelled marked; wa
     }
 
     over
-        : (buffer g : List ℕ) → BuiltGraph (caseSheetBytes x) buffer g
+        : (buffer g : List ℕ) → BuiltGraph lowest (caseSheetBytes x) buffer g
         → (w : Walk) × (walkReply (caseSheetBytes x) g (casePieceBytes x) ≡ took 0 w)
         × (w .answer ≡ x .answer) × AsMarkedWith (x .walked) w
     over buffer g built =
         let (w, reply, right) = demand-3 built ok in
-        let told = ap (walkIn x) (sym (building built (spelled .sheetRead) .graph)) ∙ marked in
+        let b = building built (spelled .sheetRead) in
+        let graph : graphOf (x .rules) ≡ some (b .nodes) =
+        subst (λ (f : List Patterns → List ℕ). graphIn (x .rules) (f (x .rules)) ≡ some (b .nodes)) (order-is b refl) (b .graph) in
+        let told = ap (walkIn x) (sym graph) ∙ marked in
         let as-told = sym (ap (toldBy (x .walked)) (walks built ok reply)) ∙ told in
         let answers : some (w .answer) ≡ some (x .answer) = ap (λ (y : Told). y .answer) as-told in
         (w, reply, (cc), told-with (x .walked) w (ap (λ (y : Told). y .walked) as-told))

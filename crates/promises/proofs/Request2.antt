@@ -19,7 +19,8 @@ use Rattle.accepted.proofs.Acceptance.{sheet-accepted}
 use Rattle.plain.specs.Plain.{plainReading}
 use Rattle.graph_check.specs.CheckGraph.{graphReading}
 use Rattle.graph_check.specs.Rewritten.{rewritten}
-use Rattle.build.specs.BuildOutcome.{buildOutcome}
+use Rattle.order.specs.Asking.{Asking}
+use Rattle.build.specs.BuildOutcome.{outcomeIn}
 use Rattle.walk.specs.Walking.{walkReply}
 use Rattle.tidy.specs.TidySheet.{tidySheet, tidyBytes, AllSameTests}
 use Rattle.tidy.specs.Tidied.{tidied}
@@ -83,11 +84,12 @@ module _ {s p w : List ℕ} (areBytes : AreBytes s) (written : TidyWritten s p w
       tidy-fits w q (tidy-bytes-read e) (omega (arith, ap length again, fits))
       ∙ ap (λ (l : List ℕ). record { refusal = 0; bytes = length l; buffer = splice q 0 l }) again
 
-  -- "And the tidy sheet has the same graph": building them leaves what building the sheet leaves, in every buffer.
-  pub tidy-same-build : (buffer : List ℕ) → buildOutcome w buffer ≡ buildOutcome s buffer
-  tidy-same-build buffer =
+  -- "And the tidy sheet has the same graph": building them, in document 01's order or by a table, leaves what building the sheet
+  -- so leaves, in every buffer.
+  pub tidy-same-build : (asking : Asking) (buffer : List ℕ) → outcomeIn asking w buffer ≡ outcomeIn asking s buffer
+  tidy-same-build asking buffer =
       let (k, sheet, e, _) = source in
-      same-build w s (tidy-bytes-read e) e refl (tests-kept e .0) (tests-kept e .1) buffer
+      same-build w s (tidy-bytes-read e) e refl (tests-kept e .0) (tests-kept e .1) asking buffer
 
   -- The check gives the same arity, rules and tests for them.
   pub tidy-same-check : sheetValues (acceptSheet w) ≡ sheetValues (acceptSheet s)

@@ -1,13 +1,14 @@
 -- The calls go by the arity and the tests of a sheet alone: two accepted sheets of one arity whose rules have, one after another,
 -- the same place tests and the same equality tests get the same of every call, whatever else it is handed.
 use Prim.Native.Nat.{ℕ}
-use mathlib.Core.Path.{_≡_, sym, ap, _∙_}
+use mathlib.Core.Path.{_≡_, refl, sym, ap, _∙_}
 use mathlib.Core.List.{List, map}
 use lib.Dec.{eqb}
 use lib.ListN.{length}
 use Rattle.basics.specs.Lists.{anyOf}
-use Rattle.records.specs.Reading.{Reading, took, ask, andThen, mapReading}
+use Rattle.records.specs.Reading.{Reading, took, refused, ask, andThen, mapReading}
 use Rattle.records.specs.Written.{Result, resultOf, askFits}
+use Rattle.terms.specs.Pattern.{Patterns}
 use Rattle.terms.specs.RuleTests.{placeTests, pairTests}
 use Rattle.terms.specs.Answer.{plainAnswer}
 use Rattle.sheet.specs.Sheet.{Sheet}
@@ -16,15 +17,19 @@ use Rattle.sheet_tests.specs.CheckSheet.{acceptSheet, sheetValues}
 use Rattle.piece.specs.ReadPiece.{readPiece}
 use Rattle.plain.specs.Plain.{pieceReading, plainReading}
 use Rattle.decision.specs.Rules.{sameTest}
+use Rattle.decision.specs.Graph.{graphIn, lowestFirst}
+use Rattle.decision.specs.PlaceOrder.{orderBy}
 use Rattle.decision.specs.GraphBytes.{graphBytes}
 use Rattle.decision.specs.Walk.{walk}
 use Rattle.decision.proofs.rules.SameTests.{same-tests-same-count, same-tests-same-tests, same-tests-same-plain}
-use Rattle.decision.proofs.built.SameGraph.{same-tests-same-graph}
+use Rattle.decision.proofs.built.SameGraph.{same-tests-same-graph-in, same-tests-same-numbers, same-tests-same-order}
 use Rattle.decision.proofs.walking.SameWalk.{same-tests-same-walk}
 use Rattle.graph.specs.ReadGraph.{readBy, readGraph}
 use Rattle.graph_check.specs.CheckGraph.{graphReading}
 use Rattle.graph_check.specs.Rewritten.{rewritten}
-use Rattle.build.specs.BuildOutcome.{graphWritten, sheetBuilt, buildOutcome}
+use Rattle.order.specs.Table.{readTable}
+use Rattle.order.specs.Asking.{Asking, lowest, byTable, readAsking}
+use Rattle.build.specs.BuildOutcome.{graphWritten, sheetBuilt, outcomeIn}
 use Rattle.walk.specs.Walking.{pieceReply, walkReply}
 
 module _
@@ -45,13 +50,34 @@ module _
         ∙ (λ i. record { refusal = 0; arity = arity i; rules = count i; tests = length (tests i) })
         ∙ sym (ap sheetValues d)
 
-    -- a build the same graph in the same buffer, or the same refusal,
-    pub same-build : (buffer : List ℕ) → buildOutcome s buffer ≡ buildOutcome t buffer
-    unfolding buildOutcome
-    same-build buffer =
-        let built : Reading Sheet → _ = λ r. sheetBuilt r buffer in
-        let graph = same-tests-same-graph (one .rules) (two .rules) places pairs in
-        ap built e ∙ (λ i. graphWritten (arity i) (count i) (graph i) buffer) ∙ sym (ap built d)
+    -- a build, in document 01's order or by a table, the same graph in the same buffer, or the same refusal,
+    by-order
+        : (buffer : List ℕ) (order : List Patterns → List ℕ) → order (one .rules) ≡ order (two .rules)
+        → graphWritten (one .arity) (length (one .rules)) (graphIn (one .rules) (order (one .rules))) buffer
+        ≡ graphWritten (two .arity) (length (two .rules)) (graphIn (two .rules) (order (two .rules))) buffer
+    by-order buffer order same =
+        let graph =
+        same-tests-same-graph-in (one .rules) (two .rules) places pairs (order (one .rules)) ∙ ap (graphIn (two .rules)) same in
+        λ i. graphWritten (arity i) (count i) (graph i) buffer
+
+    by-asking
+        : (asking : Asking) (buffer : List ℕ)
+        → sheetBuilt (took j one) (readAsking asking) buffer ≡ sheetBuilt (took k two) (readAsking asking) buffer
+    by-asking lowest buffer = by-order buffer lowestFirst (same-tests-same-numbers (one .rules) (two .rules) places pairs)
+    by-asking (byTable table) buffer = go (readTable table)
+      where
+        go
+            : (r : Reading (List ℕ))
+            → sheetBuilt (took j one) (mapReading orderBy r) buffer ≡ sheetBuilt (took k two) (mapReading orderBy r) buffer
+        go (took n asked) =
+            by-order buffer (orderBy asked) (same-tests-same-order (one .rules) (two .rules) places pairs asked)
+        go (refused q) = refl
+
+    pub same-build : (asking : Asking) (buffer : List ℕ) → outcomeIn asking s buffer ≡ outcomeIn asking t buffer
+    unfolding outcomeIn
+    same-build asking buffer =
+        let built : Reading Sheet → _ = λ r. sheetBuilt r (readAsking asking) buffer in
+        ap built e ∙ by-asking asking buffer ∙ sym (ap built d)
 
     -- a piece the same plain answer,
     pub same-plain : (p : List ℕ) → plainReading s p ≡ plainReading t p

@@ -9,6 +9,7 @@ use Rattle.sheet.specs.Sheet.{Sheet}
 use Rattle.accepted.specs.views.AcceptedAs.{AcceptedTests}
 use Rattle.graph.specs.ReadGraph.{readGraph}
 use Rattle.node_check.specs.views.CheckNode.{startsFrom}
+use Rattle.order.specs.Asking.{Asking}
 use Rattle.walk.specs.views.Ready.{Checked}
 use Rattle.promises.specs.BuiltGraph.{BuiltGraph}
 use Rattle.promises.proofs.Demand2.{graph-read-back}
@@ -17,9 +18,9 @@ use Rattle.build.specs.Building.{Building}
 -- With the tests that were read from its sheet and with starts that are where its nodes begin, a built graph is all that the walk
 -- of a checked graph asks for.
 pub built-checked
-    : {s buffer g words codes starts : List ℕ} {arity count pairs : ℕ} → BuiltGraph s buffer g → AreBytes s
+    : {asking : Asking} {s buffer g words codes starts : List ℕ} {arity count pairs : ℕ} → BuiltGraph asking s buffer g → AreBytes s
     → AcceptedTests s words codes arity count pairs
-    → (b : Building s buffer) → startsFrom 5 (b .nodes) ≡ take (length (b .nodes)) starts
+    → (b : Building asking s buffer) → startsFrom 5 (b .nodes) ≡ take (length (b .nodes)) starts
     → Checked s g starts words codes arity count pairs (length (b .nodes))
 built-checked {g = g} built areBytes t b begin =
     let read : took (t .read .bytes) (t .read .sheet) ≡ took (b .taken) (b .sheet) = sym (t .read .accepted) ∙ b .accepted in

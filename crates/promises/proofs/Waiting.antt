@@ -15,17 +15,16 @@ use Rattle.accepted.proofs.Acceptance.{sheet-accepted}
 use Rattle.promises.specs.AcceptedBytes.{AcceptedBytes}
 use Rattle.decision.specs.Node.{Node}
 use Rattle.decision.specs.AcceptedGraph.{AcceptedGraph}
-use Rattle.decision.specs.Graph.{lowestFirst}
 use Rattle.decision.specs.Walk.{Walk}
-use Rattle.decision.proofs.keys.AskedFirst.{lowest-first}
 use Rattle.decision.proofs.waiting.WaitSentence.{wait-sentence-accepted}
 use Rattle.decision.proofs.waiting.WaitSentenceKept as definitions
 use Rattle.graph.specs.ReadGraph.{readGraph}
 use Rattle.graph.proofs.Spelled.{graph-read}
+use Rattle.order.specs.Asking.{Asking}
 use Rattle.walk.specs.Walking.{walkReply, replyValues}
 use Rattle.promises.specs.BuiltGraph.{BuiltGraph}
 use Rattle.promises.proofs.PlainBytes.{terms-accepted}
-use Rattle.promises.proofs.Demand2.{building, accepted-sheet, accepted-graph, graph-read-back}
+use Rattle.promises.proofs.Demand2.{building, accepted-sheet, built-asks, accepted-graph, graph-read-back}
 use Rattle.promises.proofs.Demand3.{walk-over-nodes}
 use Rattle.promises.proofs.PathEdges.{walk-takes-none}
 use Rattle.decision.specs.Waiting.{ListedNotKnown, ListedKept}
@@ -98,8 +97,8 @@ module _ {s p q : List ℕ} {sheet : Sheet} {piece further : Piece} (ok : Accept
     wait-values-graph = values-still g read graph-accepted
 
   -- Of every built graph.
-  module _ {buffer g : List ℕ} (built : BuiltGraph s buffer g) where
-    abbrev built-as : Building s buffer
+  module _ {asking : Asking} {buffer g : List ℕ} (built : BuiltGraph asking s buffer g) where
+    abbrev built-as : Building asking s buffer
     built-as = building built (ok .sheetAccepted)
 
     pub wait-sentence
@@ -124,9 +123,10 @@ module _ {s p q : List ℕ} {sheet : Sheet} {piece further : Piece} (ok : Accept
     wait-sentence-kept {w} e suspends listed =
         let accepted = accepted-sheet built (ok .areBytes .0) built-as in
         let read = graph-read-back built (ok .areBytes .0) built-as in
+        let asks = built-asks built (ok .areBytes .0) built-as in
         let (v, walks, still) =
-        definitions.wait-sentence-kept sheet accepted (lowestFirst (sheet .rules)) (lowest-first (sheet .rules)) (built-as .nodes)
-        (built-as .graph) (piece .terms) (further .terms) (terms-accepted ok) (terms-accepted okFurther) more w
+        definitions.wait-sentence-kept sheet accepted (built-as .order (sheet .rules)) asks (built-as .nodes) (built-as .graph)
+        (piece .terms) (further .terms) (terms-accepted ok) (terms-accepted okFurther) more w
         (sym (walk-over-nodes g ok read) ∙ e) suspends listed in
         (v, walk-over-nodes g okFurther read ∙ walks, still)
 

@@ -10,6 +10,7 @@ use Rattle.sheet.specs.WriteSheet.{sheetBytes}
 use Rattle.piece.specs.Piece.{Piece}
 use Rattle.piece.specs.WritePiece.{pieceBytes}
 use Rattle.decision.specs.Walk.{Walk}
+use Rattle.order.specs.Asking.{lowest}
 use Rattle.walk.specs.Walking.{walkReply}
 use Rattle.promises.specs.BuiltGraph.{BuiltGraph}
 
@@ -33,8 +34,8 @@ AsMarkedWith (some marked) w = (w .edges ≡ marked .edges) × (w .waits ≡ mar
 
 -- The case's sheet is built, and over every graph built for it, in whatever buffer, the walk of the case's piece answers as marked.
 pub record WalksAsMarked (x : MarkedCase) : Type 0 where
-  pub isBuilt : (buffer g : List ℕ) × BuiltGraph (caseSheetBytes x) buffer g
+  pub isBuilt : (buffer g : List ℕ) × BuiltGraph lowest (caseSheetBytes x) buffer g
   pub walks
-      : (buffer g : List ℕ) → BuiltGraph (caseSheetBytes x) buffer g
+      : (buffer g : List ℕ) → BuiltGraph lowest (caseSheetBytes x) buffer g
       → (w : Walk) × (walkReply (caseSheetBytes x) g (casePieceBytes x) ≡ took 0 w)
       × (w .answer ≡ x .answer) × AsMarkedWith (x .walked) w

@@ -1,10 +1,11 @@
--- The numbers that document 01 names: by which questions each call may refuse ("Questions at the counter").
+-- The numbers that the documents name: by which questions each call may refuse (document 01, "Questions at the counter").
 use Prim.Native.Nat.{ℕ}
 use mathlib.Core.Path.{_≡_}
 use mathlib.Core.Logic.{_⊎_}
 use mathlib.Core.List.{List}
 use Rattle.records.specs.Written.{Result}
-use Rattle.build.specs.BuildOutcome.{BuildOutcome}
+use Rattle.order.specs.Asking.{Asking, lowest, byTable}
+use Rattle.build.specs.BuildOutcome.{BuildOutcome, notBuilt}
 use Rattle.accepted.specs.Questions.{Between, SheetQuestion}
 
 -- "Piece": 12 to 17.
@@ -23,9 +24,16 @@ PathQuestion = Between 26 27
 abbrev pub PlainQuestion : ℕ → Type 0
 PlainQuestion q = SheetQuestion q ⊎ (PieceQuestion q ⊎ (q ≡ 20))
 
+-- What a build asks before its graph: the sheet's questions, and where a table is loaded also (document 02, request 1): "After the
+-- sheet's questions it refuses a table that isn't 1,360 bytes (28), has a place out of range or twice (29), or has one before its
+-- parent (30), in this order."
+abbrev pub AskedQuestion : Asking → ℕ → Type 0
+AskedQuestion lowest q = SheetQuestion q
+AskedQuestion (byTable table) q = SheetQuestion q ⊎ Between 28 30 q
+
 -- "Building, after the sheet": 18 and 19.
-abbrev pub BuildQuestion : ℕ → Type 0
-BuildQuestion q = SheetQuestion q ⊎ Between 18 19 q
+abbrev pub BuildQuestion : Asking → ℕ → Type 0
+BuildQuestion asking q = AskedQuestion asking q ⊎ Between 18 19 q
 
 -- "Checking a graph alone asks the sheet's questions, then 21 to 25."
 abbrev pub CheckQuestion : ℕ → Type 0
@@ -48,8 +56,9 @@ abbrev pub AnswersOr : (ℕ → Type 0) → ℕ → Type 0
 AnswersOr Question refusal = (refusal ≡ 0) ⊎ Question refusal
 
 -- "The first no, in order, gives its number. Every other result field is then 0 and no buffer changes": so it is with a build,
-abbrev pub BuildEnds : List ℕ → BuildOutcome → Type 0
-BuildEnds buffer x = (x .values .refusal ≡ 0) ⊎ (BuildQuestion (x .values .refusal) × (x .buffer ≡ buffer))
+abbrev pub BuildEnds : Asking → List ℕ → BuildOutcome → Type 0
+BuildEnds asking buffer x =
+    (x .values .refusal ≡ 0) ⊎ (BuildQuestion asking (x .values .refusal) × (x ≡ notBuilt (x .values .refusal) buffer))
 
 -- and with every other writer.
 abbrev pub WriterEnds : (ℕ → Type 0) → List ℕ → Result → Type 0
