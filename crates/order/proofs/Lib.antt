@@ -3,6 +3,7 @@ pub mod EveryPlace
 pub mod PlacesAbove
 pub mod TableAsks
 pub mod Questions
+pub mod TableBytes
 -- How a table is read:
 pub mod ReadOn
 pub mod TableLoop

@@ -13,6 +13,8 @@ pub mod Demand3
 pub mod Waiting
 pub mod HandedBack
 pub mod Unchecked
+-- Request 1:
+pub mod Request1
 -- Request 2:
 pub mod SameSheets
 pub mod TidyBytes
