@@ -23,14 +23,14 @@ use Rattle.promises.specs.BuiltGraph.{BuiltGraph}
 use Rattle.promises.specs.Example.{exampleSheet, exampleGraph, exampleBuffer}
 use Rattle.build.specs.Building.{Building}
 
-abbrev exampleRead : Sheet
+abbrev pub exampleRead : Sheet
 exampleRead = record { arity = 2; rules = exampleRules }
 
-example-accepted : acceptSheet exampleSheet ≡ took 13 exampleRead
+pub example-accepted : acceptSheet exampleSheet ≡ took 13 exampleRead
 unfolding acceptSheet readSheet readHeader readPattern readRow allBelow
 example-accepted = refl
 
-abbrev oneCase : ℕ → ℕ → List (CaseEdge ℕ)
+abbrev pub oneCase : ℕ → ℕ → List (CaseEdge ℕ)
 oneCase a n = record { case = symbolCase a; target = n } ∷ []
 
 -- Its seven nodes.

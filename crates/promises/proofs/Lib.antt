@@ -19,7 +19,8 @@ pub mod Request1
 pub mod SameSheets
 pub mod TidyBytes
 pub mod Request2
--- The cases that document 01 gives, and its fakes:
+-- The cases that document 01 gives, its fakes, and its example by a table:
 pub mod Marked
 pub mod Example
 pub mod Fakes
+pub mod ExampleOrdered

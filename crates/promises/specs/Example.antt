@@ -1,7 +1,9 @@
 -- Document 01's example in bytes ("One listing").
 use Prim.Native.Nat.{ℕ}
-use mathlib.Core.List.{List, [], _∷_}
+use mathlib.Core.List.{List, [], _∷_, _++_}
 use lib.ListN.{replicate}
+use Rattle.basics.specs.Lists.{countFrom}
+use Rattle.order.specs.TableBytes.{tableBytes}
 
 -- "Sheet f(X, X), f(1, 2) in symbols: 10 02 02 24 00 24 00 21 00 01 21 00 02."
 abbrev pub exampleSheet : List ℕ
@@ -22,6 +24,14 @@ exampleGraph =
 -- A buffer for it, all 0.
 abbrev pub exampleBuffer : List ℕ
 exampleBuffer = replicate 58 0
+
+-- A table that asks the first argument, and all that is below it, last (document 02, request 1: "wants it asked last"): 85 to 679,
+-- then 0 to 84.
+abbrev pub examplePlaces : List ℕ
+examplePlaces = countFrom 85 595 ++ countFrom 0 85
+
+unfoldable pub exampleTable : List ℕ
+exampleTable = tableBytes examplePlaces
 
 -- "Pieces (1, 2), (?, 1), (?, ?), (3, 4), each as 11 02 and two terms": the second.
 abbrev pub examplePiece : List ℕ
