@@ -63,14 +63,14 @@ fn pairs_with(
         (codesWith place v (drop from (notesIn (now (notes .entry)) n)))) row ⌝ }
 {
     let mut all = row;
-    let mut i = from;
-    while i < n {
-        let code = notes[i];
+    let mut j = from;
+    while j < n {
+        let code = notes[j];
         if sheet_tests::rule::is_named(v, sheet::note_record(code)) {
             let q = sheet::note_place(code);
             all = with_test(all, pair_number(s, place, q));
         }
-        i += 1;
+        j += 1;
     }
     all
 }

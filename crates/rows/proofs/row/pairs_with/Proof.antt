@@ -17,13 +17,13 @@ use Rattle.rows.proofs.row.pairs_with.Statement.{statement}
 use Rattle.rows.proofs.row.pairs_with.Tie as tie
 
 abbrev Inv-loop : tie.InvT-loop
-Inv-loop notes n from place v s row all₀ i₀ all i =
-    (i ≤ n)
-    × (withTests (pairNumbers (placeTestsIn s) (pairsListed s) (codesWith place v (drop i (notesIn notes n)))) all
+Inv-loop notes n from place v s row all₀ j₀ all j =
+    (j ≤ n)
+    × (withTests (pairNumbers (placeTestsIn s) (pairsListed s) (codesWith place v (drop j (notesIn notes n)))) all
     ≡ withTests (pairNumbers (placeTestsIn s) (pairsListed s) (codesWith place v (drop from (notesIn notes n)))) row)
 
 abbrev μ-loop : tie.MeasureT-loop
-μ-loop notes n from place v s row all₀ i₀ all i = n - i
+μ-loop notes n from place v s row all₀ j₀ all j = n - j
 
 loop-holds : tie.Need-loop-holds Inv-loop μ-loop
 loop-holds c = (c .pre .0, refl)
@@ -48,14 +48,14 @@ pair-number-requires c κs =
     let start = c .before .before .before .before .before .before .before in
     let turn = c .before .before .before .before .before .before .loop in
     let notes = start .args .notes .now in
-    let placed = notes-each notes (start .args .n) (omega arith) Placed (turn .i) (start .pre .4) (omega arith) in
+    let placed = notes-each notes (start .args .n) (omega arith) Placed (turn .j) (start .pre .4) (omega arith) in
     (start .pre .5, start .pre .2, omega (arith, c .note-place .ensures))
 
 with-test-requires : tie.Need-with-test-requires Inv-loop μ-loop
 with-test-requires c κs = search needs
 
-add-i : tie.Need-add-i Inv-loop μ-loop
-add-i c = search needs
+add-j : tie.Need-add-j Inv-loop μ-loop
+add-j c = search needs
 
 loop-less : tie.Need-loop-less Inv-loop μ-loop
 loop-less c = search needs
@@ -69,21 +69,21 @@ loop-again c =
     let kept = pairsListed (a .s .now) in
     let count = placeTestsIn (a .s .now) in
     let within : a .n ≤ length notes = omega (arith, start .pre) in
-    let i = turn .i in
+    let j = turn .j in
     let test = ap (isNamed (a .v)) (sym (c .before .before .note-record .ensures)) ∙ sym (c .before .is-named .ensures) in
     ⊎-elim
     (λ w.
     let t = w .2 .ensures ∙ ap (λ (q : ℕ). pairNumber count kept (pairCode (a .place) q)) (w .1 .ensures) in (
       omega arith,
-      ap (withFrom notes (a .n) within i count kept (a .place) (a .v) (i + 1))
+      ap (withFrom notes (a .n) within j count kept (a .place) (a .v) (j + 1))
           (w .4 ∙ w .3 .ensures ∙ ap (withTest (turn .all)) t)
-          ∙ with-yes notes (a .n) within i count kept (a .place) (a .v) (omega arith) (test ∙ w .0 .taken) (turn .all)
+          ∙ with-yes notes (a .n) within j count kept (a .place) (a .v) (omega arith) (test ∙ w .0 .taken) (turn .all)
           ∙ turn .inv .1,
     ))
     (λ w. (
       omega arith,
-      ap (withFrom notes (a .n) within i count kept (a .place) (a .v) (i + 1)) (w .1)
-          ∙ with-no notes (a .n) within i count kept (a .place) (a .v) (omega arith) (test ∙ w .0 .left) (turn .all)
+      ap (withFrom notes (a .n) within j count kept (a .place) (a .v) (j + 1)) (w .1)
+          ∙ with-no notes (a .n) within j count kept (a .place) (a .v) (omega arith) (test ∙ w .0 .left) (turn .all)
           ∙ turn .inv .1,
     ))
     (c .if1 .came)
@@ -97,7 +97,7 @@ returns c =
     let kept = pairsListed (a .s .now) in
     let count = placeTestsIn (a .s .now) in
     let within : a .n ≤ length notes = omega (arith, start .pre) in
-    sym (with-end notes (a .n) within (turn .i) count kept (a .place) (a .v) (omega arith) (turn .all)) ∙ turn .inv .1
+    sym (with-end notes (a .n) within (turn .j) count kept (a .place) (a .v) (omega arith) (turn .all)) ∙ turn .inv .1
 
 pub pairs-with-spec : {M : Type 1} → statement M
 pairs-with-spec =
@@ -113,7 +113,7 @@ pairs-with-spec =
     note-place-requires
     pair-number-requires
     with-test-requires
-    add-i
+    add-j
     loop-less
     loop-again
     returns)
