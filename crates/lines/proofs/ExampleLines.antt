@@ -8,7 +8,8 @@ use mathlib.Core.Path.{_≡_, refl}
 use mathlib.Core.List.{List, [], _∷_, _++_}
 use Prim.Native.Nat.{ℕ}
 use Rattle.terms.specs.Answer.{commit, execute, suspend, fail}
-use Rattle.lines.specs.Lines.{hexDigits, decimalIn, decimal, sheetLine, pieceLine}
+use Rattle.digits.specs.Decimal.{decimalIn, decimal}
+use Rattle.lines.specs.Lines.{hexDigits, sheetLine, pieceLine}
 
 abbrev lines : List ℕ
 lines =
@@ -31,13 +32,7 @@ example-lines : lines ≡
 unfolding hexDigits decimal decimalIn
 example-lines = refl
 
--- 0 is one digit, 1,024 four and 65,535 five; and each hexadecimal digit once, fedcba9876543210.
-example-numbers
-    : decimal 0 ++ (decimal 1024 ++ decimal 65535)
-    ≡ 0x30 ∷ 0x31 ∷ 0x30 ∷ 0x32 ∷ 0x34 ∷ 0x36 ∷ 0x35 ∷ 0x35 ∷ 0x33 ∷ 0x35 ∷ []
-unfolding decimal decimalIn
-example-numbers = refl
-
+-- Each hexadecimal digit once, fedcba9876543210.
 example-waits
     : hexDigits 16 18364758544493064720
     ≡ 0x66 ∷ 0x65 ∷ 0x64 ∷ 0x63 ∷ 0x62 ∷ 0x61 ∷ 0x39 ∷ 0x38

@@ -4,7 +4,8 @@ use mathlib.Core.Path.{_≡_, sym, ap, _∙_}
 use mathlib.Core.List.{List, [], _∷_, _++_, append-assoc}
 use Rattle.terms.specs.Answer.{Answer, ruleOf}
 use Rattle.lines.proofs.Wrote.{Five, joined}
-use Rattle.lines.specs.Lines.{decimal, hex16, sheetWord, refusedWord, answerWord, line, sheetLine, pieceLine, refusedLine}
+use Rattle.digits.specs.Decimal.{decimal}
+use Rattle.lines.specs.Lines.{hex16, sheetWord, refusedWord, answerWord, line, sheetLine, pieceLine, refusedLine}
 
 -- A field and the space after it, and a last field and the line feed after it.
 abbrev pub spaced : List ℕ → List ℕ

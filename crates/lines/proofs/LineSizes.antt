@@ -4,8 +4,10 @@ use mathlib.Core.Path.{_≡_}
 use native.Mathlib.Omega.{arith}
 use lib.ListN.{length, length-append}
 use Rattle.terms.specs.Answer.{Answer, commit, execute, suspend, fail, ruleOf}
-use Rattle.lines.specs.Lines.{decimal, answerWord, sheetLine, pieceLine, refusedLine}
-use Rattle.lines.proofs.Digits.{decimal-size, hex-size}
+use Rattle.digits.specs.Decimal.{decimal}
+use Rattle.digits.proofs.Digits.{decimal-size}
+use Rattle.lines.specs.Lines.{answerWord, sheetLine, pieceLine, refusedLine}
+use Rattle.lines.proofs.Hexadecimal.{hex-size}
 
 -- A number that fits a byte has at most three digits.
 byte-size : (n : ℕ) → n < 256 → length (decimal n) ≤ 3

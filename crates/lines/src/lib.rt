@@ -1,34 +1,15 @@
 // The lines of the listing, each written into the part of a lent buffer that begins at a position.
+use digits::digit;
+use digits::put_number;
 use plain::Answer;
-ghost use Prim.Native.Nat.{_+_, _≤_, _<_};
+ghost use Prim.Native.Nat.{_+_, _≤_};
 ghost use mathlib.Core.Path.{_≡_};
 ghost use mathlib.Core.List.{[], _∷_, _++_};
 ghost use lib.ListN.{length};
 ghost use Rattle.records.specs.Writing.{splice};
 ghost use Rattle.plain.specs.Plain.{answerOf};
 ghost use Rattle.terms.specs.Answer.{ruleOf};
-ghost use Rattle.lines.specs.Lines.{digit as digitOf, hexDigits, hex16, decimal, answerWord};
-ghost use Rattle.lines.specs.Lines.{sheetLine, pieceLine, refusedLine};
-
-// The character of a digit.
-fn digit(d: u64) -> u8
-    requires { ⌜ d < 16 ⌝ }
-    ensures { λ r. ⌜ r ≡ digitOf d ⌝ }
-{
-    if d < 10 { 48 + d as u8 } else { 87 + d as u8 }
-}
-
-// The decimal digits of a number, and the position behind them.
-fn put_decimal(buf: &mut [u8], at: usize, n: u64) -> usize
-    requires { ⌜ at + length (decimal n) ≤ length (now buf) ⌝ }
-    ensures { λ r. ⌜ (r ≡ at + length (decimal n)) × (now (buf .exit) ≡ splice (now (buf .entry)) at (decimal n)) ⌝ }
-{
-    if n < 10 {
-        return records::put(buf, at, &[digit(n)]);
-    }
-    let end = put_decimal(buf, at, n / 10);
-    records::put(buf, end, &[digit(n % 10)])
-}
+ghost use Rattle.lines.specs.Lines.{hexDigits, hex16, answerWord, sheetLine, pieceLine, refusedLine};
 
 // The last so many hexadecimal digits of a number, and the position behind them.
 fn put_hex(buf: &mut [u8], at: usize, count: usize, x: u64) -> usize
@@ -41,16 +22,6 @@ fn put_hex(buf: &mut [u8], at: usize, count: usize, x: u64) -> usize
     }
     let end = put_hex(buf, at, count - 1, x / 16);
     records::put(buf, end, &[digit(x % 16)])
-}
-
-// A number and the byte after it, and the position behind both.
-fn put_number(buf: &mut [u8], at: usize, n: u64, after: u8) -> usize
-    requires { ⌜ at + length (decimal n ++ (after ∷ [])) ≤ length (now buf) ⌝ }
-    ensures { λ r. ⌜ (r ≡ at + length (decimal n ++ (after ∷ [])))
-        × (now (buf .exit) ≡ splice (now (buf .entry)) at (decimal n ++ (after ∷ []))) ⌝ }
-{
-    let end = put_decimal(buf, at, n);
-    records::put(buf, end, &[after])
 }
 
 // The word of an answer and a space, and the position behind both.

@@ -6,8 +6,9 @@ use native.Mathlib.Omega.{arith}
 use lib.ListN.{length}
 use denote.Ref.{now}
 use Rattle.records.proofs.Writing.{splice-none}
-use Rattle.lines.specs.Lines.{digit, hexDigits}
-use Rattle.lines.proofs.Digits.{hex-none, hex-more}
+use Rattle.digits.specs.Decimal.{digit}
+use Rattle.lines.specs.Lines.{hexDigits}
+use Rattle.lines.proofs.Hexadecimal.{hex-none, hex-more}
 use Rattle.lines.proofs.Wrote.{wrote-as, wrote-more, first-fits, rest-fits}
 use borrow.Author.Needs.{needs}
 use borrow.Fn.Kinds.{In}
@@ -15,7 +16,7 @@ use borrow.Fn.PlainCycle.{Measures, is, falls, and}
 use Rattle.lines.proofs.put_hex.Reads as put-hex
 use Rattle.lines.proofs.put_hex.Kinds as put-hex-kinds
 use Rattle.lines.proofs.+put_hex.Lts-put_hex as put-hex-lts
-use Rattle.lines.proofs.digit.Reads as digit-reads
+use Rattle.digits.proofs.digit.Reads as digit-reads
 use Rattle.records.proofs.put.Reads as put-reads
 use Rattle.lines.proofs.+put_hex.{statement}
 use Rattle.lines.proofs.+put_hex.Tie.{close}

@@ -5,7 +5,8 @@ use lib.ListN.{length}
 use denote.Ref.{now}
 use borrow.Author.Needs.{needs}
 use Rattle.plain.specs.Plain.{answerOf}
-use Rattle.lines.specs.Lines.{decimal, hex16, answerWord, pieceLine}
+use Rattle.digits.specs.Decimal.{decimal}
+use Rattle.lines.specs.Lines.{hex16, answerWord, pieceLine}
 use Rattle.lines.proofs.Wrote.{Five, joined, wrote-as, room-as, fits-1, fits-2, fits-3, fits-4, fits-5, wrote-five}
 use Rattle.lines.proofs.LineParts.{fiveParts, piece-parts}
 use Rattle.lines.proofs.LineSizes.{piece-size, line-fits, line-ends}

@@ -5,7 +5,8 @@ use mathlib.Core.List.{_++_}
 use lib.ListN.{length}
 use denote.Ref.{now}
 use borrow.Author.Needs.{needs}
-use Rattle.lines.specs.Lines.{decimal, refusedWord}
+use Rattle.digits.specs.Decimal.{decimal}
+use Rattle.lines.specs.Lines.{refusedWord}
 use Rattle.lines.proofs.Wrote.{wrote-as, room-as, rest-fits, wrote-more}
 use Rattle.lines.proofs.LineParts.{spaced, ended, refused-parts}
 use Rattle.lines.proofs.LineSizes.{refused-size, line-fits, line-ends}

@@ -1,6 +1,6 @@
--- Laws of the digits of numbers.
-use Prim.Native.Nat.{ℕ, zero, suc, _+_, _-_, _/_, _%_, _^_, _≤_, _<_}
-use mathlib.Core.Path.{_≡_, refl, sym, ap, _∙_}
+-- Laws of the decimal digits of numbers.
+use Prim.Native.Nat.{ℕ, zero, suc, _+_, _/_, _%_, _^_, _≤_, _<_}
+use mathlib.Core.Path.{_≡_, refl, ap, _∙_}
 use mathlib.Core.List.{List, [], _∷_, _++_}
 use mathlib.Core.Bool.{Bool, true, false, cond}
 use native.Mathlib.Omega.{arith}
@@ -8,7 +8,7 @@ use native.Mathlib.Nat.{pow-suc}
 use lib.Dec.{ltb}
 use lib.ListN.{length, length-append}
 use borrow.Author.Tests.{lt-ltb, le-ltb, ltb-true, ltb-false}
-use Rattle.lines.specs.Lines.{digit, hexDigits, decimalIn, decimal}
+use Rattle.digits.specs.Decimal.{digit, decimalIn, decimal}
 
 -- What stands before the last digit changes alike where it changes.
 with-last
@@ -52,20 +52,9 @@ decimal-size zero n h = one-more 0 n (ltb n 10) refl (λ ten. absurd (omega arit
 decimal-size (suc k) n h =
     one-more (suc k) n (ltb n 10) refl (λ ten. decimal-size k (n / 10) (omega (arith, pow-suc 10 (suc k))))
 
--- The hexadecimal digits, one more at the end.
-pub hex-more : (k x : ℕ) → (k ≡ 0 → ⊥) → hexDigits k x ≡ hexDigits (k - 1) (x / 16) ++ (digit (x % 16) ∷ [])
-unfolding hexDigits
-hex-more zero x some = absurd (some refl)
-hex-more (suc k) x some =
-    let less : suc k - 1 ≡ k = omega arith in ap (λ (j : ℕ). hexDigits j (x / 16) ++ (digit (x % 16) ∷ [])) (sym less)
-
--- No digits are none.
-pub hex-none : (x : ℕ) → hexDigits 0 x ≡ []
-unfolding hexDigits
-hex-none x = refl
-
--- They are as many as asked for.
-pub hex-size : (k x : ℕ) → length (hexDigits k x) ≡ k
-unfolding hexDigits
-hex-size zero x = refl
-hex-size (suc k) x = length-append (hexDigits k (x / 16)) (digit (x % 16) ∷ []) ∙ omega (arith, hex-size k (x / 16))
+-- 0 is one digit, 1,024 four and 65,535 five.
+example-numbers
+    : decimal 0 ++ (decimal 1024 ++ decimal 65535)
+    ≡ 0x30 ∷ 0x31 ∷ 0x30 ∷ 0x32 ∷ 0x34 ∷ 0x36 ∷ 0x35 ∷ 0x35 ∷ 0x33 ∷ 0x35 ∷ []
+unfolding decimal decimalIn
+example-numbers = refl

@@ -1,11 +1,11 @@
--- `lines::put_number` meets its contract: the digits, then the byte after them.
+-- `digits::put_number` meets its contract: the digits, then the byte after them.
 use mathlib.Core.List.{[], _∷_}
 use denote.Ref.{now}
 use borrow.Author.Needs.{needs}
-use Rattle.lines.specs.Lines.{decimal}
-use Rattle.lines.proofs.Wrote.{first-fits, rest-fits, wrote-more}
-use Rattle.lines.proofs.put_number.Statement.{statement}
-use Rattle.lines.proofs.put_number.Tie as tie
+use Rattle.digits.specs.Decimal.{decimal}
+use Rattle.records.proofs.Wrote.{first-fits, rest-fits, wrote-more}
+use Rattle.digits.proofs.put_number.Statement.{statement}
+use Rattle.digits.proofs.put_number.Tie as tie
 
 put-decimal-requires : tie.Need-put-decimal-requires
 put-decimal-requires c κs =

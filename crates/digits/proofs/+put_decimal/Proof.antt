@@ -1,23 +1,23 @@
--- `lines::put_decimal` meets its contract: the digits of the tenth, then the last one. The number falls.
+-- `digits::put_decimal` meets its contract: the digits of the tenth, then the last one. The number falls.
 use Prim.Native.Nat.{ℕ, _+_, _/_, _%_, _≤_, _<_}
 use mathlib.Core.Path.{sym, ap, subst, _∙_}
 use mathlib.Core.List.{List, [], _∷_, _++_}
 use native.Mathlib.Omega.{arith}
 use lib.ListN.{length}
 use denote.Ref.{now}
-use Rattle.lines.specs.Lines.{digit, decimal}
-use Rattle.lines.proofs.Digits.{decimal-one, decimal-more}
-use Rattle.lines.proofs.Wrote.{wrote-as, wrote-more, first-fits, rest-fits}
+use Rattle.digits.specs.Decimal.{digit, decimal}
+use Rattle.digits.proofs.Digits.{decimal-one, decimal-more}
+use Rattle.records.proofs.Wrote.{wrote-as, wrote-more, first-fits, rest-fits}
 use borrow.Author.Needs.{needs}
 use borrow.Fn.Kinds.{In}
 use borrow.Fn.PlainCycle.{Measures, is, falls, and}
-use Rattle.lines.proofs.put_decimal.Reads as put-decimal
-use Rattle.lines.proofs.put_decimal.Kinds as put-decimal-kinds
-use Rattle.lines.proofs.+put_decimal.Lts-put_decimal as put-decimal-lts
-use Rattle.lines.proofs.digit.Reads as digit-reads
+use Rattle.digits.proofs.put_decimal.Reads as put-decimal
+use Rattle.digits.proofs.put_decimal.Kinds as put-decimal-kinds
+use Rattle.digits.proofs.+put_decimal.Lts-put_decimal as put-decimal-lts
+use Rattle.digits.proofs.digit.Reads as digit-reads
 use Rattle.records.proofs.put.Reads as put-reads
-use Rattle.lines.proofs.+put_decimal.{statement}
-use Rattle.lines.proofs.+put_decimal.Tie.{close}
+use Rattle.digits.proofs.+put_decimal.{statement}
+use Rattle.digits.proofs.+put_decimal.Tie.{close}
 
 abbrev μ-put-decimal : Measures 1 put-decimal-kinds.ps ℕ
 μ-put-decimal κs a = a .1 .1 .0

@@ -1,8 +1,8 @@
--- `lines::digit` meets its contract, below ten and above.
+-- `digits::digit` meets its contract, below ten and above.
 use borrow.Author.Needs.{needs}
 use borrow.Author.Tests.{lt-ltb, le-ltb}
-use Rattle.lines.proofs.digit.Statement.{statement}
-use Rattle.lines.proofs.digit.Tie as tie
+use Rattle.digits.proofs.digit.Statement.{statement}
+use Rattle.digits.proofs.digit.Tie as tie
 
 cast-result : tie.Need-cast-result
 cast-result c = search needs
