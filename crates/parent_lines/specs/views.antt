@@ -1,0 +1,2 @@
+-- How the code counts the places out.
+pub mod Counting
