@@ -7,7 +7,7 @@ use mathlib.Core.List.{List, _∷_, _++_}
 use native.Mathlib.Decide.{ℕ-discrete}
 use native.Mathlib.Omega.{arith}
 use lib.Dec.{T, ltb, lt→ltb}
-use lib.ListN.{length}
+use lib.ListN.{length, getD}
 use Rattle.basics.specs.Lists.{Mem, here, there, All, filter, countFrom}
 use Rattle.basics.proofs.ListLaws.{mem-cases, mem-none}
 use Rattle.basics.proofs.Sorted.{Ascending}
@@ -16,6 +16,12 @@ use Rattle.basics.proofs.Sorted.{Ascending}
 pub count-length : (a k : ℕ) → length (countFrom a k) ≡ k
 count-length a zero = refl
 count-length a (suc k) = ap suc (count-length (suc a) k)
+
+-- Each stands as far behind the first as its position says.
+pub count-at : (a k i : ℕ) → i < k → getD (countFrom a k) i 0 ≡ a + i
+count-at a zero i h = absurd (let z : ⊥ = omega arith in z)
+count-at a (suc k) zero h = omega arith
+count-at a (suc k) (suc i) h = omega (arith, count-at (suc a) k i (omega arith))
 
 -- What is in a row of numbers lies between its ends.
 pub count-mem : (a k x : ℕ) → Mem x (countFrom a k) → (a ≤ x) × (x < a + k)

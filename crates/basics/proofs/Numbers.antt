@@ -1,13 +1,14 @@
 -- Laws of numbers and their tests.
 use Prim.Native.Nat.{ℕ, suc, _+_, _-_, _*_, _≤_, _<_}
 use mathlib.Core.Path.{_≡_, sym, ap, _∙_}
-use mathlib.Core.Bool.{Bool, true, false, not}
-use mathlib.Core.Logic.{_⊎_, inl, inr, by-cases}
+use mathlib.Core.Bool.{Bool, true, false, not, _&&_}
+use mathlib.Core.Logic.{_↔_, _⊎_, inl, inr, by-cases}
 use native.Mathlib.Decide.{ℕ-discrete}
 use native.Mathlib.Nat.{suc-mul, add-comm}
 use native.Mathlib.Omega.{arith}
-use lib.Dec.{T, leb, eqb, leb→le, nleb→lt, eqb-refl}
+use lib.Dec.{T, leb, eqb, leb→le, le→leb, nleb→lt, eqb-refl}
 use borrow.Author.Tests.{eq-eqb, ne-eqb}
+use Rattle.basics.proofs.Booleans.{both-true, true-both}
 
 -- Two numbers are equal either way round.
 pub eqb-swap : (a b : ℕ) → eqb a b ≡ eqb b a
@@ -23,6 +24,13 @@ le-or-lt m n = go (leb m n) (leb→le m n) (nleb→lt m n)
     go : (b : Bool) → (T b → m ≤ n) → (T (not b) → n < m) → (m ≤ n) ⊎ (n < m)
     go true f g = inl (f tt)
     go false f g = inr (g tt)
+
+-- Two comparisons are true together exactly when both hold.
+pub both-le : (a b c d : ℕ) → T (leb a b && leb c d) ↔ ((a ≤ b) × (c ≤ d))
+both-le a b c d = (
+  λ h. let s = both-true (leb a b) (leb c d) h in (leb→le a b (s .0), leb→le c d (s .1)),
+  λ h. true-both (leb a b) (leb c d) (le→leb a b (h .0)) (le→leb c d (h .1)),
+)
 
 -- Numbers that are neither below nor above one another are equal.
 pub not-apart : (m n : ℕ) → (m < n → ⊥) → (n < m → ⊥) → m ≡ n

@@ -13,10 +13,10 @@ use Rattle.codes.specs.views.Codes.{symbolCode, compoundCode, numberCode}
 use Rattle.decision.specs.Runs.{covers}
 use Rattle.decision.specs.Cases.{Case, symbolCase, compoundCase, numbersCase, isWanted}
 use Rattle.decision.specs.AcceptedGraph.{CaseBefore, CaseFields}
-use Rattle.decision.proofs.cases.Intervals.{both-le, EndsBefore}
+use Rattle.decision.proofs.cases.Intervals.{EndsBefore}
 use Rattle.codes.specs.views.Codes.{wantLow, wantHigh, SoundWant}
 use Rattle.decision.specs.views.CaseCodes.{caseLow, caseHigh}
-use Rattle.basics.proofs.Numbers.{eq-true}
+use Rattle.basics.proofs.Numbers.{eq-true, both-le}
 
 -- The codes of a want, and of a case.
 abbrev pub wantRange : Want → Range

@@ -18,7 +18,7 @@ use Rattle.decision.specs.Runs.{cuts, between, covers, isCovered, runs}
 use Rattle.decision.specs.AcceptedGraph.{CaseBefore, CaseFields}
 use Rattle.basics.proofs.Filters.{mem-map, all-mapped, filter-mem, any-mem}
 use Rattle.basics.proofs.Ascent.{ascending-map}
-use Rattle.decision.proofs.cases.Intervals.{both-le, Contains, EndsBefore, Uncut, Between, in-one-only}
+use Rattle.decision.proofs.cases.Intervals.{Contains, EndsBefore, Uncut, Between, in-one-only}
 use Rattle.decision.proofs.cases.Insertion.{symbol-wanted, functor-wanted}
 use Rattle.decision.proofs.cases.RangeRuns as ranges
 use Rattle.decision.proofs.cases.RangeRuns.{CutBy, wanted-cut, run-between}
@@ -30,7 +30,7 @@ use Rattle.decision.proofs.cases.CasesAccepted.{cases-ascend, cases-fields}
 use Rattle.codes.specs.views.Codes.{wantLow, wantHigh, SoundWant}
 use Rattle.decision.specs.views.CaseCodes.{caseLow, caseHigh}
 use Rattle.cuts.proofs.CodeRanges.{wantRange, caseRange, case-before}
-use Rattle.basics.proofs.Numbers.{le-or-lt}
+use Rattle.basics.proofs.Numbers.{le-or-lt, both-le}
 
 module _ (ws : List Want) (sound : All SoundWant ws) where
   abbrev wanted : List Range

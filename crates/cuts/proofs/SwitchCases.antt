@@ -15,6 +15,7 @@ use Rattle.basics.specs.Lists.{Mem, All, filter}
 use Rattle.basics.proofs.Booleans.{by-test, same-truth, is-true, true-is}
 use Rattle.basics.proofs.Filters.{mem-map, all-mapped, any-mem, mem-any}
 use Rattle.basics.proofs.ListLaws.{all-at, all-from, all-map}
+use Rattle.basics.proofs.Numbers.{both-le}
 use Rattle.masks.specs.Mask.{has}
 use Rattle.masks.proofs.Extensionality.{has-maskOf, maskOf-same, maskOf-unique, maskOf-lt, empty-ext}
 use Rattle.masks.proofs.Membership.{has-empty, has-pos}
@@ -26,7 +27,7 @@ use Rattle.decision.specs.Cases.{Case, isWanted, casesOf}
 use Rattle.decision.specs.AcceptedGraph.{CaseFields}
 use Rattle.decision.specs.Edges.{liveWants}
 use Rattle.decision.proofs.cases.CasesAccepted.{cases-fields}
-use Rattle.decision.proofs.cases.Intervals.{both-le, Contains, Between, between-cuts}
+use Rattle.decision.proofs.cases.Intervals.{Contains, Between, between-cuts}
 use Rattle.decision.proofs.cases.RangeRuns as ranges
 use Rattle.decision.proofs.cases.RangeRuns.{covers-contains, run-between}
 use Rattle.decision.proofs.rules.LiveWants.{want-listed}

@@ -1,12 +1,12 @@
 -- One key is met: found among those met before, added behind them, or one too many; and then others after it.
-use Prim.Native.Nat.{ℕ, zero, suc, _+_, _≤_, _<_}
+use Prim.Native.Nat.{ℕ, suc, _+_, _≤_, _<_}
 use mathlib.Core.Path.{_≡_, refl, sym, ap, _∙_}
 use mathlib.Core.Bool.{Bool, true, false, _||_, cond}
 use mathlib.Core.List.{List, [], _∷_, _++_, append-nil}
 use native.Mathlib.Omega.{arith}
 use lib.ListN.{length, getD, length-append, length-map, List·getD-map}
 use Rattle.basics.specs.Lists.{countFrom, anyOf}
-use Rattle.basics.proofs.Counting.{count-length}
+use Rattle.basics.proofs.Counting.{count-length, count-at}
 use Rattle.decision.specs.Key.{Key, sameKey}
 use Rattle.decision.specs.Graph.{newOnes}
 use Rattle.decision.proofs.exploring.ExploreSteps.{meet-one}
@@ -42,12 +42,6 @@ number-most (k ∷ keys) key = go (sameKey key k) (number-most keys key)
     go : (b : Bool) → keyNumber keys key ≤ length keys → cond b 0 (suc (keyNumber keys key)) ≤ suc (length keys)
     go true h = omega arith
     go false h = omega arith
-
--- The number counted at a position.
-count-at : (i n k : ℕ) → k < n → getD (countFrom i n) k 0 ≡ i + k
-count-at i zero k h = absurd (let z : ⊥ = omega arith in z)
-count-at i (suc n) zero h = omega arith
-count-at i (suc n) (suc k) h = omega (arith, count-at (suc i) n k (omega arith))
 
 module _ (t : List ℕ) where
   -- There are so many keys,

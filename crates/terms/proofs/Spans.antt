@@ -5,10 +5,10 @@ use mathlib.Core.Path.{_≡_, refl, sym}
 use mathlib.Core.Bool.{Bool, true, false, _&&_, _||_, cond}
 use mathlib.Core.Logic.{_↔_, _⊎_, inl, inr}
 use native.Mathlib.Omega.{arith}
-use lib.Dec.{T, leb, ltb, eqb, leb→le, le→leb, ltb→lt, lt→ltb, eqb→eq}
+use lib.Dec.{T, leb, ltb, eqb, ltb→lt, lt→ltb, eqb→eq}
 use borrow.Author.Tests.{leb-true, leb-false, lt-ltb, le-ltb, eq-eqb, ne-eqb}
 use Rattle.basics.proofs.Booleans.{both-true, true-both, either-true, true-left, true-right, cond-by}
-use Rattle.basics.proofs.Numbers.{le-or-lt, eq-true}
+use Rattle.basics.proofs.Numbers.{le-or-lt, both-le, eq-true}
 use Rattle.terms.specs.Outcome.{Outcome, holds, notKnown, contradicted, Holds, NotKnown, Contradicted, known}
 use Rattle.terms.proofs.Outcomes.{Open, Stays, not-known-open}
 use Rattle.terms.proofs.KnownTests.{neither}
@@ -25,14 +25,7 @@ compareSpans a b c d = cond (ltb b c || ltb d a) contradicted (cond (eqb a b && 
 abbrev pub Within : ℕ → ℕ → ℕ → Type 0
 Within a b v = (a ≤ v) × (v ≤ b)
 
--- Two comparisons are true together exactly when both hold,
-both-le : (a b c d : ℕ) → T (leb a b && leb c d) ↔ ((a ≤ b) × (c ≤ d))
-both-le a b c d = (
-  λ h. let s = both-true (leb a b) (leb c d) h in (leb→le a b (s .0), leb→le c d (s .1)),
-  λ h. true-both (leb a b) (leb c d) (le→leb a b (h .0)) (le→leb c d (h .1)),
-)
-
--- and one of two is true exactly when one holds.
+-- One of two comparisons is true exactly when one holds.
 one-lt : (a b c d : ℕ) → T (ltb a b || ltb c d) ↔ ((a < b) ⊎ (c < d))
 one-lt a b c d = (
   λ h. elim (either-true (ltb a b) (ltb c d) h) [ inl t ↦ inl (ltb→lt a b t) | inr t ↦ inr (ltb→lt c d t) ],

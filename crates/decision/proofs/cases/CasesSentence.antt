@@ -15,13 +15,12 @@ use Rattle.terms.specs.Outcome.{Holds}
 use Rattle.terms.proofs.Outcomes.{true-holds}
 use Rattle.decision.specs.Cases.{Case, symbolCase, compoundCase, numbersCase, takes, isWanted, symbolsOf, functorsOf, Functor, casesOf}
 use Rattle.decision.specs.AcceptedGraph.{CaseBefore, LowAtMostHigh}
-use Rattle.decision.proofs.cases.Intervals.{both-le}
 use Rattle.decision.proofs.cases.Insertion.{symbol-wanted, functor-wanted}
 use Rattle.decision.proofs.cases.WantedRanges.{numberRuns, runs-all}
 use Rattle.decision.proofs.cases.Runs.{SoundWant, Accepts, Parted, in-run, run-uncut, run-wanted, run-maximal, runs-ordered}
 use Rattle.decision.proofs.cases.CaseList.{cases-all, symbol-listed, compound-listed, run-listed}
 use Rattle.decision.proofs.cases.CasesAccepted.{cases-ascend}
-use Rattle.basics.proofs.Numbers.{not-apart}
+use Rattle.basics.proofs.Numbers.{not-apart, both-le}
 
 -- The same of the wants accept the one number and the other.
 abbrev pub SameAccept : List Want → ℕ → ℕ → Type 0

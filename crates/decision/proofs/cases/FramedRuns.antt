@@ -11,12 +11,12 @@ use lib.ListN.{length}
 use Rattle.basics.specs.Lists.{Mem, All}
 use Rattle.basics.specs.Order.{insertBy}
 use Rattle.basics.proofs.ListLaws.{all-at, all-map}
-use Rattle.basics.proofs.Numbers.{not-apart}
+use Rattle.basics.proofs.Numbers.{not-apart, both-le}
 use Rattle.basics.proofs.Sorted.{AscendingBy as Ascending}
 use Rattle.terms.specs.RuleTests.{Range}
 use Rattle.decision.specs.Runs.{cuts, between, covers}
 use Rattle.decision.proofs.cases.Insertion.{number-inserted}
-use Rattle.decision.proofs.cases.Intervals.{both-le, Contains, EndsBefore, Uncut, Between}
+use Rattle.decision.proofs.cases.Intervals.{Contains, EndsBefore, Uncut, Between}
 use Rattle.decision.proofs.cases.Intervals.{between-cuts, between-ascends, between-covers, between-length, in-one-only}
 use Rattle.decision.proofs.cases.RangeRuns.{cuts-ascend, cuts-length, cut-wanted, wanted-cut, uncut-covers}
 use Rattle.decision.proofs.cases.RangeRuns.{Parted, cut-parted}

@@ -1,27 +1,17 @@
 -- Ranges of numbers between ascending cuts: from each cut to the number before the next.
 use Prim.Native.Nat.{ℕ, suc, pred, _≤_, _<_}
 use mathlib.Core.Path.{_≡_, refl, ap}
-use mathlib.Core.Bool.{_&&_}
-use mathlib.Core.Logic.{_↔_, _⊎_, inl, inr}
+use mathlib.Core.Logic.{_⊎_, inl, inr}
 use mathlib.Core.List.{List, [], _∷_}
 use native.Mathlib.Omega.{arith}
-use lib.Dec.{T, leb, leb→le, le→leb}
 use lib.ListN.{length}
 use Rattle.basics.specs.Lists.{Mem, here, there, All}
 use Rattle.terms.specs.RuleTests.{Range}
 use Rattle.decision.specs.Runs.{between}
 use Rattle.basics.proofs.ListLaws.{all-at, all-map, mem-cases, mem-none}
-use Rattle.basics.proofs.Booleans.{both-true, true-both}
 use Rattle.basics.proofs.Ascent.{ascending-two}
 use Rattle.basics.proofs.Numbers.{le-or-lt}
 use Rattle.basics.proofs.Sorted.{AscendingBy as Ascending}
-
--- Two comparisons are true together exactly when both hold.
-pub both-le : (a b c d : ℕ) → T (leb a b && leb c d) ↔ ((a ≤ b) × (c ≤ d))
-both-le a b c d = (
-  λ h. let s = both-true (leb a b) (leb c d) h in (leb→le a b (s .0), leb→le c d (s .1)),
-  λ h. true-both (leb a b) (leb c d) (le→leb a b (h .0)) (le→leb c d (h .1)),
-)
 
 -- The number lies in the range.
 abbrev pub Contains : Range → ℕ → Type 0

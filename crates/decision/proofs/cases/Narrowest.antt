@@ -11,11 +11,11 @@ use lib.Dec.{T}
 use Rattle.basics.specs.Lists.{Mem, here, there, All}
 use Rattle.basics.specs.Order.{pairBefore}
 use Rattle.basics.proofs.ListLaws.{mem-cases, mem-none}
-use Rattle.basics.proofs.Numbers.{le-or-lt}
+use Rattle.basics.proofs.Numbers.{le-or-lt, both-le}
 use Rattle.basics.proofs.Sorted.{pair-before, before-pair, pair-irreflexive, pair-transitive, pair-total}
 use Rattle.terms.specs.RuleTests.{Range}
 use Rattle.decision.specs.Runs.{covers}
-use Rattle.decision.proofs.cases.Intervals.{both-le, Contains}
+use Rattle.decision.proofs.cases.Intervals.{Contains}
 use Rattle.decision.proofs.cases.RangeOrder.{begins-below, ends-above}
 use Rattle.decision.proofs.cases.FramedRuns.{framed, framed-filled, framed-ascends}
 use Rattle.decision.proofs.cases.RunPairs.{fromTo, runPairs, pair-runs, runs-pair, span-turn}

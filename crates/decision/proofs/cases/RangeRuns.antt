@@ -15,9 +15,10 @@ use Rattle.decision.specs.Runs.{cuts, between, covers, isCovered, runs}
 use Rattle.basics.proofs.Filters.{mem-filter, filter-mem, mem-any}
 use Rattle.basics.proofs.Ascent.{ascending-filter}
 use Rattle.decision.proofs.cases.Insertion.{number-inserted}
-use Rattle.decision.proofs.cases.Intervals.{both-le, Contains, EndsBefore, Uncut, Between}
+use Rattle.decision.proofs.cases.Intervals.{Contains, EndsBefore, Uncut, Between}
 use Rattle.decision.proofs.cases.Intervals.{between-cuts, between-ascends, between-covers}
 use Rattle.basics.proofs.Sorted.{AscendingBy as Ascending}
+use Rattle.basics.proofs.Numbers.{both-le}
 
 -- The cuts ascend.
 pub cuts-ascend : (ws : List Range) → Ascending _<_ (cuts ws)

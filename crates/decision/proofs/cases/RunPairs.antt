@@ -14,9 +14,10 @@ use Rattle.basics.proofs.ListLaws.{all-at, all-from, mem-cases, mem-join, mem-n
 use Rattle.basics.proofs.Filters.{mem-left, mem-right, mem-map, map-mem, all-mapped}
 use Rattle.basics.proofs.Ascent.{ascending-map, ascending-join, ascending-two}
 use Rattle.basics.proofs.Sorted.{AscendingBy, Ascending, before-pair}
+use Rattle.basics.proofs.Numbers.{both-le}
 use Rattle.terms.specs.RuleTests.{Range}
 use Rattle.decision.specs.Runs.{covers}
-use Rattle.decision.proofs.cases.Intervals.{both-le, Contains, EndsBefore}
+use Rattle.decision.proofs.cases.Intervals.{Contains, EndsBefore}
 use Rattle.decision.proofs.cases.RangeOrder.{ascending-imply, rangeBefore, Filled, begins-below, ends-above}
 use Rattle.decision.proofs.cases.FramedRuns.{framed, meets, InFrame, framed-filled, framed-ascends, framed-covers}
 use Rattle.decision.proofs.cases.FramedRuns.{framed-inside, low-uncut, high-uncut, framed-meets}

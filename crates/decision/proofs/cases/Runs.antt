@@ -20,13 +20,14 @@ use Rattle.decision.specs.AcceptedGraph.{CaseBefore, LowAtMostHigh}
 use Rattle.terms.proofs.KnownTests.{holds-true}
 use Rattle.basics.proofs.Filters.{filter-mem, any-mem}
 use Rattle.basics.proofs.Ascent.{ascending-map}
-use Rattle.decision.proofs.cases.Intervals.{both-le, Contains, in-one-only}
+use Rattle.decision.proofs.cases.Intervals.{Contains, in-one-only}
 use Rattle.decision.proofs.cases.RangeRuns as Ranges
 use Rattle.decision.proofs.cases.RangeRuns.{covers-contains, run-between}
 use Rattle.decision.proofs.cases.WantedRanges.{range-wanted, wanted-range}
 use Rattle.decision.proofs.cases.WantedRanges.{numberRuns, run-case, ranges-all, case-run, runs-all}
 use Rattle.basics.proofs.Booleans.{same-truth}
 use Rattle.basics.proofs.Sorted.{AscendingBy as Ascending}
+use Rattle.basics.proofs.Numbers.{both-le}
 
 -- The want accepts the number.
 abbrev pub Accepts : Want → ℕ → Type 0
