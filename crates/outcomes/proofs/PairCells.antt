@@ -9,6 +9,7 @@ use Rattle.places.specs.Numbering.{stride, levelsAt, depthAt}
 use Rattle.places.proofs.Levels.{levels-range, levels-fit-row}
 use Rattle.terms.specs.Outcome.{Outcome, notKnown, contradicted}
 use Rattle.codes.specs.views.Codes.{unknownCode}
+use Rattle.outcomes.specs.views.CompareCells.{Inside}
 use Rattle.outcomes.specs.views.CellOutcome.{codesOutcome}
 use Rattle.outcomes.proofs.TwoTests.{one-is, none-is}
 
@@ -32,8 +33,8 @@ module _ (p d : ℕ) (depth : d ≡ depthAt p) where
   levels-below = let range = levels-range 4 p (omega arith) in (omega arith, omega arith, omega arith)
 
   -- It and the places below it are among the 680.
-  pub below-room : p < 680 → p + stride (suc (4 - d)) ≤ 680
-  below-room inside =
+  pub place-inside : p < 680 → Inside (4 - d) 1 p
+  place-inside inside =
       let range = levels-range 4 p (omega arith) in
       let levels : suc (4 - d) ≡ levelsAt p = omega arith in
-      omega (arith, levels-fit-row 4 p 8 inside, ap stride levels)
+      record { levels = omega arith; places = omega (arith, levels-fit-row 4 p 8 inside, ap stride levels) }

@@ -4,11 +4,11 @@ use codes::NUMBERS;
 use codes::SYMBOLS;
 use codes::UNKNOWN;
 ghost use mathlib.Core.Path.{_≡_};
-ghost use Prim.Native.Nat.{suc, _+_, _*_, _≤_, _<_};
+ghost use Prim.Native.Nat.{suc, _≤_, _<_};
 ghost use Rattle.places.specs.Numbering.{stride};
 ghost use Rattle.terms.specs.Outcome.{_and_};
 ghost use Rattle.outcomes.specs.views.Look.{nearest, look};
-ghost use Rattle.outcomes.specs.views.CompareCells.{Narrow, compareAt, compareRow};
+ghost use Rattle.outcomes.specs.views.CompareCells.{Narrow, Inside, compareAt, compareRow};
 ghost use Rattle.outcomes.specs.views.CellOutcome.{outcomeOf, runLow, runHigh, placeCells, pairCells};
 
 // The value of a test.
@@ -71,8 +71,7 @@ pub fn both(a: TestOutcome, b: TestOutcome) -> TestOutcome
 
 // Compares the terms at places p and q, with so many levels below the one and the other.
 fn compare(cells: &[u32; 680], below: usize, other: usize, p: usize, q: usize) -> TestOutcome
-    requires { ⌜ (below < 4) × (other < 4) × (p + stride (suc below) ≤ 680)
-        × (q + stride (suc other) ≤ 680) × Narrow (now cells) ⌝ }
+    requires { ⌜ Inside below 1 p × Inside other 1 q × Narrow (now cells) ⌝ }
     ensures { λ r. ⌜ outcomeOf r ≡ compareAt (now (cells .entry)) below other p q ⌝ }
 {
     let code = cells[p];
@@ -108,8 +107,7 @@ fn compare_args(
     p: usize,
     q: usize,
 ) -> TestOutcome
-    requires { ⌜ (below < 4) × (other < 4) × (p + n * stride (suc below) ≤ 680)
-        × (q + n * stride (suc other) ≤ 680) × Narrow (now cells) ⌝ }
+    requires { ⌜ Inside below n p × Inside other n q × Narrow (now cells) ⌝ }
     ensures { λ r. ⌜ outcomeOf r
         ≡ compareRow (compareAt (now (cells .entry)) below other) (stride (suc below)) (stride (suc other)) n p q ⌝ }
 {

@@ -1,7 +1,7 @@
 -- `compare` and `compare_args` meet their contracts. The levels below fall from a term to its arguments, and the number
 -- of pairs along a row: a compound has at most 4 arguments, so 6 for each level and 1 for each pair still to come are
 -- enough.
-use Prim.Native.Nat.{ℕ, suc, _+_, _-_, _*_, _≤_, _<_}
+use Prim.Native.Nat.{ℕ, suc, _+_, _*_, _≤_, _<_}
 use mathlib.Core.Path.{_≡_, sym, _∙_}
 use mathlib.Core.List.{List}
 use mathlib.Core.Logic.{inl, inr, ⊎-elim}
@@ -126,11 +126,11 @@ compare-sub-compare-args-2 t c =
 compare-compare-args-requires : (t : ℕ) → compare-lts.Need-compare-args-requires (compare-calls t) (compare-at t) compare.Post
 compare-compare-args-requires t c κs =
     let m = compound-start (c .before .before) in
-    let narrow = m .pre .1 .4 in
+    let narrow = m .pre .1 .2 in
     let most : arityOf (code m) ≤ 4 = narrow (m .args .p) (a-compound (code m) (c .before .before .before .if4 .left) (c .before .before .if5 .left)) in
     let room = arguments-room (m .args .below) _ (c .before .if6 .left) most in
     let room-other = arguments-room (m .args .other) _ (eqb-false _ _ (c .if7 .left)) most in
-    (omega arith, (omega arith, omega arith, omega arith, omega arith, narrow))
+    (omega arith, (record { levels = omega arith; places = omega arith }, record { levels = omega arith; places = omega arith }, narrow))
 
 compare-returns-5 : (t : ℕ) → compare-lts.Need-returns-5 (compare-calls t) (compare-at t) compare.Post
 compare-returns-5 t c =
@@ -151,7 +151,7 @@ compare-args-compare-requires t c κs =
     let a = c .before .args in
     let room = row-room (a .n) (stride (suc (a .below))) (c .if1 .left) in
     let room-other = row-room (a .n) (stride (suc (a .other))) (c .if1 .left) in
-    (omega arith, (omega arith, omega arith, omega arith, omega arith, c .before .pre .1 .4))
+    (omega arith, (record { levels = omega arith; places = omega arith }, record { levels = omega arith; places = omega arith }, c .before .pre .1 .2))
 
 compare-args-add-next-p : (t : ℕ) → compare-args-lts.Need-add-next-p (compare-args-calls t) (compare-args-at t) compare-args.Post
 compare-args-add-next-p t c =
@@ -173,7 +173,7 @@ compare-args-compare-args-requires t c κs =
     let room-other = row-room (a .n) (stride (suc (a .other))) some in
     let step = step-of (a .below) (search needs) (c .before .step .ensures) in
     let step-other = step-of (a .other) (search needs) (c .step2 .ensures) in
-    (omega arith, (omega arith, omega arith, omega arith, omega arith, c .before .before .before .before .pre .1 .4))
+    (omega arith, (record { levels = omega arith; places = omega arith }, record { levels = omega arith; places = omega arith }, c .before .before .before .before .pre .1 .2))
 
 compare-args-returns-2 : (t : ℕ) → compare-args-lts.Need-returns-2 (compare-args-calls t) (compare-args-at t) compare-args.Post
 compare-args-returns-2 t c =

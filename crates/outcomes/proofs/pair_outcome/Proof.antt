@@ -9,7 +9,7 @@ use Rattle.places.specs.Numbering.{levelsAt}
 use Rattle.terms.specs.Outcome.{Outcome}
 use Rattle.outcomes.specs.views.CompareCells.{compareAt}
 use Rattle.outcomes.specs.views.CellOutcome.{codesOutcome, pairCells}
-use Rattle.outcomes.proofs.PairCells.{one-lacking, one-unknown, none-unknown, levels-below, below-room}
+use Rattle.outcomes.proofs.PairCells.{one-lacking, one-unknown, none-unknown, levels-below, place-inside}
 use Rattle.outcomes.proofs.pair_outcome.Statement.{statement}
 use Rattle.outcomes.proofs.pair_outcome.Tie as tie
 
@@ -52,10 +52,8 @@ compare-requires c κs =
     let m = start (c .before .before .before .before .before .before) in
     let depth = c .before .depth in
     let depth-other = c .depth2 in (
-      levels-below (m .args .p) (depth .result) (depth .ensures) .1,
-      levels-below (m .args .q) (depth-other .result) (depth-other .ensures) .1,
-      below-room (m .args .p) (depth .result) (depth .ensures) (search needs),
-      below-room (m .args .q) (depth-other .result) (depth-other .ensures) (search needs),
+      place-inside (m .args .p) (depth .result) (depth .ensures) (search needs),
+      place-inside (m .args .q) (depth-other .result) (depth-other .ensures) (search needs),
       m .pre .2,
     )
 

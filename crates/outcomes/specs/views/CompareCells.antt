@@ -1,5 +1,5 @@
 -- How two terms of a piece compare, as its cells tell it (document 01, "Places and tests").
-use Prim.Native.Nat.{ℕ, zero, suc, _+_, _%_, _≤_}
+use Prim.Native.Nat.{ℕ, zero, suc, _+_, _*_, _%_, _≤_, _<_}
 use mathlib.Core.Bool.{Bool, _&&_, _||_, cond}
 use mathlib.Core.List.{List}
 use lib.ListN.{getD}
@@ -18,6 +18,11 @@ arityOf code = code % 256
 -- No compound has more than 4 arguments.
 abbrev pub Narrow : List ℕ → Type 0
 Narrow cells = (i : ℕ) → T (isCompound (getD cells i 0)) → arityOf (getD cells i 0) ≤ 4
+
+-- n neighbours with so many levels below each, the first at place p, are places of a piece.
+pub record Inside (below n p : ℕ) : Type 0 where
+  pub levels : below < 4
+  pub places : p + n * stride (suc below) ≤ 680
 
 -- Two codes: not known where one is unknown, else contradicted where they differ. Where they do not, two symbols or two
 -- numbers are equal, and two compounds are as their arguments say.
