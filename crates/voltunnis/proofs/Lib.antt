@@ -1,2 +1,3 @@
 -- Laws of what the library hands back.
 pub mod Unpacked
+pub mod UnpackedWalks

@@ -1,3 +1,4 @@
 -- How the library packs its results.
 pub mod Packed
 pub mod PackedWords
+pub mod PackedWalks

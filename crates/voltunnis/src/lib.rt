@@ -1,22 +1,23 @@
 // The static library. Every call takes byte slices and hands back one number, the refusal's number in its lowest byte.
 mod order_calls; // the calls of a reading order
+mod walk_all_calls; // the call that walks many pieces
 mod window_calls; // the calls of a window
 
 use build::Built;
 use graph_check::GraphCheck;
 use graph_check::Rewrote;
 use piece::PieceCheck;
-use plain::Answer;
 use plain::Plain;
 use sheet_tests::SheetCheck;
 use tidying::Tidied;
 use walk::Walked;
+use walk_all::result::rule;
+use walk_all::result::word;
 ghost use mathlib.Core.Path.{_≡_};
-ghost use Rattle.terms.specs.Answer.{wordOf, ruleOf};
 ghost use Rattle.sheet_tests.specs.CheckSheet.{acceptSheet, sheetValues};
 ghost use Rattle.piece.specs.ReadPiece.{readPiece};
 ghost use Rattle.piece.specs.CheckPiece.{pieceValues};
-ghost use Rattle.plain.specs.Plain.{answerOf, plainReading, readingValues};
+ghost use Rattle.plain.specs.Plain.{plainReading, readingValues};
 ghost use Rattle.graph_check.specs.CheckGraph.{graphReading, graphValues};
 ghost use Rattle.graph_check.specs.Rewritten.{rewritten};
 ghost use Rattle.tidy.specs.Tidied.{tidied};
@@ -49,30 +50,6 @@ fn pack_two(refusal: u8, first: u16, second: u32) -> u64
     ensures { λ r. ⌜ Packs r (bits8 refusal ∷ bits16 first ∷ bits32 second ∷ []) ⌝ }
 {
     refusal as u64 + 0x100 * (first as u64) + 0x100_0000 * (second as u64)
-}
-
-// The answer word's number.
-fn word(answer: Answer) -> u8
-    ensures { λ r. ⌜ r ≡ wordOf (answerOf answer) ⌝ }
-{
-    match answer {
-        Answer::Commit(_) => 1,
-        Answer::Execute(_) => 2,
-        Answer::Suspend => 3,
-        Answer::Fail => 4,
-    }
-}
-
-// The answer's rule, 0 where it has none.
-fn rule(answer: Answer) -> u8
-    ensures { λ r. ⌜ r ≡ ruleOf (answerOf answer) ⌝ }
-{
-    match answer {
-        Answer::Commit(i) => i,
-        Answer::Execute(i) => i,
-        Answer::Suspend => 0,
-        Answer::Fail => 0,
-    }
 }
 
 // Checks a sheet: arity, rules and tests. Not the arity of a sheet that is refused, nor the rules in the place of the tests.

@@ -1,0 +1,25 @@
+-- The pieces of an input, and the results in a buffer, one after another.
+use Prim.Native.Nat.{ℕ, zero, suc, _*_}
+use mathlib.Core.List.{List}
+use lib.ListN.{length, take, drop}
+use Rattle.records.specs.Reading.{Reading, took, refused}
+use Rattle.piece.specs.Piece.{Piece}
+use Rattle.piece.specs.ReadPiece.{readPrefix}
+use Rattle.walk_all.specs.WalkAll.{resultLength}
+
+-- The bytes of the piece that the input begins with, "each ending with its last term"; all of them where it cannot be read.
+abbrev pub bytesOf : List ℕ → Reading Piece → ℕ
+bytesOf input (took k piece) = k
+bytesOf input (refused q) = length input
+
+abbrev pub firstPiece : List ℕ → List ℕ
+firstPiece input = take (bytesOf input (readPrefix input)) input
+
+-- Piece i of the input, from 0.
+unfoldable pub pieceAt : ℕ → List ℕ → List ℕ
+pieceAt zero input = firstPiece input
+pieceAt (suc i) input = pieceAt i (drop (bytesOf input (readPrefix input)) input)
+
+-- Result i of the buffer, from 0.
+abbrev pub resultAt : ℕ → List ℕ → List ℕ
+resultAt i buffer = take resultLength (drop (resultLength * i) buffer)

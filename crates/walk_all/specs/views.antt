@@ -1,0 +1,4 @@
+-- How the code keeps things.
+pub mod Known
+pub mod FirstPiece
+pub mod Turns

@@ -1,0 +1,25 @@
+-- What the walk of the first piece hands back.
+use Prim.Native.Nat.{ℕ, _≤_}
+use mathlib.Core.List.{List}
+use lib.ListN.{take}
+use Rattle.records.specs.Reading.{Reading, took, refused, andThen}
+use Rattle.piece.specs.ReadPiece.{readPrefix}
+use Rattle.decision.specs.Walk.{Walk}
+use Rattle.walk.specs.Walking.{walkOf}
+use Rattle.walk_all.specs.declared.First.{First}
+use Rattle.walk_all.specs.declared.First.the-variants.{Unread, Refused, Answered}
+
+-- The bytes of the first piece and the reply of its walk, or the question that says that it cannot be read.
+abbrev pub firstReply : (List ℕ → Reading Walk) → List ℕ → Reading (Reading Walk)
+firstReply reply input = andThen (readPrefix input) (λ k _. took k (reply (take k input)))
+
+abbrev pub firstOf : First → Reading (Reading Walk)
+firstOf (Unread q) = refused q
+firstOf (Refused k q) = took k (refused q)
+firstOf (Answered k w) = took k (took 0 (walkOf w))
+
+-- A piece has 3 bytes or more, all of them there.
+abbrev pub Within : ℕ → First → Type 0
+Within bytes (Unread q) = Unit
+Within bytes (Refused k q) = (3 ≤ k) × (k ≤ bytes)
+Within bytes (Answered k w) = (3 ≤ k) × (k ≤ bytes)

@@ -1,0 +1,44 @@
+// The walk of the piece that the input begins with, over a graph that was accepted for its sheet.
+use crate::First;
+use piece::Prefix;
+use piece::read_prefix;
+use walk::Sizes;
+use walk::Walked;
+use walk::call::walk_checked;
+ghost use mathlib.Core.Path.{_≡_};
+ghost use lib.ListN.{length};
+ghost use Rattle.walk.specs.Walking.{walkReply};
+ghost use Rattle.walk_all.specs.views.Known.{Known};
+ghost use Rattle.walk_all.specs.views.FirstPiece.{firstOf, firstReply, Within};
+
+// The walk of the first piece: its questions, 20, then 26 and 27 on the way. Bytes may follow it. Not 20 for a piece of the sheet's
+// arity, nor the bytes of the whole input for those of the piece.
+pub fn walk_first(
+    sheet: &[u8],
+    graph: &[u8],
+    starts: &[u32; 1024],
+    words: &[u64; 11],
+    codes: &[u32; 65],
+    sizes: Sizes,
+    input: &[u8],
+) -> First
+    requires { ⌜ Known (now sheet) (now graph) (now starts) (now words) (now codes) sizes ⌝ }
+    ensures { λ r. ⌜ firstOf r ≡ firstReply (walkReply (now (sheet .entry)) (now (graph .entry))) (now (input .entry)) ⌝ }
+    ensures { λ r. ⌜ Within (length (now (input .entry))) r ⌝ }
+{
+    let mut cells = [0u32; 680];
+    let prefix = read_prefix(input, &mut cells);
+    match prefix {
+        Prefix::Refused(q) => First::Unread(q),
+        Prefix::Read(arity, bytes) => {
+            if arity != sizes.arity {
+                return First::Refused(bytes, 20);
+            }
+            let walked = walk_checked(sheet, graph, starts, words, codes, sizes, &cells);
+            match walked {
+                Walked::Refused(q) => First::Refused(bytes, q),
+                Walked::Answered(w) => First::Answered(bytes, w),
+            }
+        }
+    }
+}
