@@ -1,9 +1,9 @@
--- Patterns, noted behind the notes before them: by the record that the input begins with.
+-- Patterns, held with what was held before them: by the record that the input begins with.
 use Prim.Native.Nat.{ℕ, zero, suc, pred, _+_, _-_, _≤_, _<_}
 use mathlib.Core.Path.{_≡_, refl, sym, ap, _∙_}
 use mathlib.Core.Bool.{_&&_}
 use mathlib.Core.Logic.{_⊎_, inl, inr, ⊎-elim}
-use mathlib.Core.List.{List, [], _∷_, _++_, append-assoc}
+use mathlib.Core.List.{List, [], _∷_}
 use native.Mathlib.Omega.{arith}
 use types.Run.{OneOf}
 use denote.Enum.Declared.{tagOf}
@@ -19,7 +19,7 @@ use Rattle.sheet.specs.declared.PatternHead.the-variants.{Whole, Refused
 use Rattle.sheet.specs.views.PatternRecord.{patternHead, onRecord, onHead}
 use Rattle.sheet.specs.ReadSheet.{readPattern, readPatterns}
 use Rattle.sheet.specs.views.Noted.{Note, note, patternNotes, patternsNotes}
-use Rattle.sheet.specs.views.NotesBehind.{leafBehind, patternBehind, rowBehind}
+use Rattle.sheet.specs.views.NotesBehind.{heldWith, leafHeld, patternHeld, rowHeld}
 use Rattle.sheet.proofs.PatternRecord.{the-type}
 use Rattle.sheet.proofs.RecordKinds.{by-table}
 
@@ -60,26 +60,14 @@ pub row-count
     : (below n : ℕ) (s : List ℕ) {k : ℕ} {ps : Patterns} → readPatterns below n s ≡ took k ps → countPatterns ps ≡ n
 row-count below n s e = row-size pnil pcons (readPattern below) countPatterns refl (λ p ps. refl) n s e
 
--- The notes of a compound: its own, then those of its arguments.
-compound-notes
-    : (below place a : ℕ) (before : List Note) (ps : Patterns)
-    → before ++ patternNotes (theCompound a ps) below place
-    ≡ (before ++ (note place (Compound a (countPatterns ps)) ∷ [])) ++ patternsNotes ps (below - 1) (place + 1)
-compound-notes below place a before ps =
-    let own = note place (Compound a (countPatterns ps)) in
-    let level : pred below ≡ below - 1 = omega arith in
-    let next : suc place ≡ place + 1 = omega arith in
-    ap (λ (l : List Note). before ++ (own ∷ l)) (λ j. patternsNotes ps (level j) (next j))
-    ∙ sym (append-assoc before (own ∷ []) (patternsNotes ps (below - 1) (place + 1)))
+module _ {A : Type 0} (put : A → Note → A) (below place : ℕ) (before : A) (s : List ℕ) where
+  abbrev noted : Pattern → A
+  noted p = heldWith put before (patternNotes p below place)
 
-module _ (below place : ℕ) (before : List Note) (s : List ℕ) where
-  abbrev noted : Pattern → List Note
-  noted p = before ++ patternNotes p below place
+  abbrev patternRead : Reading A
+  patternRead = patternHeld put below place before s
 
-  abbrev patternRead : Reading (List Note)
-  patternRead = patternBehind below place before s
-
-  abbrev onWhole : PatternRecord → Reading (List Note)
+  abbrev onWhole : PatternRecord → Reading A
   onWhole r = mapReading noted (onRecord (compoundOf below s) r)
 
   by-record : {r : PatternRecord} → patternHead s ≡ Whole r → patternRead ≡ onWhole r
@@ -90,13 +78,13 @@ module _ (below place : ℕ) (before : List Note) (s : List ℕ) where
   head-no e = sym (ap (mapReading noted) (pattern-by-head below s ∙ ap (onHead (compoundOf below s)) e))
 
   -- A record with no level below it.
-  pub lowest-read : {r : PatternRecord} → patternHead s ≡ Whole r → below ≡ 0 → leafBehind place before r ≡ patternRead
+  pub lowest-read : {r : PatternRecord} → patternHead s ≡ Whole r → below ≡ 0 → leafHeld put place before r ≡ patternRead
   lowest-read {r} e lowest =
       sym (by-record e
-      ∙ ap (λ (k : ℕ). mapReading (λ (p : Pattern). before ++ patternNotes p k place) (onRecord (compoundOf k s) r))
+      ∙ ap (λ (k : ℕ). mapReading (λ (p : Pattern). heldWith put before (patternNotes p k place)) (onRecord (compoundOf k s) r))
       lowest)
 
-  flat-same : (r : PatternRecord) → Flat r → leafBehind place before r ≡ onWhole r
+  flat-same : (r : PatternRecord) → Flat r → leafHeld put place before r ≡ onWhole r
   flat-same Anything f = refl
   flat-same (Symbol a) f = refl
   flat-same (Range l h) f = map-ask _ 7 (leb l h) _ ∙ sym (map-ask _ 7 (leb l h) _)
@@ -108,7 +96,7 @@ module _ (below place : ℕ) (before : List Note) (s : List ℕ) where
       ∙ sym (map-ask _ 7 (leb l h) _)
 
   -- A record that is no compound.
-  pub flat-read : {r : PatternRecord} → patternHead s ≡ Whole r → Flat r → leafBehind place before r ≡ patternRead
+  pub flat-read : {r : PatternRecord} → patternHead s ≡ Whole r → Flat r → leafHeld put place before r ≡ patternRead
   flat-read {r} e f = flat-same r f ∙ sym (by-record e)
 
   module _ {a n : ℕ} (head : patternHead s ≡ Whole (Compound a n)) (deep : below ≡ 0 → ⊥) where
@@ -123,28 +111,27 @@ module _ (below place : ℕ) (before : List Note) (s : List ℕ) where
     arity-no (inr h) = let enough : 1 ≤ n = omega arith in sym (by-arity ∙ rw (le-leb 1 n enough, lt-leb n 4 h))
 
     module _ (enough : 1 ≤ n) (few : n ≤ 4) where
-      -- The notes with the compound's, then with those of its arguments.
-      abbrev own : ℕ → List Note
-      own k = before ++ (note place (Compound a k) ∷ [])
+      -- What is held with the compound's note, then with those of its arguments.
+      abbrev own : ℕ → A
+      own k = put before (note place (Compound a k))
 
       abbrev arguments : Reading Patterns
       arguments = readPatterns (below - 1) n (drop 4 s)
 
-      abbrev argumentsRead : Reading (List Note)
-      argumentsRead = rowBehind (below - 1) n (place + 1) (own n) (drop 4 s)
+      abbrev argumentsRead : Reading A
+      argumentsRead = rowHeld put (below - 1) n (place + 1) (own n) (drop 4 s)
 
       goes-on : patternRead ≡ mapReading noted (after 4 (theCompound a) arguments)
       goes-on = by-arity ∙ rw (le-leb 1 n enough, le-leb n 4 few)
 
       -- The arguments were read, or refused.
-      pub arguments-yes : {b : ℕ} {notes : List Note} → took b notes ≡ argumentsRead → took (4 + b) notes ≡ patternRead
+      pub arguments-yes : {b : ℕ} {held : A} → took b held ≡ argumentsRead → took (4 + b) held ≡ patternRead
       arguments-yes {b} e =
           let (ps, read, are) = took-view _ arguments e in
           let count = row-count (below - 1) n (drop 4 s) read in
-          ap (took (4 + b))
-          (are
-          ∙ ap (λ (k : ℕ). own k ++ patternsNotes ps (below - 1) (place + 1)) (sym count)
-          ∙ sym (compound-notes below place a before ps))
+          let level : below - 1 ≡ pred below = omega arith in
+          let next : place + 1 ≡ suc place = omega arith in
+          ap (took (4 + b)) (are ∙ λ j. heldWith put (own (sym count j)) (patternsNotes ps (level j) (next j)))
           ∙ sym (goes-on ∙ ap (λ x. mapReading noted (after 4 (theCompound a) x)) read)
 
       pub arguments-no : {q : ℕ} → refused q ≡ argumentsRead → refused q ≡ patternRead

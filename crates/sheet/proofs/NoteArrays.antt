@@ -12,7 +12,7 @@ use Rattle.sheet.specs.declared.Took.the-variants.{Used, Refused}
 use Rattle.sheet.specs.declared.PatternRecord.{PatternRecord}
 use Rattle.sheet.specs.views.Noted.{Note, note}
 use Rattle.sheet.specs.views.NoteCode.{noteCode, noteOf, Fitting}
-use Rattle.sheet.specs.views.NoteArray.{notesIn, tookNotes, usedAfter, bytesUsed, notesMade}
+use Rattle.sheet.specs.views.NoteArray.{notesIn, tookAs, usedAfter, bytesUsed, notesMade}
 use Rattle.sheet.proofs.NoteCodes.{note-kept}
 
 -- A note put behind the first n notes comes after them.
@@ -42,24 +42,24 @@ pub notes-none : (codes : List ℕ) → notesIn codes 0 ≡ []
 unfolding notesIn
 notes-none codes = refl
 
--- What was read into an array, by how reading went.
-pub was-used
-    : {t : Took} {bytes n : ℕ} (codes : List ℕ) {r : Reading (List Note)} → t ≡ Used bytes n → tookNotes codes t ≡ r
-    → took bytes (notesIn codes n) ≡ r
-was-used codes e h = sym (ap (tookNotes codes) e) ∙ h
+-- What was read, by how reading went.
+module _ {A : Type 0} (held : ℕ → A) where
+  pub was-used
+      : {t : Took} {bytes n : ℕ} {r : Reading A} → t ≡ Used bytes n → tookAs held t ≡ r → took bytes (held n) ≡ r
+  was-used e h = sym (ap (tookAs held) e) ∙ h
 
-pub was-refused
-    : {t : Took} {q : ℕ} (codes : List ℕ) {r r' : Reading (List Note)} → t ≡ Refused q → tookNotes codes t ≡ r
-    → (refused q ≡ r → refused q ≡ r') → tookNotes codes t ≡ r'
-was-refused codes e h next = ap (tookNotes codes) e ∙ next (sym (ap (tookNotes codes) e) ∙ h)
+  pub was-refused
+      : {t : Took} {q : ℕ} {r r' : Reading A} → t ≡ Refused q → tookAs held t ≡ r → (refused q ≡ r → refused q ≡ r')
+      → tookAs held t ≡ r'
+  was-refused e h next = ap (tookAs held) e ∙ next (sym (ap (tookAs held) e) ∙ h)
 
--- How reading went after so many bytes: what follows of reading, and what follows of a refusal.
-pub was-after
-    : (a : ℕ) (t : Took) (codes : List ℕ) {r r' : Reading (List Note)} → tookNotes codes t ≡ r
-    → ((b : ℕ) (notes : List Note) → took b notes ≡ r → took (a + b) notes ≡ r')
-    → ((q : ℕ) → refused q ≡ r → refused q ≡ r') → tookNotes codes (usedAfter a t) ≡ r'
-was-after a (Used b n) codes e read stop = read b (notesIn codes n) e
-was-after a (Refused q) codes e read stop = stop q e
+  -- How reading went after so many bytes: what follows of reading, and what follows of a refusal.
+  pub was-after
+      : (a : ℕ) (t : Took) {r r' : Reading A} → tookAs held t ≡ r
+      → ((b : ℕ) (x : A) → took b x ≡ r → took (a + b) x ≡ r') → ((q : ℕ) → refused q ≡ r → refused q ≡ r')
+      → tookAs held (usedAfter a t) ≡ r'
+  was-after a (Used b n) e read stop = read b (held n) e
+  was-after a (Refused q) e read stop = stop q e
 
 -- It used no more bytes than those and its own, and made the same notes.
 pub after-used : (a : ℕ) (t : Took) → bytesUsed (usedAfter a t) ≤ a + bytesUsed t

@@ -1,7 +1,7 @@
--- Patterns in a row, noted behind the notes before them.
+-- Patterns in a row, held with what was held before them.
 use Prim.Native.Nat.{ℕ, suc, _+_, _-_, _*_, _≤_, _<_}
-use mathlib.Core.Path.{_≡_, sym, ap, subst, _∙_}
-use mathlib.Core.List.{List, _++_, append-nil, append-assoc}
+use mathlib.Core.Path.{_≡_, refl, sym, ap, subst, _∙_}
+use mathlib.Core.List.{List, [], _∷_, _++_}
 use native.Mathlib.Nat.{mul-le-mul-right}
 use native.Mathlib.Omega.{arith}
 use lib.ListN.{length, take, drop}
@@ -12,7 +12,7 @@ use Rattle.records.proofs.RowSoFar.{RowOf}
 use Rattle.terms.specs.Pattern.{Pattern, Patterns, pnil, pcons}
 use Rattle.sheet.specs.ReadSheet.{readPattern}
 use Rattle.sheet.specs.views.Noted.{Note, patternNotes, patternsNotes}
-use Rattle.sheet.specs.views.NotesBehind.{rowBehind}
+use Rattle.sheet.specs.views.NotesBehind.{heldWith, rowHeld}
 
 -- Four arguments or fewer have room below their compound.
 pub arguments-room
@@ -25,25 +25,31 @@ arguments-room below count deep few =
 pub row-step : (below : ℕ) → below < 4 → stride (4 - (3 - below)) ≡ stride (suc below)
 row-step below h = let level : 4 - (3 - below) ≡ suc below = omega arith in ap stride level
 
--- A reading of a part of the input is one of what is left of it.
-pub part-read
-    : (below count a : ℕ) (s : List ℕ) {r : Reading (List Note)} {notes before : List Note} {p place : ℕ}
-    → r ≡ rowBehind below count p notes (take (length s - a) (drop a s)) → notes ≡ before → p ≡ place
-    → r ≡ rowBehind below count place before (drop a s)
-part-read below count a s e same at = e ∙ λ j. rowBehind below count (at j) (same j) (rest s a j)
+module _ {A : Type 0} (put : A → Note → A) where
+  -- Notes put after others are put with them.
+  pub held-append
+      : (held : A) (xs ys : List Note) → heldWith put held (xs ++ ys) ≡ heldWith put (heldWith put held xs) ys
+  held-append held [] ys = refl
+  held-append held (x ∷ xs) ys = held-append (put held x) xs ys
 
--- Patterns with so many levels below them, noted behind the notes before them: heldOne of it is patternBehind, and heldRow is
--- rowBehind.
-abbrev pub patternRow : ℕ → RowOf Pattern Patterns (List Note)
-patternRow below =
-    record {
-      empty = pnil;
-      join = pcons;
-      one = readPattern below;
-      step = stride (suc below);
-      hold = λ place before p. before ++ patternNotes p below place;
-      holdAll = λ place before ps. before ++ patternsNotes ps below place;
-      holds-none = λ place before. append-nil before;
-      holds-more = λ place before p ps.
-          sym (append-assoc before (patternNotes p below place) (patternsNotes ps below (place + stride (suc below))));
-    }
+  -- A reading of a part of the input is one of what is left of it.
+  pub part-read
+      : (below count a : ℕ) (s : List ℕ) {r : Reading A} {held before : A} {p place : ℕ}
+      → r ≡ rowHeld put below count p held (take (length s - a) (drop a s)) → held ≡ before → p ≡ place
+      → r ≡ rowHeld put below count place before (drop a s)
+  part-read below count a s e same at = e ∙ λ j. rowHeld put below count (at j) (same j) (rest s a j)
+
+  -- Patterns with so many levels below them: heldOne of it is patternHeld, and heldRow is rowHeld.
+  abbrev pub patternRow : ℕ → RowOf Pattern Patterns A
+  patternRow below =
+      record {
+        empty = pnil;
+        join = pcons;
+        one = readPattern below;
+        step = stride (suc below);
+        hold = λ place held p. heldWith put held (patternNotes p below place);
+        holdAll = λ place held ps. heldWith put held (patternsNotes ps below place);
+        holds-none = λ place held. refl;
+        holds-more = λ place held p ps.
+            held-append held (patternNotes p below place) (patternsNotes ps below (place + stride (suc below)));
+      }

@@ -2,7 +2,7 @@
 use Prim.Native.Nat.{ℕ, _-_}
 use mathlib.Core.Path.{_≡_, refl, sym, ap, _∙_}
 use mathlib.Core.Bool.{Bool, true, false}
-use mathlib.Core.List.{List}
+use mathlib.Core.List.{List, [], _∷_, _++_, append-nil, append-assoc}
 use mathlib.Core.Option.{Option, some, none}
 use lib.Dec.{leb}
 use lib.ListN.{length, take, drop}
@@ -13,7 +13,7 @@ use Rattle.terms.specs.RuleTests.{Range}
 use Rattle.sheet.specs.ReadSheet.{readPatterns, readRule, inCommon, rangesMeet}
 use Rattle.sheet.specs.views.Noted.{Note, ruleNotes}
 use Rattle.sheet.specs.views.NoteArray.{notesIn}
-use Rattle.sheet.specs.views.NotesBehind.{rowBehind}
+use Rattle.sheet.specs.views.NotesBehind.{heldWith, rowHeld, behind}
 use Rattle.sheet.specs.views.NoteRanges.{rangeIn, lowEnd, highEnd, endsMeet, notesMeet}
 use Rattle.sheet.proofs.NoteArrays.{notes-none}
 use Rattle.basics.proofs.AllBelow.{all-same}
@@ -38,6 +38,11 @@ rule-ends-meet rule =
     ∙ in-common-ends (in-notes v)
     ∙ ap inCommon (rule-range rule v))
 
+-- Notes put behind others are the notes that follow them.
+held-behind : (before notes : List Note) → heldWith behind before notes ≡ before ++ notes
+held-behind before [] = sym (append-nil before)
+held-behind before (n ∷ notes) = held-behind (before ++ (n ∷ [])) notes ∙ append-assoc before (n ∷ []) notes
+
 module _ (arity : ℕ) (s : List ℕ) where
   -- The notes of the rule's patterns, and of the rule.
   abbrev pub patternsRead : Reading (List Note)
@@ -49,8 +54,10 @@ module _ (arity : ℕ) (s : List ℕ) where
   -- With no notes before them, the notes of the part that begins at 0 are the rule's.
   pub from-none
       : (codes : List ℕ) {r : Reading (List Note)}
-      → r ≡ rowBehind 3 arity 0 (notesIn codes 0) (take (length s - 0) (drop 0 s)) → r ≡ patternsRead
-  from-none codes e = part-read 3 arity 0 s e (notes-none codes) refl
+      → r ≡ rowHeld behind 3 arity 0 (notesIn codes 0) (take (length s - 0) (drop 0 s)) → r ≡ patternsRead
+  from-none codes e =
+      part-read behind 3 arity 0 s e (notes-none codes) refl
+      ∙ λ j. mapReading (λ (rule : Patterns). held-behind [] (ruleNotes rule) j) (readPatterns 3 arity s)
 
   abbrev asked : ℕ → Patterns → Reading Patterns
   asked a rule = ask 9 (rangesMeet rule) (took a rule)

@@ -17,7 +17,7 @@ ghost use Rattle.sheet.specs.ReadSheet.{readRule};
 ghost use Rattle.sheet.specs.views.Noted.{note, ruleNotes};
 ghost use Rattle.sheet.specs.views.NoteCode.{Fitting};
 ghost use Rattle.sheet.specs.views.NoteArray.{notesIn, tookNotes, usedAfter, bytesUsed, TookWithin};
-ghost use Rattle.sheet.specs.views.NotesBehind.{leafBehind, patternBehind, rowBehind};
+ghost use Rattle.sheet.specs.views.NotesBehind.{leafHeld, patternHeld, rowHeld, behind};
 
 // Notes a record at its place as note n.
 fn put(place: usize, what: PatternRecord, n: usize, notes: &mut [u64; 680])
@@ -52,7 +52,7 @@ fn after(bytes: usize, rest: Took) -> Took
 // A record with no level below it, so no compound: question 5, then 7 and 8.
 fn leaf(what: PatternRecord, place: usize, n: usize, notes: &mut [u64; 680]) -> Took
     requires { ⌜ (n ≤ place) × (place < 680) × (length (now notes) ≡ 680) ⌝ }
-    ensures { λ r. ⌜ tookNotes (now (notes .exit)) r ≡ leafBehind place (notesIn (now (notes .entry)) n) what ⌝ }
+    ensures { λ r. ⌜ tookNotes (now (notes .exit)) r ≡ leafHeld behind place (notesIn (now (notes .entry)) n) what ⌝ }
     ensures { λ r. ⌜ TookWithin (recordBytes what) (n + 1) (now (notes .exit)) r ⌝ }
 {
     match what {
@@ -87,7 +87,7 @@ fn leaf(what: PatternRecord, place: usize, n: usize, notes: &mut [u64; 680]) -> 
 fn pattern(s: &[u8], below: usize, place: usize, n: usize, notes: &mut [u64; 680]) -> Took
     requires { ⌜ (below < 4) × (place + stride (suc below) ≤ 680) × (n ≤ place) × (length (now notes) ≡ 680) ⌝ }
     ensures { λ r. ⌜ tookNotes (now (notes .exit)) r
-        ≡ patternBehind below place (notesIn (now (notes .entry)) n) (now (s .entry)) ⌝ }
+        ≡ patternHeld behind below place (notesIn (now (notes .entry)) n) (now (s .entry)) ⌝ }
     ensures { λ r. ⌜ TookWithin (length (now (s .entry))) (place + stride (suc below)) (now (notes .exit)) r ⌝ }
 {
     let head = pattern_head(s);
@@ -119,7 +119,7 @@ fn patterns(
 ) -> Took
     requires { ⌜ (below < 4) × (place + count * stride (suc below) ≤ 680) × (n ≤ place) × (length (now notes) ≡ 680) ⌝ }
     ensures { λ r. ⌜ tookNotes (now (notes .exit)) r
-        ≡ rowBehind below count place (notesIn (now (notes .entry)) n) (now (s .entry)) ⌝ }
+        ≡ rowHeld behind below count place (notesIn (now (notes .entry)) n) (now (s .entry)) ⌝ }
     ensures { λ r. ⌜ TookWithin (length (now (s .entry))) (place + count * stride (suc below)) (now (notes .exit)) r ⌝ }
 {
     let step = places::step(3 - below);

@@ -13,10 +13,14 @@ use Rattle.sheet.specs.views.NoteCode.{noteOf}
 unfoldable pub notesIn : List ℕ → ℕ → List Note
 notesIn codes n = map noteOf (take n codes)
 
+-- What was read, as what is held where there are n notes.
+abbrev pub tookAs : {A : Type 0} → (ℕ → A) → Took → Reading A
+tookAs held (Used bytes n) = took bytes (held n)
+tookAs held (Refused q) = refused q
+
 -- What was read, as notes. After a refusal the array holds nothing of use.
 abbrev pub tookNotes : List ℕ → Took → Reading (List Note)
-tookNotes codes (Used bytes n) = took bytes (notesIn codes n)
-tookNotes codes (Refused q) = refused q
+tookNotes codes r = tookAs (notesIn codes) r
 
 -- The same where a bytes were used before it.
 abbrev pub usedAfter : ℕ → Took → Took

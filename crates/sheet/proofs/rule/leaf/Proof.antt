@@ -4,7 +4,7 @@ use native.Mathlib.Omega.{arith}
 use denote.Ref.{now}
 use Rattle.sheet.specs.views.PatternRecord.{recordBytes}
 use Rattle.sheet.specs.views.NoteArray.{notesIn}
-use Rattle.sheet.specs.views.NotesBehind.{leafBehind}
+use Rattle.sheet.specs.views.NotesBehind.{leafHeld, behind}
 use Rattle.sheet.proofs.Leaves.{anything-yes, range-yes, range-no, variable-yes, variable-no, ranged-yes, ranged-no-range, ranged-no-variable}
 use borrow.Author.Needs.{needs}
 use Rattle.sheet.proofs.rule.leaf.Statement.{statement}
@@ -16,7 +16,7 @@ returns c =
     let a = at-what2 .before .before .args in
     let before = notesIn (now (a .notes)) (a .n) in
     let same = at-what2 .what2 .given .1 in (
-      range-no (a .place) before (c .if1 .taken) ∙ ap (leafBehind (a .place) before) (sym same),
+      range-no behind (a .place) before (c .if1 .taken) ∙ ap (leafHeld behind (a .place) before) (sym same),
       search needs,
     )
 
@@ -26,7 +26,7 @@ returns-2 c =
     let a = at-what3 .before .before .args in
     let before = notesIn (now (a .notes)) (a .n) in
     let same = at-what3 .what3 .given .1 in (
-      variable-no (a .place) before (c .if2 .taken) ∙ ap (leafBehind (a .place) before) (sym same),
+      variable-no behind (a .place) before (c .if2 .taken) ∙ ap (leafHeld behind (a .place) before) (sym same),
       search needs,
     )
 
@@ -36,8 +36,8 @@ returns-3 c =
     let a = at-what4 .before .before .args in
     let before = notesIn (now (a .notes)) (a .n) in
     let same = at-what4 .what4 .given .1 in (
-      ranged-no-range (a .place) before (at-what4 .what4 .given .0 .0) (c .if3 .taken)
-          ∙ ap (leafBehind (a .place) before) (sym same),
+      ranged-no-range behind (a .place) before (at-what4 .what4 .given .0 .0) (c .if3 .taken)
+          ∙ ap (leafHeld behind (a .place) before) (sym same),
       search needs,
     )
 
@@ -48,8 +48,8 @@ returns-4 c =
     let a = at-what4 .before .before .args in
     let before = notesIn (now (a .notes)) (a .n) in
     let same = at-what4 .what4 .given .1 in (
-      ranged-no-variable (a .place) before (at-if3 .if3 .left) (c .if4 .taken)
-          ∙ ap (leafBehind (a .place) before) (sym same),
+      ranged-no-variable behind (a .place) before (at-if3 .if3 .left) (c .if4 .taken)
+          ∙ ap (leafHeld behind (a .place) before) (sym same),
       search needs,
     )
 
@@ -58,7 +58,7 @@ returns-5 c =
     let a = c .before .before .args in
     let before = notesIn (now (a .notes)) (a .n) in
     let same = c .enum-told .given .1 in (
-      anything-yes (a .place) before ∙ ap (leafBehind (a .place) before) (sym same),
+      anything-yes behind (a .place) before ∙ ap (leafHeld behind (a .place) before) (sym same),
       omega (arith, ap recordBytes same),
     )
 
@@ -68,7 +68,7 @@ returns-6 c =
     let a = at-what .before .before .args in
     let before = notesIn (now (a .notes)) (a .n) in
     let same = at-what .what .given .1 in (
-      c .noted .ensures .0 ∙ ap (leafBehind (a .place) before) (sym same),
+      c .noted .ensures .0 ∙ ap (leafHeld behind (a .place) before) (sym same),
       omega (arith, c .noted .ensures .1, ap recordBytes same),
     )
 
@@ -79,8 +79,8 @@ returns-7 c =
     let a = at-what2 .before .before .args in
     let before = notesIn (now (a .notes)) (a .n) in
     let same = at-what2 .what2 .given .1 in (
-      c .noted2 .ensures .0 ∙ range-yes (a .place) before (at-if1 .if1 .left)
-          ∙ ap (leafBehind (a .place) before) (sym same),
+      c .noted2 .ensures .0 ∙ range-yes behind (a .place) before (at-if1 .if1 .left)
+          ∙ ap (leafHeld behind (a .place) before) (sym same),
       omega (arith, c .noted2 .ensures .1, ap recordBytes same),
     )
 
@@ -91,8 +91,8 @@ returns-9 c =
     let a = at-what3 .before .before .args in
     let before = notesIn (now (a .notes)) (a .n) in
     let same = at-what3 .what3 .given .1 in (
-      c .noted3 .ensures .0 ∙ variable-yes (a .place) before (at-if2 .if2 .left)
-          ∙ ap (leafBehind (a .place) before) (sym same),
+      c .noted3 .ensures .0 ∙ variable-yes behind (a .place) before (at-if2 .if2 .left)
+          ∙ ap (leafHeld behind (a .place) before) (sym same),
       omega (arith, c .noted3 .ensures .1, ap recordBytes same),
     )
 
@@ -104,8 +104,8 @@ returns-10 c =
     let a = at-what4 .before .before .args in
     let before = notesIn (now (a .notes)) (a .n) in
     let same = at-what4 .what4 .given .1 in (
-      c .noted4 .ensures .0 ∙ ranged-yes (a .place) before (at-if3 .if3 .left) (at-if4 .if4 .left)
-          ∙ ap (leafBehind (a .place) before) (sym same),
+      c .noted4 .ensures .0 ∙ ranged-yes behind (a .place) before (at-if3 .if3 .left) (at-if4 .if4 .left)
+          ∙ ap (leafHeld behind (a .place) before) (sym same),
       omega (arith, c .noted4 .ensures .1, ap recordBytes same),
     )
 

@@ -4,7 +4,7 @@ use native.Mathlib.Omega.{arith}
 use denote.Ref.{now}
 use borrow.Author.Tests.{not-true, not-false}
 use Rattle.records.proofs.Parts.{rest-length}
-use Rattle.sheet.specs.views.NoteArray.{bytesUsed, notesMade}
+use Rattle.sheet.specs.views.NoteArray.{notesIn, bytesUsed, notesMade}
 use Rattle.sheet.proofs.NoteArrays.{was-used, was-refused}
 use Rattle.sheet.proofs.RuleReads.{from-none, patterns-no, ranges-yes, ranges-no}
 use borrow.Author.Needs.{needs}
@@ -18,7 +18,7 @@ returns c =
     let codes = at-patterns .patterns .last .1 .1 .1 .1 .1 .0 in
     let read = from-none (a .arity) (now (a .s)) (now (a .notes)) (at-patterns .patterns .ensures .0) in
     let stop = c .enum-told .given .1 in (
-      was-refused codes stop read (patterns-no (a .arity) (now (a .s))),
+      was-refused (notesIn codes) stop read (patterns-no (a .arity) (now (a .s))),
       omega (arith, at-patterns .patterns .ensures .1, ap bytesUsed stop, ap notesMade stop),
     )
 
@@ -36,7 +36,7 @@ returns-2 c =
     let a = at-patterns .before .before .before .before .args in
     let codes = at-patterns .patterns .last .1 .1 .1 .1 .1 .0 in
     let read = from-none (a .arity) (now (a .s)) (now (a .notes)) (at-patterns .patterns .ensures .0) in (
-      ranges-no (a .arity) (now (a .s)) (was-used codes (at-read .read .given .1) read)
+      ranges-no (a .arity) (now (a .s)) (was-used (notesIn codes) (at-read .read .given .1) read)
           (sym (at-common .common .ensures) ∙ not-true _ (c .if1 .taken)),
       omega (arith, at-patterns .patterns .ensures .1),
     )
@@ -50,7 +50,7 @@ returns-3 c =
     let codes = at-patterns .patterns .last .1 .1 .1 .1 .1 .0 in
     let read = from-none (a .arity) (now (a .s)) (now (a .notes)) (at-patterns .patterns .ensures .0) in
     let end = at-read .read .given .1 in (
-      ranges-yes (a .arity) (now (a .s)) (was-used codes end read)
+      ranges-yes (a .arity) (now (a .s)) (was-used (notesIn codes) end read)
           (sym (at-common .common .ensures) ∙ not-false _ (c .if1 .left)),
       omega (arith, at-patterns .patterns .ensures .1, ap bytesUsed end, ap notesMade end, rest-length (now (a .s)) 0),
     )

@@ -8,7 +8,7 @@ use borrow.Fn.PlainCycle.{Measures, is, falls, and}
 use Rattle.places.specs.Numbering.{stride}
 use Rattle.records.proofs.RowSoFar.{rowFrom}
 use Rattle.sheet.specs.views.NoteArray.{notesIn}
-use Rattle.sheet.specs.views.NotesBehind.{rowBehind}
+use Rattle.sheet.specs.views.NotesBehind.{rowHeld, behind}
 use Rattle.sheet.proofs.Rows.{patternRow}
 use Rattle.sheet.proofs.rule.pattern.Reads as pattern
 use Rattle.sheet.proofs.rule.pattern.Kinds as pattern-kinds
@@ -66,8 +66,8 @@ abbrev pub Inv-loop : patterns-lts.InvT-loop
 Inv-loop s below count place n notes₀ step at₀ here₀ made₀ i₀ notes at here made i =
     (i ≤ count) × (at ≤ length s) × (made ≤ here)
     × (here + (count - i) * stride (suc below) ≡ place + count * stride (suc below)) × (length notes ≡ 680)
-    × (rowFrom (patternRow below) s at (count - i) here (notesIn notes made)
-    ≡ rowBehind below count place (notesIn notes₀ n) s)
+    × (rowFrom (patternRow behind below) s at (count - i) here (notesIn notes made)
+    ≡ rowHeld behind below count place (notesIn notes₀ n) s)
 
 abbrev pub μ-loop : patterns-lts.MeasureT-loop
 μ-loop s below count place n notes₀ step at₀ here₀ made₀ i₀ notes at here made i = count - i

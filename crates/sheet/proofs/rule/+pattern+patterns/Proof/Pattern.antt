@@ -11,6 +11,7 @@ use Rattle.sheet.specs.declared.PatternHead.the-variants.{Whole}
 use Rattle.sheet.specs.views.PatternRecord.{patternHead, headRefusal}
 use Rattle.records.specs.Reading.{refused}
 use Rattle.sheet.specs.views.NoteArray.{notesIn, tookNotes, bytesUsed, notesMade}
+use Rattle.sheet.specs.views.NotesBehind.{behind}
 use Rattle.sheet.proofs.Heads.{head-whole}
 use Rattle.sheet.proofs.NoteArrays.{was-after, after-used, after-made}
 use Rattle.sheet.proofs.Compounds.{flat-tag, head-no, lowest-read, flat-read, arity-no, arguments-yes, arguments-no}
@@ -38,7 +39,7 @@ returns t c =
     let before = notesIn (now (a .notes)) (a .n) in
     let told = c .before .enum-told .given .1 in (
       ap refused (c .head-refusal .ensures ∙ ap headRefusal told)
-          ∙ head-no (a .below) (a .place) before s (sym (at-pattern-head .pattern-head .ensures) ∙ told),
+          ∙ head-no behind (a .below) (a .place) before s (sym (at-pattern-head .pattern-head .ensures) ∙ told),
       omega arith,
     )
 
@@ -51,7 +52,7 @@ returns-2 t c =
     let s = now (a .s) in
     let before = notesIn (now (a .notes)) (a .n) in
     let head = sym (at-pattern-head .pattern-head .ensures) ∙ at-head .head .given .1 in (
-      c .leaf .ensures .0 ∙ lowest-read (a .below) (a .place) before s head (at-if1 .if1 .taken),
+      c .leaf .ensures .0 ∙ lowest-read behind (a .below) (a .place) before s head (at-if1 .if1 .taken),
       omega (arith, c .leaf .ensures .1, head-whole s head),
     )
 
@@ -65,7 +66,7 @@ returns-3 t c =
     let before = notesIn (now (a .notes)) (a .n) in
     let head = sym (at-pattern-head .pattern-head .ensures) ∙ at-head .head .given .1 in
     let flat = flat-tag (at-head .head .given .0 .0) (at-match2 .match2 .keys2) in (
-      c .leaf2 .ensures .0 ∙ flat-read (a .below) (a .place) before s head flat,
+      c .leaf2 .ensures .0 ∙ flat-read behind (a .below) (a .place) before s head flat,
       omega (arith, c .leaf2 .ensures .1, head-whole s head),
     )
 
@@ -78,7 +79,7 @@ returns-4 t c =
     let before = notesIn (now (a .notes)) (a .n) in
     let head = compound-head t (compound) in
     let wrong = ⊎-elim (λ w. inl (w .taken)) (λ w. inr (ltb-true _ _ (w .1 .taken))) (c .if2 .came) in
-    (arity-no (a .below) (a .place) before s head (at-if1 .if1 .left) wrong, omega arith)
+    (arity-no behind (a .below) (a .place) before s head (at-if1 .if1 .left) wrong, omega arith)
 
 pub sub-patterns : (t : ℕ) → lts.Need-sub-patterns (pattern-calls t) (pattern-at t) pattern.Post
 sub-patterns t c =
@@ -125,12 +126,12 @@ returns-5 t c =
     let arity = at-what .what .given .0 .1 .0 in
     let few : at-what .what .given .0 .1 .0 ≤ 4 = ltb-false _ _ (at-if3 .if3 .left) in
     let codes = at-patterns .patterns .last .1 .1 .1 .1 .1 .0 in
-    let read = part-read (a .below - 1) arity 4 s (at-patterns .patterns .ensures .0) (at-put .put .ensures .0) refl in
+    let read = part-read behind (a .below - 1) arity 4 s (at-patterns .patterns .ensures .0) (at-put .put .ensures .0) refl in
     let end = c .after .ensures in (
       ap (tookNotes codes) end
-          ∙ was-after 4 (at-patterns .patterns .result) codes read
-          (λ b notes e. arguments-yes (a .below) (a .place) before s head (at-if1 .if1 .left) (at-if2 .if2 .left) few e)
-          (λ q e. arguments-no (a .below) (a .place) before s head (at-if1 .if1 .left) (at-if2 .if2 .left) few e),
+          ∙ was-after (notesIn codes) 4 (at-patterns .patterns .result) read
+          (λ b notes e. arguments-yes behind (a .below) (a .place) before s head (at-if1 .if1 .left) (at-if2 .if2 .left) few e)
+          (λ q e. arguments-no behind (a .below) (a .place) before s head (at-if1 .if1 .left) (at-if2 .if2 .left) few e),
       omega (
         arith,
         at-patterns .patterns .ensures .1,

@@ -10,7 +10,7 @@ use Rattle.records.proofs.Parts.{rest, rest-length}
 use Rattle.records.proofs.RowSoFar.{one-to-come, turn-room, rowFrom, row-begun, row-ended, row-stops, row-goes-on}
 use Rattle.sheet.specs.declared.Took.the-variants.{Used, Refused}
 use Rattle.sheet.specs.views.NoteArray.{notesIn, tookNotes, bytesUsed, notesMade}
-use Rattle.sheet.specs.views.NotesBehind.{patternBehind, rowBehind}
+use Rattle.sheet.specs.views.NotesBehind.{patternHeld, rowHeld, behind}
 use Rattle.sheet.proofs.NoteArrays.{was-used, was-refused}
 use Rattle.sheet.proofs.Rows.{row-step, patternRow}
 use Rattle.sheet.proofs.rule.patterns.Reads as patterns
@@ -51,7 +51,7 @@ module _ {t : ℕ} where
         : let a = start turn .args in
         let own = turn .before .loop in
         tookNotes then (c .pattern .result)
-        ≡ patternBehind (a .below) (own .here) (notesIn (own .notes) (own .made)) (drop (own .at) (now (a .s)))
+        ≡ patternHeld behind (a .below) (own .here) (notesIn (own .notes) (own .made)) (drop (own .at) (now (a .s)))
     pattern-tried = c .pattern .ensures .0 ∙ (rw (rest (now (start turn .args .s)) (turn .before .loop .at)))
 
     -- Where it was refused, so is the row;
@@ -59,13 +59,13 @@ module _ {t : ℕ} where
         : {q : ℕ} → c .pattern .result ≡ Refused q
         → let a = start turn .args in
         tookNotes then (c .pattern .result)
-        ≡ rowBehind (a .below) (a .count) (a .place) (notesIn (now (a .notes)) (a .n)) (now (a .s))
+        ≡ rowHeld behind (a .below) (a .count) (a .place) (notesIn (now (a .notes)) (a .n)) (now (a .s))
     row-refuses told =
         let a = start turn .args in
         let own = turn .before .loop in
         let comes = one-to-come (a .count) (own .i) (turn .loop-test .taken) in
-        was-refused then told pattern-tried
-        (row-stops (patternRow (a .below)) (now (a .s)) (own .at) _ (own .here) (notesIn (own .notes) (own .made)) _ comes)
+        was-refused (notesIn then) told pattern-tried
+        (row-stops (patternRow behind (a .below)) (now (a .s)) (own .at) _ (own .here) (notesIn (own .notes) (own .made)) _ comes)
         ∙ own .inv .5
 
     module _ {bytes more : ℕ} (told : c .pattern .result ≡ Used bytes more) where
@@ -74,14 +74,14 @@ module _ {t : ℕ} where
           : let a = start turn .args in
           let own = turn .before .loop in
           let next = own .here + turn .before .before .step .result in
-          rowFrom (patternRow (a .below)) (now (a .s)) (own .at + bytes) (a .count - (own .i + 1)) next (notesIn then more)
-          ≡ rowBehind (a .below) (a .count) (a .place) (notesIn (now (a .notes)) (a .n)) (now (a .s))
+          rowFrom (patternRow behind (a .below)) (now (a .s)) (own .at + bytes) (a .count - (own .i + 1)) next (notesIn then more)
+          ≡ rowHeld behind (a .below) (a .count) (a .place) (notesIn (now (a .notes)) (a .n)) (now (a .s))
       row-continues =
           let a = start turn .args in
           let own = turn .before .loop in
           let comes = one-to-come (a .count) (own .i) (turn .loop-test .taken) in
-          row-goes-on (patternRow (a .below)) (now (a .s)) (own .at) _ (own .here) (notesIn (own .notes) (own .made)) _ comes
-          (was-used then told pattern-tried) (step-is turn)
+          row-goes-on (patternRow behind (a .below)) (now (a .s)) (own .at) _ (own .here) (notesIn (own .notes) (own .made)) _ comes
+          (was-used (notesIn then) told pattern-tried) (step-is turn)
           ∙ own .inv .5
 
       -- Its bytes are there, and its notes are among those that the row has room for so far.
@@ -105,7 +105,7 @@ loop-holds t c =
     let all : a .count - 0 ≡ a .count = omega arith in
     let room = ap (λ (k : ℕ). a .place + k * stride (suc (a .below))) all in
     let before = notesIn (now (a .notes)) (a .n) in
-    let begun = row-begun (patternRow (a .below)) (now (a .s)) (a .count) (a .count - 0) (a .place) before all in
+    let begun = row-begun (patternRow behind (a .below)) (now (a .s)) (a .count) (a .count - 0) (a .place) before all in
     (omega arith, omega arith, start .pre .1 .2, room, start .pre .1 .3, begun)
 
 pub pattern-requires : (t : ℕ) → lts.Need-pattern-requires (patterns-calls t) (patterns-at t) patterns.Post Inv-loop μ-loop
@@ -141,6 +141,6 @@ returns-2 t c =
     let own = c .before .loop in
     let a = c .before .before .before .before .args in
     let noted = notesIn (own .notes) (own .made) in (
-      row-ended (patternRow (a .below)) (now (a .s)) (own .at) (a .count - own .i) (own .here) noted (omega arith) ∙ own .inv .5,
+      row-ended (patternRow behind (a .below)) (now (a .s)) (own .at) (a .count - own .i) (own .here) noted (omega arith) ∙ own .inv .5,
       omega arith,
     )
