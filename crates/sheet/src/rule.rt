@@ -49,7 +49,7 @@ fn after(bytes: usize, rest: Took) -> Took
     Took::Used(bytes + more, n)
 }
 
-// A record with no level below it, so no compound: question 5, then 7 and 8.
+// A record that is no compound, or a compound with no level below it: question 5, then 7 and 8.
 fn leaf(what: PatternRecord, place: usize, n: usize, notes: &mut [u64; 680]) -> Took
     requires { ⌜ (n ≤ place) × (place < 680) × (length (now notes) ≡ 680) ⌝ }
     ensures { λ r. ⌜ tookNotes (now (notes .exit)) r ≡ leafHeld behind place (notesIn (now (notes .entry)) n) what ⌝ }
@@ -94,12 +94,12 @@ fn pattern(s: &[u8], below: usize, place: usize, n: usize, notes: &mut [u64; 680
     let PatternHead::Whole(what) = head else {
         return Took::Refused(head_refusal(head));
     };
-    if below == 0 {
-        return leaf(what, place, n, notes);
-    }
     let PatternRecord::Compound(_, arity) = what else {
         return leaf(what, place, n, notes);
     };
+    if below == 0 {
+        return Took::Refused(5);
+    }
     if arity < 1 || 4 < arity {
         return Took::Refused(6);
     }

@@ -18,8 +18,8 @@ pub +pattern+patterns-spec : {M : Type 1} → statement M
     close μ-pattern μ-patterns
     (λ t.
     pattern-lts.spec (pattern-calls t) (pattern-at t) pattern.Post (λ c κs. search needs) (λ c. search needs)
-    (λ c. search needs) (λ c κs. search needs) (of-pattern.returns t) (λ c κs. search needs) (of-pattern.returns-2 t)
-    (λ c. search needs) (λ c κs. search needs) (of-pattern.returns-3 t) (of-pattern.returns-4 t) (λ c κs. search needs)
+    (λ c. search needs) (λ c κs. search needs) (of-pattern.returns t) (λ c. search needs) (λ c κs. search needs)
+    (of-pattern.returns-2 t) (of-pattern.returns-3 t) (of-pattern.returns-4 t) (λ c κs. search needs)
     (of-pattern.sub-patterns t) (of-pattern.sub-patterns t) (λ c. search needs) (λ c. search needs)
     (λ c. search needs) (λ c. search needs) (λ c. search needs) (of-pattern.patterns-requires t)
     (of-pattern.after-requires t) (of-pattern.returns-5 t))

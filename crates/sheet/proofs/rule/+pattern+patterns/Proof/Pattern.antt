@@ -23,11 +23,11 @@ use Rattle.sheet.proofs.rule.+pattern+patterns.Proof.Measures.{pattern-
 -- Where a compound was found, the input begins with its record.
 compound-head
     : (t : ℕ) (c : lts.After-known-told2 (pattern-calls t) (pattern-at t) pattern.Post)
-    → patternHead (now (c .before .before .before .before .before .before .before .before .before .args .s))
+    → patternHead (now (c .before .before .before .before .before .before .before .before .args .s))
     ≡ Whole (Compound (c .before .what .given .0 .0) (c .before .what .given .0 .1 .0))
 compound-head t c =
     let at-what = c .before in
-    let at-head = at-what .before .before .before .before in
+    let at-head = at-what .before .before .before in
     let at-pattern-head = at-head .before .before in
     sym (at-pattern-head .pattern-head .ensures) ∙ at-head .head .given .1 ∙ ap Whole (at-what .what .given .1)
 
@@ -45,69 +45,62 @@ returns t c =
 
 pub returns-2 : (t : ℕ) → lts.Need-returns-2 (pattern-calls t) (pattern-at t) pattern.Post
 returns-2 t c =
-    let at-if1 = c .before .before in
-    let at-head = at-if1 .before .before in
-    let at-pattern-head = at-head .before .before in
-    let a = at-pattern-head .before .before .args in
-    let s = now (a .s) in
-    let before = notesIn (now (a .notes)) (a .n) in
-    let head = sym (at-pattern-head .pattern-head .ensures) ∙ at-head .head .given .1 in (
-      c .leaf .ensures .0 ∙ lowest-read behind (a .below) (a .place) before s head (at-if1 .if1 .taken),
-      omega (arith, c .leaf .ensures .1, head-whole s head),
-    )
-
-pub returns-3 : (t : ℕ) → lts.Need-returns-3 (pattern-calls t) (pattern-at t) pattern.Post
-returns-3 t c =
     let at-match2 = c .before .before in
-    let at-head = at-match2 .before .before .before in
+    let at-head = at-match2 .before .before in
     let at-pattern-head = at-head .before .before in
     let a = at-pattern-head .before .before .args in
     let s = now (a .s) in
     let before = notesIn (now (a .notes)) (a .n) in
     let head = sym (at-pattern-head .pattern-head .ensures) ∙ at-head .head .given .1 in
     let flat = flat-tag (at-head .head .given .0 .0) (at-match2 .match2 .keys2) in (
-      c .leaf2 .ensures .0 ∙ flat-read behind (a .below) (a .place) before s head flat,
-      omega (arith, c .leaf2 .ensures .1, head-whole s head),
+      c .leaf .ensures .0 ∙ flat-read behind (a .below) (a .place) before s head flat,
+      omega (arith, c .leaf .ensures .1, head-whole s head),
+    )
+
+pub returns-3 : (t : ℕ) → lts.Need-returns-3 (pattern-calls t) (pattern-at t) pattern.Post
+returns-3 t c =
+    let compound = c .before in
+    let a = compound .before .before .before .before .before .before .before .before .args in
+    let before = notesIn (now (a .notes)) (a .n) in (
+      lowest-read behind (a .below) (a .place) before (now (a .s)) (compound-head t compound) (c .if1 .taken),
+      omega arith,
     )
 
 pub returns-4 : (t : ℕ) → lts.Need-returns-4 (pattern-calls t) (pattern-at t) pattern.Post
 returns-4 t c =
-    let compound = c .before in
-    let at-if1 = compound .before .before .before in
-    let a = at-if1 .before .before .before .before .before .before .args in
-    let s = now (a .s) in
+    let at-if1 = c .before in
+    let compound = at-if1 .before in
+    let a = compound .before .before .before .before .before .before .before .before .args in
     let before = notesIn (now (a .notes)) (a .n) in
-    let head = compound-head t (compound) in
+    let head = compound-head t compound in
     let wrong = ⊎-elim (λ w. inl (w .taken)) (λ w. inr (ltb-true _ _ (w .1 .taken))) (c .if2 .came) in
-    (arity-no behind (a .below) (a .place) before s head (at-if1 .if1 .left) wrong, omega arith)
+    (arity-no behind (a .below) (a .place) before (now (a .s)) head (at-if1 .if1 .left) wrong, omega arith)
 
 pub sub-patterns : (t : ℕ) → lts.Need-sub-patterns (pattern-calls t) (pattern-at t) pattern.Post
 sub-patterns t c =
-    let compound = c .before .before .before .before in
+    let compound = c .before .before .before .before .before in
     omega (
       arith,
-      head-whole
-          (now (compound .before .before .before .before .before .before .before .before .before .args .s))
-          (compound-head t (compound)),
+      head-whole (now (compound .before .before .before .before .before .before .before .before .args .s))
+          (compound-head t compound),
     )
 
 pub patterns-requires : (t : ℕ) → lts.Need-patterns-requires (pattern-calls t) (pattern-at t) pattern.Post
 patterns-requires t c κs =
     let at-if3 = c .before .before .before .before in
-    let at-what = at-if3 .before .before .before in
-    let at-if1 = at-what .before .before in
+    let at-if1 = at-if3 .before .before in
+    let at-what = at-if1 .before .before in
     let few : at-what .what .given .0 .1 .0 ≤ 4 = ltb-false _ _ (at-if3 .if3 .left) in
     omega (
       arith,
-      arguments-room (at-if1 .before .before .before .before .before .before .args .below)
+      arguments-room (at-what .before .before .before .before .before .before .before .args .below)
           (at-what .what .given .0 .1 .0) (at-if1 .if1 .left) few,
     )
 
 pub after-requires : (t : ℕ) → lts.Need-after-requires (pattern-calls t) (pattern-at t) pattern.Post
 after-requires t c κs =
-    let start =
-    c .before .before .before .before .before .before .before .before .before .before .before .before .before
-    .before .before .before in
+    let compound = c .before .before .before .before .before .before .before .before in
+    let start = compound .before .before .before .before .before .before .before .before in
     omega (arith, c .patterns .ensures .1, rest-length (now (start .args .s)) 4, start .good .0 .0)
 
 pub returns-5 : (t : ℕ) → lts.Need-returns-5 (pattern-calls t) (pattern-at t) pattern.Post
@@ -116,15 +109,14 @@ returns-5 t c =
     let at-put = at-patterns .before .before .before in
     let at-if3 = at-put .before .before in
     let at-if2 = at-if3 .before in
-    let compound = at-if2 .before in
-    let at-what = compound .before in
-    let at-if1 = at-what .before .before in
-    let a = at-if1 .before .before .before .before .before .before .args in
+    let at-if1 = at-if2 .before in
+    let compound = at-if1 .before in
+    let a = compound .before .before .before .before .before .before .before .before .args in
     let s = now (a .s) in
     let before = notesIn (now (a .notes)) (a .n) in
-    let head = compound-head t (compound) in
-    let arity = at-what .what .given .0 .1 .0 in
-    let few : at-what .what .given .0 .1 .0 ≤ 4 = ltb-false _ _ (at-if3 .if3 .left) in
+    let head = compound-head t compound in
+    let arity = compound .before .what .given .0 .1 .0 in
+    let few : compound .before .what .given .0 .1 .0 ≤ 4 = ltb-false _ _ (at-if3 .if3 .left) in
     let codes = at-patterns .patterns .last .1 .1 .1 .1 .1 .0 in
     let read = part-read behind (a .below - 1) arity 4 s (at-patterns .patterns .ensures .0) (at-put .put .ensures .0) refl in
     let end = c .after .ensures in (
