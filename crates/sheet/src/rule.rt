@@ -28,8 +28,8 @@ fn put(place: usize, what: PatternRecord, n: usize, notes: &mut [u64; 680])
     notes[n] = note_code(place, what);
 }
 
-// Notes a record at its place as note n, where it took so many bytes.
-fn noted(bytes: usize, place: usize, what: PatternRecord, n: usize, notes: &mut [u64; 680]) -> Took
+// Notes a record at its place as note n, where it took so many bytes. Not over a note made before, nor at the next place.
+pub fn noted(bytes: usize, place: usize, what: PatternRecord, n: usize, notes: &mut [u64; 680]) -> Took
     requires { ⌜ (place < 680) × Fitting what × (n < 680) × (length (now notes) ≡ 680) ⌝ }
     ensures { λ r. ⌜ tookNotes (now (notes .exit)) r ≡ took bytes (notesIn (now (notes .entry)) n ++ (note place what ∷ [])) ⌝ }
     ensures { λ r. ⌜ TookWithin bytes (n + 1) (now (notes .exit)) r ⌝ }
@@ -38,8 +38,8 @@ fn noted(bytes: usize, place: usize, what: PatternRecord, n: usize, notes: &mut 
     Took::Used(bytes, n + 1)
 }
 
-// How reading went where so many bytes were used before.
-fn after(bytes: usize, rest: Took) -> Took
+// How reading went where so many bytes were used before. Not the bytes used since alone, nor bytes used where it was refused.
+pub fn after(bytes: usize, rest: Took) -> Took
     requires { ⌜ bytes + bytesUsed rest < 2 ^ 64 ⌝ }
     ensures { λ r. ⌜ r ≡ usedAfter bytes rest ⌝ }
 {

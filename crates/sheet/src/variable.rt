@@ -70,5 +70,8 @@ pub fn common(notes: &[u64; 680], n: usize) -> bool
     requires { ⌜ (n ≤ 680) × (length (now notes) ≡ 680) ⌝ }
     ensures { λ r. ⌜ r ≡ notesMeet (notesIn (now (notes .entry)) n) ⌝ }
 {
+    if n == 0 {
+        return true;
+    }
     meet(ranges(notes, n))
 }
