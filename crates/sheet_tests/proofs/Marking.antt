@@ -1,0 +1,25 @@
+-- What is marked and noted of a rule while it is read.
+use Prim.Native.Nat.{ℕ}
+use mathlib.Core.Path.{_≡_, refl, ap, _∙_}
+use mathlib.Core.List.{List}
+use Rattle.records.specs.Reading.{Reading, took, mapReading}
+use Rattle.sheet.specs.declared.Took.{Took}
+use Rattle.sheet.specs.declared.Took.the-variants.{Used, Refused}
+use Rattle.sheet.specs.views.Noted.{Note}
+use Rattle.sheet.specs.views.NoteArray.{tookAs, tookNotes}
+use Rattle.sheet_tests.specs.views.TestedPlaces.{placesIn}
+use Rattle.sheet_tests.specs.views.Marks.{Marks, marksIn}
+
+-- Places, and names beside them.
+abbrev pub beside : List ℕ → List Note → Marks
+beside places names = record { places = places; names = names }
+
+-- Where only variables were noted, the places stay.
+pub took-names
+    : (words codes : List ℕ) (t : Took) {r : Reading (List Note)} → tookNotes codes t ≡ r
+    → tookAs (marksIn words codes) t ≡ mapReading (beside (placesIn words)) r
+took-names words codes t e = go t ∙ ap (mapReading (beside (placesIn words))) e
+  where
+    go : (t : Took) → tookAs (marksIn words codes) t ≡ mapReading (beside (placesIn words)) (tookNotes codes t)
+    go (Used b n) = refl
+    go (Refused q) = refl
