@@ -29,7 +29,13 @@ fn put(place: usize, what: PatternRecord, n: usize, notes: &mut [u64; 680])
 }
 
 // Notes a record at its place as note n, where it took so many bytes. Not over a note made before, nor at the next place.
-pub fn noted(bytes: usize, place: usize, what: PatternRecord, n: usize, notes: &mut [u64; 680]) -> Took
+pub fn noted(
+    bytes: usize,
+    place: usize,
+    what: PatternRecord,
+    n: usize,
+    notes: &mut [u64; 680],
+) -> Took
     requires { ⌜ (place < 680) × Fitting what × (n < 680) × (length (now notes) ≡ 680) ⌝ }
     ensures { λ r. ⌜ tookNotes (now (notes .exit)) r ≡ took bytes (notesIn (now (notes .entry)) n ++ (note place what ∷ [])) ⌝ }
     ensures { λ r. ⌜ TookWithin bytes (n + 1) (now (notes .exit)) r ⌝ }

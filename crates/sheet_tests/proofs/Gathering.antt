@@ -20,9 +20,13 @@ use Rattle.sheet.specs.declared.PatternRecord.{PatternRecord}
 use Rattle.sheet.specs.declared.PatternRecord.the-variants.{Anything, Symbol, Range as RangeOf, Compound, Variable, Ranged}
 use Rattle.sheet.proofs.NoteCodes.{code-fits}
 use Rattle.sheet.proofs.RangeArrays.{variable-at}
+use Rattle.basics.proofs.Sorted.{Ascending}
+use Rattle.sheet_tests.specs.views.TestedPlaces.{insertAll}
+use Rattle.sheet_tests.specs.views.KeptPairs.{keepAll}
 use Rattle.sheet_tests.specs.views.NoteTests.{isTested, testedPlaces, hasRange, notesCodes, pairCodes}
 use Rattle.sheet_tests.specs.views.Gathered.{Gathered, gathered, gather, gatherNotes, rulePlaces, ruleCodes, sheetPlaces, sheetCodes}
 use Rattle.sheet_tests.proofs.NotedTests.{isSome, rule-tested, rule-varied}
+use Rattle.sheet_tests.proofs.Marking.{namesOf, fixedPlaces, names-ranges, names-variables, names-places}
 use Rattle.sheet_tests.proofs.NumberLists.{all-insert-append}
 use Rattle.sheet_tests.proofs.KeptLists.{keep-append}
 use Rattle.masks.proofs.Listed.{consIf}
@@ -94,20 +98,35 @@ places-known f g e [] h = refl
 places-known f g e (n ∷ notes) h =
     λ i. consIf (record-known f g e (n .what) (h .0) i) (n .place) (places-known f g e notes (h .1) i)
 
--- The notes of a rule gather what the rule tests.
-pub gather-rule
-    : {arity : ℕ} (rule : Patterns) (notes : List Note) (g : Gathered) → notes ≡ ruleNotes rule → AcceptedRule arity rule
-    → All Fits notes → gatherNotes notes g ≡ gathered (rulePlaces rule) (ruleCodes rule) g
-gather-rule rule notes g e accepted fits = λ i. gathered (places i) (codes i) g
+-- The notes of a rule's variables gather, beside the places marked, what the rule tests.
+pub gather-marked
+    : {arity : ℕ} (rule : Patterns) (names : List Note) (g : Gathered) → names ≡ namesOf (ruleNotes rule)
+    → AcceptedRule arity rule → All Fits names → Ascending ltb (g .places)
+    → gatherNotes names (record { places = insertAll (fixedPlaces (ruleNotes rule)) (g .places); pairs = g .pairs })
+    ≡ gathered (rulePlaces rule) (ruleCodes rule) g
+gather-marked rule names g e accepted fits ascends = λ i. record { places = places i; pairs = keepAll (codes i) (g .pairs) }
   where
-    places : testedPlaces (hasRange (highsOf notes)) notes ≡ rulePlaces rule
-    places =
-        places-known (hasRange (highsOf notes)) (λ v. isSome (rangeIn notes v)) (range-known notes fits) notes fits
-        ∙ (λ i. testedPlaces (λ v. isSome (rangeIn (e i) v)) (e i))
-        ∙ sym (rule-tested accepted)
+    notes : List Note
+    notes = ruleNotes rule
 
-    codes : notesCodes notes ≡ ruleCodes rule
-    codes = ap notesCodes e ∙ ap (λ os. pairCodes (pairsOf os)) (sym (rule-varied accepted))
+    tested : testedPlaces (hasRange (highsOf names)) names ≡ testedPlaces (λ v. isSome (rangeIn notes v)) (namesOf notes)
+    tested =
+        places-known (hasRange (highsOf names)) (λ v. isSome (rangeIn names v)) (range-known names fits) names fits
+        ∙ (λ i. testedPlaces (λ v. isSome (rangeIn (e i) v)) (e i))
+        ∙ (λ i. testedPlaces (λ v. isSome (names-ranges notes i v)) (namesOf notes))
+
+    places
+        : insertAll (testedPlaces (hasRange (highsOf names)) names) (insertAll (fixedPlaces notes) (g .places))
+        ≡ insertAll (rulePlaces rule) (g .places)
+    places =
+        ap (λ (ps : List ℕ). insertAll ps (insertAll (fixedPlaces notes) (g .places))) tested
+        ∙ names-places (λ v. isSome (rangeIn notes v)) notes (g .places) ascends
+        ∙ ap (λ (ps : List ℕ). insertAll ps (g .places)) (sym (rule-tested accepted))
+
+    codes : notesCodes names ≡ ruleCodes rule
+    codes =
+        ap notesCodes e
+        ∙ ap (λ os. pairCodes (pairsOf os)) (names-variables notes ∙ sym (rule-varied accepted))
 
 -- A rule gathered before others is gathered with them.
 pub gather-more

@@ -10,7 +10,7 @@ use lib.ListN.{length}
 use Rattle.basics.specs.Lists.{Mem, here, there, filter, countFrom}
 use Rattle.basics.specs.Order.{insertBy}
 use Rattle.basics.proofs.ListLaws.{mem-cases, mem-none}
-use Rattle.basics.proofs.Sorted.{Ascending, insert-has, insert-keeps, insert-mem, insert-ascends, number-order}
+use Rattle.basics.proofs.Sorted.{Ascending, insert-has, insert-keeps, insert-mem, insert-ascends, same-members, number-order}
 use Rattle.sheet_tests.specs.views.TestedPlaces.{insertAll}
 use Rattle.masks.proofs.Listed.{consIf, listFrom}
 use Rattle.basics.proofs.Filters.{all-filter}
@@ -128,3 +128,33 @@ all-insert-ascends (y ∷ xs) l a = all-insert-ascends xs (insertBy ltb y l) (in
 pub all-insert-append : (xs ys l : List ℕ) → insertAll (xs ++ ys) l ≡ insertAll ys (insertAll xs l)
 all-insert-append [] ys l = refl
 all-insert-append (x ∷ xs) ys l = all-insert-append xs ys (insertBy ltb x l)
+
+-- A number put in before others is as well put in after them.
+pub all-insert-late
+    : (xs l : List ℕ) (y : ℕ) → Ascending ltb l → insertAll xs (insertBy ltb y l) ≡ insertBy ltb y (insertAll xs l)
+all-insert-late xs l y a =
+    same-members number-order (insertAll xs (insertBy ltb y l)) (insertBy ltb y (insertAll xs l))
+    (all-insert-ascends xs (insertBy ltb y l) (insert-ascends number-order y l a))
+    (insert-ascends number-order y (insertAll xs l) (all-insert-ascends xs l a)) forth back
+  where
+    forth : (z : ℕ) → Mem z (insertAll xs (insertBy ltb y l)) → Mem z (insertBy ltb y (insertAll xs l))
+    forth z m =
+        elim (all-insert-mem xs (insertBy ltb y l) m) [
+          | inl k ↦ insert-keeps number-order y (insertAll xs l) (all-insert-has xs l k)
+          | inr k ↦ elim (insert-mem number-order y l k) [
+            | inl e ↦ subst (λ (x : ℕ). Mem x (insertBy ltb y (insertAll xs l))) (sym e)
+                (insert-has number-order y (insertAll xs l))
+            | inr n ↦ insert-keeps number-order y (insertAll xs l) (all-insert-keeps xs l n)
+          ]
+        ]
+
+    back : (z : ℕ) → Mem z (insertBy ltb y (insertAll xs l)) → Mem z (insertAll xs (insertBy ltb y l))
+    back z m =
+        elim (insert-mem number-order y (insertAll xs l) m) [
+          | inl e ↦ subst (λ (x : ℕ). Mem x (insertAll xs (insertBy ltb y l))) (sym e)
+              (all-insert-keeps xs (insertBy ltb y l) (insert-has number-order y l))
+          | inr k ↦ elim (all-insert-mem xs l k) [
+            | inl n ↦ all-insert-has xs (insertBy ltb y l) n
+            | inr n ↦ all-insert-keeps xs (insertBy ltb y l) (insert-keeps number-order y l n)
+          ]
+        ]

@@ -19,9 +19,9 @@ use Rattle.sheet.specs.views.NoteArray.{notesIn, tookNotes, bytesUsed, notesMad
 use Rattle.sheet.specs.ReadSheet.{readRule, readRules}
 use Rattle.sheet.proofs.ReadsSound.{rule-sound}
 use Rattle.sheet_tests.specs.views.NoteTests.{Placed}
-use Rattle.sheet_tests.specs.views.Gathered.{Gathered, gathered, gather, gatherNotes, rulePlaces, ruleCodes}
+use Rattle.sheet_tests.specs.views.Gathered.{Gathered, gathered, gather, rulePlaces, ruleCodes}
 use Rattle.sheet_tests.proofs.NotedTests.{rule-placed}
-use Rattle.sheet_tests.proofs.Gathering.{notes-fit, gather-rule, gather-more}
+use Rattle.sheet_tests.proofs.Gathering.{gather-more}
 use Rattle.records.proofs.ByteLists.{bytes-drop}
 
 -- A rule that was read behind the first bytes of a list: b bytes, n notes.
@@ -116,13 +116,3 @@ module _ (arity rules : ℕ) (s : List ℕ) where
           (ap (after at (λ rs. gather rs g)) (row-next [] _∷_ (readRule arity) (rules - i) (drop at s) (omega arith) e)
           ∙ after-more at b (λ rs. gather rs g) (λ rs. rule ∷ rs) (λ rs. gather rs next) (λ rs. gather-more rule rs g)
           (readRules arity (rules - i - 1) (drop b (drop at s))))
-
-      -- A rule gathered from its notes.
-      pub scan-turn
-          : (notes : List ℕ) {b n : ℕ} (held : Gathered) (r : RuleRead arity at s notes b n)
-          → held ≡ gatherNotes (notesIn notes n) g
-          → scanFrom arity rules s (i + 1) (at + b) held ≡ scanFrom arity rules s i at g
-      scan-turn notes {b} {n} held r e =
-          ap (scanFrom arity rules s (i + 1) (at + b))
-          (e ∙ gather-rule (r .rule) (notesIn notes n) g (r .noted) (r .accepted) (notes-fit notes n))
-          ∙ scan-next (r .rule) (r .read)

@@ -91,7 +91,15 @@ fn pattern(
         return Took::Refused(6);
     }
     mark(words, place);
-    let arguments = patterns(&s[4..], below - 1, arity as usize, place + 1, n, notes, words);
+    let arguments = patterns(
+        &s[4..],
+        below - 1,
+        arity as usize,
+        place + 1,
+        n,
+        notes,
+        words,
+    );
     after(4, arguments)
 }
 

@@ -2,11 +2,13 @@
 use crate::Scan;
 use crate::SheetCheck;
 use crate::TestsRead;
+use crate::marks::read_marks;
 use crate::rule::mark_rule;
 use crate::rule::pair_rule;
 use crate::tested::count_places;
 use sheet::Header;
 use sheet::Took;
+use sheet::variable::common;
 ghost use mathlib.Core.Path.{_≡_};
 ghost use Prim.Native.Nat.{_≤_};
 ghost use lib.ListN.{length, replicate};
@@ -19,7 +21,7 @@ ghost use Rattle.sheet_tests.specs.views.Gathered.{gather, gatherNotes, 
 ghost use Rattle.sheet_tests.specs.CheckSheet.{askTests, acceptSheet, sheetCheckValues, sheetValues};
 ghost use Rattle.sheet_tests.specs.views.TestsRead.{testsFound, sheetFound, Held};
 
-// Gathers the tests of a rule from its notes.
+// Gathers the tests of a rule's variables from its notes, and those of all records that are among them.
 fn gather_rule(
     notes: &[u64; 680],
     n: usize,
@@ -33,6 +35,9 @@ fn gather_rule(
         ≡ gatherNotes (notesIn (now (notes .entry)) n) (held (now (words .entry)) (now (codes .entry)) count) ⌝ }
     ensures { λ r. ⌜ (length (now (words .exit)) ≡ 11) × (r ≤ 65) × (length (now (codes .exit)) ≡ 65) ⌝ }
 {
+    if n == 0 {
+        return count;
+    }
     let ranges = sheet::variable_ranges(notes, n);
     let high = ranges.high;
     mark_rule(notes, n, &high, words);
@@ -58,10 +63,13 @@ fn scan_rules(
     let mut count: usize = 0;
     let mut i: usize = 0;
     while i < rules {
-        let read = sheet::read_rule(&s[at..], arity, notes);
+        let read = read_marks(&s[at..], arity, notes, words);
         match read {
             Took::Refused(q) => return Scan::Refused(q),
             Took::Used(bytes, n) => {
+                if !common(notes, n) {
+                    return Scan::Refused(9);
+                }
                 count = gather_rule(notes, n, words, codes, count);
                 at += bytes;
             }

@@ -1,12 +1,15 @@
 -- A loop over the rules: what comes of those left, with what is gathered, is what comes of all.
 use Prim.Native.Nat.{_-_, _≤_}
-use mathlib.Core.Path.{_≡_, _∙_}
+use mathlib.Core.Path.{_≡_, sym, _∙_}
 use native.Mathlib.Omega.{arith}
 use lib.ListN.{length}
+use borrow.Author.Tests.{not-true, not-false}
+use Rattle.records.specs.Fields.{AreBytes}
 use Rattle.records.specs.Reading.{mapReading}
 use Rattle.sheet.specs.ReadSheet.{readRules}
 use Rattle.sheet_tests.specs.views.Gathered.{gather, held}
-use Rattle.sheet_tests.proofs.Scanning.{bytes-known, rule-read, rule-refused, scanFrom, scan-start, scan-end, scan-refused, scan-turn}
+use Rattle.sheet_tests.proofs.Scanning.{bytes-known, scanFrom, scan-start, scan-end, scan-refused}
+use Rattle.sheet_tests.proofs.MarkedRules.{RuleMarked, rule-marked, marks-refused, names-apart, marked-placed, scan-turn}
 use borrow.Author.Needs.{needs}
 use Rattle.sheet_tests.proofs.sheets.scan_rules.Statement.{statement}
 use Rattle.sheet_tests.proofs.sheets.scan_rules.Tie as tie
@@ -31,107 +34,105 @@ loop-holds c =
       scan-start (start .args .arity) (start .args .rules) (start .args .s .now) _,
     )
 
-sub-read-rule : tie.Need-sub-read-rule Inv-loop μ-loop
-sub-read-rule c = search needs
+read-marks-requires : tie.Need-read-marks-requires Inv-loop μ-loop
+read-marks-requires c κs =
+    let turn = c .before .before .before .before .loop in
+    (c .before .before .before .before .before .before .pre .0, turn .inv .3, turn .inv .4)
 
-part-read-rule-start : tie.Need-part-read-rule-start Inv-loop μ-loop
-part-read-rule-start c = search needs
+-- Where a rule's patterns were read in a turn.
+module _ (c : tie.After-known-told2 Inv-loop μ-loop) where
+  abbrev at-read-marks : tie.After-read-marks Inv-loop μ-loop
+  at-read-marks = c .before .before .before
 
-part-read-rule-end : tie.Need-part-read-rule-end Inv-loop μ-loop
-part-read-rule-end c = search needs
+  abbrev at-loop : tie.At-loop Inv-loop μ-loop
+  at-loop = at-read-marks .before .before .before .before .before
 
-read-rule-requires : tie.Need-read-rule-requires Inv-loop μ-loop
-read-rule-requires c κs =
-    let start = c .before .before .before .before .before in
-    let turn = c .before .before .before .loop in
-    (start .pre .0, turn .inv .3)
+  abbrev start : tie.Start Inv-loop μ-loop
+  start = at-loop .before .before
 
-enum-known-read : tie.Need-enum-known-read Inv-loop μ-loop
-enum-known-read c = search needs
+  rule
+      : let last = at-read-marks .read-marks .last in
+      let n = c .before .read2 .given .0 in
+      RuleMarked (start .args .arity) (at-loop .loop .at) (start .args .s .now) (at-loop .loop .words) (last .1 .1 .1 .0)
+      (last .1 .1 .0) (n .0) (n .1 .0)
+  rule =
+      rule-marked (start .args .arity) (at-loop .loop .at) (start .args .s .now) (at-loop .loop .words) (at-loop .loop .notes)
+      _ _ (at-read-marks .read-marks .result) (at-read-marks .read-marks .ensures .0) (c .before .read2 .given .1)
+      (at-read-marks .read-marks .ensures .1 .0)
+
+  bytes : AreBytes (start .args .s .now)
+  bytes = bytes-known (start .args .s .now) (λ i. omega (arith, at-loop .before .shared-slice-known .given i))
 
 returns : tie.Need-returns Inv-loop μ-loop
 returns c =
-    let start = c .before .before .before .before .before .before .before .before .before in
-    let read-rule = c .before .before .before .read-rule in
-    let turn = c .before .before .before .before .before .before .before .loop in
-    let read = c .before .read in
+    let read-marks = c .before .before .before .read-marks in
+    let at-loop = c .before .before .before .before .before .before .before .before in
+    let start = at-loop .before .before in
+    let turn = at-loop .loop in
     let s = start .args .s .now in
-    let notes = read-rule .last .1 .1 .0 in
     let no =
-    rule-refused (start .args .arity) (turn .at) s notes (read-rule .result) (read-rule .ensures .0)
-    (read .given .1) in (
+    marks-refused (start .args .arity) (turn .at) s (turn .words) (turn .notes) _ _ (read-marks .result) (read-marks .ensures .0)
+    (c .before .read .given .1) in (
       scan-refused (start .args .arity) (start .args .rules) s (turn .i) (turn .at)
           (held (turn .words) (turn .codes) (turn .count)) (omega arith) no
           ∙ turn .inv .6,
-      record { used = omega arith; fewPairs = omega arith; allWords = turn .inv .4; allCodes = turn .inv .5 },
+      record { used = omega arith; fewPairs = omega arith; allWords = read-marks .ensures .1 .1; allCodes = turn .inv .5 },
     )
 
-enum-known-read-2 : tie.Need-enum-known-read-2 Inv-loop μ-loop
-enum-known-read-2 c = search needs
-
-gather-rule-requires : tie.Need-gather-rule-requires Inv-loop μ-loop
-gather-rule-requires c κs =
-    let start = c .before .before .before .before .before .before .before .before .before .before .before .before in
-    let read-rule = c .before .before .before .before .before .before .read-rule in
-    let shared-slice-known = c .before .before .before .before .before .before .before .before .before .before .before .shared-slice-known in
-    let turn = c .before .before .before .before .before .before .before .before .before .before .loop in
-    let read2 = c .before .before .before .before .read2 in
-    let s = start .args .s .now in
-    let notes = read-rule .last .1 .1 .0 in
-    let bytes = bytes-known s (λ i. omega (arith, shared-slice-known .given i)) in
-    let rule =
-    rule-read (start .args .arity) (turn .at) s notes (read-rule .result) (read-rule .ensures .0) (omega arith) bytes
-    (read2 .given .1) (read-rule .ensures .1) in
-    (rule .made, read-rule .ensures .1 .entries, rule .placed, turn .inv .4, turn .inv .2, turn .inv .5)
-
-add-at : tie.Need-add-at Inv-loop μ-loop
-add-at c =
-    let start = c .before .before .before .before .before .before .before .before .before .before .before .before .before in
-    let read-rule = c .before .before .before .before .before .before .before .read-rule in
-    let shared-slice-known = c .before .before .before .before .before .before .before .before .before .before .before .before .shared-slice-known in
-    let turn = c .before .before .before .before .before .before .before .before .before .before .before .loop in
-    let read2 = c .before .before .before .before .before .read2 in
-    let s = start .args .s .now in
-    let notes = read-rule .last .1 .1 .0 in
-    let bytes = bytes-known s (λ i. omega (arith, shared-slice-known .given i)) in
-    let rule =
-    rule-read (start .args .arity) (turn .at) s notes (read-rule .result) (read-rule .ensures .0) (omega arith) bytes
-    (read2 .given .1) (read-rule .ensures .1) in
-    omega (arith, rule .used)
-
-add-i : tie.Need-add-i Inv-loop μ-loop
-add-i c = search needs
-
-loop-less : tie.Need-loop-less Inv-loop μ-loop
-loop-less c = search needs
-
-loop-again : tie.Need-loop-again Inv-loop μ-loop
-loop-again c =
-    let start = c .before .before .before .before .before .before .before .before .before .before .before .before .before in
-    let read-rule = c .before .before .before .before .before .before .before .read-rule in
-    let shared-slice-known = c .before .before .before .before .before .before .before .before .before .before .before .before .shared-slice-known in
-    let turn = c .before .before .before .before .before .before .before .before .before .before .before .loop in
-    let read2 = c .before .before .before .before .before .read2 in
-    let s = start .args .s .now in
-    let notes = read-rule .last .1 .1 .0 in
-    let bytes = bytes-known s (λ i. omega (arith, shared-slice-known .given i)) in
-    let rule =
-    rule-read (start .args .arity) (turn .at) s notes (read-rule .result) (read-rule .ensures .0) (omega arith) bytes
-    (read2 .given .1) (read-rule .ensures .1) in
-    let gathered = c .gather-rule .ensures in (
-      omega arith,
-      omega (arith, rule .used),
-      gathered .1 .1,
-      read-rule .ensures .1 .entries,
-      gathered .1 .0,
-      gathered .1 .2,
-      scan-turn (start .args .arity) (start .args .rules) s (turn .i) (turn .at)
-          (held (turn .words) (turn .codes) (turn .count)) (omega arith) notes _ rule (gathered .0)
-          ∙ turn .inv .6,
-    )
+common-requires : tie.Need-common-requires Inv-loop μ-loop
+common-requires c κs =
+    (rule (c .before) .made, at-read-marks (c .before) .read-marks .ensures .1 .0 .entries)
 
 returns-2 : tie.Need-returns-2 Inv-loop μ-loop
 returns-2 c =
+    let at-common = c .before in
+    let read = at-common .before .before in
+    let turn = at-loop read .loop in
+    let a = start read .args in
+    let no = names-apart (rule read) (sym (at-common .common .ensures) ∙ not-true _ (c .if1 .taken)) in (
+      scan-refused (a .arity) (a .rules) (a .s .now) (turn .i) (turn .at) (held (turn .words) (turn .codes) (turn .count))
+          (omega arith) no
+          ∙ turn .inv .6,
+      record { used = omega arith; fewPairs = omega arith; allWords = at-read-marks read .read-marks .ensures .1 .1; allCodes = turn .inv .5 },
+    )
+
+gather-rule-requires : tie.Need-gather-rule-requires Inv-loop μ-loop
+gather-rule-requires c κs =
+    let at-if1 = c .before .before .before in
+    let read = at-if1 .before .before .before in
+    let meet = sym (at-if1 .before .common .ensures) ∙ not-false _ (at-if1 .if1 .left) in
+    let told = at-read-marks read .read-marks .ensures .1 in (
+      rule read .made,
+      told .0 .entries,
+      marked-placed (rule read) (bytes read) meet (start read .pre .0),
+      told .1,
+      at-loop read .loop .inv .2,
+      at-loop read .loop .inv .5,
+    )
+
+add-at : tie.Need-add-at Inv-loop μ-loop
+add-at c = omega (arith, rule (c .before .before .before .before .before .before .before) .used)
+
+loop-again : tie.Need-loop-again Inv-loop μ-loop
+loop-again c =
+    let at-if1 = c .before .before .before .before in
+    let read = at-if1 .before .before .before in
+    let turn = at-loop read .loop in
+    let meet = sym (at-if1 .before .common .ensures) ∙ not-false _ (at-if1 .if1 .left) in
+    let gathered = c .gather-rule .ensures in (
+      omega arith,
+      omega (arith, rule read .used),
+      gathered .1 .1,
+      at-read-marks read .read-marks .ensures .1 .0 .entries,
+      gathered .1 .0,
+      gathered .1 .2,
+      scan-turn (rule read) (bytes read) meet (start read .args .rules) (turn .i) (turn .codes) (turn .count) _ (omega arith)
+          (gathered .0)
+          ∙ turn .inv .6,
+    )
+
+returns-3 : tie.Need-returns-3 Inv-loop μ-loop
+returns-3 c =
     let start = c .before .before .before in
     let turn = c .before .loop in (
       scan-end (start .args .arity) (start .args .rules) (start .args .s .now) (turn .i) (turn .at)
@@ -143,20 +144,6 @@ returns-2 c =
 pub scan-rules-spec : {M : Type 1} → statement M
 scan-rules-spec =
     tie.close
-    (tie.spec
-    Inv-loop
-    μ-loop
-    loop-holds
-    sub-read-rule
-    part-read-rule-start
-    part-read-rule-end
-    read-rule-requires
-    enum-known-read
-    returns
-    enum-known-read-2
-    gather-rule-requires
-    add-at
-    add-i
-    loop-less
-    loop-again
-    returns-2)
+    (tie.spec Inv-loop μ-loop loop-holds (λ c. search needs) (λ c. search needs) (λ c. search needs) read-marks-requires
+    (λ c. search needs) returns (λ c. search needs) common-requires returns-2 gather-rule-requires add-at
+    (λ c. search needs) (λ c. search needs) loop-again returns-3)

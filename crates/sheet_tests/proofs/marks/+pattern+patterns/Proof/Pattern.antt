@@ -121,7 +121,7 @@ returns-5 t c =
     let last = at-patterns .patterns .last in
     let held = marksIn (last .1 .1 .1 .1 .1 .1 .0) (last .1 .1 .1 .1 .1 .0) in
     let read = part-read marked (a .below - 1) arity 4 s (at-patterns .patterns .ensures .0)
-        (λ j. beside (at-mark .mark .ensures .0 j) (before .names)) refl in
+    (λ j. beside (at-mark .mark .ensures .0 j) (before .names)) refl in
     let end = c .after .ensures in (
       ap (tookAs held) end
           ∙ was-after held 4 (at-patterns .patterns .result) read
