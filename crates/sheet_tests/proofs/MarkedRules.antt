@@ -23,14 +23,15 @@ use Rattle.sheet.specs.views.NoteRanges.{notesMeet}
 use Rattle.sheet.proofs.NoteArrays.{notes-none}
 use Rattle.sheet.proofs.Rows.{part-read}
 use Rattle.sheet.proofs.RuleReads.{rule-ends-meet}
-use Rattle.sheet.proofs.ReadsSound.{rule-sound}
+use Rattle.sheet.proofs.Compounds.{row-count}
+use Rattle.sheet.proofs.ReadsSound.{patterns-sound, rule-sound}
 use Rattle.sheet_tests.specs.views.TestedPlaces.{placesIn, insertAll}
 use Rattle.sheet_tests.specs.views.NoteTests.{Placed}
-use Rattle.sheet_tests.specs.views.Marks.{Marks, marked, marksIn}
+use Rattle.marks.specs.views.Marks.{Marks, marked, marksIn}
 use Rattle.sheet_tests.specs.views.Gathered.{Gathered, gatherNotes, held}
-use Rattle.sheet_tests.proofs.NotedTests.{rule-placed}
+use Rattle.sheet_tests.proofs.NotedTests.{sounds-placed}
 use Rattle.sheet_tests.proofs.PlaceSets.{places-ascend}
-use Rattle.sheet_tests.proofs.Marking.{namesOf, fixedPlaces, marks-all, names-meet, names-placed}
+use Rattle.sheet_tests.proofs.Marking.{namesOf, fixedPlaces, marks-all, fixed-places, names-meet, names-placed}
 use Rattle.sheet_tests.proofs.Gathering.{notes-fit, gather-marked}
 use Rattle.sheet_tests.proofs.Scanning.{scanFrom, scan-next}
 
@@ -41,6 +42,7 @@ pub record RuleMarked (arity at : ℕ) (s words marks notes : List ℕ) (b n : �
   pub read : readPatterns 3 arity (drop at s) ≡ took b rule
   pub noted : notesIn notes n ≡ namesOf (ruleNotes rule)
   pub places : placesIn marks ≡ insertAll (fixedPlaces (ruleNotes rule)) (placesIn words)
+  pub placed : All Placed (ruleNotes rule)
   pub used : b ≤ length s - at
   pub made : n ≤ 680
 
@@ -55,17 +57,20 @@ module _ (arity at : ℕ) (s words notes₀ marks notes : List ℕ) (r : Took)
 
   -- What the reader says where it read a rule's patterns.
   pub rule-marked
-      : {b n : ℕ} → r ≡ Used b n → TookWithin (length (take (length s - at) (drop at s))) 680 notes r
-      → RuleMarked arity at s words marks notes b n
-  rule-marked {b} {n} same within =
+      : {b n : ℕ} → arity ≤ 8 → AreBytes s → length words ≡ 11 → r ≡ Used b n
+      → TookWithin (length (take (length s - at) (drop at s))) 680 notes r → RuleMarked arity at s words marks notes b n
+  rule-marked {b} {n} few bytes size same within =
       let (rule, read, are) =
       took-view _ (readPatterns 3 arity (drop at s)) (sym (ap (tookAs (marksIn marks notes)) same) ∙ marks-behind) in
       let all = are ∙ marks-all (ruleNotes rule) (marksIn words notes₀ 0) in
+      let sounds = patterns-sound 3 arity (drop at s) (bytes-drop at s bytes) read in
+      let inside = sounds-placed rule sounds (omega (arith, row-count 3 arity (drop at s) read)) in
       record {
         rule = rule;
         read = read;
         noted = ap (λ (m : Marks). m .names) all ∙ ap (λ (l : List Note). l ++ namesOf (ruleNotes rule)) (notes-none notes₀);
-        places = ap (λ (m : Marks). m .places) all;
+        places = ap (λ (m : Marks). placesIn (m .words)) all ∙ fixed-places (ruleNotes rule) words size inside;
+        placed = inside;
         used = omega (arith, within .used, ap bytesUsed same, rest-length s at);
         made = omega (arith, within .made, ap notesMade same);
       }
@@ -84,6 +89,10 @@ module _ {arity at : ℕ} {s words marks notes : List ℕ} {b n : ℕ} (k : Rule
       ∙ ap (λ (a : Bool). ask 9 a (took b (k .rule)))
       (sym (ap notesMeet (k .noted) ∙ names-meet (ruleNotes (k .rule)) ∙ rule-ends-meet (k .rule)) ∙ meet)
 
+  -- The variables stand at places among the 680.
+  pub marked-placed : All Placed (notesIn notes n)
+  marked-placed = subst (All Placed) (sym (k .noted)) (names-placed (ruleNotes (k .rule)) (k .placed))
+
   pub names-apart : notesMeet (notesIn notes n) ≡ false → readRule arity (drop at s) ≡ refused 9
   names-apart apart = by-names apart
 
@@ -91,13 +100,7 @@ module _ {arity at : ℕ} {s words marks notes : List ℕ} {b n : ℕ} (k : Rule
     accepted : AcceptedRule arity (k .rule)
     accepted = rule-sound arity (drop at s) (bytes-drop at s bytes) (by-names meet)
 
-    -- The variables stand at places among the 680,
-    pub marked-placed : arity ≤ 8 → All Placed (notesIn notes n)
-    marked-placed few =
-        subst (All Placed) (sym (k .noted))
-        (names-placed (ruleNotes (k .rule)) (rule-placed arity (k .rule) accepted few))
-
-    -- and a rule gathered from them is gathered with the others.
+    -- A rule gathered from its variables is gathered with the others.
     pub scan-turn
         : (rules i : ℕ) (codes : List ℕ) (count : ℕ) (after : Gathered) → i < rules
         → after ≡ gatherNotes (notesIn notes n) (held marks codes count)

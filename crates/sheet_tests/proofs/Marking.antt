@@ -1,41 +1,27 @@
--- What is marked and noted of a rule while it is read.
-use Prim.Native.Nat.{ℕ}
+-- What is marked and noted of a rule while it is read, and what its variables alone say.
+use Prim.Native.Nat.{ℕ, _/_}
 use mathlib.Core.Path.{_≡_, refl, sym, ap, _∙_}
 use mathlib.Core.Bool.{Bool, true, false}
 use mathlib.Core.List.{List, [], _∷_, _++_, append-nil, append-assoc}
+use native.Mathlib.Omega.{arith}
 use lib.Dec.{ltb}
+use lib.ListN.{length, length-set}
 use Rattle.basics.specs.Lists.{All}
 use Rattle.basics.specs.Order.{insertBy}
 use Rattle.basics.proofs.Sorted.{Ascending, insert-ascends, number-order}
-use Rattle.records.specs.Reading.{Reading, took, mapReading}
 use Rattle.terms.specs.RuleTests.{commonPart}
-use Rattle.sheet.specs.declared.Took.{Took}
-use Rattle.sheet.specs.declared.Took.the-variants.{Used, Refused}
 use Rattle.sheet.specs.declared.PatternRecord.{PatternRecord}
 use Rattle.sheet.specs.declared.PatternRecord.the-variants.{Anything, Symbol, Range, Compound, Variable, Ranged}
 use Rattle.sheet.specs.views.Noted.{Note}
-use Rattle.sheet.specs.views.NoteArray.{tookAs, tookNotes}
 use Rattle.sheet.specs.views.NotesBehind.{heldWith}
 use Rattle.sheet.specs.views.NoteRanges.{recordRange, rangeIn, lowEnd, highEnd, forVariables, endsMeet, notesMeet}
 use Rattle.sheet_tests.specs.views.TestedPlaces.{placesIn, insertAll}
 use Rattle.sheet_tests.specs.views.NoteTests.{isTested, testedPlaces, nameOf, occurrence, notesVariables, Placed}
-use Rattle.sheet_tests.specs.views.Marks.{Marks, placed, named, markOf, marked, marksIn}
+use Rattle.marks.specs.views.Marks.{Marks, withPlace, placed, named, markOf, marked}
+use Rattle.marks.proofs.Marking.{beside}
 use Rattle.sheet_tests.proofs.NumberLists.{all-insert-late}
+use Rattle.sheet_tests.proofs.PlaceSets.{mark-is}
 use Rattle.masks.proofs.Listed.{consIf}
-
--- Places, and names beside them.
-abbrev pub beside : List ℕ → List Note → Marks
-beside places names = record { places = places; names = names }
-
--- Where only variables were noted, the places stay.
-pub took-names
-    : (words codes : List ℕ) (t : Took) {r : Reading (List Note)} → tookNotes codes t ≡ r
-    → tookAs (marksIn words codes) t ≡ mapReading (beside (placesIn words)) r
-took-names words codes t e = go t ∙ ap (mapReading (beside (placesIn words))) e
-  where
-    go : (t : Took) → tookAs (marksIn words codes) t ≡ mapReading (beside (placesIn words)) (tookNotes codes t)
-    go (Used b n) = refl
-    go (Refused q) = refl
 
 -- The notes of variables, out of all notes.
 abbrev withName : PatternRecord → Note → List Note → List Note
@@ -57,18 +43,23 @@ never v = false
 abbrev pub fixedPlaces : List Note → List ℕ
 fixedPlaces ns = testedPlaces never ns
 
+-- Places put into a set one after another.
+abbrev pub withPlaces : List ℕ → List ℕ → List ℕ
+withPlaces words [] = words
+withPlaces words (p ∷ ps) = withPlaces (withPlace words p) ps
+
 -- Notes marked one after another: the places are put in, the variables noted.
 pub marks-all
     : (ns : List Note) (m : Marks)
-    → heldWith marked m ns ≡ beside (insertAll (fixedPlaces ns) (m .places)) (m .names ++ namesOf ns)
-marks-all [] m = ap (beside (m .places)) (sym (append-nil (m .names)))
+    → heldWith marked m ns ≡ beside (withPlaces (m .words) (fixedPlaces ns)) (m .names ++ namesOf ns)
+marks-all [] m = ap (beside (m .words)) (sym (append-nil (m .names)))
 marks-all (n ∷ ns) m = go (marks-all ns) (n .what)
   where
     go
-        : ((x : Marks) → heldWith marked x ns ≡ beside (insertAll (fixedPlaces ns) (x .places)) (x .names ++ namesOf ns))
+        : ((x : Marks) → heldWith marked x ns ≡ beside (withPlaces (x .words) (fixedPlaces ns)) (x .names ++ namesOf ns))
         → (r : PatternRecord)
         → heldWith marked (markOf r m n) ns
-        ≡ beside (insertAll (consIf (isTested never r) (n .place) (fixedPlaces ns)) (m .places))
+        ≡ beside (withPlaces (m .words) (consIf (isTested never r) (n .place) (fixedPlaces ns)))
         (m .names ++ withName r n (namesOf ns))
     go all Anything = all m
     go all (Symbol a) = all (placed m (n .place))
@@ -76,10 +67,29 @@ marks-all (n ∷ ns) m = go (marks-all ns) (n .what)
     go all (Compound a k) = all (placed m (n .place))
     go all (Variable v) =
         all (named m n)
-        ∙ ap (beside (insertAll (fixedPlaces ns) (m .places))) (append-assoc (m .names) (n ∷ []) (namesOf ns))
+        ∙ ap (beside (withPlaces (m .words) (fixedPlaces ns))) (append-assoc (m .names) (n ∷ []) (namesOf ns))
     go all (Ranged v l h) =
         all (named m n)
-        ∙ ap (beside (insertAll (fixedPlaces ns) (m .places))) (append-assoc (m .names) (n ∷ []) (namesOf ns))
+        ∙ ap (beside (withPlaces (m .words) (fixedPlaces ns))) (append-assoc (m .names) (n ∷ []) (namesOf ns))
+
+-- The set then has those places and the places before them.
+pub fixed-places
+    : (ns : List Note) (words : List ℕ) → length words ≡ 11 → All Placed ns
+    → placesIn (withPlaces words (fixedPlaces ns)) ≡ insertAll (fixedPlaces ns) (placesIn words)
+fixed-places [] words size h = refl
+fixed-places (n ∷ ns) words size h =
+    go (isTested never (n .what)) (λ w k. fixed-places ns w k (h .1))
+  where
+    go
+        : (b : Bool)
+        → ((w : List ℕ) → length w ≡ 11
+        → placesIn (withPlaces w (fixedPlaces ns)) ≡ insertAll (fixedPlaces ns) (placesIn w))
+        → placesIn (withPlaces words (consIf b (n .place) (fixedPlaces ns)))
+        ≡ insertAll (consIf b (n .place) (fixedPlaces ns)) (placesIn words)
+    go true all =
+        all (withPlace words (n .place)) (length-set words (n .place / 64) _ ∙ size)
+        ∙ ap (insertAll (fixedPlaces ns)) (mark-is words (n .place) _ (omega (arith, h .0)) refl)
+    go false all = all words size
 
 -- The notes of variables have the ranges,
 names-range : (ns : List Note) (v : ℕ) → rangeIn (namesOf ns) v ≡ rangeIn ns v

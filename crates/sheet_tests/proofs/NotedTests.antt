@@ -1,19 +1,19 @@
 -- What an accepted rule tests, off its notes.
-use Prim.Native.Nat.{ℕ, suc, _≤_}
+use Prim.Native.Nat.{ℕ, suc, _+_, _*_, _≤_}
 use mathlib.Core.Path.{_≡_, refl, ap, _∙_}
 use mathlib.Core.Bool.{Bool, true, false}
 use mathlib.Core.List.{List, [], _∷_, _++_, map, map-append}
 use mathlib.Core.Option.{Option, some, none}
 use native.Mathlib.Omega.{arith}
 use Rattle.basics.specs.Lists.{All}
-use Rattle.terms.specs.Pattern.{Patterns}
+use Rattle.terms.specs.Pattern.{Patterns, countPatterns}
 use Rattle.terms.specs.RuleTests.{Range, PlaceTest, Occurrence, rangeTest, placeTests, ruleVariables}
-use Rattle.terms.specs.Accepted.{AcceptedRule}
+use Rattle.terms.specs.Accepted.{Sounds, AcceptedRule}
 use Rattle.sheet.specs.declared.PatternRecord.{PatternRecord}
 use Rattle.sheet.specs.declared.PatternRecord.the-variants.{Anything, Symbol, Range as RangeOf, Compound, Variable, Ranged}
 use Rattle.sheet.specs.views.Noted.{Note, ruleNotes}
 use Rattle.sheet.specs.views.NoteRanges.{rangeIn}
-use Rattle.sheet.proofs.NotePlaces.{Ascending, notes-places}
+use Rattle.sheet.proofs.NotePlaces.{Ascending, ascending-wider, patterns-places}
 use Rattle.sheet.proofs.NoteTests.{recordTests, testsIn, recordVariables, variablesIn, rule-tests, rule-variables}
 use Rattle.sheet_tests.specs.views.NoteTests.{testedPlaces, isTested, nameOf, occurrence, notesVariables, Placed}
 use Rattle.masks.proofs.Listed.{consIf}
@@ -84,6 +84,12 @@ ascending-placed low [] h = tt
 ascending-placed low (n ∷ notes) h =
     (omega (arith, ascending-ends (suc (n .place)) 680 notes (h .1)), ascending-placed (suc (n .place)) notes (h .1))
 
--- The notes of a rule of at most 8 arguments have places among the 680.
+-- The notes of a rule of at most 8 arguments have places among the 680, once its patterns are sound.
+pub sounds-placed : (rule : Patterns) → Sounds rule 4 → countPatterns rule ≤ 8 → All Placed (ruleNotes rule)
+sounds-placed rule sounds few =
+    ascending-placed 0 (ruleNotes rule)
+    (ascending-wider (ruleNotes rule) 0 0 (0 + countPatterns rule * 85) 680 (omega arith) (omega arith)
+    (patterns-places rule 3 0 sounds))
+
 pub rule-placed : (arity : ℕ) (rule : Patterns) → AcceptedRule arity rule → arity ≤ 8 → All Placed (ruleNotes rule)
-rule-placed arity rule accepted few = ascending-placed 0 (ruleNotes rule) (notes-places arity rule accepted few)
+rule-placed arity rule accepted few = sounds-placed rule (accepted .sound) (omega (arith, accepted .arguments))

@@ -2,7 +2,6 @@
 pub mod TestedPlaces
 pub mod KeptPairs
 pub mod Slot
-pub mod Marks
 pub mod NoteTests
 pub mod Gathered
 pub mod TestsRead

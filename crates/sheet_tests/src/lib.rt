@@ -1,5 +1,4 @@
 // The tests of a sheet.
-pub mod marks; // a rule read, its places marked and its variables noted
 pub mod pairs; // pairs of places, kept ascending
 pub mod rule; // the tests of a rule
 pub mod sheets; // the tests of a sheet, and its check

@@ -2,10 +2,10 @@
 use crate::Scan;
 use crate::SheetCheck;
 use crate::TestsRead;
-use crate::marks::read_marks;
 use crate::rule::mark_rule;
 use crate::rule::pair_rule;
 use crate::tested::count_places;
+use marks::read_marks;
 use sheet::Header;
 use sheet::Took;
 use sheet::variable::common;

@@ -12,8 +12,7 @@ pub fn mark(words: &mut [u64; 11], place: usize)
     ensures { λ _. ⌜ placesIn (now (words .exit)) ≡ insertBy ltb place (placesIn (now (words .entry))) ⌝ }
     ensures { λ _. ⌜ length (now (words .exit)) ≡ 11 ⌝ }
 {
-    let word = place / 64;
-    words[word] = masks::insert(words[word], place % 64);
+    marks::mark(words, place);
 }
 
 // How many places the set has. Not the number of words that are not empty, nor the highest place.

@@ -50,6 +50,9 @@ module _ (c : tie.After-known-told2 Inv-loop μ-loop) where
   abbrev start : tie.Start Inv-loop μ-loop
   start = at-loop .before .before
 
+  bytes : AreBytes (start .args .s .now)
+  bytes = bytes-known (start .args .s .now) (λ i. omega (arith, at-loop .before .shared-slice-known .given i))
+
   rule
       : let last = at-read-marks .read-marks .last in
       let n = c .before .read2 .given .0 in
@@ -57,11 +60,9 @@ module _ (c : tie.After-known-told2 Inv-loop μ-loop) where
       (last .1 .1 .0) (n .0) (n .1 .0)
   rule =
       rule-marked (start .args .arity) (at-loop .loop .at) (start .args .s .now) (at-loop .loop .words) (at-loop .loop .notes)
-      _ _ (at-read-marks .read-marks .result) (at-read-marks .read-marks .ensures .0) (c .before .read2 .given .1)
+      _ _ (at-read-marks .read-marks .result) (at-read-marks .read-marks .ensures .0) (start .pre .0) bytes
+      (at-loop .loop .inv .4) (c .before .read2 .given .1)
       (at-read-marks .read-marks .ensures .1 .0)
-
-  bytes : AreBytes (start .args .s .now)
-  bytes = bytes-known (start .args .s .now) (λ i. omega (arith, at-loop .before .shared-slice-known .given i))
 
 returns : tie.Need-returns Inv-loop μ-loop
 returns c =
@@ -100,11 +101,10 @@ gather-rule-requires : tie.Need-gather-rule-requires Inv-loop μ-loop
 gather-rule-requires c κs =
     let at-if1 = c .before .before .before in
     let read = at-if1 .before .before .before in
-    let meet = sym (at-if1 .before .common .ensures) ∙ not-false _ (at-if1 .if1 .left) in
     let told = at-read-marks read .read-marks .ensures .1 in (
       rule read .made,
       told .0 .entries,
-      marked-placed (rule read) (bytes read) meet (start read .pre .0),
+      marked-placed (rule read),
       told .1,
       at-loop read .loop .inv .2,
       at-loop read .loop .inv .5,

@@ -4,10 +4,10 @@ use native.Mathlib.Omega.{arith}
 use denote.Ref.{now}
 use Rattle.records.proofs.Parts.{rest-length}
 use Rattle.sheet.proofs.Rows.{part-read}
-use Rattle.sheet_tests.specs.views.Marks.{marked}
+use Rattle.marks.specs.views.Marks.{marked}
 use borrow.Author.Needs.{needs}
-use Rattle.sheet_tests.proofs.marks.read_marks.Statement.{statement}
-use Rattle.sheet_tests.proofs.marks.read_marks.Tie as tie
+use Rattle.marks.proofs.rule.read_marks.Statement.{statement}
+use Rattle.marks.proofs.rule.read_marks.Tie as tie
 
 returns : tie.Need-returns
 returns c =

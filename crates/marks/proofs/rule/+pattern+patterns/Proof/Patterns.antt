@@ -11,12 +11,12 @@ use Rattle.records.proofs.RowSoFar.{one-to-come, turn-room, rowFrom, row-begun,
 use Rattle.sheet.specs.declared.Took.the-variants.{Used, Refused}
 use Rattle.sheet.specs.views.NoteArray.{tookAs, bytesUsed, notesMade}
 use Rattle.sheet.specs.views.NotesBehind.{patternHeld, rowHeld}
-use Rattle.sheet_tests.specs.views.Marks.{Marks, marked, marksIn}
+use Rattle.marks.specs.views.Marks.{Marks, marked, marksIn}
 use Rattle.sheet.proofs.NoteArrays.{was-used, was-refused}
 use Rattle.sheet.proofs.Rows.{row-step, patternRow}
-use Rattle.sheet_tests.proofs.marks.patterns.Reads as patterns
-use Rattle.sheet_tests.proofs.marks.+pattern+patterns.Lts-patterns as lts
-use Rattle.sheet_tests.proofs.marks.+pattern+patterns.Proof.Measures.{patterns-at, patterns-calls, Inv-loop, μ-loop}
+use Rattle.marks.proofs.rule.patterns.Reads as patterns
+use Rattle.marks.proofs.rule.+pattern+patterns.Lts-patterns as lts
+use Rattle.marks.proofs.rule.+pattern+patterns.Proof.Measures.{patterns-at, patterns-calls, Inv-loop, μ-loop}
 
 -- Where a turn of the loop begins, and where its pattern was read or refused.
 abbrev TurnBegun : ℕ → Type 0

@@ -8,18 +8,18 @@ use borrow.Fn.PlainCycle.{Measures, is, falls, and}
 use Rattle.places.specs.Numbering.{stride}
 use Rattle.records.proofs.RowSoFar.{rowFrom}
 use Rattle.sheet.specs.views.NotesBehind.{rowHeld}
-use Rattle.sheet_tests.specs.views.Marks.{marked, marksIn}
+use Rattle.marks.specs.views.Marks.{marked, marksIn}
 use Rattle.sheet.proofs.Rows.{patternRow}
-use Rattle.sheet_tests.proofs.marks.pattern.Reads as pattern
-use Rattle.sheet_tests.proofs.marks.pattern.Kinds as pattern-kinds
-use Rattle.sheet_tests.proofs.marks.+pattern+patterns.Lts-pattern as pattern-lts
-use Rattle.sheet_tests.proofs.marks.patterns.Reads as patterns
-use Rattle.sheet_tests.proofs.marks.patterns.Kinds as patterns-kinds
-use Rattle.sheet_tests.proofs.marks.+pattern+patterns.Lts-patterns as patterns-lts
+use Rattle.marks.proofs.rule.pattern.Reads as pattern
+use Rattle.marks.proofs.rule.pattern.Kinds as pattern-kinds
+use Rattle.marks.proofs.rule.+pattern+patterns.Lts-pattern as pattern-lts
+use Rattle.marks.proofs.rule.patterns.Reads as patterns
+use Rattle.marks.proofs.rule.patterns.Kinds as patterns-kinds
+use Rattle.marks.proofs.rule.+pattern+patterns.Lts-patterns as patterns-lts
 use Rattle.sheet.proofs.record.pattern_head.Reads as pattern-head-reads
 use Rattle.sheet.proofs.record.head_refusal.Reads as head-refusal-reads
-use Rattle.sheet_tests.proofs.marks.leaf.Reads as leaf-reads
-use Rattle.sheet_tests.proofs.tested.mark.Reads as mark-reads
+use Rattle.marks.proofs.rule.leaf.Reads as leaf-reads
+use Rattle.marks.proofs.set.mark.Reads as mark-reads
 use Rattle.sheet.proofs.rule.after.Reads as after-reads
 use Rattle.places.proofs.step.Reads as step-reads
 

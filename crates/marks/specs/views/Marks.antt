@@ -1,25 +1,30 @@
--- A rule as the check of a sheet keeps it while it is read: the places of its symbols, ranges and compounds with the places
--- before them, and its variables as notes.
-use Prim.Native.Nat.{ℕ}
+-- A rule as it is kept while it is read: the places of its symbols, ranges and compounds in a set with the places before them,
+-- and its variables as notes.
+use Prim.Native.Nat.{ℕ, _/_, _%_}
+use mathlib.Core.Bool.{_||_}
 use mathlib.Core.List.{List, [], _∷_, _++_}
-use lib.Dec.{ltb}
-use Rattle.basics.specs.Order.{insertBy}
+use lib.Dec.{eqb}
+use lib.ListN.{getD, set}
+use Rattle.masks.specs.Mask.{has, maskOf}
 use Rattle.sheet.specs.declared.PatternRecord.{PatternRecord}
 use Rattle.sheet.specs.declared.PatternRecord.the-variants.{Anything, Symbol, Range, Compound, Variable, Ranged}
 use Rattle.sheet.specs.views.Noted.{Note}
 use Rattle.sheet.specs.views.NoteArray.{notesIn}
-use Rattle.sheet_tests.specs.views.TestedPlaces.{placesIn}
+
+-- The words of a set of places, with place n: bit n % 64 of word n / 64.
+abbrev pub withPlace : List ℕ → ℕ → List ℕ
+withPlace words n = set words (n / 64) (maskOf 64 (λ j. has (getD words (n / 64) 0) j || eqb (n % 64) j))
 
 pub record Marks : Type 0 where
-  pub places : List ℕ
+  pub words : List ℕ
   pub names : List Note
 
 -- With a place, and with a variable.
 abbrev pub placed : Marks → ℕ → Marks
-placed m n = record { places = insertBy ltb n (m .places); names = m .names }
+placed m n = record { words = withPlace (m .words) n; names = m .names }
 
 abbrev pub named : Marks → Note → Marks
-named m n = record { places = m .places; names = m .names ++ (n ∷ []) }
+named m n = record { words = m .words; names = m .names ++ (n ∷ []) }
 
 -- With a note.
 abbrev pub markOf : PatternRecord → Marks → Note → Marks
@@ -35,4 +40,4 @@ marked m n = markOf (n .what) m n
 
 -- What the arrays hold.
 abbrev pub marksIn : List ℕ → List ℕ → ℕ → Marks
-marksIn words notes n = record { places = placesIn words; names = notesIn notes n }
+marksIn words notes n = record { words = words; names = notesIn notes n }

@@ -1,5 +1,5 @@
 // A rule read in prefix order: the places of its symbols, ranges and compounds are marked, its variables noted. Questions 4 to 8.
-use crate::tested::mark;
+use crate::set::mark;
 use sheet::PatternHead;
 use sheet::PatternRecord;
 use sheet::Took;
@@ -14,7 +14,7 @@ ghost use Rattle.places.specs.Numbering.{stride};
 ghost use Rattle.sheet.specs.views.PatternRecord.{recordBytes};
 ghost use Rattle.sheet.specs.views.NoteArray.{tookAs, TookWithin};
 ghost use Rattle.sheet.specs.views.NotesBehind.{leafHeld, patternHeld, rowHeld};
-ghost use Rattle.sheet_tests.specs.views.Marks.{marked, marksIn};
+ghost use Rattle.marks.specs.views.Marks.{marked, marksIn};
 
 // A record that is no compound: question 7, then 8.
 fn leaf(

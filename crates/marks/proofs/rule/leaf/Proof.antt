@@ -6,11 +6,11 @@ use Rattle.records.specs.Reading.{took}
 use Rattle.sheet.specs.views.PatternRecord.{recordBytes}
 use Rattle.sheet.specs.views.NotesBehind.{leafHeld}
 use Rattle.sheet.proofs.Leaves.{range-yes, range-no, variable-yes, variable-no, ranged-yes, ranged-no-range, ranged-no-variable}
-use Rattle.sheet_tests.specs.views.Marks.{marked, marksIn}
-use Rattle.sheet_tests.proofs.Marking.{beside, took-names}
+use Rattle.marks.specs.views.Marks.{marked, marksIn}
+use Rattle.marks.proofs.Marking.{beside, took-names}
 use borrow.Author.Needs.{needs}
-use Rattle.sheet_tests.proofs.marks.leaf.Statement.{statement}
-use Rattle.sheet_tests.proofs.marks.leaf.Tie as tie
+use Rattle.marks.proofs.rule.leaf.Statement.{statement}
+use Rattle.marks.proofs.rule.leaf.Tie as tie
 
 returns : tie.Need-returns
 returns c =

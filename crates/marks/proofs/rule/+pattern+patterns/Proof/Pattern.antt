@@ -11,15 +11,15 @@ use Rattle.sheet.specs.declared.PatternHead.the-variants.{Whole}
 use Rattle.sheet.specs.views.PatternRecord.{patternHead, headRefusal}
 use Rattle.records.specs.Reading.{refused}
 use Rattle.sheet.specs.views.NoteArray.{tookAs, bytesUsed, notesMade}
-use Rattle.sheet_tests.specs.views.Marks.{marked, marksIn}
-use Rattle.sheet_tests.proofs.Marking.{beside}
+use Rattle.marks.specs.views.Marks.{marked, marksIn}
+use Rattle.marks.proofs.Marking.{beside}
 use Rattle.sheet.proofs.Heads.{head-whole}
 use Rattle.sheet.proofs.NoteArrays.{was-after, after-used, after-made}
 use Rattle.sheet.proofs.Compounds.{flat-tag, head-no, lowest-read, flat-read, arity-no, arguments-yes, arguments-no}
 use Rattle.sheet.proofs.Rows.{arguments-room, part-read}
-use Rattle.sheet_tests.proofs.marks.pattern.Reads as pattern
-use Rattle.sheet_tests.proofs.marks.+pattern+patterns.Lts-pattern as lts
-use Rattle.sheet_tests.proofs.marks.+pattern+patterns.Proof.Measures.{pattern-at, pattern-calls}
+use Rattle.marks.proofs.rule.pattern.Reads as pattern
+use Rattle.marks.proofs.rule.+pattern+patterns.Lts-pattern as lts
+use Rattle.marks.proofs.rule.+pattern+patterns.Proof.Measures.{pattern-at, pattern-calls}
 
 -- Where a compound was found, the input begins with its record.
 compound-head

@@ -3,15 +3,15 @@ mod Measures
 mod Pattern
 mod Patterns
 use borrow.Author.Needs.{needs}
-use Rattle.sheet_tests.proofs.marks.pattern.Reads as pattern
-use Rattle.sheet_tests.proofs.marks.+pattern+patterns.Lts-pattern as pattern-lts
-use Rattle.sheet_tests.proofs.marks.+pattern+patterns.Proof.Pattern as of-pattern
-use Rattle.sheet_tests.proofs.marks.patterns.Reads as patterns
-use Rattle.sheet_tests.proofs.marks.+pattern+patterns.Lts-patterns as patterns-lts
-use Rattle.sheet_tests.proofs.marks.+pattern+patterns.Proof.Patterns as of-patterns
-use Rattle.sheet_tests.proofs.marks.+pattern+patterns.Proof.Measures.{μ-pattern, pattern-at, pattern-calls, μ-patterns, patterns-at, patterns-calls, Inv-loop, μ-loop}
-use Rattle.sheet_tests.proofs.marks.+pattern+patterns.{statement}
-use Rattle.sheet_tests.proofs.marks.+pattern+patterns.Tie.{close}
+use Rattle.marks.proofs.rule.pattern.Reads as pattern
+use Rattle.marks.proofs.rule.+pattern+patterns.Lts-pattern as pattern-lts
+use Rattle.marks.proofs.rule.+pattern+patterns.Proof.Pattern as of-pattern
+use Rattle.marks.proofs.rule.patterns.Reads as patterns
+use Rattle.marks.proofs.rule.+pattern+patterns.Lts-patterns as patterns-lts
+use Rattle.marks.proofs.rule.+pattern+patterns.Proof.Patterns as of-patterns
+use Rattle.marks.proofs.rule.+pattern+patterns.Proof.Measures.{μ-pattern, pattern-at, pattern-calls, μ-patterns, patterns-at, patterns-calls, Inv-loop, μ-loop}
+use Rattle.marks.proofs.rule.+pattern+patterns.{statement}
+use Rattle.marks.proofs.rule.+pattern+patterns.Tie.{close}
 
 pub +pattern+patterns-spec : {M : Type 1} → statement M
 +pattern+patterns-spec =

@@ -1,0 +1,2 @@
+-- The laws of this crate: of what is marked and noted.
+pub mod Marking

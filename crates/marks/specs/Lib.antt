@@ -1,0 +1,2 @@
+-- What reading a rule marks and notes.
+pub mod views
