@@ -10,10 +10,11 @@ use Rattle.records.specs.Reading.{Reading, took, refused, mapReading, after}
 use Rattle.records.proofs.Rows.{row-none, row-refused, row-next}
 use Rattle.terms.specs.Pattern.{Patterns}
 use Rattle.terms.specs.Outcome.{Outcome}
-use Rattle.terms.specs.Answer.{Answer}
+use Rattle.terms.specs.Answer.{Answer, commit, execute, suspend, fail, wordOf}
 use Rattle.sheet.specs.ReadSheet.{readRule, readRules}
 use Rattle.plain.specs.Plain.{PlainValues, answerValues, plainRefusalValues, readingValues}
 use Rattle.plain.specs.views.RuleByRule.{moved, movedBy}
+use Rattle.plain.proofs.RuleByRule.{moved-suspend}
 
 -- The values do not say how many bytes were read.
 values-after
@@ -21,6 +22,16 @@ values-after
     → readingValues (mapReading f (after a g x)) ≡ readingValues (mapReading (λ (y : A). f (g y)) x)
 values-after a f g (took b y) = refl
 values-after a f g (refused q) = refl
+
+-- A refusal is no answer.
+refusal-no : {q : ℕ} (a : Answer) → plainRefusalValues q ≡ answerValues a → ⊥
+refusal-no a e = go a (ap (λ (v : PlainValues). v .word) e)
+  where
+    go : (x : Answer) → 0 ≡ wordOf x → ⊥
+    go (commit j) z = omega arith
+    go (execute j) z = omega arith
+    go suspend z = omega arith
+    go fail z = omega arith
 
 module _ (outcome : Patterns → Outcome) (arity count : ℕ) (s : List ℕ) where
   -- What comes of the rules behind the first i, which take so many bytes, where this is answered by those.
@@ -65,3 +76,19 @@ module _ (outcome : Patterns → Outcome) (arity count : ℕ) (s : List ℕ) whe
           (row-next [] _∷_ (readRule arity) (count - i) (drop at s) (omega arith) e)
           ∙ values-after b (movedBy outcome (suc i) a) (λ rules. rule ∷ rules)
           (readRules arity (count - i - 1) (drop b (drop at s))))
+
+  -- Where two rules are open and the others can be read, the answer is suspend.
+  suspended : (i : ℕ) (rules : List Patterns) → movedBy outcome i suspend rules ≡ suspend
+  suspended i [] = refl
+  suspended i (rule ∷ rules) =
+      ap (λ (a : Answer). movedBy outcome (suc i) a rules) (moved-suspend i (outcome rule)) ∙ suspended (suc i) rules
+
+  pub turns-suspend
+      : (i at : ℕ) (a : Answer) → answerFrom i at suspend ≡ answerValues a → answerValues suspend ≡ answerFrom i at suspend
+  turns-suspend i at a e = go (readRules arity (count - i) (drop at s)) e
+    where
+      go
+          : (x : Reading (List Patterns)) → readingValues (mapReading (movedBy outcome (suc i) suspend) x) ≡ answerValues a
+          → answerValues suspend ≡ readingValues (mapReading (movedBy outcome (suc i) suspend) x)
+      go (took b rules) h = ap answerValues (sym (suspended (suc i) rules))
+      go (refused q) h = absurd (refusal-no a h)

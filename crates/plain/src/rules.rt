@@ -16,6 +16,7 @@ ghost use Rattle.sheet_tests.specs.views.NoteTests.{Placed};
 ghost use Rattle.outcomes.specs.views.CompareCells.{Narrow};
 ghost use Rattle.outcomes.specs.views.CellOutcome.{outcomeOf};
 ghost use Rattle.plain.specs.Plain.{answerOf, plainValues, readingValues};
+ghost use Rattle.plain.specs.views.SheetRules.{SheetRules};
 ghost use Rattle.plain.specs.views.RuleByRule.{opened, moved, movedBy};
 ghost use Rattle.plain.specs.views.NotesOutcome.{notesOutcome, cellsOutcome};
 
@@ -42,20 +43,17 @@ fn moved(answer: Answer, rule: u8, outcome: TestOutcome) -> Answer
     }
 }
 
-// The answer so far moved on by a rule. Where two are open no further rule is tested.
+// The answer so far moved on by a rule.
 fn moved_by(answer: Answer, rule: u8, notes: &[u64; 680], n: usize, cells: &[u32; 680]) -> Answer
     requires { ⌜ (n ≤ 680) × (length (now notes) ≡ 680) × All Placed (notesIn (now notes) n) × Narrow (now cells) ⌝ }
     ensures { λ r. ⌜ answerOf r
         ≡ moved (answerOf answer) rule (notesOutcome (now (cells .entry)) (notesIn (now (notes .entry)) n)) ⌝ }
 {
-    if let Answer::Suspend = answer {
-        return answer;
-    }
     moved(answer, rule, rule_outcome(notes, n, cells))
 }
 
-// The answer by the rules that the input begins with. Not suspend at the first rule that is not known, nor the last open rule
-// where two are open.
+// The answer by the rules of an accepted sheet, which the input begins with. Where two are open no further rule is read. Not
+// suspend at the first rule that is not known, nor the last open rule where two are open.
 pub fn answer_rules(
     s: &[u8],
     arity: usize,
@@ -63,7 +61,7 @@ pub fn answer_rules(
     cells: &[u32; 680],
     notes: &mut [u64; 680],
 ) -> Plain
-    requires { ⌜ (arity ≤ 8) × (length (now notes) ≡ 680) × Narrow (now cells) ⌝ }
+    requires { ⌜ SheetRules (now s) arity count × (length (now notes) ≡ 680) × Narrow (now cells) ⌝ }
     ensures { λ r. ⌜ plainValues r
         ≡ readingValues (mapReading (movedBy (cellsOutcome (now (cells .entry))) 1 fail)
         (readRules arity count (now (s .entry)))) ⌝ }
@@ -77,6 +75,9 @@ pub fn answer_rules(
             Took::Refused(q) => return Plain::Refused(q),
             Took::Used(bytes, n) => {
                 answer = moved_by(answer, i + 1, notes, n, cells);
+                if let Answer::Suspend = answer {
+                    return Plain::Answered(answer);
+                }
                 at += bytes;
             }
         }

@@ -37,7 +37,7 @@ answer-rules-requires c κs =
     let cells = c .before .before .before .before .before .before .read-piece .last .1 .0 in
     let bytes = bytes-all p (λ i. omega (arith, c .before .before .before .before .before .before .before .before .shared-slice-known2 .given i)) in
     let r = reader-accepted p cells (c .before .before .before .before .before .before .read-piece .result) (c .before .before .before .before .before .before .read-piece .ensures) (c .before .before .before .before .read2 .given .1) bytes in
-    (c .before .before .before .before .before .before .before .before .before .before .pre .few, length-replicate {A = ℕ} 680 0, read-narrow r)
+    (c .before .before .before .before .before .before .before .before .before .before .pre, length-replicate {A = ℕ} 680 0, read-narrow r)
 
 returns-2 : tie.Need-returns-2
 returns-2 c =
