@@ -10,7 +10,7 @@ use lib.ListN.{length, getD, take, drop, drop-of-length-le}
 use lib.Seq.{length-take-le, drop-cons, getD-take}
 use borrow.Author.Tests.{lt-ltb, le-ltb, ltb-true, ltb-false}
 use Rattle.basics.specs.Order.{insertBy}
-use Rattle.sheet_tests.specs.views.Slot.{slot}
+use Rattle.sheet_tests.specs.views.Slot.{slot, Passed}
 
 abbrev inserted : ℕ → ℕ → List ℕ → Bool → Bool → List ℕ
 inserted c y ys a b =
@@ -71,6 +71,36 @@ insert-length c (y ∷ ys) = go (ltb c y) (ltb y c) (insert-length c ys)
     go true b h = omega arith
     go false true h = omega arith
     go false false h = omega arith
+
+-- A number above one that stands where it belongs belongs behind it.
+pub next-there : (c d : ℕ) (l : List ℕ) → c < d → slot c l < length l → getD l (slot c l) 0 ≡ c → Passed (suc (slot c l)) d l
+next-there c d [] h inside e = absurd (omega arith)
+next-there c d (y ∷ ys) h inside e = go (ltb y c) refl (next-there c d ys h) inside e
+  where
+    go
+        : (b : Bool) → ltb y c ≡ b → (slot c ys < length ys → getD ys (slot c ys) 0 ≡ c → Passed (suc (slot c ys)) d ys)
+        → cond b (suc (slot c ys)) 0 < suc (length ys) → getD (y ∷ ys) (cond b (suc (slot c ys)) 0) 0 ≡ c
+        → slot d (y ∷ ys) ≡ suc (cond b (suc (slot c ys)) 0) + slot d (drop (cond b (suc (slot c ys)) 0) ys)
+    go true k more inside e =
+        ap (λ (b : Bool). cond b (suc (slot d ys)) 0) (lt-ltb y d (omega (arith, ltb-true y c k)))
+        ∙ omega (arith, more (omega arith) e)
+    go false k more inside e =
+        ap (λ (b : Bool). cond b (suc (slot d ys)) 0) (lt-ltb y d (omega arith)) ∙ omega arith
+
+-- So it does where the number was put there.
+pub next-here
+    : (c d : ℕ) (l : List ℕ) → c < d → Passed (suc (slot c l)) d (take (slot c l) l ++ (c ∷ drop (slot c l) l))
+next-here c d [] h = ap (λ (b : Bool). cond b 1 0) (lt-ltb c d h)
+next-here c d (y ∷ ys) h = go (ltb y c) refl (next-here c d ys h)
+  where
+    go
+        : (b : Bool) → ltb y c ≡ b → Passed (suc (slot c ys)) d (take (slot c ys) ys ++ (c ∷ drop (slot c ys) ys))
+        → Passed (suc (cond b (suc (slot c ys)) 0)) d
+        (take (cond b (suc (slot c ys)) 0) (y ∷ ys) ++ (c ∷ drop (cond b (suc (slot c ys)) 0) (y ∷ ys)))
+    go true k more =
+        let rest = take (slot c ys) ys ++ (c ∷ drop (slot c ys) ys) in
+        ap (λ (b : Bool). cond b (suc (slot d rest)) 0) (lt-ltb y d (omega (arith, ltb-true y c k))) ∙ omega (arith, more)
+    go false k more = ap (λ (b : Bool). cond b (suc (slot d (y ∷ ys))) 0) (lt-ltb c d h) ∙ omega arith
 
 -- A search among the first n numbers of a list, which has passed i of them, all below c.
 module _ (c : ℕ) (l : List ℕ) (n i : ℕ) (within : n ≤ length l) (passed : slot c (take n l) ≡ i + slot c (drop i (take n l))) where

@@ -2,6 +2,7 @@
 pub mod TestedPlaces
 pub mod KeptPairs
 pub mod Slot
+pub mod PutAt
 pub mod NoteTests
 pub mod Gathered
 pub mod TestsRead

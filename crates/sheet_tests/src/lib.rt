@@ -31,3 +31,10 @@ pub enum Scan {
     Done(usize, usize),
     Refused(u8),
 }
+
+// How many pairs are kept; the last one that was put, and how many of those kept are not above it.
+pub struct Put {
+    pub count: usize,
+    pub next: usize,
+    pub last: u32,
+}

@@ -1,17 +1,21 @@
 // Pairs of places, each one number, kept in ascending order: at most 64, and a 65th to say that there are too many.
+use crate::Put;
 ghost use mathlib.Core.Path.{_≡_};
+ghost use mathlib.Core.Bool.{cond};
 ghost use mathlib.Core.List.{_∷_, _++_};
 ghost use Prim.Native.Nat.{_+_, _≤_};
+ghost use lib.Dec.{ltb};
 ghost use lib.ListN.{length, take, drop};
-ghost use Rattle.sheet_tests.specs.views.Slot.{slot};
+ghost use Rattle.sheet_tests.specs.views.Slot.{slot, Passed};
+ghost use Rattle.sheet_tests.specs.views.PutAt.{PutAt};
 ghost use Rattle.sheet_tests.specs.views.KeptPairs.{keep, pairsIn};
 
-// Where the code belongs among the first n.
-fn position(codes: &[u32; 65], n: usize, code: u32) -> usize
-    requires { ⌜ (n ≤ 64) × (length (now codes) ≡ 65) ⌝ }
+// Where the code belongs among the first n, of which the first so many are below it.
+fn position(codes: &[u32; 65], n: usize, from: usize, code: u32) -> usize
+    requires { ⌜ (from ≤ n) × (n ≤ 64) × (length (now codes) ≡ 65) × Passed from code (take n (now codes)) ⌝ }
     ensures { λ r. ⌜ r ≡ slot code (take n (now (codes .entry))) ⌝ }
 {
-    let mut i: usize = 0;
+    let mut i = from;
     while i < n {
         if code <= codes[i] {
             return i;
@@ -39,22 +43,37 @@ fn insert_at(codes: &mut [u32; 65], n: usize, at: usize, code: u32)
     codes[n] = carried;
 }
 
-// Keeps one pair more, if it is not there, and answers how many there are now. Not one more where it is there already, nor the
-// new one behind all others.
-pub fn put_pair(codes: &mut [u32; 65], n: usize, code: u32) -> usize
-    requires { ⌜ (n ≤ 65) × (length (now codes) ≡ 65) ⌝ }
-    ensures { λ r. ⌜ pairsIn (now (codes .exit)) r ≡ keep code (pairsIn (now (codes .entry)) n) ⌝ }
-    ensures { λ r. ⌜ (r ≤ 65) × (length (now (codes .exit)) ≡ 65) ⌝ }
+// How many of the pairs kept are passed in the search for a code: those passed by the last one, where that is below the code.
+fn passed_by(put: Put, code: u32) -> usize
+    ensures { λ r. ⌜ r ≡ cond (ltb (put .last) code) (put .next) 0 ⌝ }
 {
-    if 64 < n {
-        return n;
+    if put.last < code { put.next } else { 0 }
+}
+
+// Keeps one pair more, if it is not there. Not one more where it is there already, nor the new one behind all others.
+pub fn put_pair(codes: &mut [u32; 65], put: Put, code: u32) -> Put
+    requires { ⌜ PutAt (now codes) put ⌝ }
+    ensures { λ r. ⌜ pairsIn (now (codes .exit)) (r .count) ≡ keep code (pairsIn (now (codes .entry)) (put .count)) ⌝ }
+    ensures { λ r. ⌜ PutAt (now (codes .exit)) r ⌝ }
+{
+    if 64 < put.count {
+        return put;
     }
-    let at = position(codes, n, code);
+    let n = put.count;
+    let at = position(codes, n, passed_by(put, code), code);
     if at < n {
         if codes[at] == code {
-            return n;
+            return Put {
+                count: n,
+                next: at + 1,
+                last: code,
+            };
         }
     }
     insert_at(codes, n, at, code);
-    n + 1
+    Put {
+        count: n + 1,
+        next: at + 1,
+        last: code,
+    }
 }

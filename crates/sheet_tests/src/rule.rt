@@ -1,5 +1,6 @@
 // The tests of a rule, from its notes.
 use crate::Name;
+use crate::Put;
 use crate::pairs::put_pair;
 use crate::tested::mark;
 use sheet::PatternRecord;
@@ -112,19 +113,23 @@ fn pairs_with(
         ≡ keepAll (codesWith place v (drop from (notesIn (now (notes .entry)) n))) (pairsIn (now (codes .entry)) count) ⌝ }
     ensures { λ r. ⌜ (r ≤ 65) × (length (now (codes .exit)) ≡ 65) ⌝ }
 {
-    let mut kept = count;
+    let mut put = Put {
+        count,
+        next: 0,
+        last: 0,
+    };
     let mut i = from;
     while i < n {
-        if 64 < kept {
-            return kept;
+        if 64 < put.count {
+            return put.count;
         }
         let code = notes[i];
         if is_named(v, sheet::note_record(code)) {
-            kept = put_pair(codes, kept, pair_code(place, sheet::note_place(code)));
+            put = put_pair(codes, put, pair_code(place, sheet::note_place(code)));
         }
         i += 1;
     }
-    kept
+    put.count
 }
 
 // Keeps all pairs of a rule. Not neighbours alone where a variable stands at three places, nor pairs of two variables.

@@ -10,13 +10,13 @@ use Rattle.sheet_tests.proofs.pairs.position.Statement.{statement}
 use Rattle.sheet_tests.proofs.pairs.position.Tie as tie
 
 abbrev Inv-loop : tie.InvT-loop
-Inv-loop codes n code i₀ i = (i ≤ n) × (slot code (take n codes) ≡ i + slot code (drop i (take n codes)))
+Inv-loop codes n from code i₀ i = (i ≤ n) × (slot code (take n codes) ≡ i + slot code (drop i (take n codes)))
 
 abbrev μ-loop : tie.MeasureT-loop
-μ-loop codes n code i₀ i = n - i
+μ-loop codes n from code i₀ i = n - i
 
 loop-holds : tie.Need-loop-holds Inv-loop μ-loop
-loop-holds c = (omega arith, omega arith)
+loop-holds c = (c .pre .0, c .pre .3)
 
 mul-if1 : tie.Need-mul-if1 Inv-loop μ-loop
 mul-if1 c = search needs

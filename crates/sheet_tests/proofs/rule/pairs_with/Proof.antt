@@ -1,39 +1,42 @@
 -- A loop over the later notes: the pairs with those passed are kept.
 use Prim.Native.Nat.{ℕ, _+_, _-_, _≤_}
-use mathlib.Core.Path.{_≡_, refl, sym, ap, _∙_}
+use mathlib.Core.Path.{_≡_, refl, sym, ap, _∙_, subst}
 use mathlib.Core.Logic.{⊎-elim}
 use native.Mathlib.Omega.{arith}
-use lib.ListN.{length, drop}
+use lib.ListN.{drop}
 use Rattle.sheet.specs.views.NoteArray.{notesIn}
 use Rattle.sheet_tests.specs.views.KeptPairs.{pairCode, keep, pairsIn}
+use Rattle.sheet_tests.specs.views.PutAt.{PutAt}
 use Rattle.sheet_tests.specs.views.NoteTests.{isNamed, codesWith, Placed}
 use Rattle.sheet_tests.proofs.NoteRows.{notes-each}
+use Rattle.sheet_tests.proofs.PutPairs.{none-passed}
 use Rattle.sheet_tests.proofs.NotePairs.{withFrom, with-yes, with-no, with-end, full-done}
 use borrow.Author.Needs.{needs}
 use Rattle.sheet_tests.proofs.rule.pairs_with.Statement.{statement}
 use Rattle.sheet_tests.proofs.rule.pairs_with.Tie as tie
 
 abbrev Inv-loop : tie.InvT-loop
-Inv-loop notes n from place v codes₀ count kept₀ i₀ codes kept i =
-    (i ≤ n) × (kept ≤ 65) × (length codes ≡ 65) × (withFrom place v notes n i (pairsIn codes kept) ≡ withFrom place v notes n from (pairsIn codes₀ count))
+Inv-loop notes n from place v codes₀ count put₀ i₀ codes put i =
+    (i ≤ n) × PutAt codes put
+    × (withFrom place v notes n i (pairsIn codes (put .count)) ≡ withFrom place v notes n from (pairsIn codes₀ count))
 
 abbrev μ-loop : tie.MeasureT-loop
-μ-loop notes n from place v codes₀ count kept₀ i₀ codes kept i = n - i
+μ-loop notes n from place v codes₀ count put₀ i₀ codes put i = n - i
 
 loop-holds : tie.Need-loop-holds Inv-loop μ-loop
-loop-holds c = (c .pre .0, c .pre .5, c .pre .6, refl)
+loop-holds c = (c .pre .0, none-passed (c .args .codes .now) (c .args .count) (c .pre .5) (c .pre .6), refl)
 
 returns : tie.Need-returns Inv-loop μ-loop
 returns c =
-    let start = c .before .before .before in
-    let turn = c .before .before .loop in
+    let start = c .before .before .before .before in
+    let turn = c .before .before .before .loop in
     let notes = start .args .notes .now in
     let n = start .args .n in
     let i = turn .i in
     let inv = turn .inv in
     let place = start .args .place in
     let v = start .args .v in
-    (full-done (codesWith place v (drop i (notesIn notes n))) (turn .codes) (turn .kept) (c .if1 .taken) (inv .3), (inv .1, inv .2))
+    (full-done (codesWith place v (drop i (notesIn notes n))) (turn .codes) (turn .put .count) (c .if1 .taken) (inv .2), (inv .1 .few, inv .1 .allCodes))
 
 mul-code : tie.Need-mul-code Inv-loop μ-loop
 mul-code c = search needs
@@ -52,16 +55,16 @@ note-place-requires c κs = search needs
 
 pair-code-requires : tie.Need-pair-code-requires Inv-loop μ-loop
 pair-code-requires c κs =
-    let start = c .before .before .before .before .before .before .before .before .before in
-    let turn = c .before .before .before .before .before .before .before .before .loop in
+    let start = c .before .before .before .before .before .before .before .before .before .before in
+    let turn = c .before .before .before .before .before .before .before .before .before .loop in
     let notes = start .args .notes .now in
     let placed = notes-each notes (start .args .n) (omega arith) Placed (turn .i) (start .pre .4) (omega arith) in
     (start .pre .2, omega (arith, c .note-place .ensures))
 
 put-pair-requires : tie.Need-put-pair-requires Inv-loop μ-loop
 put-pair-requires c κs =
-    let turn = c .before .before .before .before .before .before .before .before .before .loop in
-    (turn .inv .1, turn .inv .2)
+    let turn = c .before .before .before .before .before .before .before .before .before .before .loop in
+    turn .inv .1
 
 add-i : tie.Need-add-i Inv-loop μ-loop
 add-i c = search needs
@@ -71,8 +74,8 @@ loop-less c = search needs
 
 loop-again : tie.Need-loop-again Inv-loop μ-loop
 loop-again c =
-    let start = c .before .before .before .before .before .before .before in
-    let turn = c .before .before .before .before .before .before .loop in
+    let start = c .before .before .before .before .before .before .before .before in
+    let turn = c .before .before .before .before .before .before .before .loop in
     let note-record = c .before .before .note-record in
     let is-named = c .before .is-named in
     let notes = start .args .notes .now in
@@ -81,25 +84,23 @@ loop-again c =
     let inv = turn .inv in
     let place = start .args .place in
     let v = start .args .v in
-    let kept = pairsIn (turn .codes) (turn .kept) in
+    let kept = pairsIn (turn .codes) (turn .put .count) in
     let test = ap (isNamed v) (sym (note-record .ensures)) ∙ sym (is-named .ensures) in
     ⊎-elim
     (λ w. (
       omega arith,
-      omega (arith, w .6, w .4 .ensures .1 .0),
-      ap length (w .5) ∙ w .4 .ensures .1 .1,
+      subst (λ x. x) (λ j. PutAt (sym (w .5) j) (sym (w .6) j)) (w .4 .ensures .1),
       ap (withFrom place v notes n (i + 1))
-          ((λ j. pairsIn (w .5 j) (w .6 j)) ∙ w .4 .ensures .0 ∙ ap (λ (c : ℕ). keep c kept) (w .3 .ensures ∙ ap (pairCode place) (w .2 .ensures)))
+          ((λ j. pairsIn (w .5 j) (w .6 j .count)) ∙ w .4 .ensures .0 ∙ ap (λ (c : ℕ). keep c kept) (w .3 .ensures ∙ ap (pairCode place) (w .2 .ensures)))
           ∙ with-yes place v notes n (omega arith) i (omega arith) (test ∙ w .0 .taken) kept
-          ∙ inv .3,
+          ∙ inv .2,
     ))
     (λ w. (
       omega arith,
-      omega (arith, w .2),
-      ap length (w .1) ∙ inv .2,
-      ap (withFrom place v notes n (i + 1)) (λ j. pairsIn (w .1 j) (w .2 j))
+      subst (λ x. x) (λ j. PutAt (sym (w .1) j) (sym (w .2) j)) (inv .1),
+      ap (withFrom place v notes n (i + 1)) (λ j. pairsIn (w .1 j) (w .2 j .count))
           ∙ with-no place v notes n (omega arith) i (omega arith) (test ∙ w .0 .left) kept
-          ∙ inv .3,
+          ∙ inv .2,
     ))
     (c .if2 .came)
 
@@ -113,7 +114,7 @@ returns-2 c =
     let inv = turn .inv in
     let place = start .args .place in
     let v = start .args .v in
-    (sym (with-end place v notes n (omega arith) i (omega arith) (pairsIn (turn .codes) (turn .kept))) ∙ inv .3, (inv .1, inv .2))
+    (sym (with-end place v notes n (omega arith) i (omega arith) (pairsIn (turn .codes) (turn .put .count))) ∙ inv .2, (inv .1 .few, inv .1 .allCodes))
 
 pub pairs-with-spec : {M : Type 1} → statement M
 pairs-with-spec =
