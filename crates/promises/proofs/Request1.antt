@@ -3,6 +3,7 @@
 -- which the graph is built."
 use Prim.Native.Nat.{ℕ}
 use mathlib.Core.Path.{_≡_, refl, sym, ap, _∙_}
+use mathlib.Core.Logic.{inl, inr}
 use mathlib.Core.List.{List}
 use lib.ListN.{length}
 use Rattle.basics.specs.Lists.{countFrom}
@@ -11,6 +12,8 @@ use Rattle.records.specs.Reading.{Reading, took, refused, mapReading}
 use Rattle.terms.specs.Answer.{wordOf, ruleOf}
 use Rattle.sheet.specs.Sheet.{Sheet}
 use Rattle.sheet_tests.specs.CheckSheet.{acceptSheet}
+use Rattle.accepted.specs.Questions.{Between}
+use Rattle.accepted.proofs.Named.{Named}
 use Rattle.accepted.proofs.Acceptance.{sheet-accepted}
 use Rattle.piece.specs.Piece.{Piece}
 use Rattle.plain.specs.Plain.{PlainValues, plainReading, readingValues}
@@ -19,14 +22,16 @@ use Rattle.decision.specs.Graph.{graphIn, lowestFirst}
 use Rattle.decision.specs.PlaceOrder.{orderBy}
 use Rattle.decision.proofs.keys.AscendingPlaces.{identity-asks}
 use Rattle.decision.proofs.walking.Demand3.{same-answer-in-every-order}
-use Rattle.order.specs.Table.{readTable}
+use Rattle.order.specs.Table.{readTable, tableRefusal}
 use Rattle.order.specs.TableBytes.{identityTable}
 use Rattle.order.specs.Asking.{Asking, byTable, readAsking}
+use Rattle.order.proofs.Questions.{table-named}
 use Rattle.order.proofs.TableBytes.{identity-read}
 use Rattle.walk.specs.Walking.{WalkValues, walkReply, replyValues}
 use Rattle.build.specs.BuildOutcome.{notBuilt, graphWritten, sheetBuilt, outcomeIn, buildOutcome, orderedOutcome}
 use Rattle.promises.specs.AcceptedBytes.{AcceptedBytes}
 use Rattle.promises.specs.BuiltGraph.{BuiltGraph}
+use Rattle.promises.specs.Questions.{AnswersOr}
 use Rattle.promises.proofs.PlainBytes.{terms-accepted}
 use Rattle.promises.proofs.Demand1.{build-refusal-keeps}
 use Rattle.promises.proofs.Demand2.{building, accepted-sheet, built-asks}
@@ -126,3 +131,11 @@ module _ (s table buffer : List ℕ) where
       : (orderedOutcome s table buffer .values .refusal ≡ 0 → ⊥)
       → orderedOutcome s table buffer ≡ notBuilt (orderedOutcome s table buffer .values .refusal) buffer
   ordered-refusal-keeps = build-refusal-keeps (byTable table) s buffer
+
+-- The check of a table answers, with 0, or refuses by one of its three questions.
+pub order-check-answers : (table : List ℕ) → AnswersOr (Between 28 30) (tableRefusal (readTable table))
+order-check-answers table = go (readTable table) (table-named table)
+  where
+    go : (r : Reading (List ℕ)) → Named (Between 28 30) r → AnswersOr (Between 28 30) (tableRefusal r)
+    go (took k places) n = inl refl
+    go (refused q) n = inr n
