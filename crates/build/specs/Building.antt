@@ -17,8 +17,8 @@ use Rattle.order.specs.Asking.{Asking, readAsking}
 abbrev pub bytesOf : Sheet → List (Node ℕ) → List ℕ
 bytesOf sheet nodes = graphBytes (sheet .arity) (length (sheet .rules)) nodes
 
--- The bytes s are accepted as a sheet, and a table, if one is loaded, as an order of its tests; "Has the graph at most 1,024 nodes?"
--- Yes, these; "Does it fit the lent buffer?" Yes.
+-- The bytes s are accepted as a sheet, and a table, if one is loaded, as an order of its tests; "Has the graph at most 1,024
+-- nodes?" Yes, these; "Does it fit the lent buffer?" Yes.
 pub record Building (asking : Asking) (s buffer : List ℕ) : Type 0 where
   pub sheet : Sheet
   pub taken : ℕ
