@@ -39,6 +39,9 @@
  *   each switch 26  fewer than 64 edges have been walked
  *   or pair     27  each place that it tests is in the piece, or below an unknown
  *   walked
+ *   order       28  the table is 1,360 bytes
+ *               29  each of its places is 0 to 679, none twice
+ *               30  none stands before its parent
  *   tidying     31  the tidy sheet fits the lent buffer
  *   an answer   36  commit or execute with rule 1 to 64, or suspend or fail with rule 0
  *   fed
@@ -92,6 +95,21 @@ uint64_t vt_rewrite(const uint8_t *sheet, size_t sheet_len, const uint8_t *graph
  * graph stay as they are, and all do on a refusal. At most 1,836,037 bytes are written.
  * Fields: nodes (bits 8 to 23), bytes written (bits 24 to 55). */
 uint64_t vt_build(const uint8_t *sheet, size_t sheet_len, uint8_t *buffer, size_t buffer_len);
+
+/* The bytes of a reading order: the 680 places in the order in which they are asked, each once and after its parent, as wide
+ * fields. It replaces the ascending order of places; pairs still come after all places, and tests keep their numbers. */
+#define VT_ORDER 1360
+
+/* Checks a reading order: questions 28 to 30. Fields: none. */
+uint64_t vt_check_order(const uint8_t *table, size_t table_len);
+
+/* Builds a sheet's graph in a reading order, at the start of the buffer: questions 1 to 11, 28 to 30, 18, then 19. The bytes
+ * after the graph stay as they are, and all do on a refusal. At most 1,836,037 bytes are written. The places 0 to 679 in turn give
+ * the graph of vt_build. Word and rule of a walk are the same in every order, its edges and its wait list may differ; the calls
+ * that check, write again and walk a graph need no table.
+ * Fields: nodes (bits 8 to 23), bytes written (bits 24 to 55). */
+uint64_t vt_build_ordered(const uint8_t *sheet, size_t sheet_len, const uint8_t *table, size_t table_len,
+                          uint8_t *buffer, size_t buffer_len);
 
 /* Writes a sheet in its tidy form, at the start of the buffer: questions 1 to 11, then 31. Two accepted sheets get equal bytes
  * exactly when they have the same arity and, rule for rule, the same tests. The tidy form may be longer than the sheet. The bytes

@@ -18,6 +18,7 @@
 //! ```
 
 mod calls;
+mod order;
 mod packed;
 mod refusal;
 mod results;
@@ -26,12 +27,16 @@ pub mod window;
 pub use calls::{
     answer, build, check_graph, check_piece, check_sheet, graph, plain, rewrite, tidy, tidy_sheet, wait, walk,
 };
+pub use order::{build_ordered, check_order, graph_ordered};
 pub use refusal::Refusal;
 pub use results::{Answer, Built, GraphSize, PieceSize, Plain, SheetSize, Walk, Word, Written};
 
 /// The most bytes that a graph has, built or accepted: 5, and for each of 1,024 nodes 8 and 255 cases
 /// of 7.
 pub const MOST_BYTES: usize = 1_836_037;
+
+/// The bytes of a reading order: 680 wide places.
+pub const ORDER_BYTES: usize = 1_360;
 
 /// No tidy sheet has more bytes: 3, and 656 for each of 32 rules.
 pub const MOST_TIDY_BYTES: usize = 20_995;

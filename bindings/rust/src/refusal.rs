@@ -15,7 +15,7 @@ use std::fmt;
 pub struct Refusal(u8);
 
 /// The questions, ascending: the number, when it is asked, and its words.
-const QUESTIONS: [(u8, &str, &str); 29] = [
+const QUESTIONS: [(u8, &str, &str); 32] = [
     (1, SHEET, "Does it begin with a whole 10 record?"),
     (2, SHEET, "Is its arity 1 to 8?"),
     (3, SHEET, "Has it at most 32 rules (0 is allowed)?"),
@@ -50,6 +50,9 @@ const QUESTIONS: [(u8, &str, &str); 29] = [
     (25, "Then", "Are no bytes left?"),
     (26, WALKED, "Have fewer than 64 edges been walked?"),
     (27, WALKED, "Is each place it tests in the piece, or below an unknown?"),
+    (28, ORDER, "Is the table 1,360 bytes?"),
+    (29, ORDER, "Is each of its places 0 to 679, and none twice?"),
+    (30, ORDER, "Does none stand before its parent?"),
     (31, TIDYING, "Does the tidy sheet fit the lent buffer?"),
     (36, WINDOW, "Is the rule 1 to 64 for commit or execute, 0 for the others?"),
 ];
@@ -62,6 +65,7 @@ const BUILDING: &str = "Building, after the sheet";
 const WALKING: &str = "Walking, after sheet and piece";
 const NODE: &str = "At each node";
 const WALKED: &str = "At each switch or pair walked";
+const ORDER: &str = "Reading order, after the sheet";
 const TIDYING: &str = "Tidying, after the sheet";
 const WINDOW: &str = "At each answer fed";
 
@@ -73,7 +77,7 @@ impl Refusal {
     ///
     /// assert_eq!(Refusal::from_number(20).unwrap().question(), "Are the two arities equal?");
     /// assert_eq!(Refusal::from_number(0), None);
-    /// assert_eq!(Refusal::from_number(28), None);
+    /// assert_eq!(Refusal::from_number(32), None);
     /// ```
     pub fn from_number(number: u8) -> Option<Refusal> {
         QUESTIONS.iter().any(|row| row.0 == number).then_some(Refusal(number))
@@ -82,7 +86,7 @@ impl Refusal {
     /// All refusals, ascending.
     ///
     /// ```
-    /// assert_eq!(voltunnis::Refusal::all().count(), 29);
+    /// assert_eq!(voltunnis::Refusal::all().count(), 32);
     /// ```
     pub fn all() -> impl Iterator<Item = Refusal> {
         QUESTIONS.iter().map(|row| Refusal(row.0))
