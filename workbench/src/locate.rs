@@ -2,18 +2,19 @@
 //!
 //! Nothing is asked here but the library. A sheet is handed to it record by record, the rest of the rule
 //! as anything and the later rules left out; a piece with the rest unknown; a graph with the rest of its
-//! nodes as fail. The first such start that gets the same number ends at the record that is meant.
+//! nodes as fail; an order with the rest of the places ascending. The first such start that gets the same
+//! number ends at the record that is meant.
 
 use crate::notation::Span;
-use voltunnis::{check_graph, check_piece, check_sheet, Refusal};
+use voltunnis::{check_graph, check_order, check_piece, check_sheet, Refusal, ORDER_BYTES};
 
 /// Where a refusal happened.
 #[derive(Clone, Copy, Debug, PartialEq, Eq)]
 pub enum Where {
     /// At the head, or nowhere in particular.
     Head,
-    /// At a record after the head, counted from 0 (a pattern, a term or a node), with its bytes. Patterns
-    /// have the number of their rule, from 1.
+    /// At a record after the head, counted from 0 (a pattern, a term, a node or a place of an order), with
+    /// its bytes. Patterns have the number of their rule, from 1.
     Record { index: usize, rule: usize, at: Span },
     /// At the bytes from here on: a record that is not whole, or bytes that are left.
     Rest(usize),
@@ -137,6 +138,24 @@ pub fn in_graph(sheet: &[u8], bytes: &[u8], refusal: Refusal) -> Where {
     })
 }
 
+/// Where an order's check got this refusal.
+pub fn in_order(bytes: &[u8], refusal: Refusal) -> Where {
+    let rest = bytes.len().min(ORDER_BYTES);
+    if refusal.number() == 28 {
+        return Where::Rest(rest);
+    }
+    let entry = |at: usize| Entry { at: Span::new(at, at + 2), rule: 0, due: 0 };
+    let entries: Vec<Entry> = (0..rest).step_by(2).map(entry).collect();
+    first(&entries, rest, |entry| {
+        let mut start = bytes[..entry.at.end].to_vec();
+        let known: Vec<[u8; 2]> = start.chunks(2).map(|two| [two[0], two[1]]).collect();
+        let others = (0..680).map(u16::to_be_bytes).filter(|place| !known.contains(place));
+        start.extend(others.flatten());
+        start.truncate(ORDER_BYTES);
+        check_order(&start) == Err(refusal)
+    })
+}
+
 #[cfg(test)]
 mod tests {
     use super::*;
@@ -184,5 +203,25 @@ mod tests {
         assert_eq!(refusal.number(), 23);
         let node = Where::Record { index: 1, rule: 0, at: Span::new(6, 8) };
         assert_eq!(in_graph(&sheet, &graph, refusal), node);
+    }
+
+    #[test]
+    fn places_of_an_order_are_found_too() {
+        let found = |places: &[u16]| {
+            let table: Vec<u8> = places.iter().flat_map(|place| place.to_be_bytes()).collect();
+            let refusal = check_order(&table).expect_err("a refusal");
+            (refusal.number(), in_order(&table, refusal))
+        };
+        let at = |index: usize| Where::Record { index, rule: 0, at: Span::new(2 * index, 2 * index + 2) };
+        let mut places: Vec<u16> = (0..680).collect();
+        assert_eq!(found(&places[1..]), (28, Where::Rest(1358)));
+        assert_eq!(found(&[&places[..], &[0]].concat()), (28, Where::Rest(1360)));
+        places.swap(300, 301);
+        places.swap(676, 675);
+        assert_eq!(found(&places), (30, at(675)));
+        places[500] = 17;
+        assert_eq!(found(&places), (29, at(500)));
+        places[400] = 680;
+        assert_eq!(found(&places), (29, at(400)));
     }
 }

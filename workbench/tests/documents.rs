@@ -7,7 +7,7 @@ use common::Folder;
 use std::fs;
 use std::path::Path;
 use std::process::Command;
-use voltunnis_workbench::notation::{parse_graph, parse_pieces, parse_sheet};
+use voltunnis_workbench::notation::{parse_graph, parse_order, parse_pieces, parse_sheet};
 
 /// A block of a document: what stands after its fence, and its text.
 fn blocks(document: &str) -> Vec<(&str, &str)> {
@@ -93,6 +93,14 @@ fn the_notations_examples_are_accepted() {
                 let sheet = parse_sheet("sheet 2\n1: (X, X)\n2: (#1, #2)\n").expect("a sheet").sheet.bytes();
                 let graph = parse_graph(text, &names).expect("a graph").bytes();
                 assert_eq!(Ok(graph), voltunnis::graph(&sheet));
+            }
+            "text track.order" => {
+                let order = parse_order(text).expect("an order");
+                assert_eq!(voltunnis::check_order(&order.bytes()), Ok(()));
+                // Argument 3 at 170, its part 2 at 192 with 20 places below it, argument 1 from 0 to 84.
+                let places = order.places();
+                assert_eq!((places[0], &places[85..88], places[107]), (85, &[170, 192, 193][..], 171));
+                assert_eq!(places[595..], (0..85).collect::<Vec<u16>>());
             }
             other => panic!("an unknown block {other}"),
         }

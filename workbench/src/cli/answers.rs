@@ -1,7 +1,6 @@
 //! Answers of the library for pieces, in words.
 
 use super::args::{Args, Opt};
-use super::draw::GRAPH;
 use super::input::{GraphInput, SheetInput};
 use super::pieces::{piece, pieces, PieceInput};
 use super::refused;
@@ -26,10 +25,10 @@ pub struct Bench {
 }
 
 impl Bench {
-    /// The sheet of this name, and its own graph or the one that is given.
+    /// The sheet of this name, and its own graph, in the order that is given, or the graph that is given.
     pub fn load(path: &str, args: &Args) -> Result<Bench, Stop> {
         let sheet = SheetInput::load(path, args)?;
-        let graph = GraphInput::chosen(args.value(GRAPH), &sheet, args)?;
+        let graph = GraphInput::chosen(&sheet, args)?;
         let tests = SheetTests::of(&sheet.sheet);
         let rules = sheet.rules();
         Ok(Bench { sheet, graph, tests, rules })

@@ -3,6 +3,7 @@
 use super::args::{Args, BYTES, JSON, OUTPUT};
 use super::check::SHEET;
 use super::input::{GraphInput, SheetInput};
+use super::order::OrderInput;
 use super::out::Out;
 use super::pieces::pieces;
 use super::source::{About, Source};
@@ -14,14 +15,15 @@ use crate::notation::{Graph, Names, Sheet};
 pub const COMMAND: Command = Command {
     name: "bytes",
     usage: "FILE",
-    summary: "turn a sheet, pieces or a graph into bytes",
+    summary: "turn a sheet, pieces, a graph or an order into bytes",
     about: "Writes the bytes of what a text spells, if the library accepts it. Pieces follow one another.\n\
-            Without -o the bytes are shown in hexadecimal: a head, then a line for each rule, piece or node.\n\
-            A graph needs its sheet: --sheet.",
+            Without -o the bytes are shown in hexadecimal: a head, then a line for each rule, piece or node;\n\
+            of an order lines of 20 places. A graph needs its sheet: --sheet.",
     options: &[OUTPUT, SHEET, BYTES, JSON],
     examples: &[
         ("vt bytes coins.sheet", "show the sheet's bytes"),
         ("vt bytes coins.sheet -o sheet.bin", "write them to a file"),
+        ("vt bytes track.order -o order.bin", "write the table of a reading order"),
     ],
     run,
 };
@@ -45,6 +47,7 @@ fn run(args: &Args, out: &Out) -> Result<(), Stop> {
                 .ok_or_else(|| args.wrong(&format!("{path} is a graph: add its sheet, --sheet SHEET")))?;
             ("graph", graph_parts(&GraphInput::accepted(&source, &sheet)?.graph))
         }
+        About::Order => ("order", OrderInput::of(&source)?.bytes.chunks(40).map(<[u8]>::to_vec).collect()),
     };
     write(args, out, vec![("kind", Json::text(kind))], &parts)
 }

@@ -1,7 +1,8 @@
 //! `vt check`: is it accepted?
 
 use super::args::{Args, Opt, BYTES, JSON};
-use super::input::{GraphInput, SheetInput};
+use super::input::{graph_bytes, GraphInput, SheetInput};
+use super::order::OrderInput;
 use super::out::Out;
 use super::pieces::pieces;
 use super::refused;
@@ -9,7 +10,8 @@ use super::source::{About, Source};
 use super::stop::Stop;
 use super::Command;
 use crate::json::{Fields, Json};
-use crate::notation::{count, Names};
+use crate::notation::{count, places, Names};
+use crate::sheet_tests::{SheetTests, Test};
 
 /// `--sheet`
 pub const SHEET: Opt =
@@ -18,13 +20,15 @@ pub const SHEET: Opt =
 pub const COMMAND: Command = Command {
     name: "check",
     usage: "FILE..",
-    summary: "ask whether sheets, pieces and graphs are accepted",
+    summary: "ask whether sheets, pieces, graphs and orders are accepted",
     about: "Says in a line what each file holds, or which question got a no, and where.\n\
-            A graph is checked with its sheet: --sheet. Pieces may be, and must then have its arity.",
+            A graph is checked with its sheet: --sheet. Pieces may be, and must then have its arity. Of a reading\n\
+            order with a sheet is said in which order its places are asked, and how large its graph is then.",
     options: &[SHEET, BYTES, JSON],
     examples: &[
         ("vt check coins.sheet", "is the sheet accepted, and how large is its graph?"),
         ("vt check --sheet coins.sheet theirs.bin", "is another maker's graph accepted?"),
+        ("vt check --sheet coins.sheet track.order", "what does the sheet ask in this order?"),
     ],
     run,
 };
@@ -85,6 +89,10 @@ fn one(path: &str, args: &Args, sheet: Option<&SheetInput>) -> Result<(String, J
             let line = format!("graph, {}, {}", count(nodes, "node"), count(bytes, "byte"));
             Ok((line, accepted("graph", vec![("nodes", Json::count(nodes)), ("bytes", Json::count(bytes))])))
         }
+        About::Order => {
+            let (line, more) = order_says(&OrderInput::of(&source)?, sheet);
+            Ok((line, accepted("order", more)))
+        }
     }
 }
 
@@ -96,18 +104,45 @@ fn sheet_says(sheet: &SheetInput) -> (String, Fields) {
         format!("sheet, {}, {}, {}", count(arity, "argument"), count(rules, "rule"), count(tests, "test"));
     let mut json =
         vec![("arity", Json::count(arity)), ("rules", Json::count(rules)), ("tests", Json::count(tests))];
-    match voltunnis::graph(&sheet.bytes) {
+    let (graph, more) = graph_says(sheet, None);
+    line += &graph;
+    json.extend(more);
+    (line, json)
+}
+
+/// How large a sheet's graph is, in a reading order if one is given.
+fn graph_says(sheet: &SheetInput, order: Option<&OrderInput>) -> (String, Fields) {
+    match graph_bytes(sheet, order) {
         Ok(graph) => {
             let nodes = usize::from(u16::from_be_bytes([graph[3], graph[4]]));
-            line += &format!("; its graph has {}, {}", count(nodes, "node"), count(graph.len(), "byte"));
-            json.extend([("nodes", Json::count(nodes)), ("bytes", Json::count(graph.len()))]);
+            let line = format!("; its graph has {}, {}", count(nodes, "node"), count(graph.len(), "byte"));
+            (line, vec![("nodes", Json::count(nodes)), ("bytes", Json::count(graph.len()))])
         }
         Err(refusal) => {
-            line += &format!("; its graph is {refusal}");
-            json.push(("graph_refusal", Json::number(refusal.number())));
+            let json = vec![("graph_refusal", Json::number(refusal.number()))];
+            (format!("; its graph is {refusal}"), json)
         }
     }
-    (line, json)
+}
+
+/// What an accepted order is: the places of a sheet in the order in which they are asked.
+fn order_says(order: &OrderInput, sheet: Option<&SheetInput>) -> (String, Fields) {
+    let Some(sheet) = sheet else { return ("order, all places once, each after its parent".into(), vec![]) };
+    let tests = SheetTests::of(&sheet.sheet).tests;
+    let place = |test: &Test| match test {
+        Test::Place(place) => Some(*place),
+        Test::Pair(..) => None,
+    };
+    let mut asked: Vec<u16> = tests.iter().filter_map(place).collect();
+    asked.sort_by_key(|place| order.turn(*place));
+    let asked: Vec<String> = asked.into_iter().map(places::words).collect();
+    let (graph, more) = graph_says(sheet, Some(order));
+    let words = if asked.is_empty() { "no place".into() } else { asked.join("; ") };
+    let line = format!("order, {} asks {words}{graph}", sheet.source.name);
+    (
+        line,
+        [("asks", Json::List(asked.into_iter().map(Json::Text).collect()))].into_iter().chain(more).collect(),
+    )
 }
 
 /// What accepted pieces are.

@@ -3,6 +3,7 @@
 use super::answers::{word, Bench};
 use super::args::{Args, BYTES, JSON, OUTPUT};
 use super::draw::GRAPH;
+use super::order::ORDER;
 use super::out::Out;
 use super::picture;
 use super::pieces::{piece, PieceInput};
@@ -24,7 +25,7 @@ pub const COMMAND: Command = Command {
     about: "Shows for each node what it asks, what the piece has there, the edge taken and the rules left; then\n\
             the tests of the rule that is left, and what the piece waits for. The way is read from the graph's\n\
             bytes and must come to the library's answer. With -o the picture has the way marked.",
-    options: &[OUTPUT, GRAPH, BYTES, JSON],
+    options: &[OUTPUT, GRAPH, ORDER, BYTES, JSON],
     examples: &[
         ("vt explain coins.sheet '(silver, ?, 25)'", "why this piece waits"),
         ("vt explain coins.sheet '(silver, ?, 25)' -o walk.svg", "the same as a picture"),

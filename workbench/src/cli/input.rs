@@ -1,12 +1,14 @@
 //! Sheets and graphs that the library accepts, from text or bytes.
 
 use super::args::Args;
+use super::draw::GRAPH;
+use super::order::OrderInput;
 use super::refused;
 use super::source::{Content, Source};
 use super::stop::Stop;
 use crate::locate::{self, Where};
 use crate::notation::{parse_graph, parse_sheet, Graph, Names, Pattern, Sheet, SheetText, Span};
-use voltunnis::{check_graph, check_sheet, SheetSize};
+use voltunnis::{check_graph, check_sheet, graph, graph_ordered, Refusal, SheetSize};
 
 /// An accepted sheet.
 pub struct SheetInput {
@@ -97,10 +99,10 @@ pub struct GraphInput {
 }
 
 impl GraphInput {
-    /// The graph of a sheet, built by the library.
-    pub fn built(sheet: &SheetInput) -> Result<GraphInput, Stop> {
-        let bytes = voltunnis::graph(&sheet.bytes)
-            .map_err(|refusal| refused::whole(&sheet.source.name, refusal, ""))?;
+    /// The graph of a sheet, built by the library, in a reading order if one is given.
+    fn built(sheet: &SheetInput, order: Option<&OrderInput>) -> Result<GraphInput, Stop> {
+        let bytes =
+            graph_bytes(sheet, order).map_err(|refusal| refused::whole(&sheet.source.name, refusal, ""))?;
         let graph = Graph::read(&bytes).map_err(|_| Stop::internal("a built graph that cannot be read"))?;
         Ok(GraphInput { graph, bytes })
     }
@@ -143,11 +145,21 @@ impl GraphInput {
         read
     }
 
-    /// The graph that a command walks or draws: the one that is given, or the sheet's own.
-    pub fn chosen(path: Option<&str>, sheet: &SheetInput, args: &Args) -> Result<GraphInput, Stop> {
-        match path {
-            Some(path) => GraphInput::accepted(&Source::load(path, args)?, sheet),
-            None => GraphInput::built(sheet),
+    /// The graph that a command walks or draws: the one that is given, or the sheet's own, in the reading
+    /// order that is given.
+    pub fn chosen(sheet: &SheetInput, args: &Args) -> Result<GraphInput, Stop> {
+        match (args.value(GRAPH), OrderInput::given(args)?) {
+            (Some(_), Some(_)) => Err(args.wrong("expected --graph or --order, not both")),
+            (Some(path), None) => GraphInput::accepted(&Source::load(path, args)?, sheet),
+            (None, order) => GraphInput::built(sheet, order.as_ref()),
         }
+    }
+}
+
+/// The bytes of a sheet's graph, in a reading order if one is given.
+pub fn graph_bytes(sheet: &SheetInput, order: Option<&OrderInput>) -> Result<Vec<u8>, Refusal> {
+    match order {
+        Some(order) => graph_ordered(&sheet.bytes, &order.bytes),
+        None => graph(&sheet.bytes),
     }
 }

@@ -2,6 +2,7 @@
 
 use super::args::{Args, BYTES, JSON};
 use super::input::{sheet_bytes, SheetInput};
+use super::order::{OrderInput, ORDER};
 use super::out::Out;
 use super::pieces::piece_bytes;
 use super::source::Source;
@@ -21,9 +22,12 @@ pub const COMMAND: Command = Command {
     summary: "document 01's listing of a sheet and its pieces",
     about: "Prints the lines of document 01's listing: for the sheet its arity, rules, tests and nodes; for each\n\
             piece its number, answer, rule, edges and wait list. A refusal ends it. Pieces come from standard\n\
-            input unless a file is named.",
-    options: &[BYTES, JSON],
-    examples: &[("vt listing coins.sheet tray.pieces", "the listing of the pieces of a file")],
+            input unless a file is named. With --order the graph asks in that order.",
+    options: &[ORDER, BYTES, JSON],
+    examples: &[
+        ("vt listing coins.sheet tray.pieces", "the listing of the pieces of a file"),
+        ("vt listing coins.sheet tray.pieces --order track.order", "the edges and wait lists of the track's order"),
+    ],
     run,
 };
 
@@ -49,7 +53,8 @@ fn run(args: &Args, out: &Out) -> Result<(), Stop> {
     let (sheet, names) = sheet_bytes(&source)?;
     let pieces = piece_bytes(&Source::load(pieces, args)?, &names)?;
     let cut = |bytes: &[u8]| bytes.len().min(INPUT);
-    let listing = Listing::of(&sheet[..cut(&sheet)], &pieces[..cut(&pieces)]);
+    let order = OrderInput::given(args)?.map(|order| order.bytes);
+    let listing = Listing::of(&sheet[..cut(&sheet)], order.as_deref(), &pieces[..cut(&pieces)]);
     match args.has(JSON) {
         true => out.json(&listing.json())?,
         false => out.say(&listing.lines())?,
@@ -70,16 +75,19 @@ fn run(args: &Args, out: &Out) -> Result<(), Stop> {
 }
 
 impl Listing {
-    fn of(sheet: &[u8], pieces: &[u8]) -> Listing {
+    fn of(sheet: &[u8], order: Option<&[u8]>, pieces: &[u8]) -> Listing {
         let mut listing = Listing::default();
-        listing.refusal = listing.list(sheet, pieces).err();
+        listing.refusal = listing.list(sheet, order, pieces).err();
         listing
     }
 
     /// Lists a sheet, then its pieces one after another, until a question gets a no.
-    fn list(&mut self, sheet: &[u8], mut pieces: &[u8]) -> Result<(), Refusal> {
+    fn list(&mut self, sheet: &[u8], order: Option<&[u8]>, mut pieces: &[u8]) -> Result<(), Refusal> {
         let mut graph = vec![0; INPUT];
-        let built = voltunnis::build(sheet, &mut graph)?;
+        let built = match order {
+            Some(order) => voltunnis::build_ordered(sheet, order, &mut graph)?,
+            None => voltunnis::build(sheet, &mut graph)?,
+        };
         graph.truncate(built.bytes as usize);
         self.sheet = Some((voltunnis::check_sheet(sheet)?, built.nodes));
         while !pieces.is_empty() {

@@ -6,6 +6,7 @@ use super::stop::Stop;
 use std::ffi::OsStr;
 use std::io::Read;
 use std::path::Path;
+use voltunnis::ORDER_BYTES;
 
 /// What an input holds.
 pub enum Content {
@@ -25,6 +26,7 @@ pub enum About {
     Sheet,
     Pieces,
     Graph,
+    Order,
 }
 
 /// Whether a file of this name holds bytes.
@@ -34,7 +36,7 @@ pub fn holds_bytes(path: &str) -> bool {
 
 impl Source {
     /// Reads a file, or standard input for `-`. A file that ends in .bin holds bytes, one that ends in
-    /// .sheet, .pieces, .graph or .txt text; any other, and standard input, text unless `--bytes` is
+    /// .sheet, .pieces, .graph, .order or .txt text; any other, and standard input, text unless `--bytes` is
     /// given.
     pub fn load(path: &str, args: &Args) -> Result<Source, Stop> {
         let mut bytes = Vec::new();
@@ -44,13 +46,13 @@ impl Source {
         };
         read.map_err(|error| Stop::wrong(format!("{name}: {}", reason(&error))))?;
         let is_bytes = match Path::new(path).extension().and_then(OsStr::to_str) {
-            Some("sheet" | "pieces" | "graph" | "txt") => false,
+            Some("sheet" | "pieces" | "graph" | "order" | "txt") => false,
             _ => holds_bytes(path) || args.has(BYTES),
         };
         if is_bytes {
             return Ok(Source { name: name.into(), content: Content::Bytes(bytes) });
         }
-        if matches!(bytes.first(), Some(0x10..=0x12)) {
+        if matches!(bytes.first(), Some(0x00..=0x02 | 0x10..=0x12)) {
             let help = "it begins as bytes do: call it .bin or say --bytes";
             return Err(Stop::wrong(format!("{name}: not a text; {help}")));
         }
@@ -77,9 +79,14 @@ impl Source {
             Content::Text(_) if self.name.ends_with(".sheet") => About::Sheet,
             Content::Text(_) if self.name.ends_with(".pieces") => About::Pieces,
             Content::Text(_) if self.name.ends_with(".graph") => About::Graph,
+            Content::Text(_) if self.name.ends_with(".order") => About::Order,
             Content::Bytes(bytes) => match bytes.first() {
+                Some(0x10) => About::Sheet,
                 Some(0x11) => About::Pieces,
                 Some(0x12) => About::Graph,
+                // A table has no head: it begins with a place, of which the high byte is 0 to 2.
+                Some(0x00..=0x02) => About::Order,
+                _ if bytes.len() == ORDER_BYTES => About::Order,
                 _ => About::Sheet,
             },
             Content::Text(text) => {
@@ -88,6 +95,7 @@ impl Source {
                 let first = text.lines().map(str::trim_start).find(telling);
                 match first {
                     Some(line) if line.starts_with("graph") => About::Graph,
+                    Some(line) if line.starts_with("order") => About::Order,
                     Some(line) if line.starts_with('(') => About::Pieces,
                     _ => About::Sheet,
                 }

@@ -3,6 +3,7 @@
 use super::args::{Args, BYTES, JSON, OUTPUT};
 use super::check::SHEET;
 use super::input::{GraphInput, SheetInput};
+use super::order::OrderInput;
 use super::out::Out;
 use super::pieces::pieces;
 use super::source::{About, Source};
@@ -14,8 +15,9 @@ use crate::notation::Names;
 pub const COMMAND: Command = Command {
     name: "text",
     usage: "FILE",
-    summary: "turn bytes into text: a sheet, pieces or a graph in words",
-    about: "Prints a sheet's rules, pieces one a line, or a graph's nodes, cases and edges in words.\n\
+    summary: "turn bytes into text: a sheet, pieces, a graph or an order in words",
+    about: "Prints a sheet's rules, pieces one a line, a graph's nodes, cases and edges in words, or the lines of\n\
+            a reading order.\n\
             With --sheet its names stand for ids, and the leaves of a graph show their rules; the graph is\n\
             then checked with it.",
     options: &[OUTPUT, SHEET, BYTES, JSON],
@@ -47,6 +49,7 @@ fn run(args: &Args, out: &Out) -> Result<(), Stop> {
             ("pieces", names.declarations(ids) + &lines.collect::<String>())
         }
         About::Graph => ("graph", graph_text(&source, sheet.as_ref())?),
+        About::Order => ("order", OrderInput::of(&source)?.order.print()),
     };
     match (args.value(OUTPUT), args.has(JSON)) {
         (Some(path), false) => out.file(path, text.as_bytes()),

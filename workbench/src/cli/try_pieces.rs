@@ -3,6 +3,7 @@
 use super::answers::{word, Bench, PIECES};
 use super::args::{Args, BYTES, JSON};
 use super::draw::GRAPH;
+use super::order::ORDER;
 use super::out::Out;
 use super::stop::Stop;
 use super::Command;
@@ -17,7 +18,7 @@ pub const COMMAND: Command = Command {
     about:
         "A piece is written as `(silver, 231, ?)`, in quotes for the shell; `?` is a reading not taken yet.\n\
             Said are the answer, the rule as it was written, the edges walked, and what the piece waits for.",
-    options: &[PIECES, GRAPH, BYTES, JSON],
+    options: &[PIECES, GRAPH, ORDER, BYTES, JSON],
     examples: &[
         ("vt try coins.sheet '(silver, 231, ?)'", "the answer for a piece"),
         ("vt try coins.sheet --pieces tray.pieces", "the answers for all pieces of a file"),

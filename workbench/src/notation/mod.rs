@@ -1,11 +1,14 @@
-//! The notation for sheets, pieces and graphs, as docs/NOTATION.md describes it.
+//! The notation for sheets, pieces, graphs and reading orders, as docs/NOTATION.md describes it.
 //!
-//! Printing and parsing are inverse: the bytes of a sheet, a piece or a graph, printed and parsed again,
-//! are the same bytes.
+//! Printing and parsing are inverse: the bytes of a sheet, a piece, a graph or an order, printed and parsed
+//! again, are the same bytes.
 
 mod names;
+mod order;
 mod parse_graph;
+mod parse_order;
 mod parse_piece;
+mod parse_place;
 mod parse_sheet;
 mod parser;
 pub mod places;
@@ -18,7 +21,9 @@ mod tree;
 mod write;
 
 pub use names::{distance, Name, Names};
+pub use order::{Line, Order};
 pub use parse_graph::parse_graph;
+pub use parse_order::parse_order;
 pub use parse_piece::{parse_piece, parse_pieces};
 pub use parse_sheet::{parse_sheet, SheetText};
 pub use print_graph::count;
@@ -62,4 +67,18 @@ pub fn print_piece(bytes: &[u8]) -> Result<String, Unread> {
 /// ```
 pub fn print_graph(bytes: &[u8]) -> Result<String, Unread> {
     Graph::read(bytes).map(|graph| graph.print(&Names::default(), |_| None))
+}
+
+/// The reading order that this table spells, as text.
+///
+/// ```
+/// use voltunnis_workbench::notation::print_order;
+///
+/// // Argument 1 with all below it last.
+/// let table: Vec<u8> = (85..680u16).chain(0..85).flat_map(u16::to_be_bytes).collect();
+/// assert_eq!(print_order(&table).unwrap(), "order\nrest\nargument 1\n");
+/// assert_eq!(print_order(&table[2..]).unwrap_err().at, 1358);
+/// ```
+pub fn print_order(bytes: &[u8]) -> Result<String, Unread> {
+    Order::read(bytes).map(|order| order.print())
 }

@@ -1,9 +1,9 @@
 //! Graphs from text.
 
 use super::names::Names;
+use super::parse_place::place;
 use super::parse_sheet::range;
 use super::parser::Parser;
-use super::places;
 use super::print_graph::count;
 use super::span::{Fault, Span};
 use super::token::Token;
@@ -88,48 +88,23 @@ fn node(parser: &mut Parser, number: usize) -> Result<Node, Fault> {
 
 /// A node that asks: its question, then its edges, one a line.
 fn asking(parser: &mut Parser, start: Span) -> Result<Node, Fault> {
-    let place = place(parser)?;
-    let pair = if parser.accept("=") { Some(self::place(parser)?) } else { None };
+    let asked = "`argument`, `place`, `fail`, `suspend` or `execute`";
+    let first = place(parser, asked)?;
+    let pair = if parser.accept("=") { Some(place(parser, asked)?) } else { None };
     let at = start.to(parser.last());
     parser.line_end()?;
     let kind = match pair {
         Some(q) => {
             let no = edge(parser, "no")?;
-            Kind::Pair { p: place, q, no, other: edge(parser, "other")? }
+            Kind::Pair { p: first, q, no, other: edge(parser, "other")? }
         }
         None => {
             let cases = cases(parser, at)?;
             let neither = edge(parser, "neither")?;
-            Kind::Switch { place, neither, unknown: edge(parser, "unknown")?, cases }
+            Kind::Switch { place: first, neither, unknown: edge(parser, "unknown")?, cases }
         }
     };
     Ok(Node { at, kind })
-}
-
-/// A place in words, or by its number: `argument 1, part 3.2`, `place 43`.
-fn place(parser: &mut Parser) -> Result<u16, Fault> {
-    let start = parser.span();
-    if parser.accept_word("place") {
-        return parser.number("a place's number");
-    }
-    if !parser.accept_word("argument") {
-        return Err(parser.expected("`argument`, `place`, `fail`, `suspend` or `execute`"));
-    }
-    let mut path = vec![parser.byte("an argument from 1 to 8")?];
-    if parser.accept(",") {
-        if !parser.accept_word("part") {
-            return Err(parser.expected("`part`"));
-        }
-        path.push(parser.byte("a part from 1 to 4")?);
-        while parser.accept(".") {
-            path.push(parser.byte("a part from 1 to 4")?);
-        }
-    }
-    places::place(&path).ok_or_else(|| {
-        let found = &parser.text[start.start..parser.last().end];
-        let expected = "expected an argument from 1 to 8 and up to 3 parts from 1 to 4";
-        Fault::new(start.to(parser.last()), format!("{expected}, found `{found}`"))
-    })
 }
 
 /// The edge with this word.

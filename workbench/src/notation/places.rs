@@ -40,6 +40,18 @@ pub fn place(path: &[u8]) -> Option<u16> {
     )
 }
 
+/// The parent of a place; none of an argument.
+pub fn parent(place: u16) -> Option<u16> {
+    let path = path(place)?;
+    self::place(&path[..path.len() - 1])
+}
+
+/// The highest place at or below a place.
+pub fn last_below(place: u16) -> u16 {
+    let depth = path(place).map_or(1, |path| path.len());
+    place + SPANS[depth - 1] - 1
+}
+
 /// A place in words.
 pub fn words(place: u16) -> String {
     match path(place).as_deref() {
@@ -66,6 +78,10 @@ mod tests {
         for number in 0..PLACES {
             let way = path(number).expect("a place");
             assert_eq!(place(&way), Some(number));
+            let below =
+                (number..PLACES).take_while(|other| path(*other).is_some_and(|to| to.starts_with(&way)));
+            assert_eq!(below.last(), Some(last_below(number)));
+            assert_eq!(parent(number).and_then(path), (way.len() > 1).then(|| way[..way.len() - 1].to_vec()));
         }
         assert_eq!(path(PLACES), None);
         for wrong in [&[][..], &[0], &[9], &[1, 0], &[1, 5], &[1, 1, 1, 1, 1]] {
