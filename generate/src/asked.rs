@@ -4,7 +4,7 @@ use crate::trees::{Pattern, SheetTree};
 use std::collections::BTreeSet;
 
 /// How many places a place of depth 1, 2, 3, 4 has at or below it.
-const SPAN: [u16; 4] = [85, 21, 5, 1];
+pub const SPAN: [u16; 4] = [85, 21, 5, 1];
 
 /// What a graph has to know of its sheet: the two numbers of its header, and what its nodes may ask.
 #[derive(Clone, Debug, Default, PartialEq, Eq)]

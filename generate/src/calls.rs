@@ -9,6 +9,8 @@ pub enum Role {
     Sheet,
     Piece,
     Graph,
+    /// The table of a reading order.
+    Order,
     /// A buffer that is lent to be written, by what it holds before.
     Buffer,
 }
@@ -18,10 +20,12 @@ pub enum Role {
 pub enum Name {
     CheckPiece,
     CheckSheet,
+    CheckOrder,
     Plain,
     CheckGraph,
     Tidy,
     Build,
+    BuildOrdered,
     Rewrite,
     Walk,
 }
@@ -33,6 +37,7 @@ impl Role {
             Role::Sheet => "sheet",
             Role::Piece => "piece",
             Role::Graph => "graph",
+            Role::Order => "order",
             Role::Buffer => "buffer",
         }
     }
@@ -40,13 +45,15 @@ impl Role {
 
 impl Name {
     /// All calls, those that are given less first.
-    pub const ALL: [Name; 8] = [
+    pub const ALL: [Name; 10] = [
         Name::CheckPiece,
         Name::CheckSheet,
+        Name::CheckOrder,
         Name::Plain,
         Name::CheckGraph,
         Name::Tidy,
         Name::Build,
+        Name::BuildOrdered,
         Name::Rewrite,
         Name::Walk,
     ];
@@ -56,10 +63,12 @@ impl Name {
         match self {
             Name::CheckPiece => "check_piece",
             Name::CheckSheet => "check_sheet",
+            Name::CheckOrder => "check_order",
             Name::Plain => "plain",
             Name::CheckGraph => "check_graph",
             Name::Tidy => "tidy",
             Name::Build => "build",
+            Name::BuildOrdered => "build_ordered",
             Name::Rewrite => "rewrite",
             Name::Walk => "walk",
         }
@@ -70,9 +79,11 @@ impl Name {
         match self {
             Name::CheckPiece => &[Role::Piece],
             Name::CheckSheet => &[Role::Sheet],
+            Name::CheckOrder => &[Role::Order],
             Name::Plain => &[Role::Sheet, Role::Piece],
             Name::CheckGraph => &[Role::Sheet, Role::Graph],
             Name::Tidy | Name::Build => &[Role::Sheet, Role::Buffer],
+            Name::BuildOrdered => &[Role::Sheet, Role::Order, Role::Buffer],
             Name::Rewrite => &[Role::Sheet, Role::Graph, Role::Buffer],
             Name::Walk => &[Role::Sheet, Role::Graph, Role::Piece],
         }

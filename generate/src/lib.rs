@@ -2,8 +2,8 @@
 //! ones; a stream of calls made of them; and the smallest call that still shows a difference.
 //!
 //! - `bytes`, `records`, `trees`, `nodes`: how bytes are spelled, and sheets, pieces and graphs as trees.
-//! - `random`, `stock`, `sheets`, `crowded`, `pieces`, `asked`, `variables`, `disguise`, `graphs`, `hostile`,
-//!   `damage`, `known`: the generators.
+//! - `random`, `stock`, `sheets`, `crowded`, `pieces`, `asked`, `variables`, `disguise`, `orders`, `graphs`,
+//!   `hostile`, `damage`, `known`: the generators.
 //! - `calls`, `stream`: the calls of the library, and a stream of them.
 //! - `shrink`: a call made smaller for as long as it shows what it has to show.
 //!
@@ -20,6 +20,7 @@ pub mod graphs;
 pub mod hostile;
 pub mod known;
 pub mod nodes;
+pub mod orders;
 pub mod pieces;
 pub mod random;
 pub mod records;

@@ -9,6 +9,7 @@ use crate::graphs::graph;
 use crate::hostile::{hostile_piece, hostile_sheet};
 use crate::known;
 use crate::nodes::GraphNodes;
+use crate::orders::{reversed, some_table, table};
 use crate::pieces::piece;
 use crate::random::Random;
 use crate::sheets::{sheet, small_sheet};
@@ -19,12 +20,22 @@ use std::collections::VecDeque;
 
 /// The calls, without end. It begins with document 01's example and its marked cases, whatever the seed.
 ///
-/// `build` says the bytes of the graph that an accepted sheet has, none if it has none. The stream asks it
-/// for graphs to walk and for the lengths of buffers.
+/// `build` says the bytes of the graph that an accepted sheet has, in a reading order if one is given, none
+/// if it has none. The stream asks it for graphs to walk and for the lengths of buffers.
 pub struct Stream<B> {
     random: Random,
     build: B,
     next: VecDeque<Call>,
+}
+
+/// What a call may be given.
+#[derive(Clone, Copy, Default)]
+struct Given<'a> {
+    sheet: &'a [u8],
+    order: &'a [u8],
+    graph: &'a [u8],
+    piece: &'a [u8],
+    buffer: &'a [u8],
 }
 
 /// What the calls of one round are about.
@@ -80,7 +91,7 @@ fn some_tree(random: &mut Random) -> SheetTree {
     }
 }
 
-impl<B: Fn(&[u8]) -> Option<Vec<u8>>> Stream<B> {
+impl<B: Fn(&[u8], Option<&[u8]>) -> Option<Vec<u8>>> Stream<B> {
     /// The stream of this seed.
     pub fn new(seed: u64, build: B) -> Stream<B> {
         let mut stream = Stream { random: Random::new(seed), build, next: VecDeque::new() };
@@ -92,27 +103,37 @@ impl<B: Fn(&[u8]) -> Option<Vec<u8>>> Stream<B> {
         stream
     }
 
-    /// The calls on a sheet and its pieces as they stand in document 01.
+    /// The calls on a sheet and its pieces as they stand in document 01, and on its arguments read backwards.
     fn opening(&mut self, sheet: &[u8], pieces: &[Vec<u8>]) {
-        let own = (self.build)(sheet).unwrap_or_default();
-        let buffer = lent(own.len() + 3);
+        let graph = &(self.build)(sheet, None).unwrap_or_default()[..];
+        let buffer = &lent(graph.len() + 3)[..];
         for name in [Name::CheckSheet, Name::Build, Name::CheckGraph, Name::Rewrite, Name::Tidy] {
-            self.call(name, sheet, &own, &[], &buffer);
+            self.call(name, Given { sheet, graph, buffer, ..Given::default() });
         }
         for piece in pieces {
             for name in [Name::CheckPiece, Name::Plain, Name::Walk] {
-                self.call(name, sheet, &own, piece, &[]);
+                self.call(name, Given { sheet, graph, piece, ..Given::default() });
             }
+        }
+        let order = &table(&reversed())[..];
+        let graph = &(self.build)(sheet, Some(order)).unwrap_or_default()[..];
+        let buffer = &lent(graph.len() + 3)[..];
+        for name in [Name::CheckOrder, Name::BuildOrdered, Name::CheckGraph] {
+            self.call(name, Given { sheet, order, graph, buffer, ..Given::default() });
+        }
+        for piece in pieces {
+            self.call(Name::Walk, Given { sheet, graph, piece, ..Given::default() });
         }
     }
 
     /// Puts a call in line, with those of the arguments that it takes.
-    fn call(&mut self, name: Name, sheet: &[u8], graph: &[u8], piece: &[u8], buffer: &[u8]) {
+    fn call(&mut self, name: Name, given: Given) {
         self.next.push_back(Call::new(name, |role| match role {
-            Role::Sheet => sheet.to_vec(),
-            Role::Graph => graph.to_vec(),
-            Role::Piece => piece.to_vec(),
-            Role::Buffer => buffer.to_vec(),
+            Role::Sheet => given.sheet.to_vec(),
+            Role::Order => given.order.to_vec(),
+            Role::Graph => given.graph.to_vec(),
+            Role::Piece => given.piece.to_vec(),
+            Role::Buffer => given.buffer.to_vec(),
         }));
     }
 
@@ -126,7 +147,7 @@ impl<B: Fn(&[u8]) -> Option<Vec<u8>>> Stream<B> {
             4 if random.percent(30) => noise(random, 0x10),
             _ => tree.bytes(),
         };
-        let own = (self.build)(&sheet);
+        let own = (self.build)(&sheet, None);
         Subject { tree, sheet, own }
     }
 
@@ -148,36 +169,51 @@ impl<B: Fn(&[u8]) -> Option<Vec<u8>>> Stream<B> {
         graph(&mut self.random, &Asked::of(tree), own)
     }
 
+    /// Puts a writer's call in line, with a buffer for about so many bytes.
+    fn write(&mut self, name: Name, given: Given, needed: usize) {
+        let buffer = &lent(buffer_length(&mut self.random, needed))[..];
+        self.call(name, Given { buffer, ..given });
+    }
+
+    /// The calls on a sheet and a reading order; the graph, if there is one.
+    fn ordered(&mut self, sheet: &[u8]) -> Option<Vec<u8>> {
+        let order = &some_table(&mut self.random)[..];
+        let given = Given { sheet, order, ..Given::default() };
+        if self.random.percent(30) {
+            self.call(Name::CheckOrder, given);
+        }
+        let graph = (self.build)(sheet, Some(order));
+        self.write(Name::BuildOrdered, given, graph.as_ref().map_or(60, Vec::len));
+        graph
+    }
+
     /// The calls on one sheet.
     fn round(&mut self) {
         let subject = self.subject();
         let Subject { tree, sheet, own } = &subject;
-        self.call(Name::CheckSheet, sheet, &[], &[], &[]);
-        let needed = own.as_ref().map_or(60, Vec::len);
+        let given = Given { sheet, ..Given::default() };
+        self.call(Name::CheckSheet, given);
         for _ in 0..=self.random.below(2) {
-            let buffer = lent(buffer_length(&mut self.random, needed));
-            self.call(Name::Build, sheet, &[], &[], &buffer);
+            self.write(Name::Build, given, own.as_ref().map_or(60, Vec::len));
         }
-        let needed = SheetTree::read(sheet).map_or(sheet.len(), |(tree, _)| tidy_length(&tree));
-        let buffer = lent(buffer_length(&mut self.random, needed));
-        self.call(Name::Tidy, sheet, &[], &[], &buffer);
-        let graph = self.graph(&subject);
-        let buffer = lent(buffer_length(&mut self.random, graph.len()));
-        self.call(Name::CheckGraph, sheet, &graph, &[], &[]);
-        self.call(Name::Rewrite, sheet, &graph, &[], &buffer);
+        let tidy = SheetTree::read(sheet).map_or(sheet.len(), |(tree, _)| tidy_length(&tree));
+        self.write(Name::Tidy, given, tidy);
+        let ordered = self.ordered(sheet).filter(|_| self.random.percent(30));
+        let graph = &self.graph(&subject)[..];
+        self.call(Name::CheckGraph, Given { graph, ..given });
+        self.write(Name::Rewrite, Given { graph, ..given }, graph.len());
         for _ in 0..=self.random.below(3) {
-            let piece = self.piece(tree);
-            self.call(Name::CheckPiece, &[], &[], &piece, &[]);
-            self.call(Name::Plain, sheet, &[], &piece, &[]);
-            self.call(Name::Walk, sheet, &graph, &piece, &[]);
-            if let Some(own) = own {
-                self.call(Name::Walk, sheet, own, &piece, &[]);
+            let piece = &self.piece(tree)[..];
+            self.call(Name::CheckPiece, Given { piece, ..given });
+            self.call(Name::Plain, Given { piece, ..given });
+            for graph in [Some(graph), own.as_deref(), ordered.as_deref()].into_iter().flatten() {
+                self.call(Name::Walk, Given { graph, piece, ..given });
             }
         }
     }
 }
 
-impl<B: Fn(&[u8]) -> Option<Vec<u8>>> Iterator for Stream<B> {
+impl<B: Fn(&[u8], Option<&[u8]>) -> Option<Vec<u8>>> Iterator for Stream<B> {
     type Item = Call;
 
     fn next(&mut self) -> Option<Call> {

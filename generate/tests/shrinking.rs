@@ -5,7 +5,7 @@ use voltunnis_generate::shrink::{fewest, smallest};
 use voltunnis_generate::stream::Stream;
 
 /// A builder that has no graph for any sheet, as far as the generators know.
-fn no_graph(_: &[u8]) -> Option<Vec<u8>> {
+fn no_graph(_: &[u8], _: Option<&[u8]>) -> Option<Vec<u8>> {
     None
 }
 

@@ -84,6 +84,25 @@ pub fn build(sheet: &[u8], len: usize) -> (Result<Built, Refusal>, Vec<u8>) {
     (result, buffer)
 }
 
+#[inline]
+pub fn check_order(table: &[u8]) -> Result<(), Refusal> {
+    let result = voltunnis::check_order(table);
+    assert_eq!(result, reference::check_order(table), "library, reference: table {}", to_hex(table));
+    result
+}
+
+/// Builds a graph in a reading order in a buffer of this length; gives the result and the buffer.
+#[inline]
+pub fn build_ordered(sheet: &[u8], table: &[u8], len: usize) -> (Result<Built, Refusal>, Vec<u8>) {
+    let (result, buffer) = lend(len, |buffer| voltunnis::build_ordered(sheet, table, buffer));
+    let (expected, bytes) = lend(len, |buffer| reference::build_ordered(sheet, table, buffer));
+    let what =
+        || format!("library, reference: sheet {} table {} to {len} bytes", to_hex(sheet), to_hex(table));
+    assert_eq!(result, expected, "{}", what());
+    assert!(buffer == bytes, "other bytes in the buffer: {}", what());
+    (result, buffer)
+}
+
 /// Tidies a sheet to a buffer of this length; gives the result and the buffer.
 #[inline]
 pub fn tidy(sheet: &[u8], len: usize) -> (Result<Written, Refusal>, Vec<u8>) {

@@ -35,6 +35,16 @@ pub fn build(sheet: &[u8], buffer: &mut [u8]) -> Result<Built, Refusal> {
 }
 
 #[inline]
+pub fn check_order(table: &[u8]) -> Result<(), Refusal> {
+    voltunnis::check_order(table).map_err(u8::from)
+}
+
+#[inline]
+pub fn build_ordered(sheet: &[u8], table: &[u8], buffer: &mut [u8]) -> Result<Built, Refusal> {
+    voltunnis::build_ordered(sheet, table, buffer).map_err(u8::from)
+}
+
+#[inline]
 pub fn tidy(sheet: &[u8], buffer: &mut [u8]) -> Result<Written, Refusal> {
     voltunnis::tidy(sheet, buffer).map_err(u8::from)
 }

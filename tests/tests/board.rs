@@ -9,6 +9,7 @@ use std::process::Command;
 use std::ptr::{read_volatile, write_volatile};
 use std::thread;
 use voltunnis_tests::generate::known;
+use voltunnis_tests::generate::orders::{reversed, table};
 
 const PAINT: u8 = 0xa5;
 /// The stack that is painted, and how far below the caller's frame the paint begins: the painter's own frame lies between.
@@ -136,6 +137,13 @@ fn the_stack_of_each_call_is_what_the_readme_says() {
             let _ = black_box(voltunnis::check_graph(s, g));
         }),
     );
+    let order = table(&reversed());
+    holds(
+        "`vt_check_order`",
+        most(move |_, _, _| {
+            let _ = black_box(voltunnis::check_order(&order));
+        }),
+    );
     holds(
         "`vt_plain`",
         most(|s, _, p| {
@@ -158,6 +166,14 @@ fn the_stack_of_each_writer_is_what_the_readme_says() {
         "`vt_build`",
         most(move |s, _, _| {
             let _ = black_box(voltunnis::build(s, &mut lent.lock().expect("one thread")));
+        }),
+    );
+    let lent = std::sync::Mutex::new(buffers());
+    let order = table(&reversed());
+    holds(
+        "`vt_build_ordered`",
+        most(move |s, _, _| {
+            let _ = black_box(voltunnis::build_ordered(s, &order, &mut lent.lock().expect("one thread")));
         }),
     );
     let lent = std::sync::Mutex::new(buffers());

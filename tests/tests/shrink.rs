@@ -3,20 +3,22 @@
 use voltunnis_tests::generate::calls::{Call, Name, Role};
 use voltunnis_tests::generate::shrink::smallest;
 use voltunnis_tests::generate::stream::Stream;
-use voltunnis_tests::reference::{self, own_graph};
+use voltunnis_tests::reference::{self, graph_in};
 
 /// The refusal of a call, 0 if it is answered.
 fn refusal(call: &Call) -> u8 {
     let of = |role| call.argument(role).unwrap_or_default();
     let (sheet, piece, graph) = (of(Role::Sheet), of(Role::Piece), of(Role::Graph));
-    let mut buffer = of(Role::Buffer).to_vec();
+    let (order, mut buffer) = (of(Role::Order), of(Role::Buffer).to_vec());
     let said = match call.name() {
         Name::CheckSheet => reference::check_sheet(sheet).map(drop),
         Name::CheckPiece => reference::check_piece(piece).map(drop),
+        Name::CheckOrder => reference::check_order(order),
         Name::Plain => reference::plain(sheet, piece).map(drop),
         Name::CheckGraph => reference::check_graph(sheet, graph).map(drop),
         Name::Tidy => reference::tidy(sheet, &mut buffer).map(drop),
         Name::Build => reference::build(sheet, &mut buffer).map(drop),
+        Name::BuildOrdered => reference::build_ordered(sheet, order, &mut buffer).map(drop),
         Name::Rewrite => reference::rewrite(sheet, graph, &mut buffer).map(drop),
         Name::Walk => reference::walk(sheet, graph, piece).map(drop),
     };
@@ -70,14 +72,14 @@ const SMALLEST: [(u8, &[&str]); 26] = [
 
 /// Calls of the stream that this question refuses.
 fn refused(number: u8) -> impl Iterator<Item = Call> {
-    Stream::new(u64::from(number), own_graph).filter(move |call| refusal(call) == number)
+    Stream::new(u64::from(number), graph_in).filter(move |call| refusal(call) == number)
 }
 
 #[test]
 fn every_refusal_comes_down_to_its_smallest_call() {
     for (number, wanted) in SMALLEST {
         for call in refused(number).take(6) {
-            let small = smallest(&call, &own_graph, &mut |call| refusal(call) == number, 20_000);
+            let small = smallest(&call, &graph_in, &mut |call| refusal(call) == number, 20_000);
             assert!(wanted.contains(&small.to_string().as_str()), "{number}: {small} from {call}");
         }
     }
@@ -86,11 +88,52 @@ fn every_refusal_comes_down_to_its_smallest_call() {
 #[test]
 fn sheets_that_must_be_large_come_down_too() {
     for (number, most) in [(11, 250), (18, 160)] {
-        for call in refused(number).take(6) {
-            let small = smallest(&call, &own_graph, &mut |call| refusal(call) == number, 20_000);
-            let length: usize = small.arguments().map(|(_, bytes)| bytes.len()).sum();
+        for call in refused(number).filter(|call| call.argument(Role::Order).is_none()).take(6) {
+            let small = smallest(&call, &graph_in, &mut |call| refusal(call) == number, 20_000);
+            let length = small.argument(Role::Sheet).map_or(0, <[u8]>::len);
             assert!(length <= most, "{number}: {length} bytes, {small} from {call}");
         }
+    }
+}
+
+/// The smallest call with an order that this question refuses, from some of the stream.
+fn smallest_orders(number: u8) -> impl Iterator<Item = Call> {
+    refused(number)
+        .take(6)
+        .map(move |call| smallest(&call, &graph_in, &mut |call| refusal(call) == number, 20_000))
+}
+
+/// How many places of a call's order stand before a lower one.
+fn out_of_turn(call: &Call) -> usize {
+    let places: Vec<&[u8]> = call.argument(Role::Order).unwrap_or_default().chunks(2).collect();
+    (0..places.len()).filter(|at| places[at + 1..].iter().any(|later| *later < places[*at])).count()
+}
+
+#[test]
+fn tables_come_down_to_no_byte_to_zeros_or_to_one_place_out_of_turn() {
+    for small in smallest_orders(28) {
+        assert_eq!(small.to_string(), "check_order -");
+    }
+    for small in smallest_orders(29) {
+        assert_eq!(small.to_string(), format!("check_order {}", "0".repeat(2720)));
+    }
+    for small in smallest_orders(30) {
+        assert_eq!((small.name(), out_of_turn(&small)), (Name::CheckOrder, 1), "{small}");
+    }
+}
+
+#[test]
+fn an_order_that_matters_comes_down_to_what_matters() {
+    let differs = |call: &Call| {
+        let of = |role| call.argument(role).unwrap_or_default();
+        let ordered = graph_in(of(Role::Sheet), Some(of(Role::Order)));
+        call.name() == Name::BuildOrdered && ordered.is_some() && ordered != graph_in(of(Role::Sheet), None)
+    };
+    for call in Stream::new(1, graph_in).filter(differs).take(6) {
+        let small = smallest(&call, &graph_in, &mut |call| differs(call), 20_000);
+        let sheet = small.argument(Role::Sheet).unwrap_or_default();
+        assert!(sheet.len() <= 16 && out_of_turn(&small) <= 3, "{small} from {call}");
+        assert_eq!(small.argument(Role::Buffer), Some(&[][..]));
     }
 }
 
@@ -103,7 +146,7 @@ fn no_more_questions_are_asked_than_allowed() {
             asked += 1;
             refusal(call) == 11
         };
-        let small = smallest(&call, &own_graph, &mut shows, allowed);
+        let small = smallest(&call, &graph_in, &mut shows, allowed);
         assert!(asked <= allowed && refusal(&small) == 11);
     }
 }

@@ -10,21 +10,25 @@ use voltunnis_tests::generate::random::Random;
 use voltunnis_tests::generate::sheets::sheet;
 use voltunnis_tests::generate::stream::{lent, Stream};
 use voltunnis_tests::generate::variables::tidy_length;
-use voltunnis_tests::reference::{own_graph, sheet::Sheet, tidy};
+use voltunnis_tests::reference::{graph_in, sheet::Sheet, tidy};
 
 /// What a call of both gives, in a word.
 fn outcome(call: &Call) -> String {
     let of = |role| call.argument(role).unwrap_or_default();
     let (sheet, piece, graph) = (of(Role::Sheet), of(Role::Piece), of(Role::Graph));
-    let buffer = of(Role::Buffer);
+    let (order, buffer) = (of(Role::Order), of(Role::Buffer));
     assert!(buffer == lent(buffer.len()), "a buffer as it is lent");
     let said = match call.name() {
         Name::CheckSheet => both::check_sheet(sheet).map(|_| "sheet".to_string()),
         Name::CheckPiece => both::check_piece(piece).map(|_| "piece".to_string()),
+        Name::CheckOrder => both::check_order(order).map(|_| "order".to_string()),
         Name::Plain => both::plain(sheet, piece).map(|plain| format!("plain {}", plain.word.name())),
         Name::CheckGraph => both::check_graph(sheet, graph).map(|_| "graph".to_string()),
         Name::Tidy => both::tidy(sheet, buffer.len()).0.map(|_| "tidy".to_string()),
         Name::Build => both::build(sheet, buffer.len()).0.map(|_| "built".to_string()),
+        Name::BuildOrdered => {
+            both::build_ordered(sheet, order, buffer.len()).0.map(|_| "built in order".to_string())
+        }
         Name::Rewrite => both::rewrite(sheet, graph, buffer.len()).0.map(|_| "rewritten".to_string()),
         Name::Walk => both::walk(sheet, graph, piece).map(|answer| answer.walk.word.name().to_string()),
     };
@@ -35,14 +39,15 @@ fn outcome(call: &Call) -> String {
 fn every_refusal_and_every_word_is_met_whatever_the_seed() {
     for seed in 1..=4 {
         let mut counts = BTreeMap::new();
-        for call in Stream::new(seed, own_graph).take(10_000) {
+        for call in Stream::new(seed, graph_in).take(10_000) {
             *counts.entry(outcome(&call)).or_insert(0) += 1;
         }
         println!("seed {seed}: {counts:?}");
         let words = ["commit", "execute", "suspend", "fail"];
         let plain = words.map(|word| format!("plain {word}"));
-        let refusals = (1..=27).chain([31]).map(|number| format!("refused {number}"));
-        let accepted = ["sheet", "piece", "graph", "tidy", "built", "rewritten"].map(String::from);
+        let refusals = (1..=31).map(|number| format!("refused {number}"));
+        let accepted = ["sheet", "piece", "graph", "order", "tidy", "built", "built in order", "rewritten"];
+        let accepted = accepted.map(String::from);
         for wanted in refusals.chain(words.map(String::from)).chain(plain).chain(accepted) {
             assert!(counts.contains_key(&wanted), "seed {seed}: {wanted} never");
         }
@@ -51,7 +56,7 @@ fn every_refusal_and_every_word_is_met_whatever_the_seed() {
 
 #[test]
 fn a_seed_gives_the_same_calls_and_another_seed_others() {
-    let calls = |seed| Stream::new(seed, own_graph).take(500).collect::<Vec<Call>>();
+    let calls = |seed| Stream::new(seed, graph_in).take(500).collect::<Vec<Call>>();
     assert!(calls(7) == calls(7));
     assert!(calls(7) != calls(8));
     assert!(calls(7)[..19] == calls(8)[..19], "document 01's example comes first");
@@ -59,7 +64,7 @@ fn a_seed_gives_the_same_calls_and_another_seed_others() {
 
 #[test]
 fn calls_are_read_from_their_lines() {
-    for call in Stream::new(5, own_graph).take(2_000) {
+    for call in Stream::new(5, graph_in).take(2_000) {
         assert_eq!(Call::read(&call.to_string()), Ok(call));
     }
     let fault = |line| Call::read(line).expect_err("no call").to_string();

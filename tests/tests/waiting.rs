@@ -1,9 +1,10 @@
-//! What a walk promises, tried on random pieces: on a built graph its answer is the plain answer, it
-//! is never refused, a piece filled in further keeps what was answered, and a suspended piece stays
+//! What a walk promises, tried on random pieces: on a built graph, in any reading order, its answer is the plain
+//! answer, it is never refused, a piece filled in further keeps what was answered, and a suspended piece stays
 //! suspended while its listed tests are not known.
 
 use voltunnis_tests::both::walk;
 use voltunnis_tests::generate::graphs::foreign;
+use voltunnis_tests::generate::orders::{order, table};
 use voltunnis_tests::generate::pieces::{piece, term};
 use voltunnis_tests::generate::random::Random;
 use voltunnis_tests::generate::sheets::sheet;
@@ -37,6 +38,12 @@ fn made(random: &mut Random) -> Option<Made> {
 impl Made {
     fn graph(&self, nodes: &[Node]) -> Vec<u8> {
         graph_bytes(self.sheet.arity, self.sheet.rules.len() as u8, nodes)
+    }
+
+    /// Its graph, with or without a reading order.
+    fn built(&self, random: &mut Random) -> Option<Vec<u8>> {
+        let order = random.percent(50).then(|| table(&order(random)));
+        reference::graph_in(&self.bytes, order.as_deref())
     }
 
     /// A piece of the sheet's arity that is accepted.
@@ -79,8 +86,7 @@ fn a_walk_on_a_built_graph_gives_the_plain_answer() {
     let mut words = [0; 5];
     for _ in 0..4_000 {
         let Some(made) = made(&mut random) else { continue };
-        let Ok(nodes) = reference::build::nodes(&made.sheet) else { continue };
-        let graph = made.graph(&nodes);
+        let Some(graph) = made.built(&mut random) else { continue };
         for _ in 0..4 {
             let Some(piece) = made.piece(&mut random) else { continue };
             let piece = piece_bytes(&piece);
@@ -111,8 +117,7 @@ fn a_piece_filled_in_further_keeps_the_promise() {
     let mut changed = [0; 5];
     for _ in 0..6_000 {
         let Some(made) = made(&mut random) else { continue };
-        let Ok(nodes) = reference::build::nodes(&made.sheet) else { continue };
-        let graph = made.graph(&nodes);
+        let Some(graph) = made.built(&mut random) else { continue };
         let Some(piece) = made.piece(&mut random) else { continue };
         let answer = |piece: &[Term]| {
             let walked = walk(&made.bytes, &graph, &piece_bytes(piece)).expect("an answer").walk;
@@ -133,11 +138,10 @@ fn a_piece_filled_in_further_keeps_the_promise() {
 
 /// A built graph or another maker's.
 fn any_graph(random: &mut Random, made: &Made) -> Option<Vec<u8>> {
-    let nodes = match random.percent(50) {
-        true => reference::build::nodes(&made.sheet).ok()?,
-        false => foreign(random, &made.sheet.asked()),
-    };
-    Some(made.graph(&nodes))
+    match random.percent(50) {
+        true => made.built(random),
+        false => Some(made.graph(&foreign(random, &made.sheet.asked()))),
+    }
 }
 
 #[test]

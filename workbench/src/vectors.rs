@@ -1,6 +1,6 @@
 //! The stream of calls with the library's replies as text, and such a text checked.
 
-use crate::conform::{own_graph, reply};
+use crate::conform::{graph_in, reply};
 use std::io::{self, Write};
 use voltunnis_generate::calls::{Call, Fault};
 use voltunnis_generate::stream::Stream;
@@ -8,7 +8,7 @@ use voltunnis_generate::stream::Stream;
 /// Writes so many calls of a seed, each with the library's reply.
 pub fn write(seed: u64, count: usize, to: &mut dyn Write) -> io::Result<()> {
     writeln!(to, "# vt vectors --seed {seed} --count {count}")?;
-    for call in Stream::new(seed, own_graph).take(count) {
+    for call in Stream::new(seed, graph_in).take(count) {
         writeln!(to, "{call}\n{}", reply(&call))?;
     }
     Ok(())

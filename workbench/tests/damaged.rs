@@ -6,13 +6,16 @@ use common::{Folder, EXAMPLE};
 use voltunnis_generate::asked::Asked;
 use voltunnis_generate::damage::{damaged, noise};
 use voltunnis_generate::graphs::graph;
+use voltunnis_generate::orders::some_table;
 use voltunnis_generate::pieces::piece;
 use voltunnis_generate::random::Random;
 use voltunnis_generate::sheets::small_sheet;
 use voltunnis_generate::stock::Stock;
 use voltunnis_generate::trees::piece_bytes;
 use voltunnis_workbench::locate;
-use voltunnis_workbench::notation::{parse_graph, parse_pieces, parse_sheet, Graph, Names, Piece, Sheet};
+use voltunnis_workbench::notation::{
+    parse_graph, parse_order, parse_pieces, parse_sheet, Graph, Names, Piece, Sheet,
+};
 
 /// Runs `vt` on what may be anything: it ends with a status of its own and never by a panic.
 #[track_caller]
@@ -40,6 +43,8 @@ fn damaged_files_are_refused_or_read() {
         let pieces = piece_bytes(&piece(&mut random, &tree, Stock::FULL));
         folder.write("pieces.bin", damaged(&mut random, &pieces));
         folder.write("graph.bin", graph(&mut random, &Asked::of(&tree), || None));
+        let order = some_table(&mut random);
+        folder.write("order.bin", if round % 3 == 0 { damaged(&mut random, &order) } else { order });
         for words in [
             &["check", "sheet.bin", "pieces.bin"][..],
             &["text", "sheet.bin"],
@@ -51,6 +56,9 @@ fn damaged_files_are_refused_or_read() {
             &["try", "--graph", "graph.bin", "--pieces", "pieces.bin", "whole.bin"],
             &["explain", "--graph", "graph.bin", "whole.bin", "(?, 1, #1(?))"],
             &["listing", "sheet.bin", "pieces.bin"],
+            &["check", "--sheet", "whole.bin", "order.bin"],
+            &["text", "order.bin"],
+            &["try", "--order", "order.bin", "--pieces", "pieces.bin", "whole.bin"],
         ] {
             met[survives(&folder, words) as usize] += 1;
         }
@@ -76,17 +84,52 @@ fn bytes_taken_as_text_are_refused_or_read() {
 }
 
 /// Pieces of texts, of which odd ones are made.
-const CHIPS: [&str; 34] = [
-    "sheet", "graph", "name", "(", ")", ",", ":", "=", "..", ".", "?", "_", "->", "/", "#", "#17", "#99999",
-    "--", "\n", " ", "1", "2", "65536", "X", "V7", "V300", "one", "argument", "place", "part", "neither",
-    "unknown", "execute", "ü@\t",
+const CHIPS: [&str; 37] = [
+    "order\n",
+    "rest",
+    "argument 2",
+    "sheet",
+    "graph",
+    "name",
+    "(",
+    ")",
+    ",",
+    ":",
+    "=",
+    "..",
+    ".",
+    "?",
+    "_",
+    "->",
+    "/",
+    "#",
+    "#17",
+    "#99999",
+    "--",
+    "\n",
+    " ",
+    "1",
+    "2",
+    "65536",
+    "X",
+    "V7",
+    "V300",
+    "one",
+    "argument",
+    "place",
+    "part",
+    "neither",
+    "unknown",
+    "execute",
+    "ü@\t",
 ];
 
 #[test]
 fn parsers_take_any_text() {
     let mut random = Random::new(0x7465_7874);
     for round in 0..60_000 {
-        let head = ["", "sheet 2\n", "graph 1, 1 rule, 2 nodes\n0: ", "name a = 1\n("][round % 4];
+        let heads = ["", "sheet 2\n", "graph 1, 1 rule, 2 nodes\n0: ", "name a = 1\n(", "order\nargument 1"];
+        let head = heads[round % heads.len()];
         let text: String = [head]
             .into_iter()
             .chain((0..random.below(24)).map(|_| random.pick(&CHIPS)))
@@ -96,6 +139,7 @@ fn parsers_take_any_text() {
             parse_sheet(&text).err(),
             parse_pieces(&text, &Names::default()).err(),
             parse_graph(&text, &Names::default()).err(),
+            parse_order(&text).err(),
         ];
         for fault in faults.into_iter().flatten() {
             assert!(fault.show("odd", &text).lines().count() >= 3, "{text:?}");

@@ -7,13 +7,15 @@ use voltunnis_generate::crowded::crowded;
 use voltunnis_generate::damage::damaged;
 use voltunnis_generate::graphs::graph;
 use voltunnis_generate::known;
+use voltunnis_generate::orders::{any, ascending, deepest, last, levels, order, reversed, table, Fault};
 use voltunnis_generate::pieces::piece;
 use voltunnis_generate::random::Random;
 use voltunnis_generate::sheets::sheet;
 use voltunnis_generate::stock::Stock;
 use voltunnis_generate::trees::piece_bytes;
 use voltunnis_workbench::notation::{
-    parse_graph, parse_piece, parse_sheet, print_graph, print_piece, print_sheet, Graph, Names, SheetText,
+    parse_graph, parse_order, parse_piece, parse_sheet, print_graph, print_order, print_piece, print_sheet,
+    Graph, Names, SheetText,
 };
 
 const ROUNDS: usize = 100_000;
@@ -152,4 +154,44 @@ fn what_can_be_read_comes_back() {
         }
     }
     assert!(printed > 2_000, "{printed} of the damaged ones could be read");
+}
+
+/// The lines in which a table is printed, the first left out; parsed again they are the same table.
+#[track_caller]
+fn order_again(bytes: &[u8]) -> Vec<String> {
+    let text = print_order(bytes).expect("an order that can be read");
+    let order = parse_order(&text).unwrap_or_else(|fault| panic!("{}", fault.show("printed", &text)));
+    assert!(order.bytes() == bytes, "{text}");
+    text.lines().skip(1).map(String::from).collect()
+}
+
+#[test]
+fn orders_come_back_as_they_were() {
+    assert_eq!(order_again(&table(&ascending())), [""; 0]);
+    assert_eq!(order_again(&table(&last(0))), ["rest", "argument 1"]);
+    assert_eq!(order_again(&table(&last(7))), [""; 0]);
+    let backwards: Vec<String> = (2..=8).rev().map(|argument| format!("argument {argument}")).collect();
+    assert_eq!(order_again(&table(&reversed())), backwards);
+    // All arguments, then each part alone.
+    assert_eq!(order_again(&table(&levels())).len(), 1 + 32 + 128 + 512);
+    order_again(&table(&deepest()));
+    let mut random = Random::new(0x6f72_6465);
+    for _ in 0..500 {
+        order_again(&table(&any(&mut random)));
+        order_again(&table(&order(&mut random)));
+    }
+}
+
+#[test]
+fn a_table_that_is_refused_comes_back_if_it_has_each_place_once() {
+    let mut random = Random::new(0x7265_6675);
+    for _ in 0..200 {
+        let places = order(&mut random);
+        let early = Fault::BeforeParent.put(&mut random, &places);
+        assert_eq!(voltunnis::check_order(&early).unwrap_err().number(), 30);
+        order_again(&early);
+        for fault in [Fault::Length, Fault::OutOfRange, Fault::Twice] {
+            assert!(print_order(&fault.put(&mut random, &places)).is_err(), "{fault:?}");
+        }
+    }
 }

@@ -1,8 +1,10 @@
 //! A call with its arguments read as far as they can be, and what each step makes of it.
 
-use super::{bytes, graphs, parts, pieces, sheets, Step, Value};
+use super::{bytes, graphs, orders, parts, pieces, sheets, Build, Step, Value};
+use crate::asked::Asked;
 use crate::calls::{Call, Name, Role};
 use crate::nodes::GraphNodes;
+use crate::orders::table;
 use crate::trees::{piece_bytes, read_piece, SheetTree, Term};
 use crate::variables::tidy_length;
 use std::collections::BTreeSet;
@@ -10,15 +12,19 @@ use std::collections::BTreeSet;
 /// A call, and its arguments as trees, each with the bytes after it, where they can be read.
 pub struct Case<'a> {
     pub call: Call,
-    build: &'a dyn Fn(&[u8]) -> Option<Vec<u8>>,
+    build: Build<'a>,
     sheet: Option<(SheetTree, Vec<u8>)>,
     piece: Option<(Vec<Term>, Vec<u8>)>,
     graph: Option<(GraphNodes, Vec<u8>)>,
+    order: Option<Vec<u16>>,
     /// Whether the graph is the sheet's own.
     own: bool,
     /// How many bytes a writer needs.
     needed: Option<usize>,
 }
+
+/// So many shorter tables are tried in the stead of an order.
+const SHORTER: usize = 7;
 
 /// A tree and the bytes after it.
 fn kept<T>((tree, tail): (T, &[u8])) -> (T, Vec<u8>) {
@@ -27,25 +33,31 @@ fn kept<T>((tree, tail): (T, &[u8])) -> (T, Vec<u8>) {
 
 /// How many bytes a writer needs: those of the sheet's own graph, of its tidy form, or of the graph that it is
 /// given.
-fn needed(name: Name, call: &Call, own: Option<&[u8]>) -> Option<usize> {
+fn needed(name: Name, call: &Call, build: Build) -> Option<usize> {
+    let sheet = call.argument(Role::Sheet)?;
     match name {
-        Name::Build => own.map(<[u8]>::len),
-        Name::Tidy => {
-            call.argument(Role::Sheet).and_then(SheetTree::read).map(|(tree, _)| tidy_length(&tree))
-        }
+        Name::Build => build(sheet, None).map(|graph| graph.len()),
+        Name::BuildOrdered => build(sheet, call.argument(Role::Order)).map(|graph| graph.len()),
+        Name::Tidy => SheetTree::read(sheet).map(|(tree, _)| tidy_length(&tree)),
         _ => call.argument(Role::Graph).map(<[u8]>::len),
     }
 }
 
+/// Whether the graph that a call is given is the sheet's own.
+fn is_own(call: &Call, build: Build) -> bool {
+    let (sheet, graph) = (call.argument(Role::Sheet), call.argument(Role::Graph));
+    graph.is_some_and(|graph| sheet.and_then(|sheet| build(sheet, None)).as_deref() == Some(graph))
+}
+
 impl<'a> Case<'a> {
-    pub fn new(call: Call, build: &'a dyn Fn(&[u8]) -> Option<Vec<u8>>) -> Case<'a> {
-        let own = call.argument(Role::Sheet).and_then(build);
+    pub fn new(call: Call, build: Build<'a>) -> Case<'a> {
         Case {
             sheet: call.argument(Role::Sheet).and_then(SheetTree::read).map(kept),
             piece: call.argument(Role::Piece).and_then(read_piece).map(kept),
             graph: call.argument(Role::Graph).and_then(GraphNodes::read).map(kept),
-            own: own.is_some() && call.argument(Role::Graph) == own.as_deref(),
-            needed: needed(call.name(), &call, own.as_deref()),
+            order: call.argument(Role::Order).and_then(orders::read),
+            own: is_own(&call, build),
+            needed: needed(call.name(), &call, build),
             call,
             build,
         }
@@ -64,13 +76,19 @@ impl<'a> Case<'a> {
         if let Some((graph, _)) = &self.graph {
             steps.extend(graphs::steps(graph).map(Step::Graph));
         }
+        if let Some(places) = &self.order {
+            let tested = self.sheet.as_ref().map_or(vec![], |(sheet, _)| Asked::of(sheet).places);
+            steps.extend(orders::steps(places, &tested).map(Step::Order));
+        }
         if let Some(buffer) = self.call.argument(Role::Buffer) {
             let shorter = parts(buffer.len()).map(|part| buffer.len() - part.len());
             steps.extend(self.needed.into_iter().chain(shorter).map(Step::Length));
             steps.push(Step::Zeros);
         }
         for (role, argument) in self.call.arguments().filter(|(role, _)| *role != Role::Buffer) {
-            steps.extend(bytes::steps(argument).map(|step| Step::Bytes(role, step)));
+            // An order has one length: a few shorter tables tell whether it matters.
+            let most = if role == Role::Order && self.order.is_some() { SHORTER } else { usize::MAX };
+            steps.extend(bytes::steps(argument).take(most).map(|step| Step::Bytes(role, step)));
         }
         steps
     }
@@ -89,6 +107,10 @@ impl<'a> Case<'a> {
                 let (graph, tail) = self.graph.as_ref()?;
                 let bytes = [graphs::after(graph, step)?.bytes(), tail.clone()].concat();
                 Some(self.refitted(self.call.with(Role::Graph, &bytes)))
+            }
+            Step::Order(step) => {
+                let places = orders::after(self.order.as_ref()?, step)?;
+                Some(self.refitted(self.call.with(Role::Order, &table(&places))))
             }
             Step::Length(length) => {
                 let buffer = self.call.argument(Role::Buffer)?;
@@ -112,8 +134,7 @@ impl<'a> Case<'a> {
         if name == self.call.name() || name.roles().iter().any(|role| *role != Role::Buffer && lacks(role)) {
             return None;
         }
-        let own = || of(Role::Sheet).filter(|_| name == Name::Build).and_then(|sheet| (self.build)(&sheet));
-        let fitting = || vec![0; needed(name, &self.call, own().as_deref()).unwrap_or(0)];
+        let fitting = || vec![0; needed(name, &self.call, self.build).unwrap_or(0)];
         Some(Call::new(name, |role| match role {
             Role::Buffer => of(Role::Buffer).unwrap_or_else(fitting),
             other => of(other).unwrap_or_default(),
@@ -133,7 +154,10 @@ impl<'a> Case<'a> {
         if let Some((terms, tail)) = &self.piece {
             call = self.with_piece(&call, &pieces::following(terms, old, step)?, tail);
         }
-        let own = if self.own { (self.build)(&bytes) } else { None };
+        if let Some(places) = &self.order {
+            call = call.with(Role::Order, &table(&orders::following(places, step)));
+        }
+        let own = if self.own { (self.build)(&bytes, None) } else { None };
         call = match (own, &self.graph, self.call.argument(Role::Graph)) {
             (Some(own), ..) => call.with(Role::Graph, &own),
             (None, Some((graph, tail)), _) => {
@@ -168,7 +192,7 @@ impl<'a> Case<'a> {
         let bytes = [sheet.bytes(), tail].concat();
         call = call.with(Role::Sheet, &bytes);
         if self.own {
-            call = call.with(Role::Graph, &(self.build)(&bytes)?);
+            call = call.with(Role::Graph, &(self.build)(&bytes, None)?);
         }
         Some(self.refitted(call))
     }
@@ -176,9 +200,7 @@ impl<'a> Case<'a> {
     /// The call with its buffer as much longer, or shorter, than needed as before.
     fn refitted(&self, call: Call) -> Call {
         let (Some(buffer), Some(before)) = (call.argument(Role::Buffer), self.needed) else { return call };
-        let own =
-            if call.name() == Name::Build { call.argument(Role::Sheet).and_then(self.build) } else { None };
-        let Some(needed) = needed(call.name(), &call, own.as_deref()) else { return call };
+        let Some(needed) = needed(call.name(), &call, self.build) else { return call };
         let mut buffer = buffer.to_vec();
         buffer.resize((buffer.len() + needed).saturating_sub(before), 0);
         call.with(Role::Buffer, &buffer)

@@ -1,5 +1,5 @@
 //! A call made smaller for as long as it shows what it has to show: fewer rules, arguments and nodes,
-//! simpler patterns and terms, smaller ids and numbers, fewer bytes.
+//! simpler patterns and terms, smaller ids and numbers, orders closer to ascending, fewer bytes.
 //!
 //! Sheets, pieces and graphs that can be read are made smaller as trees; a sheet takes its own graph, the
 //! piece's arguments and the buffer's length along. Whatever can't be read is made smaller byte by byte.
@@ -8,6 +8,7 @@ mod bytes;
 mod case;
 mod graphs;
 mod lists;
+mod orders;
 mod pieces;
 mod sheets;
 mod tiny;
@@ -27,6 +28,7 @@ enum Step {
     /// Ids, or numbers, of sheet and piece counted from 0 in their order.
     Ranked(Value),
     Graph(graphs::Step),
+    Order(orders::Step),
     /// A buffer of this length.
     Length(usize),
     /// A buffer of zeros.
@@ -40,6 +42,9 @@ enum Value {
     Id,
     Number,
 }
+
+/// What says the bytes of an accepted sheet's own graph, in a reading order if one is given.
+pub type Build<'a> = &'a dyn Fn(&[u8], Option<&[u8]>) -> Option<Vec<u8>>;
 
 /// What is made smaller: the number of bytes in all arguments, then the call, then the bytes in their order.
 fn size(call: &Call) -> (usize, Name, Vec<&[u8]>) {
@@ -61,10 +66,10 @@ fn lower(value: u16) -> impl Iterator<Item = u16> {
 }
 
 /// A smallest call that still shows what `shows` looks for, which this call does, by at most so many
-/// questions. `build` says the bytes of an accepted sheet's own graph.
+/// questions.
 pub fn smallest(
     call: &Call,
-    build: &dyn Fn(&[u8]) -> Option<Vec<u8>>,
+    build: Build,
     shows: &mut dyn FnMut(&Call) -> bool,
     mut questions: usize,
 ) -> Call {
@@ -86,11 +91,7 @@ pub fn smallest(
 }
 
 /// The call after all steps that can be made in one go through them; none if none can.
-fn sweep(
-    call: &Call,
-    build: &dyn Fn(&[u8]) -> Option<Vec<u8>>,
-    ask: &mut dyn FnMut(&Call, &Call) -> bool,
-) -> Option<Call> {
+fn sweep(call: &Call, build: Build, ask: &mut dyn FnMut(&Call, &Call) -> bool) -> Option<Call> {
     let mut case = Case::new(call.clone(), build);
     let mut steps = case.steps();
     let (mut at, mut smaller) = (0, false);

@@ -1,5 +1,6 @@
 //! Tiny sheets and pieces, which are tried in the stead of larger ones.
 
+use super::Build;
 use crate::calls::{Call, Name, Role};
 use crate::trees::{piece_bytes, Pattern, SheetTree, Term};
 
@@ -40,20 +41,20 @@ fn pieces() -> Vec<Vec<Term>> {
 
 /// Calls of this name with tiny sheets and pieces of one arity, and with the sheets' own graphs; none for a
 /// call that is lent a buffer.
-pub fn calls(name: Name, build: &dyn Fn(&[u8]) -> Option<Vec<u8>>) -> Vec<Call> {
+pub fn calls(name: Name, build: Build) -> Vec<Call> {
     if name.roles().contains(&Role::Buffer) {
         return Vec::new();
     }
     let mut calls = Vec::new();
     for sheet in sheets() {
         let bytes = sheet.bytes();
-        let own = build(&bytes).unwrap_or_default();
+        let own = build(&bytes, None).unwrap_or_default();
         for piece in pieces().iter().filter(|piece| piece.len() == usize::from(sheet.arity)) {
             calls.push(Call::new(name, |role| match role {
                 Role::Sheet => bytes.clone(),
                 Role::Graph => own.clone(),
                 Role::Piece => piece_bytes(piece),
-                Role::Buffer => Vec::new(),
+                Role::Order | Role::Buffer => Vec::new(),
             }));
         }
     }

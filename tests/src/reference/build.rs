@@ -54,10 +54,10 @@ impl Known {
         Ok(number)
     }
 
-    /// The node with this key, which asks the lowest pending test. Its edges are taken in order: the
+    /// The node with this key, which asks the first pending test. Its edges are taken in order: the
     /// cases, neither, unknown; or no, other.
     fn node(&mut self, asking: &Asking, key: Key) -> Result<Node, Refusal> {
-        let test = key.pending.trailing_zeros() as usize;
+        let test = asking.first(key.pending);
         let unsettled = key.pending & !(1 << test);
         let tested = key.live & asking.having[test];
         let others = key.live & !tested;
@@ -92,7 +92,12 @@ pub fn nodes(sheet: &Sheet) -> Result<Vec<Node>, Refusal> {
 
 /// The nodes of a sheet's graph, if there are at most so many.
 pub fn nodes_up_to(sheet: &Sheet, most: u16) -> Result<Vec<Node>, Refusal> {
-    let asking = Asking::new(sheet);
+    nodes_in(sheet, (0..sheet.tests.count()).collect(), most)
+}
+
+/// The nodes of a sheet's graph whose tests are asked in this order, if there are at most so many.
+pub fn nodes_in(sheet: &Sheet, order: Vec<usize>, most: u16) -> Result<Vec<Node>, Refusal> {
+    let asking = Asking::new(sheet, order);
     let (kinds, keys) = (Vec::with_capacity(FEW), Vec::with_capacity(FEW));
     let mut known = Known { most, kinds, keys, ..Known::default() };
     known.number(asking.root(sheet.rules.len()))?;

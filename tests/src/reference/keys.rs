@@ -29,6 +29,8 @@ pub struct Asking<'a> {
     pub places: Vec<PlaceTest>,
     /// The equality tests, which follow.
     pub pairs: &'a [(u16, u16)],
+    /// All tests in the order in which they are asked.
+    order: Vec<usize>,
 }
 
 /// A place test: its place, what an unknown there settles, and the cases if all rules are live.
@@ -69,7 +71,8 @@ impl Tests {
 }
 
 impl<'a> Asking<'a> {
-    pub fn new(sheet: &'a Sheet) -> Self {
+    /// The tests of a sheet, to be asked in this order.
+    pub fn new(sheet: &'a Sheet, order: Vec<usize>) -> Self {
         let tests = &sheet.tests;
         let mut having = vec![0; tests.count()];
         let mut places = Vec::with_capacity(tests.places.len());
@@ -91,7 +94,13 @@ impl<'a> Asking<'a> {
                 having[tests.pair(*pair).expect("a pair of the sheet")] |= 1 << number;
             }
         }
-        Asking { having, places, pairs: &tests.pairs }
+        Asking { having, places, pairs: &tests.pairs, order }
+    }
+
+    /// The pending test that is asked first.
+    pub fn first(&self, pending: u64) -> usize {
+        let first = self.order.iter().find(|test| pending >> **test & 1 == 1);
+        *first.expect("a pending test is one of the order")
     }
 
     /// The root, with all of these rules live and all tests pending.

@@ -8,6 +8,7 @@ pub mod cases;
 pub mod graph;
 pub mod keys;
 pub mod listing;
+pub mod order;
 pub mod piece;
 pub mod places;
 pub mod plain;
@@ -65,6 +66,24 @@ pub fn build(sheet: &[u8], buffer: &mut [u8]) -> Result<Built, Refusal> {
     Ok(Built { nodes: nodes.len() as u16, bytes: build::write(&sheet, &nodes, buffer)? })
 }
 
+/// Checks a reading order: questions 28 to 30.
+pub fn check_order(table: &[u8]) -> Result<(), Refusal> {
+    order::read(table).map(drop)
+}
+
+/// The nodes of a sheet's graph in a reading order: 28 to 30, then 18.
+fn ordered(sheet: &Sheet, table: &[u8]) -> Result<Vec<nodes::Node>, Refusal> {
+    let order = order::asking(order::read(table)?, &sheet.tests);
+    build::nodes_in(sheet, order, graph::MOST_NODES)
+}
+
+/// Builds a sheet's graph in a reading order: the sheet's questions, 28 to 30, then 18 and 19.
+pub fn build_ordered(sheet: &[u8], table: &[u8], buffer: &mut [u8]) -> Result<Built, Refusal> {
+    let sheet = Sheet::read(sheet)?;
+    let nodes = ordered(&sheet, table)?;
+    Ok(Built { nodes: nodes.len() as u16, bytes: build::write(&sheet, &nodes, buffer)? })
+}
+
 /// Writes a sheet's tidy form: the sheet's questions, then 31.
 pub fn tidy(sheet: &[u8], buffer: &mut [u8]) -> Result<Written, Refusal> {
     Sheet::read(sheet)?;
@@ -84,9 +103,14 @@ pub fn walk(sheet: &[u8], graph: &[u8], piece: &[u8]) -> Result<Answer, Refusal>
     walk::walk(&sheet, &nodes, &piece)
 }
 
+/// The bytes of a sheet's graph, in a reading order if one is given; none if a question gets a no.
+pub fn graph_in(sheet: &[u8], table: Option<&[u8]>) -> Option<Vec<u8>> {
+    let sheet = Sheet::read(sheet).ok()?;
+    let nodes = table.map_or_else(|| build::nodes(&sheet), |table| ordered(&sheet, table)).ok()?;
+    Some(nodes::graph_bytes(sheet.arity, sheet.rules.len() as u8, &nodes))
+}
+
 /// The bytes of a sheet's graph, if the sheet is accepted and has one.
 pub fn own_graph(sheet: &[u8]) -> Option<Vec<u8>> {
-    let sheet = Sheet::read(sheet).ok()?;
-    let nodes = build::nodes(&sheet).ok()?;
-    Some(nodes::graph_bytes(sheet.arity, sheet.rules.len() as u8, &nodes))
+    graph_in(sheet, None)
 }

@@ -35,6 +35,20 @@ pub fn depth(place: u16) -> usize {
     depth
 }
 
+/// The parent of a place; none of an argument.
+pub fn parent(place: u16) -> Option<u16> {
+    let mut offset = place % SPAN[0];
+    let mut parent = None;
+    for span in &SPAN[1..] {
+        if offset == 0 {
+            break;
+        }
+        parent = Some(place - offset);
+        offset = (offset - 1) % span;
+    }
+    parent
+}
+
 #[cfg(test)]
 mod tests {
     use super::*;
@@ -46,6 +60,7 @@ mod tests {
         *next += 1;
         if depth < DEEPEST {
             for j in 1..=4 {
+                assert_eq!(parent(child(place, depth, j)), Some(place));
                 count(child(place, depth, j), depth + 1, next);
             }
         }
@@ -56,6 +71,7 @@ mod tests {
     fn places_are_numbered_in_preorder() {
         let mut next = 0;
         for a in 1..=8 {
+            assert_eq!(parent(argument(a)), None);
             count(argument(a), 1, &mut next);
         }
         assert_eq!(next, PLACES);

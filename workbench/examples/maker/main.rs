@@ -6,7 +6,10 @@ mod wrong;
 
 use std::io::{stdin, BufRead};
 use voltunnis_tests::bytes::{from_hex, to_hex};
-use voltunnis_tests::reference::{build, check_graph, check_piece, check_sheet, plain, rewrite, tidy, walk};
+use voltunnis_tests::reference::{
+    build, build_ordered, check_graph, check_order, check_piece, check_sheet, plain, rewrite, tidy, walk,
+};
+use voltunnis_tests::results::Built;
 
 /// What a call gives: its fields as they stand in the reply, or the number of its refusal.
 type Said = Result<String, u8>;
@@ -22,9 +25,9 @@ fn call(name: &str, arguments: &mut [Vec<u8>]) -> Option<Said> {
             plain(sheet, piece).map(|answer| format!("{} {}", answer.word.name(), answer.rule))
         }
         ("check_graph", [sheet, graph]) => check_graph(sheet, graph).map(|size| size.nodes.to_string()),
-        ("build", [sheet, buffer]) => {
-            build(sheet, buffer).map(|built| format!("{} {}", built.nodes, built.bytes))
-        }
+        ("check_order", [order]) => check_order(order).map(|()| String::new()),
+        ("build", [sheet, buffer]) => build(sheet, buffer).map(size),
+        ("build_ordered", [sheet, order, buffer]) => build_ordered(sheet, order, buffer).map(size),
         ("tidy", [sheet, buffer]) => tidy(sheet, buffer).map(|written| written.bytes.to_string()),
         ("rewrite", [sheet, graph, buffer]) => {
             rewrite(sheet, graph, buffer).map(|written| written.bytes.to_string())
@@ -33,6 +36,14 @@ fn call(name: &str, arguments: &mut [Vec<u8>]) -> Option<Said> {
         _ => return None,
     })
 }
+
+/// The fields of a build.
+fn size(built: Built) -> String {
+    format!("{} {}", built.nodes, built.bytes)
+}
+
+/// The calls that are lent a buffer.
+const WRITERS: [&str; 4] = ["tidy", "build", "build_ordered", "rewrite"];
 
 fn main() {
     let trap = std::env::args().skip_while(|word| word != "--wrong").nth(1);
@@ -46,11 +57,10 @@ fn main() {
         };
         let reply = match said {
             None => "unknown".into(),
-            Some(Ok(fields)) => format!("ok {fields}"),
+            Some(Ok(fields)) => format!("ok {fields}").trim_end().into(),
             Some(Err(refusal)) => format!("refused {refusal}"),
         };
-        match arguments.last().filter(|_| matches!(name, "tidy" | "build" | "rewrite") && reply != "unknown")
-        {
+        match arguments.last().filter(|_| WRITERS.contains(&name) && reply != "unknown") {
             Some(buffer) if buffer.is_empty() => println!("{reply} -"),
             Some(buffer) => println!("{reply} {}", to_hex(buffer)),
             None => println!("{reply}"),

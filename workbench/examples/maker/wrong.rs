@@ -3,6 +3,8 @@
 //! - `chain` links a variable's places in a chain only.
 //! - `hasty` commits at one live rule without making its tests.
 //! - `drop` drops a rule because its test is not known.
+//! - `lowest` asks the lowest test under every reading order.
+//! - `hurried` refuses by question 30 before it has asked 29 over the whole table.
 //! - `spill` writes a zero after a graph, where the buffer is longer.
 //! - `touch` writes to the buffer before it looks whether the graph fits.
 //! - `number` gives a number to every variable of a tidy sheet, also to one that stands once.
@@ -10,13 +12,15 @@
 //! - `stale` gives each accepted piece the arity of the first.
 //! - `mute` says nothing at all, `chatter` says each reply twice, `half` knows no graphs.
 
-use super::{call as right, Said};
+use super::{call as right, size, Said};
 use std::collections::BTreeSet;
 use std::sync::OnceLock;
 use voltunnis_tests::generate::trees::SheetTree;
 use voltunnis_tests::reference::piece::Piece;
 use voltunnis_tests::reference::sheet::{Rule, Sheet};
-use voltunnis_tests::reference::{build, graph, plain, tidy, truth::Truth, walk};
+use voltunnis_tests::reference::{
+    self, build, check_order, graph, places::parent, plain, tidy, truth::Truth, walk,
+};
 
 type Result<T> = std::result::Result<T, u8>;
 
@@ -104,6 +108,20 @@ fn numbered(sheet: &[u8], buffer: &mut [u8]) -> Result<String> {
     Ok(bytes.len().to_string())
 }
 
+/// Question 30 asked of each place before 29 is asked of the next.
+fn hurried(order: &[u8]) -> Result<()> {
+    let asked = check_order(order);
+    let places: Vec<&[u8]> = order.chunks(2).collect();
+    let number = |at: usize| u16::from_be_bytes([places[at][0], places[at][1]]);
+    let good = |at: &usize| number(*at) < 680 && !places[..*at].contains(&places[*at]);
+    let late =
+        |at: usize| parent(number(at)).is_some_and(|above| !places[..at].contains(&&above.to_be_bytes()[..]));
+    match asked {
+        Err(29) if (0..places.len()).take_while(good).any(late) => Err(30),
+        asked => asked,
+    }
+}
+
 /// The arity of the first accepted piece.
 static FIRST: OnceLock<String> = OnceLock::new();
 
@@ -114,6 +132,12 @@ pub fn call(trap: &str, name: &str, arguments: &mut [Vec<u8>]) -> Option<Said> {
         ("hasty", "walk", [sheet, graph, piece]) => Some(hasty(sheet, graph, piece)),
         ("drop", "plain", [sheet, piece]) => Some(dropping(sheet, piece)),
         ("number", "tidy", [sheet, buffer]) => Some(numbered(sheet, buffer)),
+        ("lowest", "build_ordered", [sheet, order, buffer]) => {
+            let read = Sheet::read(sheet).and_then(|_| check_order(order));
+            let built = read.and_then(|()| reference::build(sheet, buffer));
+            Some(built.map(size))
+        }
+        ("hurried", "check_order", [order]) => Some(hurried(order).map(|()| String::new())),
         ("spill", "build", _) => {
             let result = right(name, arguments);
             let end = result.clone()?.ok().and_then(|fields| fields.split(' ').nth(1)?.parse::<usize>().ok());
@@ -142,7 +166,7 @@ pub fn call(trap: &str, name: &str, arguments: &mut [Vec<u8>]) -> Option<Said> {
             println!("unknown");
             right(name, arguments)
         }
-        ("half", "check_graph" | "build" | "rewrite" | "walk", _) => None,
+        ("half", "check_graph" | "build" | "build_ordered" | "rewrite" | "walk", _) => None,
         _ => right(name, arguments),
     }
 }

@@ -48,7 +48,7 @@ impl Coverage {
             *self.words.entry(word).or_default() += 1;
         }
         let graph = match call.name() {
-            Name::Build => reply.buffer.as_deref(),
+            Name::Build | Name::BuildOrdered => reply.buffer.as_deref(),
             _ => call.argument(Role::Graph),
         };
         let Some(bytes) = graph else { return };

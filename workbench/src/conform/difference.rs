@@ -1,8 +1,8 @@
 //! A difference between the library and another maker's program, and how it is shown.
 
 use super::program::{Heard, Program};
-use super::replies::{fields, own_graph, reply};
-use crate::notation::{count, print_graph, print_piece, print_sheet};
+use super::replies::{fields, graph_in, reply};
+use crate::notation::{count, print_graph, print_order, print_piece, print_sheet};
 use std::fmt::Write;
 use std::io;
 use voltunnis::Refusal;
@@ -107,7 +107,7 @@ fn alone(
         shows
     };
     if shows(call) {
-        smallest(call, &own_graph, &mut shows, QUESTIONS);
+        smallest(call, &graph_in, &mut shows, QUESTIONS);
     }
     last
 }
@@ -155,7 +155,7 @@ fn show_case(call: &Call, heard: &Heard) -> String {
         Ok(values) => {
             let named = fields(call.name()).iter().zip(values.split(' '));
             let named: Vec<String> = named.map(|(field, value)| format!("{field} {value}")).collect();
-            let _ = writeln!(text, "\nThe library says: {}.", named.join(", "));
+            let _ = writeln!(text, "\nThe library says: {}.", said(&named));
         }
         Err(refusal) => {
             let _ = writeln!(text, "\nThe library says: {refusal}");
@@ -170,6 +170,14 @@ fn show_case(call: &Call, heard: &Heard) -> String {
     text
 }
 
+/// Fields in words; that all is well, if there are none.
+fn said(fields: &[String]) -> String {
+    match fields {
+        [] => "accepted".into(),
+        _ => fields.join(", "),
+    }
+}
+
 /// What the program said, in words.
 fn in_words(call: &Call, line: &str) -> String {
     let mut words = line.split(' ');
@@ -178,10 +186,11 @@ fn in_words(call: &Call, line: &str) -> String {
         Some("ok") => {
             let values: Vec<&str> = words.collect();
             if values.len() != fields.len() + usize::from(call.argument(Role::Buffer).is_some()) {
-                return format!("The program's line has other fields than {}.\n", fields.join(", "));
+                let wanted = if fields.is_empty() { "none".into() } else { fields.join(", ") };
+                return format!("The program's line has other fields than {wanted}.\n");
             }
             let named = fields.iter().zip(values).map(|(field, value)| format!("{field} {}", plain(value)));
-            format!("The program says: {}.\n", named.collect::<Vec<_>>().join(", "))
+            format!("The program says: {}.\n", said(&named.collect::<Vec<_>>()))
         }
         Some("refused") => {
             let number = words.next().and_then(|number| number.parse().ok());
@@ -214,6 +223,7 @@ fn in_notation(role: Role, bytes: &[u8]) -> String {
         Role::Sheet => print_sheet(bytes),
         Role::Piece => print_piece(bytes),
         Role::Graph => print_graph(bytes),
+        Role::Order => print_order(bytes),
         Role::Buffer => return format!("{} long", count(bytes.len(), "byte")),
     };
     let most = 60;

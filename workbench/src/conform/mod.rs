@@ -10,7 +10,7 @@ mod words;
 pub use coverage::{Coverage, Never, Section};
 pub use difference::{differs, Difference, Smallest};
 pub use program::{Heard, Program};
-pub use replies::{own_graph, reply, Reply};
+pub use replies::{graph_in, reply, Reply};
 pub use words::words;
 
 use progress::Progress;
@@ -46,7 +46,7 @@ const MEMORY: usize = 1_000;
 impl Run {
     /// The calls, without end.
     fn calls(&self) -> impl Iterator<Item = Call> {
-        Stream::new(self.seed, own_graph)
+        Stream::new(self.seed, graph_in)
     }
 
     /// Compares the program with the library up to the first difference.

@@ -1,7 +1,7 @@
 //! What the library replies to a call, as the line that docs/CONFORMANCE.md describes.
 
 use std::fmt;
-use voltunnis::{Answer, Refusal, Word};
+use voltunnis::{Answer, Built, Refusal, Word};
 use voltunnis_generate::calls::{word, Call, Name, Role};
 
 /// The library's reply to a call.
@@ -18,6 +18,7 @@ pub struct Reply {
 impl fmt::Display for Reply {
     fn fmt(&self, to: &mut fmt::Formatter) -> fmt::Result {
         match &self.result {
+            Ok(fields) if fields.is_empty() => to.write_str("ok")?,
             Ok(fields) => write!(to, "ok {fields}")?,
             Err(refusal) => write!(to, "refused {}", refusal.number())?,
         }
@@ -33,9 +34,10 @@ pub fn fields(name: Name) -> &'static [&'static str] {
     match name {
         Name::CheckSheet => &["arity", "rules", "tests"],
         Name::CheckPiece => &["arity"],
+        Name::CheckOrder => &[],
         Name::Plain => &["answer", "rule"],
         Name::CheckGraph => &["nodes"],
-        Name::Build => &["nodes", "bytes"],
+        Name::Build | Name::BuildOrdered => &["nodes", "bytes"],
         Name::Tidy | Name::Rewrite => &["bytes"],
         Name::Walk => &["answer", "rule", "edges", "wait list"],
     }
@@ -45,6 +47,7 @@ pub fn fields(name: Name) -> &'static [&'static str] {
 pub fn reply(call: &Call) -> Reply {
     let of = |role| call.argument(role).unwrap_or_default();
     let (sheet, piece, graph) = (of(Role::Sheet), of(Role::Piece), of(Role::Graph));
+    let order = of(Role::Order);
     let mut buffer = call.argument(Role::Buffer).map(<[u8]>::to_vec);
     let lent = buffer.as_deref_mut().unwrap_or_default();
     let mut answer = None;
@@ -57,12 +60,14 @@ pub fn reply(call: &Call) -> Reply {
             voltunnis::check_sheet(sheet).map(|size| format!("{} {} {}", size.arity, size.rules, size.tests))
         }
         Name::CheckPiece => voltunnis::check_piece(piece).map(|size| size.arity.to_string()),
+        Name::CheckOrder => voltunnis::check_order(order).map(|()| String::new()),
         Name::Plain => {
             voltunnis::plain(sheet, piece).map(|plain| format!("{} {}", said(plain.word), plain.rule))
         }
         Name::CheckGraph => voltunnis::check_graph(sheet, graph).map(|size| size.nodes.to_string()),
         Name::Tidy => voltunnis::tidy(sheet, lent).map(|written| written.bytes.to_string()),
-        Name::Build => voltunnis::build(sheet, lent).map(|built| format!("{} {}", built.nodes, built.bytes)),
+        Name::Build => voltunnis::build(sheet, lent).map(size),
+        Name::BuildOrdered => voltunnis::build_ordered(sheet, order, lent).map(size),
         Name::Rewrite => voltunnis::rewrite(sheet, graph, lent).map(|written| written.bytes.to_string()),
         Name::Walk => voltunnis::answer(sheet, graph, piece).map(|answer: Answer| {
             said(answer.walk.word);
@@ -72,7 +77,13 @@ pub fn reply(call: &Call) -> Reply {
     Reply { result, word: answer, buffer }
 }
 
-/// The bytes of the graph that the library builds for a sheet, if it has one.
-pub fn own_graph(sheet: &[u8]) -> Option<Vec<u8>> {
-    voltunnis::graph(sheet).ok()
+/// The fields of a build.
+fn size(built: Built) -> String {
+    format!("{} {}", built.nodes, built.bytes)
+}
+
+/// The bytes of the graph that the library builds for a sheet, in a reading order if one is given, if it has
+/// one.
+pub fn graph_in(sheet: &[u8], order: Option<&[u8]>) -> Option<Vec<u8>> {
+    order.map_or_else(|| voltunnis::graph(sheet), |order| voltunnis::graph_ordered(sheet, order)).ok()
 }

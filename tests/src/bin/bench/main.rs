@@ -7,6 +7,7 @@
 mod cases;
 mod graphs;
 mod listing;
+mod orders;
 mod table;
 mod timing;
 mod window;
@@ -64,6 +65,8 @@ fn main() {
     cases::all().iter().for_each(|case| rows(table, case));
     cases::all().iter().for_each(|case| tidy_row(table, case));
     cases::for_graphs().iter().for_each(|case| graphs::rows(table, case));
+    orders::table_rows(table);
+    cases::for_graphs().iter().for_each(|case| orders::rows(table, case));
     cases::for_graphs().iter().for_each(|case| listing::row(table, case));
     window::rows(table);
     table.print_means();
