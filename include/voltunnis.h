@@ -128,6 +128,18 @@ uint64_t vt_walk(const uint8_t *sheet, size_t sheet_len, const uint8_t *graph, s
 uint64_t vt_wait(const uint8_t *sheet, size_t sheet_len, const uint8_t *graph, size_t graph_len,
                  const uint8_t *piece, size_t piece_len);
 
+/* Walks many pieces for one check: questions 1 to 11, 21 to 25, then for each piece 12 to 16, 20, 26 and 27. Pieces follow one
+ * another, each ending with its last term. For each piece a result of VT_RESULT bytes is written, the first at the start of the
+ * buffer: refusal, word, rule, edges walked, four zeros, then the wait list, highest byte first; all zero but the refusal where the
+ * piece is refused. It goes on after a piece that is refused by 20, 26 or 27; one that cannot be read (12 to 16) gets the last
+ * result. It stops where the pieces end, where the buffer has no room for a result, or before a field would be too large. The
+ * bytes after the results stay as they are, and all do where the sheet or the graph is refused.
+ * Fields: results written (bits 8 to 31), bytes of the pieces that were read (bits 32 to 63), after which the next call goes on. */
+#define VT_RESULT 16
+
+uint64_t vt_walk_all(const uint8_t *sheet, size_t sheet_len, const uint8_t *graph, size_t graph_len,
+                     const uint8_t *pieces, size_t pieces_len, uint8_t *results, size_t results_len);
+
 /* A window has the counts of the last 1,000 answers that were fed to it, or of all if fewer were. It is so many uint16_t, which the
  * caller lends; all zero is a fresh one. A feed and a question take the same time whatever was fed before. On memory that holds
  * anything else the calls end and stay inside it. */

@@ -22,6 +22,7 @@ mod order;
 mod packed;
 mod refusal;
 mod results;
+mod walks;
 pub mod window;
 
 pub use calls::{
@@ -29,7 +30,8 @@ pub use calls::{
 };
 pub use order::{build_ordered, check_order, graph_ordered};
 pub use refusal::Refusal;
-pub use results::{Answer, Built, GraphSize, PieceSize, Plain, SheetSize, Walk, Word, Written};
+pub use results::{Answer, Built, GraphSize, PieceSize, Plain, Run, SheetSize, Walk, Word, Written};
+pub use walks::{answers, results, walk_all, Answers, RESULT_BYTES};
 
 /// The most bytes that a graph has, built or accepted: 5, and for each of 1,024 nodes 8 and 255 cases
 /// of 7.

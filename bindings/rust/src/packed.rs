@@ -3,7 +3,7 @@
 //! The lowest byte is the number of the refusal, 0 when accepted. The fields follow from bit 8 up,
 //! the first one lowest. On a refusal every other bit is 0.
 
-use crate::{Built, GraphSize, PieceSize, Plain, Refusal, SheetSize, Walk, Word, Written};
+use crate::{Built, GraphSize, PieceSize, Plain, Refusal, Run, SheetSize, Walk, Word, Written};
 
 /// A result's fields as one number, the first field in its lowest bits.
 pub trait Fields: Sized {
@@ -86,6 +86,16 @@ impl Fields for Walk {
     }
 }
 
+impl Fields for Run {
+    fn to_bits(&self) -> u64 {
+        u64::from(self.results) | u64::from(self.bytes) << 24
+    }
+
+    fn from_bits(bits: u64) -> Option<Self> {
+        Some(Run { results: bits as u32 & 0xff_ffff, bytes: (bits >> 24) as u32 })
+    }
+}
+
 /// A call that hands back nothing but its refusal.
 impl Fields for () {
     fn to_bits(&self) -> u64 {
@@ -143,6 +153,9 @@ mod tests {
         assert_eq!(unpack::<Written>(31).map_err(u8::from), Err(31));
         let walk = Walk { word: Word::Fail, rule: 0, edges: 64 };
         assert_eq!(pack(&Ok(walk)), 0x4000_0400);
+        let run = Run { results: 0x12_3456, bytes: 0xfedc_ba98 };
+        assert_eq!(pack(&Ok(run)), 0xfedc_ba98_1234_5600);
+        assert_eq!(unpack(pack(&Ok(run))), Ok(run));
     }
 
     #[test]

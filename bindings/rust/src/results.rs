@@ -80,6 +80,15 @@ pub struct Answer {
     pub wait: u64,
 }
 
+/// How far a run over many pieces came.
+#[derive(Clone, Copy, Debug, PartialEq, Eq)]
+pub struct Run {
+    /// How many results were written.
+    pub results: u32,
+    /// How many bytes the pieces have that were read: the next run goes on after them.
+    pub bytes: u32,
+}
+
 impl Answer {
     /// The numbers of the tests that the piece waits for, ascending.
     ///
