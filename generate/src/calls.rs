@@ -9,6 +9,8 @@ pub enum Role {
     Sheet,
     Piece,
     Graph,
+    /// Pieces one after another.
+    Pieces,
     /// The table of a reading order.
     Order,
     /// A buffer that is lent to be written, by what it holds before.
@@ -28,6 +30,7 @@ pub enum Name {
     BuildOrdered,
     Rewrite,
     Walk,
+    WalkAll,
 }
 
 impl Role {
@@ -37,6 +40,7 @@ impl Role {
             Role::Sheet => "sheet",
             Role::Piece => "piece",
             Role::Graph => "graph",
+            Role::Pieces => "pieces",
             Role::Order => "order",
             Role::Buffer => "buffer",
         }
@@ -45,7 +49,7 @@ impl Role {
 
 impl Name {
     /// All calls, those that are given less first.
-    pub const ALL: [Name; 10] = [
+    pub const ALL: [Name; 11] = [
         Name::CheckPiece,
         Name::CheckSheet,
         Name::CheckOrder,
@@ -56,6 +60,7 @@ impl Name {
         Name::BuildOrdered,
         Name::Rewrite,
         Name::Walk,
+        Name::WalkAll,
     ];
 
     /// The name as it stands in a line.
@@ -71,6 +76,7 @@ impl Name {
             Name::BuildOrdered => "build_ordered",
             Name::Rewrite => "rewrite",
             Name::Walk => "walk",
+            Name::WalkAll => "walk_all",
         }
     }
 
@@ -86,6 +92,7 @@ impl Name {
             Name::BuildOrdered => &[Role::Sheet, Role::Order, Role::Buffer],
             Name::Rewrite => &[Role::Sheet, Role::Graph, Role::Buffer],
             Name::Walk => &[Role::Sheet, Role::Graph, Role::Piece],
+            Name::WalkAll => &[Role::Sheet, Role::Graph, Role::Pieces, Role::Buffer],
         }
     }
 }

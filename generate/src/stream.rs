@@ -35,6 +35,7 @@ struct Given<'a> {
     order: &'a [u8],
     graph: &'a [u8],
     piece: &'a [u8],
+    pieces: &'a [u8],
     buffer: &'a [u8],
 }
 
@@ -62,6 +63,9 @@ fn buffer_length(random: &mut Random, needed: usize) -> usize {
         _ => needed + random.between(2, 40),
     }
 }
+
+/// The bytes of a result of many walks.
+pub const RESULT: usize = 16;
 
 /// Sheets whose graphs have a known size.
 const KNOWN: [fn() -> Vec<u8>; 8] = [
@@ -115,6 +119,8 @@ impl<B: Fn(&[u8], Option<&[u8]>) -> Option<Vec<u8>>> Stream<B> {
                 self.call(name, Given { sheet, graph, piece, ..Given::default() });
             }
         }
+        let (all, buffer) = (&pieces.concat()[..], &lent(RESULT * pieces.len() + 3)[..]);
+        self.call(Name::WalkAll, Given { sheet, graph, pieces: all, buffer, ..Given::default() });
         let order = &table(&reversed())[..];
         let graph = &(self.build)(sheet, Some(order)).unwrap_or_default()[..];
         let buffer = &lent(graph.len() + 3)[..];
@@ -133,6 +139,7 @@ impl<B: Fn(&[u8], Option<&[u8]>) -> Option<Vec<u8>>> Stream<B> {
             Role::Order => given.order.to_vec(),
             Role::Graph => given.graph.to_vec(),
             Role::Piece => given.piece.to_vec(),
+            Role::Pieces => given.pieces.to_vec(),
             Role::Buffer => given.buffer.to_vec(),
         }));
     }
@@ -202,14 +209,17 @@ impl<B: Fn(&[u8], Option<&[u8]>) -> Option<Vec<u8>>> Stream<B> {
         let graph = &self.graph(&subject)[..];
         self.call(Name::CheckGraph, Given { graph, ..given });
         self.write(Name::Rewrite, Given { graph, ..given }, graph.len());
-        for _ in 0..=self.random.below(3) {
-            let piece = &self.piece(tree)[..];
+        let pieces: Vec<Vec<u8>> = (0..=self.random.below(3)).map(|_| self.piece(tree)).collect();
+        for piece in &pieces {
             self.call(Name::CheckPiece, Given { piece, ..given });
             self.call(Name::Plain, Given { piece, ..given });
             for graph in [Some(graph), own.as_deref(), ordered.as_deref()].into_iter().flatten() {
                 self.call(Name::Walk, Given { graph, piece, ..given });
             }
         }
+        let graph = own.as_deref().filter(|_| self.random.percent(50)).unwrap_or(graph);
+        let given = Given { graph, pieces: &pieces.concat(), ..given };
+        self.write(Name::WalkAll, given, RESULT * pieces.len());
     }
 }
 

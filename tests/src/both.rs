@@ -4,7 +4,7 @@
 //! a program links only those functions of the library that it calls.
 
 use crate::bytes::to_hex;
-use crate::results::{Answer, Built, GraphSize, PieceSize, Plain, Refusal, SheetSize, Written};
+use crate::results::{Answer, Built, GraphSize, PieceSize, Plain, Refusal, Run, SheetSize, Written};
 use crate::{reference, voltunnis};
 pub use voltunnis_generate::stream::lent;
 
@@ -134,4 +134,15 @@ pub fn walk(sheet: &[u8], graph: &[u8], piece: &[u8]) -> Result<Answer, Refusal>
     let wait = result.map_or(0, |answer| answer.wait);
     assert_eq!(voltunnis::wait(sheet, graph, piece), wait, "library's wait list, reference's: {}", what());
     result
+}
+
+/// Walks many pieces with results in a buffer of this length; gives how far it came and the buffer.
+#[inline]
+pub fn walk_all(sheet: &[u8], graph: &[u8], pieces: &[u8], len: usize) -> (Result<Run, Refusal>, Vec<u8>) {
+    let (result, buffer) = lend(len, |buffer| voltunnis::walk_all(sheet, graph, pieces, buffer));
+    let (expected, bytes) = lend(len, |buffer| reference::walk_all(sheet, graph, pieces, buffer));
+    let what = || format!("sheet {} graph {} pieces {}", to_hex(sheet), to_hex(graph), to_hex(pieces));
+    assert_eq!(result, expected, "library, reference: {} to {len} bytes", what());
+    assert!(buffer == bytes, "other bytes in the buffer: {} to {len} bytes", what());
+    (result, buffer)
 }

@@ -1,7 +1,7 @@
 //! The calls of the static library, from the crate `voltunnis`, each refusal as its number. They are
 //! inlined, so that a program links only those that it calls.
 
-use crate::results::{Built, GraphSize, PieceSize, Plain, Refusal, SheetSize, Walk, Written};
+use crate::results::{Built, GraphSize, PieceSize, Plain, Refusal, Run, SheetSize, Walk, Written};
 pub use voltunnis::wait;
 
 #[inline]
@@ -52,4 +52,9 @@ pub fn tidy(sheet: &[u8], buffer: &mut [u8]) -> Result<Written, Refusal> {
 #[inline]
 pub fn walk(sheet: &[u8], graph: &[u8], piece: &[u8]) -> Result<Walk, Refusal> {
     voltunnis::walk(sheet, graph, piece).map_err(u8::from)
+}
+
+#[inline]
+pub fn walk_all(sheet: &[u8], graph: &[u8], pieces: &[u8], results: &mut [u8]) -> Result<Run, Refusal> {
+    voltunnis::walk_all(sheet, graph, pieces, results).map_err(u8::from)
 }

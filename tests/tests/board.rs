@@ -185,6 +185,13 @@ fn the_stack_of_each_writer_is_what_the_readme_says() {
     );
     let lent = std::sync::Mutex::new(buffers());
     holds(
+        "`vt_walk_all`",
+        most(move |s, g, p| {
+            let _ = black_box(voltunnis::walk_all(s, g, p, &mut lent.lock().expect("one thread")));
+        }),
+    );
+    let lent = std::sync::Mutex::new(buffers());
+    holds(
         "`vt_rewrite`",
         most(move |s, g, _| {
             let _ = black_box(voltunnis::rewrite(s, g, &mut lent.lock().expect("one thread")));

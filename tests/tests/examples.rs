@@ -33,6 +33,13 @@ fn the_counts_of_a_window_are_printed() {
 }
 
 #[test]
+fn the_examples_pieces_are_walked_two_at_a_time() {
+    let first = "commit 2 3 0000000000000000\nexecute 1 2 0000000000000004\n2 results, 14 bytes\n";
+    let second = "suspend 0 2 0000000000000003\nfail 0 1 0000000000000000\n2 results, 12 bytes\n";
+    assert_eq!(printed("walk_all"), [first, second, "0 results, 0 bytes\n"].concat());
+}
+
+#[test]
 fn the_rust_example_prints_the_four_answers() {
     let program = Path::new(env!("CARGO_TARGET_TMPDIR")).join("../debug/examples/plain");
     let output = run(&mut Command::new(program));

@@ -96,6 +96,18 @@ impl Count {
         }
     }
 
+    /// Walks many pieces with results in a buffer of this length.
+    fn walk_all(&mut self, sheet: &[u8], graph: &[u8], pieces: &[u8], len: usize) {
+        let (result, buffer) = both::walk_all(sheet, graph, pieces, len);
+        let (given, bytes) = lend(len, |buffer| fast::walk_all(sheet, graph, pieces, buffer));
+        let what = || {
+            format!("fast, both: sheet {} graph {} pieces {}", to_hex(sheet), to_hex(graph), to_hex(pieces))
+        };
+        assert_eq!(given, result, "{}", what());
+        assert!(bytes == buffer, "other bytes in the buffer: {}", what());
+        self.add(Name::WalkAll, result);
+    }
+
     /// Makes a call of the stream; the fast code has none that writes again or takes a reading order.
     fn call(&mut self, call: &Call) {
         let of = |role| call.argument(role).unwrap_or_default();
@@ -108,6 +120,7 @@ impl Count {
             Name::Build => drop(self.build(sheet, of(Role::Buffer).len())),
             Name::Tidy => drop(self.tidy(sheet, of(Role::Buffer).len())),
             Name::Walk => self.walk(sheet, graph, piece),
+            Name::WalkAll => self.walk_all(sheet, graph, of(Role::Pieces), of(Role::Buffer).len()),
             Name::Rewrite | Name::CheckOrder | Name::BuildOrdered => {}
         }
     }
@@ -126,6 +139,7 @@ impl Count {
         self.build(sheet, graph.len());
         self.check_graph(sheet, &graph);
         self.walk(sheet, &graph, piece);
+        self.walk_all(sheet, &graph, &piece.repeat(3), 50);
         self.build(sheet, graph.len() + 40)
     }
 

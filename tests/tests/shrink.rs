@@ -21,6 +21,7 @@ fn refusal(call: &Call) -> u8 {
         Name::BuildOrdered => reference::build_ordered(sheet, order, &mut buffer).map(drop),
         Name::Rewrite => reference::rewrite(sheet, graph, &mut buffer).map(drop),
         Name::Walk => reference::walk(sheet, graph, piece).map(drop),
+        Name::WalkAll => reference::walk_all(sheet, graph, of(Role::Pieces), &mut buffer).map(drop),
     };
     said.err().unwrap_or(0)
 }

@@ -30,6 +30,9 @@ fn outcome(call: &Call) -> String {
             both::build_ordered(sheet, order, buffer.len()).0.map(|_| "built in order".to_string())
         }
         Name::Rewrite => both::rewrite(sheet, graph, buffer.len()).0.map(|_| "rewritten".to_string()),
+        Name::WalkAll => {
+            both::walk_all(sheet, graph, of(Role::Pieces), buffer.len()).0.map(|_| "walked all".to_string())
+        }
         Name::Walk => both::walk(sheet, graph, piece).map(|answer| answer.walk.word.name().to_string()),
     };
     said.unwrap_or_else(|refusal| format!("refused {refusal}"))
@@ -46,8 +49,8 @@ fn every_refusal_and_every_word_is_met_whatever_the_seed() {
         let words = ["commit", "execute", "suspend", "fail"];
         let plain = words.map(|word| format!("plain {word}"));
         let refusals = (1..=31).map(|number| format!("refused {number}"));
-        let accepted = ["sheet", "piece", "graph", "order", "tidy", "built", "built in order", "rewritten"];
-        let accepted = accepted.map(String::from);
+        let written = ["tidy", "built", "built in order", "rewritten", "walked all"];
+        let accepted = ["sheet", "piece", "graph", "order"].into_iter().chain(written).map(String::from);
         for wanted in refusals.chain(words.map(String::from)).chain(plain).chain(accepted) {
             assert!(counts.contains_key(&wanted), "seed {seed}: {wanted} never");
         }

@@ -70,7 +70,7 @@ fn a_short_run_says_what_it_never_met() {
     );
     assert!(
         lines.contains(
-            &"never met   calls check_piece, check_order, plain, tidy, build_ordered, rewrite, walk"
+            &"never met   calls check_piece, check_order, plain, tidy, build_ordered, rewrite, walk, walk_all"
         ),
         "{said}"
     );

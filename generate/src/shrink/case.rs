@@ -5,6 +5,7 @@ use crate::asked::Asked;
 use crate::calls::{Call, Name, Role};
 use crate::nodes::GraphNodes;
 use crate::orders::table;
+use crate::stream::RESULT;
 use crate::trees::{piece_bytes, read_piece, SheetTree, Term};
 use crate::variables::tidy_length;
 use std::collections::BTreeSet;
@@ -15,6 +16,7 @@ pub struct Case<'a> {
     build: Build<'a>,
     sheet: Option<(SheetTree, Vec<u8>)>,
     piece: Option<(Vec<Term>, Vec<u8>)>,
+    pieces: Option<pieces::Several>,
     graph: Option<(GraphNodes, Vec<u8>)>,
     order: Option<Vec<u16>>,
     /// Whether the graph is the sheet's own.
@@ -31,14 +33,17 @@ fn kept<T>((tree, tail): (T, &[u8])) -> (T, Vec<u8>) {
     (tree, tail.to_vec())
 }
 
-/// How many bytes a writer needs: those of the sheet's own graph, of its tidy form, or of the graph that it is
-/// given.
+/// How many bytes a writer needs: those of the sheet's own graph, of its tidy form, of the results of pieces, or of
+/// the graph that it is given.
 fn needed(name: Name, call: &Call, build: Build) -> Option<usize> {
     let sheet = call.argument(Role::Sheet)?;
     match name {
         Name::Build => build(sheet, None).map(|graph| graph.len()),
         Name::BuildOrdered => build(sheet, call.argument(Role::Order)).map(|graph| graph.len()),
         Name::Tidy => SheetTree::read(sheet).map(|(tree, _)| tidy_length(&tree)),
+        Name::WalkAll => {
+            call.argument(Role::Pieces).map(|bytes| RESULT * pieces::Several::read(bytes).results())
+        }
         _ => call.argument(Role::Graph).map(<[u8]>::len),
     }
 }
@@ -54,6 +59,7 @@ impl<'a> Case<'a> {
         Case {
             sheet: call.argument(Role::Sheet).and_then(SheetTree::read).map(kept),
             piece: call.argument(Role::Piece).and_then(read_piece).map(kept),
+            pieces: call.argument(Role::Pieces).map(pieces::Several::read),
             graph: call.argument(Role::Graph).and_then(GraphNodes::read).map(kept),
             order: call.argument(Role::Order).and_then(orders::read),
             own: is_own(&call, build),
@@ -71,6 +77,13 @@ impl<'a> Case<'a> {
         }
         if let Some((terms, _)) = &self.piece {
             steps.extend(pieces::steps(terms).map(Step::Piece));
+        }
+        if let Some(pieces::Several { pieces, .. }) = &self.pieces {
+            steps.extend(parts(pieces.len()).map(Step::Pieces));
+            let one = |(at, terms): (usize, &Vec<Term>)| -> Vec<Step> {
+                pieces::steps(terms).map(|step| Step::OneOf(at, step)).collect()
+            };
+            steps.extend(pieces.iter().enumerate().flat_map(one));
         }
         steps.extend([Value::Id, Value::Number].map(Step::Ranked));
         if let Some((graph, _)) = &self.graph {
@@ -101,6 +114,13 @@ impl<'a> Case<'a> {
             Step::Piece(step) => {
                 let (terms, tail) = self.piece.as_ref()?;
                 Some(self.with_piece(&self.call, &pieces::after(terms, step)?, tail))
+            }
+            Step::Pieces(part) => Some(self.with_pieces(&self.pieces.as_ref()?.without(part)?)),
+            Step::OneOf(at, step) => {
+                let mut several = self.pieces.clone()?;
+                let terms = several.pieces.get_mut(*at)?;
+                *terms = pieces::after(terms, step)?;
+                Some(self.with_pieces(&several))
             }
             Step::Ranked(value) => self.ranked(*value),
             Step::Graph(step) => {
@@ -146,6 +166,11 @@ impl<'a> Case<'a> {
         call.with(Role::Piece, &[&piece_bytes(terms), tail].concat())
     }
 
+    /// The call with other pieces.
+    fn with_pieces(&self, several: &pieces::Several) -> Call {
+        self.refitted(self.call.with(Role::Pieces, &several.bytes()))
+    }
+
     /// The call with another sheet, and with what belongs to the sheet changed alike.
     fn with_sheet(&self, sheet: SheetTree, step: &sheets::Step) -> Option<Call> {
         let (old, tail) = self.sheet.as_ref()?;
@@ -153,6 +178,10 @@ impl<'a> Case<'a> {
         let mut call = self.call.with(Role::Sheet, &bytes);
         if let Some((terms, tail)) = &self.piece {
             call = self.with_piece(&call, &pieces::following(terms, old, step)?, tail);
+        }
+        if let Some(several) = &self.pieces {
+            let several = several.each(|terms| pieces::following(terms, old, step))?;
+            call = call.with(Role::Pieces, &several.bytes());
         }
         if let Some(places) = &self.order {
             call = call.with(Role::Order, &table(&orders::following(places, step)));
@@ -172,12 +201,16 @@ impl<'a> Case<'a> {
 
     /// The call with ids or numbers of sheet and piece made small alike.
     fn ranked(&self, which: Value) -> Option<Call> {
-        let (mut sheet, mut piece) = (self.sheet.clone(), self.piece.clone());
+        let (mut sheet, mut piece, mut several) =
+            (self.sheet.clone(), self.piece.clone(), self.pieces.clone());
         let mut each = |change: &mut dyn FnMut(&mut u16)| {
             if let Some((sheet, _)) = &mut sheet {
                 sheets::each(sheet, which, change);
             }
             if let Some((terms, _)) = &mut piece {
+                pieces::each(terms, which, change);
+            }
+            for terms in several.iter_mut().flat_map(|several| &mut several.pieces) {
                 pieces::each(terms, which, change);
             }
         };
@@ -187,6 +220,9 @@ impl<'a> Case<'a> {
         let mut call = self.call.clone();
         if let Some((terms, tail)) = &piece {
             call = self.with_piece(&call, terms, tail);
+        }
+        if let Some(several) = &several {
+            call = call.with(Role::Pieces, &several.bytes());
         }
         let Some((sheet, tail)) = sheet else { return Some(call) };
         let bytes = [sheet.bytes(), tail].concat();

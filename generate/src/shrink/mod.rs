@@ -2,7 +2,7 @@
 //! simpler patterns and terms, smaller ids and numbers, orders closer to ascending, fewer bytes.
 //!
 //! Sheets, pieces and graphs that can be read are made smaller as trees; a sheet takes its own graph, the
-//! piece's arguments and the buffer's length along. Whatever can't be read is made smaller byte by byte.
+//! pieces' arguments, the order and the buffer's length along. Whatever can't be read is made smaller byte by byte.
 
 mod bytes;
 mod case;
@@ -25,6 +25,10 @@ enum Step {
     Simpler(Name),
     Sheet(sheets::Step),
     Piece(pieces::Step),
+    /// Without these of several pieces.
+    Pieces(Range<usize>),
+    /// A step of one of several pieces.
+    OneOf(usize, pieces::Step),
     /// Ids, or numbers, of sheet and piece counted from 0 in their order.
     Ranked(Value),
     Graph(graphs::Step),

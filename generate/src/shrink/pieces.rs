@@ -1,8 +1,49 @@
 //! Pieces made simpler: fewer arguments, unknowns and simpler terms, smaller ids and numbers.
 
 use super::{lower, parts, sheets, Value};
-use crate::trees::{SheetTree, Term};
+use crate::trees::{piece_bytes, read_piece, SheetTree, Term};
 use std::ops::Range;
+
+/// Pieces one after another as far as they can be read, each by its terms, and the bytes after them.
+#[derive(Clone)]
+pub struct Several {
+    pub pieces: Vec<Vec<Term>>,
+    tail: Vec<u8>,
+}
+
+impl Several {
+    pub fn read(mut bytes: &[u8]) -> Several {
+        let mut pieces = Vec::new();
+        while let Some((terms, rest)) = read_piece(bytes) {
+            pieces.push(terms);
+            bytes = rest;
+        }
+        Several { pieces, tail: bytes.to_vec() }
+    }
+
+    pub fn bytes(&self) -> Vec<u8> {
+        self.pieces.iter().flat_map(|terms| piece_bytes(terms)).chain(self.tail.iter().copied()).collect()
+    }
+
+    /// How many results they have: one more for what cannot be read.
+    pub fn results(&self) -> usize {
+        self.pieces.len() + usize::from(!self.tail.is_empty())
+    }
+
+    /// The pieces without some.
+    pub fn without(&self, part: &Range<usize>) -> Option<Several> {
+        let mut several = self.clone();
+        several.pieces.get(part.clone())?;
+        several.pieces.drain(part.clone());
+        Some(several)
+    }
+
+    /// The pieces, each changed alike, if all can be.
+    pub fn each(&self, change: impl Fn(&[Term]) -> Option<Vec<Term>>) -> Option<Several> {
+        let pieces = self.pieces.iter().map(|terms| change(terms)).collect::<Option<_>>()?;
+        Some(Several { pieces, tail: self.tail.clone() })
+    }
+}
 
 /// A way to make a piece simpler.
 #[derive(Clone, Debug)]

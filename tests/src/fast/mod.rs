@@ -17,8 +17,9 @@ mod sheet;
 mod tidy;
 mod variables;
 mod walk;
+mod walks;
 
-use crate::results::{Answer, Built, GraphSize, PieceSize, Plain, Refusal, SheetSize, Written};
+use crate::results::{Answer, Built, GraphSize, PieceSize, Plain, Refusal, Run, SheetSize, Written};
 use graph::MOST_NODES;
 use piece::Piece;
 use sheet::{Sheet, MOST_RULES};
@@ -84,4 +85,15 @@ pub fn walk(sheet: &[u8], graph: &[u8], piece: &[u8]) -> Result<Answer, Refusal>
     graph::read(graph, &sheet, &mut nodes)?;
     sheet.number_places();
     walk::walk(&sheet, &rules, graph, &nodes, &piece, &mut Variables::none())
+}
+
+/// Walks many pieces: the sheet's questions, 21 to 25, then each piece's.
+pub fn walk_all(sheet: &[u8], graph: &[u8], pieces: &[u8], results: &mut [u8]) -> Result<Run, Refusal> {
+    let mut sheet = Sheet::unread(sheet);
+    let mut rules = [0; MOST_RULES];
+    sheet.read(&mut rules)?;
+    let mut nodes = [0; MOST_NODES];
+    graph::read(graph, &sheet, &mut nodes)?;
+    sheet.number_places();
+    Ok(walks::walk_all(&sheet, &rules, graph, &nodes, pieces, results))
 }

@@ -72,13 +72,20 @@ impl<'a> Piece<'a> {
 
     /// Asks the questions and notes where each term stands; gives the arity.
     pub fn read(&mut self) -> Result<u8, Refusal> {
-        let bytes = self.bytes;
-        let arity = header(bytes)?;
-        let used = terms(&bytes[2..], 2, usize::from(arity), 0, 1, &mut self.offsets)?;
-        if used + 2 != bytes.len() {
+        let (arity, used) = self.read_first()?;
+        if used != self.bytes.len() {
             return Err(17);
         }
         Ok(arity)
+    }
+
+    /// The same for the piece that ends with its last term; gives the arity and how many bytes it has.
+    #[inline(always)]
+    pub fn read_first(&mut self) -> Result<(u8, usize), Refusal> {
+        let bytes = self.bytes;
+        let arity = header(bytes)?;
+        let used = terms(&bytes[2..], 2, usize::from(arity), 0, 1, &mut self.offsets)?;
+        Ok((arity, used + 2))
     }
 
     /// The offset of the known term at a place, else `LACKING` or `NOT_KNOWN`.

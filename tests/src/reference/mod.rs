@@ -17,12 +17,13 @@ pub mod tidy;
 pub mod truth;
 pub mod variables;
 pub mod walk;
+pub mod walks;
 pub mod window;
 
 pub use voltunnis_generate::{nodes, records};
 
 use crate::generate::trees::SheetTree;
-use crate::results::{Answer, Built, GraphSize, PieceSize, Plain, Refusal, SheetSize, Written};
+use crate::results::{Answer, Built, GraphSize, PieceSize, Plain, Refusal, Run, SheetSize, Written};
 use piece::Piece;
 use sheet::Sheet;
 
@@ -101,6 +102,13 @@ pub fn walk(sheet: &[u8], graph: &[u8], piece: &[u8]) -> Result<Answer, Refusal>
     }
     let nodes = graph::read(&sheet, graph)?;
     walk::walk(&sheet, &nodes, &piece)
+}
+
+/// Walks many pieces: the sheet's questions, 21 to 25, then each piece's.
+pub fn walk_all(sheet: &[u8], graph: &[u8], pieces: &[u8], results: &mut [u8]) -> Result<Run, Refusal> {
+    let sheet = Sheet::read(sheet)?;
+    let nodes = graph::read(&sheet, graph)?;
+    Ok(walks::walk_all(&sheet, &nodes, pieces, results))
 }
 
 /// The bytes of a sheet's graph, in a reading order if one is given; none if a question gets a no.

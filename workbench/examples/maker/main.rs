@@ -8,6 +8,7 @@ use std::io::{stdin, BufRead};
 use voltunnis_tests::bytes::{from_hex, to_hex};
 use voltunnis_tests::reference::{
     build, build_ordered, check_graph, check_order, check_piece, check_sheet, plain, rewrite, tidy, walk,
+    walk_all,
 };
 use voltunnis_tests::results::Built;
 
@@ -33,6 +34,9 @@ fn call(name: &str, arguments: &mut [Vec<u8>]) -> Option<Said> {
             rewrite(sheet, graph, buffer).map(|written| written.bytes.to_string())
         }
         ("walk", [sheet, graph, piece]) => walk(sheet, graph, piece).map(|answer| answer.to_string()),
+        ("walk_all", [sheet, graph, pieces, results]) => {
+            walk_all(sheet, graph, pieces, results).map(|run| format!("{} {}", run.results, run.bytes))
+        }
         _ => return None,
     })
 }
@@ -43,7 +47,7 @@ fn size(built: Built) -> String {
 }
 
 /// The calls that are lent a buffer.
-const WRITERS: [&str; 4] = ["tidy", "build", "build_ordered", "rewrite"];
+const WRITERS: [&str; 5] = ["tidy", "build", "build_ordered", "rewrite", "walk_all"];
 
 fn main() {
     let trap = std::env::args().skip_while(|word| word != "--wrong").nth(1);

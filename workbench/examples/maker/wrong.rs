@@ -5,6 +5,8 @@
 //! - `drop` drops a rule because its test is not known.
 //! - `lowest` asks the lowest test under every reading order.
 //! - `hurried` refuses by question 30 before it has asked 29 over the whole table.
+//! - `late` gives each of many pieces the result of the one before it.
+//! - `eager` takes the bytes of a piece that it could not read.
 //! - `spill` writes a zero after a graph, where the buffer is longer.
 //! - `touch` writes to the buffer before it looks whether the graph fits.
 //! - `number` gives a number to every variable of a tidy sheet, also to one that stands once.
@@ -122,6 +124,12 @@ fn hurried(order: &[u8]) -> Result<()> {
     }
 }
 
+/// The two fields of a reply, if it is accepted.
+fn fields(said: &Option<Said>) -> Option<[usize; 2]> {
+    let (one, two) = said.as_ref()?.as_ref().ok()?.split_once(' ')?;
+    Some([one.parse().ok()?, two.parse().ok()?])
+}
+
 /// The arity of the first accepted piece.
 static FIRST: OnceLock<String> = OnceLock::new();
 
@@ -138,9 +146,22 @@ pub fn call(trap: &str, name: &str, arguments: &mut [Vec<u8>]) -> Option<Said> {
             Some(built.map(size))
         }
         ("hurried", "check_order", [order]) => Some(hurried(order).map(|()| String::new())),
+        ("late", "walk_all", _) => {
+            let result = right(name, arguments);
+            let written = fields(&result).map_or(0, |[results, _]| 16 * results);
+            arguments[3][..written].rotate_right(16.min(written));
+            result
+        }
+        ("eager", "walk_all", _) => {
+            let result = right(name, arguments);
+            let Some([results, bytes]) = fields(&result) else { return result };
+            let last = arguments[3][..16 * results].chunks(16).last().map_or(0, |last| last[0]);
+            let taken = if (12..=16).contains(&last) { arguments[2].len() } else { bytes };
+            Some(Ok(format!("{results} {taken}")))
+        }
         ("spill", "build", _) => {
             let result = right(name, arguments);
-            let end = result.clone()?.ok().and_then(|fields| fields.split(' ').nth(1)?.parse::<usize>().ok());
+            let end = fields(&result).map(|[_, bytes]| bytes);
             if let Some(byte) = end.and_then(|end| arguments[1].get_mut(end)) {
                 *byte = 0;
             }
@@ -166,7 +187,7 @@ pub fn call(trap: &str, name: &str, arguments: &mut [Vec<u8>]) -> Option<Said> {
             println!("unknown");
             right(name, arguments)
         }
-        ("half", "check_graph" | "build" | "build_ordered" | "rewrite" | "walk", _) => None,
+        ("half", "check_graph" | "build" | "build_ordered" | "rewrite" | "walk" | "walk_all", _) => None,
         _ => right(name, arguments),
     }
 }

@@ -9,7 +9,6 @@ use super::source::Source;
 use super::stop::{Stop, REFUSED};
 use super::Command;
 use crate::json::Json;
-use crate::notation::Piece;
 use std::fmt::Write;
 use voltunnis::{Answer, Refusal, SheetSize};
 
@@ -82,7 +81,7 @@ impl Listing {
     }
 
     /// Lists a sheet, then its pieces one after another, until a question gets a no.
-    fn list(&mut self, sheet: &[u8], order: Option<&[u8]>, mut pieces: &[u8]) -> Result<(), Refusal> {
+    fn list(&mut self, sheet: &[u8], order: Option<&[u8]>, pieces: &[u8]) -> Result<(), Refusal> {
         let mut graph = vec![0; INPUT];
         let built = match order {
             Some(order) => voltunnis::build_ordered(sheet, order, &mut graph)?,
@@ -90,11 +89,8 @@ impl Listing {
         };
         graph.truncate(built.bytes as usize);
         self.sheet = Some((voltunnis::check_sheet(sheet)?, built.nodes));
-        while !pieces.is_empty() {
-            // What cannot be read as a piece is refused with all that follows.
-            let (piece, rest) = pieces.split_at(Piece::length(pieces).unwrap_or(pieces.len()));
-            self.answers.push(voltunnis::answer(sheet, &graph, piece)?);
-            pieces = rest;
+        for answer in voltunnis::answers(sheet, &graph, pieces)? {
+            self.answers.push(answer?);
         }
         Ok(())
     }

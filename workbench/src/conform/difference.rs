@@ -2,7 +2,7 @@
 
 use super::program::{Heard, Program};
 use super::replies::{fields, graph_in, reply};
-use crate::notation::{count, print_graph, print_order, print_piece, print_sheet};
+use crate::notation::{count, print_graph, print_order, print_piece, print_sheet, Piece};
 use std::fmt::Write;
 use std::io;
 use voltunnis::Refusal;
@@ -224,6 +224,7 @@ fn in_notation(role: Role, bytes: &[u8]) -> String {
         Role::Piece => print_piece(bytes),
         Role::Graph => print_graph(bytes),
         Role::Order => print_order(bytes),
+        Role::Pieces => return pieces_in_notation(bytes),
         Role::Buffer => return format!("{} long", count(bytes.len(), "byte")),
     };
     let most = 60;
@@ -234,6 +235,21 @@ fn in_notation(role: Role, bytes: &[u8]) -> String {
         }
         Ok(text) => text,
         Err(_) => format!("no {} that can be read, {} long", role.text(), count(bytes.len(), "byte")),
+    }
+}
+
+/// Pieces one a line, and what is left after them.
+fn pieces_in_notation(mut bytes: &[u8]) -> String {
+    let mut text = String::new();
+    while let Ok(length) = Piece::length(bytes) {
+        let (one, rest) = bytes.split_at(length);
+        text += &format!("{}\n", print_piece(one).unwrap_or_default());
+        bytes = rest;
+    }
+    match (bytes.len(), text.is_empty()) {
+        (0, true) => "none".into(),
+        (0, false) => text,
+        (left, _) => format!("{text}no piece that can be read, {} long", count(left, "byte")),
     }
 }
 

@@ -40,6 +40,7 @@ pub fn fields(name: Name) -> &'static [&'static str] {
         Name::Build | Name::BuildOrdered => &["nodes", "bytes"],
         Name::Tidy | Name::Rewrite => &["bytes"],
         Name::Walk => &["answer", "rule", "edges", "wait list"],
+        Name::WalkAll => &["results", "bytes"],
     }
 }
 
@@ -69,6 +70,8 @@ pub fn reply(call: &Call) -> Reply {
         Name::Build => voltunnis::build(sheet, lent).map(size),
         Name::BuildOrdered => voltunnis::build_ordered(sheet, order, lent).map(size),
         Name::Rewrite => voltunnis::rewrite(sheet, graph, lent).map(|written| written.bytes.to_string()),
+        Name::WalkAll => voltunnis::walk_all(sheet, graph, of(Role::Pieces), lent)
+            .map(|run| format!("{} {}", run.results, run.bytes)),
         Name::Walk => voltunnis::answer(sheet, graph, piece).map(|answer: Answer| {
             said(answer.walk.word);
             answer.to_string()

@@ -2,7 +2,7 @@
 
 use crate::cases::Case;
 use crate::table::{outcome, Table};
-use crate::timing::{against, against_both};
+use crate::timing::{against, against_both, Times};
 use voltunnis_tests::results::Built;
 use voltunnis_tests::{fast, reference, voltunnis};
 
@@ -22,6 +22,7 @@ pub fn rows(table: &mut Table, case: &Case) {
     buffer.truncate(built.bytes as usize);
     written_rows(table, case, &buffer, &size);
     walk_row(table, case, &buffer, &size);
+    walks_row(table, case, &buffer);
 }
 
 fn build_row(table: &mut Table, Case { name, sheet, .. }: &Case, size: &str) {
@@ -59,4 +60,27 @@ fn walk_row(table: &mut Table, Case { name, sheet, piece }: &Case, graph: &[u8],
         Err(_) => outcome(&walked),
     };
     table.row(name, "vt_walk", &format!("{size}, {edges}"), times);
+}
+
+/// How many pieces a run has beyond its first.
+const MORE: usize = 1000;
+
+/// One walk inside `vt_walk_all`: what a piece more takes, sheet and graph checked.
+fn walks_row(table: &mut Table, Case { name, sheet, piece }: &Case, graph: &[u8]) {
+    let (one, two, three) =
+        (&mut vec![0; 16 * (MORE + 1)], &mut vec![0; 16 * (MORE + 1)], &mut vec![0; 16 * (MORE + 1)]);
+    let mut times = |count: usize| {
+        let pieces = &piece.repeat(count)[..];
+        against_both(
+            || voltunnis::walk_all(sheet, graph, pieces, one),
+            || reference::walk_all(sheet, graph, pieces, two),
+            || fast::walk_all(sheet, graph, pieces, three),
+        )
+    };
+    let (few, many) = (times(1), times(MORE + 1));
+    let each = |few: f64, many: f64| (many - few) / MORE as f64;
+    let fastest = few.fastest.zip(many.fastest).map(|(few, many)| each(few, many));
+    let (library, reference) = (each(few.library, many.library), each(few.reference, many.reference));
+    let size = format!("one of {} pieces", MORE + 1);
+    table.row(name, "one walk inside vt_walk_all", &size, Times { library, reference, fastest });
 }
