@@ -23,7 +23,8 @@ fn number(x: u8) -> usize
     x as usize
 }
 
-// "Otherwise it asks the lowest pending test": before each test all lower ones are asked. Not the test itself too, nor none of them.
+// "Otherwise it asks the lowest pending test": before each test all lower ones are asked. Not the test itself too, nor only the one
+// below it.
 pub fn lowest_first(s: &mut Tables)
     requires { ⌜ (length (now s) ≡ 324) × (testsIn (now s) ≤ 64) ⌝ }
     ensures { λ _. ⌜ now (s .exit) ≡ putAll 260 (map lowerTests (countFrom 0 (testsIn (now (s .entry))))) (now (s .entry)) ⌝ }

@@ -16,8 +16,8 @@ use Rattle.cuts.specs.views.Cuts.{partAt, Parted}
 use Rattle.cuts.specs.views.CutsOf.{CutsOf}
 use Rattle.rows.specs.views.TestsOf.{TestsOf}
 
--- These accepted rules are read from the bytes; their tests are listed, and asked in this order; no rule is in the tables or the cuts
--- yet.
+-- These accepted rules are read from the bytes; their tests are listed, and asked in this order; no rule is in the tables or the
+-- cuts yet.
 pub record Compiling (arity : ℕ) (b numbers s c order : List ℕ) (all : List Patterns) : Type 0 where
   pub arguments : arity ≤ 8
   pub bytes : ℕ
