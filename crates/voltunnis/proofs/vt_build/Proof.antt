@@ -1,7 +1,5 @@
 -- The values of the call, packed, and the buffer that it leaves.
-use mathlib.Core.Path.{sym, ap, _∙_, subst}
-use Rattle.build.specs.BuildOutcome.{BuildOutcome, leftBy}
-use Rattle.voltunnis.specs.Packed.{Packs, builtFields}
+use Rattle.voltunnis.proofs.BuiltPacked.{built-packed}
 use borrow.Author.Needs.{needs}
 use Rattle.voltunnis.proofs.vt_build.Statement.{statement}
 use Rattle.voltunnis.proofs.vt_build.Tie as tie
@@ -26,16 +24,16 @@ same-length c = search needs
 
 returns : tie.Need-returns
 returns c =
-    let told = sym (ap (λ w. leftBy w (c .before .before .before .before .before .before .build .last .1 .0)) (c .before .before .built .given .1)) ∙ c .before .before .before .before .before .before .build .ensures in
-    (subst (λ (x : BuildOutcome). Packs (c .pack-two .result) (builtFields (x .values))) told (c .pack-two .ensures), ap (λ (x : BuildOutcome). x .buffer) told)
+    built-packed (c .before .before .before .before .before .before .build .ensures) (c .before .before .built .given .1)
+    (c .pack-two .ensures)
 
 same-length-2 : tie.Need-same-length-2
 same-length-2 c = search needs
 
 returns-2 : tie.Need-returns-2
 returns-2 c =
-    let told = sym (ap (λ w. leftBy w (c .before .before .before .before .before .before .build .last .1 .0)) (c .before .before .built2 .given .1)) ∙ c .before .before .before .before .before .before .build .ensures in
-    (subst (λ (x : BuildOutcome). Packs (c .pack-two2 .result) (builtFields (x .values))) told (c .pack-two2 .ensures), ap (λ (x : BuildOutcome). x .buffer) told)
+    built-packed (c .before .before .before .before .before .before .build .ensures) (c .before .before .built2 .given .1)
+    (c .pack-two2 .ensures)
 
 pub vt-build-spec : {M : Type 1} → statement M
 vt-build-spec =
