@@ -1,8 +1,10 @@
 // A table of places is read: questions 28 to 30.
 use crate::TableCheck;
+use places::Parents;
 ghost use mathlib.Core.Path.{_≡_};
 ghost use Prim.Native.Nat.{_<_};
 ghost use lib.ListN.{length};
+ghost use Rattle.places.specs.views.AllParents.{AllParents};
 ghost use Rattle.order.specs.Table.{readTable, checkRefusal, tableRefusal};
 ghost use Rattle.order.specs.views.TableRead.{tableRead, isNew, isLate};
 
@@ -17,11 +19,11 @@ fn is_new(down: &[u8; 681], p: usize) -> bool
 }
 
 // Is its parent not down yet?
-fn is_late(down: &[u8; 681], p: usize) -> bool
-    requires { ⌜ p < 680 ⌝ }
+fn is_late(down: &[u8; 681], parents: &Parents, p: usize) -> bool
+    requires { ⌜ (p < 680) × AllParents (now parents) ⌝ }
     ensures { λ r. ⌜ r ≡ isLate (now (down .entry)) p ⌝ }
 {
-    down[places::parent(p)] == 0
+    down[places::parent_in(parents, p)] == 0
 }
 
 // Reads a table, and leaves its places in their order: questions 28 to 30. Not 30 for a table that has a place twice behind one
@@ -33,6 +35,7 @@ pub fn read_table(table: &[u8], places: &mut [u16; 680]) -> TableCheck
     if table.len() != 1360 {
         return TableCheck::Refused(28);
     }
+    let parents = places::all_parents();
     let mut down = [0u8; 681];
     down[680] = 1;
     let mut late = false;
@@ -43,7 +46,7 @@ pub fn read_table(table: &[u8], places: &mut [u16; 680]) -> TableCheck
         if !is_new(&down, p) {
             return TableCheck::Refused(29);
         }
-        if is_late(&down, p) {
+        if is_late(&down, &parents, p) {
             late = true;
         }
         down[p] = 1;

@@ -9,14 +9,14 @@ use Rattle.order.proofs.ReadOn.{parent-inside}
 use Rattle.order.proofs.table.is_late.Statement.{statement}
 use Rattle.order.proofs.table.is_late.Tie as tie
 
-parent-requires : tie.Need-parent-requires
-parent-requires c κs = search needs
+parent-in-requires : tie.Need-parent-in-requires
+parent-in-requires c κs = (c .pre .0, c .pre .1)
 
 element-copy-out-result : tie.Need-element-copy-out-result
-element-copy-out-result c = omega (arith, c .parent .ensures, parent-inside (c .before .args .p) (c .before .pre))
+element-copy-out-result c = omega (arith, c .parent-in .ensures, parent-inside (c .before .args .p) (c .before .pre .0))
 
 returns : tie.Need-returns
-returns c = ap (λ (q : ℕ). eqb (getD (c .before .before .args .down .now) q 0) 0) (c .before .parent .ensures)
+returns c = ap (λ (q : ℕ). eqb (getD (c .before .before .args .down .now) q 0) 0) (c .before .parent-in .ensures)
 
 pub is-late-spec : {M : Type 1} → statement M
-is-late-spec = tie.close (tie.spec parent-requires element-copy-out-result returns)
+is-late-spec = tie.close (tie.spec parent-in-requires element-copy-out-result returns)

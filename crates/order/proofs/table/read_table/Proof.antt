@@ -11,106 +11,86 @@ use Rattle.order.proofs.TableLoop.{ReadTo, read-short, read-start, read
 use Rattle.order.proofs.TableLoop.{not-refused, not-new, new-inside, late-now, late-still}
 use Rattle.order.proofs.table.read_table.Statement.{statement}
 use Rattle.order.proofs.table.read_table.Tie as tie
-use Rattle.order.proofs.table.read_table.Reads as reads
-use Rattle.order.proofs.table.read_table.Lts as lts
-use Rattle.order.proofs.table.is_late.Reads as is-late-reads
-use Rattle.order.proofs.table.is_new.Reads as is-new-reads
-use Rattle.records.proofs.wide.Reads as wide-reads
 
 abbrev Inv-loop : tie.InvT-loop
-Inv-loop table places₀ down₀ late₀ i₀ places down late i = (length table ≡ 1360) × ReadTo table i places down late
+Inv-loop table places₀ parents down₀ late₀ i₀ places down late i = (length table ≡ 1360) × ReadTo table i places down late
 
 abbrev μ-loop : tie.MeasureT-loop
-μ-loop table places₀ down₀ late₀ i₀ places down late i = 680 - i
+μ-loop table places₀ parents down₀ late₀ i₀ places down late i = 680 - i
 
--- src/table.rt:34:9
 returns : tie.Need-returns Inv-loop μ-loop
 returns c = read-short _ (c .if1 .taken)
 
--- src/table.rt:37:5
+all-parents-requires : tie.Need-all-parents-requires Inv-loop μ-loop
+all-parents-requires c κs = search needs
+
 array-write-down : tie.Need-array-write-down Inv-loop μ-loop
 array-write-down c = search needs
 
--- src/table.rt:40:5
 loop-holds : tie.Need-loop-holds Inv-loop μ-loop
 unfolding noneDown
-loop-holds c = (c .if1 .left, read-start _ _ (c .before .before .pre))
+loop-holds c = (c .before .if1 .left, read-start _ _ (c .before .before .before .pre))
 
--- src/table.rt:41:41
 mul-wide : tie.Need-mul-wide Inv-loop μ-loop
 mul-wide c = search needs
 
--- src/table.rt:41:35
 shared-slice-read-wide : tie.Need-shared-slice-read-wide Inv-loop μ-loop
 shared-slice-read-wide c = search needs
 
--- src/table.rt:41:55
 mul-wide-2 : tie.Need-mul-wide-2 Inv-loop μ-loop
 mul-wide-2 c = search needs
 
--- src/table.rt:41:55
 add-wide : tie.Need-add-wide Inv-loop μ-loop
 add-wide c = search needs
 
--- src/table.rt:41:49
 shared-slice-read-wide-2 : tie.Need-shared-slice-read-wide-2 Inv-loop μ-loop
 shared-slice-read-wide-2 c = search needs
 
--- src/table.rt:41:13
 wide-requires : tie.Need-wide-requires Inv-loop μ-loop
 wide-requires c κs = search needs
 
--- src/table.rt:42:17
 cast-p : tie.Need-cast-p Inv-loop μ-loop
 cast-p c = search needs
 
--- src/table.rt:43:13
 is-new-requires : tie.Need-is-new-requires Inv-loop μ-loop
 is-new-requires c κs = search needs
 
--- src/table.rt:44:13
 returns-2 : tie.Need-returns-2 Inv-loop μ-loop
 returns-2 c = read-stop (c .before .before .before .before .before .before .before .loop .inv .1) (c .before .before .before .wide .result) (c .before .before .before .before .before .before .loop-test .taken) (c .before .before .before .wide .ensures) (c .before .before .before .before .before .before .before .loop .inv .0) (sym (c .before .is-new .ensures) ∙ not-new _ (c .if2 .taken))
 
--- src/table.rt:46:12
 is-late-requires : tie.Need-is-late-requires Inv-loop μ-loop
-is-late-requires c κs = new-inside (c .before .before .before .before .before .before .before .before .loop .down) (c .before .before .before .before .wide .result) (sym (c .before .before .is-new .ensures) ∙ not-refused _ (c .before .if2 .left))
+is-late-requires c κs = (
+  new-inside (c .before .before .before .before .before .before .before .before .before .loop .down) (c .before .before .before .before .before .wide .result) (sym (c .before .before .before .is-new .ensures) ∙ not-refused _ (c .before .before .if2 .left)),
+  c .before .before .before .before .before .before .before .before .before .before .all-parents .ensures,
+)
 
--- src/table.rt:49:9
 array-write-down-2 : tie.Need-array-write-down-2 Inv-loop μ-loop
-array-write-down-2 c = omega (arith, new-inside (c .before .before .before .before .before .before .before .before .before .before .loop .down) (c .before .before .before .before .before .before .wide .result) (sym (c .before .before .before .before .is-new .ensures) ∙ not-refused _ (c .before .before .before .if2 .left)))
+array-write-down-2 c = omega (arith, new-inside (c .before .before .before .before .before .before .before .before .before .before .before .loop .down) (c .before .before .before .before .before .before .before .wide .result) (sym (c .before .before .before .before .before .is-new .ensures) ∙ not-refused _ (c .before .before .before .before .if2 .left)))
 
--- src/table.rt:50:9
 mul-places : tie.Need-mul-places Inv-loop μ-loop
 mul-places c = search needs
 
--- src/table.rt:50:9
 element-write-places : tie.Need-element-write-places Inv-loop μ-loop
 element-write-places c = search needs
 
--- src/table.rt:51:9
 add-i : tie.Need-add-i Inv-loop μ-loop
 add-i c = search needs
 
--- src/table.rt:40:5
 loop-less : tie.Need-loop-less Inv-loop μ-loop
-loop-less c = omega (arith, c .before .before .before .before .before .before .before .before .before .loop-test .taken)
+loop-less c = omega (arith, c .before .before .before .before .before .before .before .before .before .before .loop-test .taken)
 
--- src/table.rt:40:5
 loop-again : tie.Need-loop-again Inv-loop μ-loop
 loop-again c = (
-  c .before .before .before .before .before .before .before .before .before .before .loop .inv .0,
-  read-next (c .before .before .before .before .before .before .before .before .before .before .loop .inv .1) (c .before .before .before .before .before .before .wide .result) (c .before .before .before .before .before .before .before .before .before .loop-test .taken) (c .before .before .before .before .before .before .wide .ensures) (c .if3 .late)
-      (sym (c .before .before .before .before .is-new .ensures) ∙ not-refused _ (c .before .before .before .if2 .left))
-      (⊎-elim (λ w. late-now (c .before .before .before .before .before .before .before .before .before .before .loop .late) _ _ (sym (c .before .is-late .ensures) ∙ w .0 .taken) (w .1))
-      (λ w. late-still (c .before .before .before .before .before .before .before .before .before .before .loop .late) _ _ (sym (c .before .is-late .ensures) ∙ w .0 .left) (w .1)) (c .if3 .came)),
+  c .before .before .before .before .before .before .before .before .before .before .before .loop .inv .0,
+  read-next (c .before .before .before .before .before .before .before .before .before .before .before .loop .inv .1) (c .before .before .before .before .before .before .before .wide .result) (c .before .before .before .before .before .before .before .before .before .before .loop-test .taken) (c .before .before .before .before .before .before .before .wide .ensures) (c .if3 .late)
+      (sym (c .before .before .before .before .before .is-new .ensures) ∙ not-refused _ (c .before .before .before .before .if2 .left))
+      (⊎-elim (λ w. late-now (c .before .before .before .before .before .before .before .before .before .before .before .loop .late) _ _ (sym (c .before .is-late .ensures) ∙ w .0 .taken) (w .1))
+      (λ w. late-still (c .before .before .before .before .before .before .before .before .before .before .before .loop .late) _ _ (sym (c .before .is-late .ensures) ∙ w .0 .left) (w .1)) (c .if3 .came)),
 )
 
--- src/table.rt:54:9
 returns-3 : tie.Need-returns-3 Inv-loop μ-loop
 returns-3 c = read-late (c .before .before .loop .inv .1) (c .before .before .loop .inv .0) (c .before .loop-test .left) (c .if4 .taken)
 
--- src/table.rt:29:1
 returns-4 : tie.Need-returns-4 Inv-loop μ-loop
 returns-4 c = read-all (c .before .before .loop .inv .1) (c .before .before .loop .inv .0) (c .before .loop-test .left) (c .if4 .left)
 
@@ -121,6 +101,7 @@ read-table-spec =
     Inv-loop
     μ-loop
     returns
+    all-parents-requires
     array-write-down
     loop-holds
     mul-wide
