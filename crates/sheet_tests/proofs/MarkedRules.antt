@@ -96,6 +96,9 @@ module _ {arity at : ℕ} {s words marks notes : List ℕ} {b n : ℕ} (k : Rule
   pub names-apart : notesMeet (notesIn notes n) ≡ false → readRule arity (drop at s) ≡ refused 9
   names-apart apart = by-names apart
 
+  pub names-meets : notesMeet (notesIn notes n) ≡ true → readRule arity (drop at s) ≡ took b (k .rule)
+  names-meets meet = by-names meet
+
   module _ (bytes : AreBytes s) (meet : notesMeet (notesIn notes n) ≡ true) where
     accepted : AcceptedRule arity (k .rule)
     accepted = rule-sound arity (drop at s) (bytes-drop at s bytes) (by-names meet)

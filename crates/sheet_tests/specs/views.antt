@@ -6,3 +6,4 @@ pub mod PutAt
 pub mod NoteTests
 pub mod Gathered
 pub mod TestsRead
+pub mod Starts

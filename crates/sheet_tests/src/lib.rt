@@ -4,6 +4,7 @@ pub mod rule; // the tests of a rule
 pub mod sheets; // the tests of a sheet, and its check
 pub mod tested; // the set of tested places
 
+pub use sheets::check_noted;
 pub use sheets::check_sheet;
 pub use sheets::read_tests;
 

@@ -1,91 +1,17 @@
--- The first record, then the rules.
-use mathlib.Core.Path.{sym, ap, _∙_}
-use native.Mathlib.Omega.{arith}
-use Rattle.records.proofs.Parts.{rest, rest-length}
+-- The tests are read with notes and starts of its own.
 use Prim.Native.Nat.{ℕ}
-use Rattle.sheet.specs.views.HeaderRead.{headerRead, headerRefusal}
-use Rattle.sheet.specs.ReadSheet.{readRules, endSheet}
-use Rattle.sheet_tests.specs.CheckSheet.{askTests}
-use Rattle.sheet_tests.specs.views.TestsRead.{testsFound, sheetFound}
-use Rattle.sheet_tests.specs.declared.TestsRead.the-variants.{Refused}
-use Rattle.sheet_tests.proofs.Checking.{zeros, header-refused, header-known, header-read}
+use lib.ListN.{length-replicate}
 use borrow.Author.Needs.{needs}
 use Rattle.sheet_tests.proofs.sheets.read_tests.Statement.{statement}
 use Rattle.sheet_tests.proofs.sheets.read_tests.Tie as tie
 
-read-header-requires : tie.Need-read-header-requires
-read-header-requires c κs = search needs
-
-enum-known-header : tie.Need-enum-known-header
-enum-known-header c = search needs
-
-enum-told : tie.Need-enum-told
-enum-told c = search needs
-
-header-refusal-requires : tie.Need-header-refusal-requires
-header-refusal-requires c κs = search needs
-
-sub-read-rules : tie.Need-sub-read-rules
-sub-read-rules c =
-    let start = c .before .before .before .before .before in
-    let read-header = c .before .before .before .read-header in
-    omega (arith, header-known (start .args .s .now) (sym (ap headerRead (c .before .header .given .1)) ∙ read-header .ensures))
-
-part-read-rules-start : tie.Need-part-read-rules-start
-part-read-rules-start c =
-    let start = c .before .before .before .before .before in
-    let read-header = c .before .before .before .read-header in
-    omega (arith, header-known (start .args .s .now) (sym (ap headerRead (c .before .header .given .1)) ∙ read-header .ensures))
-
-part-read-rules-end : tie.Need-part-read-rules-end
-part-read-rules-end c = search needs
-
-read-rules-requires : tie.Need-read-rules-requires
-read-rules-requires c κs =
-    let start = c .before .before .before .before .before .before .before .before in
-    let read-header = c .before .before .before .before .before .before .read-header in
-    let known = c .before .before .before .before .header in
-    let header = sym (ap headerRead (known .given .1)) ∙ read-header .ensures in
-    (header-known (start .args .s .now) header .1, start .pre .0, start .pre .1)
+tests-noted-requires : tie.Need-tests-noted-requires
+tests-noted-requires c κs =
+    let pre = c .before .before .before .before .before .pre in
+    (pre .0, pre .1, length-replicate {A = ℕ} 680 0, length-replicate {A = ℕ} 32 0)
 
 returns : tie.Need-returns
-returns c =
-    let start = c .before .before .before .before .before in
-    let read-header = c .before .before .before .read-header in
-    let told = c .before .enum-told .given .1 in
-    let words = start .args .words .now in
-    let codes = start .args .codes .now in (
-      ap (λ (q : ℕ). testsFound words codes (Refused q)) (c .header-refusal .ensures ∙ ap headerRefusal told)
-          ∙ header-refused (start .args .s .now) words codes (sym (ap headerRead told) ∙ read-header .ensures),
-      record { allWords = zeros 11 (start .pre .0); allCodes = zeros 65 (start .pre .1); counted = tt },
-    )
-
-returns-2 : tie.Need-returns-2
-returns-2 c =
-    let start = c .before .before .before .before .before .before .before .before .before in
-    let known = c .before .before .before .before .before .header in
-    let read-header = c .before .before .before .before .before .before .before .read-header in
-    let s = start .args .s .now in
-    let header = sym (ap headerRead (known .given .1)) ∙ read-header .ensures in
-    let arity = known .given .0 .0 in
-    let rules = known .given .0 .1 .0 in (
-      c .read-rules .ensures .0
-          ∙ (λ j. sheetFound (askTests (endSheet arity (rest-length s 3 j) (readRules arity rules (rest s 3 j)))))
-          ∙ sym (ap sheetFound (header-read s header)),
-      c .read-rules .ensures .1,
-    )
+returns c = (c .tests-noted .ensures .0, c .tests-noted .ensures .1 .0)
 
 pub read-tests-spec : {M : Type 1} → statement M
-read-tests-spec =
-    tie.close
-    (tie.spec
-    read-header-requires
-    enum-known-header
-    enum-told
-    header-refusal-requires
-    returns
-    sub-read-rules
-    part-read-rules-start
-    part-read-rules-end
-    read-rules-requires
-    returns-2)
+read-tests-spec = tie.close (tie.spec tests-noted-requires returns)

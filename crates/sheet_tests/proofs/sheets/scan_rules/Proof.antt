@@ -1,26 +1,29 @@
 -- A loop over the rules: what comes of those left, with what is gathered, is what comes of all.
 use Prim.Native.Nat.{_-_, _≤_}
-use mathlib.Core.Path.{_≡_, sym, _∙_}
+use mathlib.Core.Path.{_≡_, refl, sym, _∙_}
 use native.Mathlib.Omega.{arith}
-use lib.ListN.{length}
+use lib.ListN.{length, length-set}
 use borrow.Author.Tests.{not-true, not-false}
 use Rattle.records.specs.Fields.{AreBytes}
 use Rattle.records.specs.Reading.{mapReading}
 use Rattle.sheet.specs.ReadSheet.{readRules}
 use Rattle.sheet_tests.specs.views.Gathered.{gather, held}
+use Rattle.sheet_tests.specs.views.Starts.{ruleStart, StartsIn}
+use Rattle.sheet_tests.proofs.Starting.{starts-none, starts-put, start-next}
 use Rattle.sheet_tests.proofs.Scanning.{bytes-known, scanFrom, scan-start, scan-end, scan-refused}
-use Rattle.sheet_tests.proofs.MarkedRules.{RuleMarked, rule-marked, marks-refused, names-apart, marked-placed, scan-turn}
+use Rattle.sheet_tests.proofs.MarkedRules.{RuleMarked, rule-marked, marks-refused, names-apart, names-meets, marked-placed, scan-turn}
 use borrow.Author.Needs.{needs}
 use Rattle.sheet_tests.proofs.sheets.scan_rules.Statement.{statement}
 use Rattle.sheet_tests.proofs.sheets.scan_rules.Tie as tie
 
 abbrev Inv-loop : tie.InvT-loop
-Inv-loop s arity rules notes₀ words₀ codes₀ at₀ count₀ i₀ notes words codes at count i =
+Inv-loop s arity rules notes₀ words₀ codes₀ starts₀ at₀ count₀ i₀ notes words codes starts at count i =
     (i ≤ rules) × (at ≤ length s) × (count ≤ 65) × (length notes ≡ 680) × (length words ≡ 11) × (length codes ≡ 65)
     × (scanFrom arity rules s i at (held words codes count) ≡ mapReading (λ rs. gather rs (held words₀ codes₀ 0)) (readRules arity rules s))
+    × (length starts ≡ 32) × (at ≡ ruleStart arity s i) × StartsIn arity s starts i
 
 abbrev μ-loop : tie.MeasureT-loop
-μ-loop s arity rules notes₀ words₀ codes₀ at₀ count₀ i₀ notes words codes at count i = rules - i
+μ-loop s arity rules notes₀ words₀ codes₀ starts₀ at₀ count₀ i₀ notes words codes starts at count i = rules - i
 
 loop-holds : tie.Need-loop-holds Inv-loop μ-loop
 loop-holds c =
@@ -32,6 +35,9 @@ loop-holds c =
       start .pre .2,
       start .pre .3,
       scan-start (start .args .arity) (start .args .rules) (start .args .s .now) _,
+      start .pre .5,
+      refl,
+      starts-none (start .args .arity) (start .args .s .now) (start .args .starts .now),
     )
 
 read-marks-requires : tie.Need-read-marks-requires Inv-loop μ-loop
@@ -77,7 +83,10 @@ returns c =
       scan-refused (start .args .arity) (start .args .rules) s (turn .i) (turn .at)
           (held (turn .words) (turn .codes) (turn .count)) (omega arith) no
           ∙ turn .inv .6,
-      record { used = omega arith; fewPairs = omega arith; allWords = read-marks .ensures .1 .1; allCodes = turn .inv .5 },
+      (
+        record { used = omega arith; fewPairs = omega arith; allWords = read-marks .ensures .1 .1; allCodes = turn .inv .5 },
+        (tt, read-marks .ensures .1 .0 .entries),
+      ),
     )
 
 common-requires : tie.Need-common-requires Inv-loop μ-loop
@@ -94,7 +103,15 @@ returns-2 c =
       scan-refused (a .arity) (a .rules) (a .s .now) (turn .i) (turn .at) (held (turn .words) (turn .codes) (turn .count))
           (omega arith) no
           ∙ turn .inv .6,
-      record { used = omega arith; fewPairs = omega arith; allWords = at-read-marks read .read-marks .ensures .1 .1; allCodes = turn .inv .5 },
+      (
+        record {
+          used = omega arith;
+          fewPairs = omega arith;
+          allWords = at-read-marks read .read-marks .ensures .1 .1;
+          allCodes = turn .inv .5;
+        },
+        (tt, at-read-marks read .read-marks .ensures .1 .0 .entries),
+      ),
     )
 
 gather-rule-requires : tie.Need-gather-rule-requires Inv-loop μ-loop
@@ -129,6 +146,11 @@ loop-again c =
       scan-turn (rule read) (bytes read) meet (start read .args .rules) (turn .i) (turn .codes) (turn .count) _ (omega arith)
           (gathered .0)
           ∙ turn .inv .6,
+      length-set (turn .starts) (turn .i) (turn .at) ∙ turn .inv .7,
+      start-next (start read .args .arity) (start read .args .s .now) (turn .i) (turn .at) (turn .inv .8)
+          (names-meets (rule read) meet),
+      starts-put (start read .args .arity) (start read .args .s .now) (turn .i) (turn .at) (turn .inv .8) (turn .starts)
+          (omega (arith, turn .inv .7, start read .pre .4)) (turn .inv .9),
     )
 
 returns-3 : tie.Need-returns-3 Inv-loop μ-loop
@@ -138,12 +160,16 @@ returns-3 c =
       scan-end (start .args .arity) (start .args .rules) (start .args .s .now) (turn .i) (turn .at)
           (held (turn .words) (turn .codes) (turn .count)) (omega arith)
           ∙ turn .inv .6,
-      record { used = turn .inv .1; fewPairs = turn .inv .2; allWords = turn .inv .4; allCodes = turn .inv .5 },
+      (
+        record { used = turn .inv .1; fewPairs = turn .inv .2; allWords = turn .inv .4; allCodes = turn .inv .5 },
+        (λ k h. turn .inv .9 k (omega arith), turn .inv .3),
+      ),
     )
 
 pub scan-rules-spec : {M : Type 1} → statement M
 scan-rules-spec =
     tie.close
-    (tie.spec Inv-loop μ-loop loop-holds (λ c. search needs) (λ c. search needs) (λ c. search needs) read-marks-requires
+    (tie.spec Inv-loop μ-loop loop-holds (λ c. search needs) (λ c. search needs) (λ c. search needs) (λ c. search needs)
+    (λ c. search needs) read-marks-requires
     (λ c. search needs) returns (λ c. search needs) common-requires returns-2 gather-rule-requires add-at
     (λ c. search needs) (λ c. search needs) loop-again returns-3)
