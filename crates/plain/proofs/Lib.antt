@@ -8,3 +8,4 @@ pub mod NotesRight
 pub mod PiecesRead
 pub mod PieceAnswers
 pub mod RulesBehind
+pub mod FlatArguments

@@ -11,6 +11,7 @@ use Rattle.records.proofs.Rows.{row-none, row-refused, row-next}
 use Rattle.terms.specs.Pattern.{Patterns}
 use Rattle.terms.specs.Outcome.{Outcome}
 use Rattle.terms.specs.Answer.{Answer, commit, execute, suspend, fail, wordOf}
+use Rattle.sheet.specs.views.Noted.{ruleNotes}
 use Rattle.sheet.specs.ReadSheet.{readRule, readRules}
 use Rattle.plain.specs.Plain.{PlainValues, answerValues, plainRefusalValues, readingValues}
 use Rattle.plain.specs.views.RuleByRule.{moved, movedBy}
@@ -22,6 +23,14 @@ values-after
     → readingValues (mapReading f (after a g x)) ≡ readingValues (mapReading (λ (y : A). f (g y)) x)
 values-after a f g (took b y) = refl
 values-after a f g (refused q) = refl
+
+-- A reading is not refused,
+pub readings-apart : {A : Type 0} {b q : ℕ} {x : A} → took b x ≡ refused q → ⊥
+readings-apart e = let z : _≡_ {A = ℕ} 0 1 = cc in absurd (omega arith)
+
+-- and two readings of a rule are of one rule.
+pub same-rule : {b k : ℕ} {rule other : Patterns} → took b rule ≡ took k other → ruleNotes rule ≡ ruleNotes other
+same-rule e = cc
 
 -- A refusal is no answer.
 refusal-no : {q : ℕ} (a : Answer) → plainRefusalValues q ≡ answerValues a → ⊥
@@ -92,3 +101,15 @@ module _ (outcome : Patterns → Outcome) (arity count : ℕ) (s : List ℕ) whe
           → answerValues suspend ≡ readingValues (mapReading (movedBy outcome (suc i) suspend) x)
       go (took b rules) h = ap answerValues (sym (suspended (suc i) rules))
       go (refused q) h = absurd (refusal-no a h)
+
+  -- A rule of an accepted sheet can be read.
+  pub turn-read
+      : (i at : ℕ) (a x : Answer) → i < count → answerFrom i at a ≡ answerValues x
+      → (b : ℕ) × (rule : Patterns) × (readRule arity (drop at s) ≡ took b rule)
+  turn-read i at a x h e = go (readRule arity (drop at s)) refl
+    where
+      go
+          : (r : Reading Patterns) → readRule arity (drop at s) ≡ r
+          → (b : ℕ) × (rule : Patterns) × (readRule arity (drop at s) ≡ took b rule)
+      go (took b rule) read = (b, rule, read)
+      go (refused q) read = absurd (refusal-no x (turn-refused i at a h read ∙ e))

@@ -4,12 +4,23 @@ use crate::rules::answer_rules;
 use piece::PieceCheck;
 use sheet_tests::SheetCheck;
 ghost use mathlib.Core.Path.{_≡_};
+ghost use Prim.Native.Nat.{_≤_};
+ghost use lib.ListN.{length};
+ghost use Rattle.sheet_tests.specs.views.Starts.{StartsIn};
 ghost use Rattle.plain.specs.Plain.{pieceReading, plainReading, plainValues, readingValues};
 ghost use Rattle.plain.specs.views.SheetRules.{SheetRules};
 
 // The answer for a piece by an accepted sheet's rules, which s begins with: the piece's questions, then 20.
-fn answer_piece(s: &[u8], arity: u8, count: u8, p: &[u8]) -> Plain
-    requires { ⌜ SheetRules (now s) arity count ⌝ }
+fn answer_piece(
+    s: &[u8],
+    arity: u8,
+    count: u8,
+    p: &[u8],
+    notes: &mut [u64; 680],
+    starts: &[usize; 32],
+) -> Plain
+    requires { ⌜ SheetRules (now s) arity count × (length (now notes) ≡ 680) × (count ≤ 32)
+        × StartsIn arity (now s) (now starts) count ⌝ }
     ensures { λ r. ⌜ ((k : SheetRules (now (s .entry)) arity count)
         → plainValues r ≡ readingValues (pieceReading arity (k .rules) (now (p .entry)))) ⌝ }
 {
@@ -21,8 +32,7 @@ fn answer_piece(s: &[u8], arity: u8, count: u8, p: &[u8]) -> Plain
             if n != arity {
                 return Plain::Refused(20);
             }
-            let mut notes = [0u64; 680];
-            answer_rules(s, arity as usize, count, &cells, &mut notes)
+            Plain::Answered(answer_rules(s, arity as usize, count, &cells, notes, starts))
         }
     }
 }
@@ -32,9 +42,18 @@ fn answer_piece(s: &[u8], arity: u8, count: u8, p: &[u8]) -> Plain
 pub fn plain(sheet: &[u8], piece: &[u8]) -> Plain
     ensures { λ r. ⌜ plainValues r ≡ readingValues (plainReading (now (sheet .entry)) (now (piece .entry))) ⌝ }
 {
-    let checked = sheet_tests::check_sheet(sheet);
+    let mut notes = [0u64; 680];
+    let mut starts = [0usize; 32];
+    let checked = sheet_tests::check_noted(sheet, &mut notes, &mut starts);
     match checked {
         SheetCheck::Refused(q) => Plain::Refused(q),
-        SheetCheck::Accepted(arity, count, _) => answer_piece(&sheet[3..], arity, count, piece),
+        SheetCheck::Accepted(arity, count, _) => answer_piece(
+            &sheet[3..],
+            arity,
+            count,
+            piece,
+            &mut notes,
+            &starts,
+        ),
     }
 }

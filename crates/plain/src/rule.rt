@@ -1,4 +1,5 @@
 // The outcome of all tests of a rule in a piece, from the rule's notes and the piece's cells.
+use crate::flat::fixed_outcome;
 use outcomes::TestOutcome;
 use outcomes::both;
 use outcomes::pair_outcome;
@@ -47,23 +48,6 @@ fn record_outcome(
     ensures { λ r. ⌜ outcomeOf r ≡ recordOutcome (now (cells .entry)) (ranges .low) (ranges .high) place what ⌝ }
 {
     match what {
-        PatternRecord::Anything => TestOutcome::Holds,
-        PatternRecord::Symbol(id) => {
-            let code = codes::symbol_code(id);
-            place_outcome(cells, place, code, code)
-        }
-        PatternRecord::Range(low, high) => {
-            place_outcome(
-                cells,
-                place,
-                codes::number_code(low),
-                codes::number_code(high),
-            )
-        }
-        PatternRecord::Compound(id, arity) => {
-            let code = codes::compound_code(id, arity);
-            place_outcome(cells, place, code, code)
-        }
         PatternRecord::Variable(v) => {
             let u = v as usize;
             range_outcome(cells, place, ranges.low[u], ranges.high[u])
@@ -72,6 +56,7 @@ fn record_outcome(
             let u = v as usize;
             range_outcome(cells, place, ranges.low[u], ranges.high[u])
         }
+        _ => fixed_outcome(cells, place, what),
     }
 }
 

@@ -1,5 +1,5 @@
 -- Where each rule begins, noted as the rules are read.
-use Prim.Native.Nat.{ℕ, suc, _+_, _<_}
+use Prim.Native.Nat.{ℕ, suc, _+_, _≤_, _<_}
 use mathlib.Core.Path.{_≡_, sym, ap, _∙_, subst}
 use mathlib.Core.List.{List}
 use mathlib.Core.Logic.{by-cases}
@@ -25,12 +25,17 @@ module _ (arity : ℕ) (s : List ℕ) where
   module _ (i at : ℕ) (is : at ≡ ruleStart arity s i) where
     -- The next rule begins where it was noted,
     pub starts-put
-        : (starts : List ℕ) → i < length starts → StartsIn arity s starts i → StartsIn arity s (set starts i at) (i + 1)
-    starts-put starts inside before k h =
+        : (starts : List ℕ) → i < length starts → at ≤ length s → StartsIn arity s starts i
+        → StartsIn arity s (set starts i at) (i + 1)
+    starts-put starts inside there before k h =
         by-cases (ℕ-discrete k i)
         (λ (e : k ≡ i).
-        ap (λ (j : ℕ). getD (set starts i at) j 0) e ∙ getD-set-same starts i at 0 inside ∙ is ∙ ap (ruleStart arity s) (sym e))
-        (λ (d : k ≡ i → ⊥). getD-set-other starts i k at 0 d ∙ before k (omega arith))
+        let put = ap (λ (j : ℕ). getD (set starts i at) j 0) e ∙ getD-set-same starts i at 0 inside in
+        (put ∙ is ∙ ap (ruleStart arity s) (sym e), omega (arith, put)))
+        (λ (d : k ≡ i → ⊥).
+        let kept = getD-set-other starts i k at 0 d in
+        let was = before k (omega arith) in
+        (kept ∙ was .0, omega (arith, kept, was .1)))
 
     -- and the one after it behind its bytes.
     pub start-next
@@ -48,5 +53,5 @@ starts-done arity n s starts e h = subst (scanStarts arity s starts n) e h
 
 pub starts-tests
     : (s starts : List ℕ) (arity n places pairs : ℕ) {r : TestsRead} → r ≡ Accepted arity n places pairs
-    → testsStarts s starts r → StartsIn arity s starts n
+    → testsStarts s starts r → (n ≤ 32) × StartsIn arity s starts n
 starts-tests s starts arity n places pairs e h = subst (testsStarts s starts) e h

@@ -20,7 +20,25 @@ abbrev pub testedIf : Bool → Outcome → Outcome
 testedIf true o = o
 testedIf false o = holds
 
+-- The bytes of a record that is no compound.
+abbrev pub flatBytes : PatternRecord → ℕ
+flatBytes Anything = 1
+flatBytes (Symbol a) = 3
+flatBytes (Range l h) = 5
+flatBytes (Compound a n) = 0
+flatBytes (Variable v) = 2
+flatBytes (Ranged v l h) = 6
+
 module _ (cells : List ℕ) where
+  -- The test of a symbol, a range or a compound at place p; a variable has its range's.
+  abbrev pub fixedOutcome : ℕ → PatternRecord → Outcome
+  fixedOutcome p Anything = holds
+  fixedOutcome p (Symbol a) = placeCells cells p (symbolCode a) (symbolCode a)
+  fixedOutcome p (Range l h) = placeCells cells p (numberCode l) (numberCode h)
+  fixedOutcome p (Compound a n) = placeCells cells p (compoundCode a n) (compoundCode a n)
+  fixedOutcome p (Variable v) = holds
+  fixedOutcome p (Ranged v l h) = holds
+
   -- The test of a variable's common range at place p. A high end over 65,535 says that it has none.
   abbrev pub rangeOutcome : ℕ → ℕ → ℕ → Outcome
   rangeOutcome p low high = testedIf (leb high 65535) (placeCells cells p (numberCode low) (numberCode high))

@@ -3,7 +3,6 @@ use Prim.Native.Nat.{ℕ}
 use mathlib.Core.Path.{sym, _∙_, subst}
 use native.Mathlib.Omega.{arith}
 use denote.Ref.{now}
-use lib.ListN.{length-replicate}
 use Rattle.terms.specs.Accepted.{AcceptedPiece}
 use Rattle.plain.proofs.PiecesRead.{reader-refused, reader-accepted, read-narrow}
 use Rattle.plain.proofs.PieceAnswers.{piece-refused, arities-differ, cells-answer}
@@ -32,12 +31,15 @@ returns c =
 
 answer-rules-requires : tie.Need-answer-rules-requires
 answer-rules-requires c κs =
-    let a = c .before .before .before .before .before .before .before .before .before .before .args in
-    let p = now (a .p) in
-    let cells = c .before .before .before .before .before .before .read-piece .last .1 .0 in
-    let bytes = bytes-all p (λ i. omega (arith, c .before .before .before .before .before .before .before .before .shared-slice-known2 .given i)) in
-    let r = reader-accepted p cells (c .before .before .before .before .before .before .read-piece .result) (c .before .before .before .before .before .before .read-piece .ensures) (c .before .before .before .before .read2 .given .1) bytes in
-    (c .before .before .before .before .before .before .before .before .before .before .pre, length-replicate {A = ℕ} 680 0, read-narrow r)
+    let at-read-piece = c .before .before .before .before .before .before in
+    let start = at-read-piece .before .before .before .before in
+    let p = now (start .args .p) in
+    let bytes = bytes-all p (λ i. omega (arith, at-read-piece .before .before .shared-slice-known2 .given i)) in
+    let read-piece = at-read-piece .read-piece in
+    let r =
+    reader-accepted p (read-piece .last .1 .0) (read-piece .result) (read-piece .ensures)
+    (c .before .before .before .before .read2 .given .1) bytes in
+    (start .pre .0, start .pre .1, read-narrow r, start .pre .2, start .pre .3)
 
 returns-2 : tie.Need-returns-2
 returns-2 c =
@@ -57,7 +59,7 @@ returns-3 c =
     let same = c .before .before .before .if1 .left in
     let ok = subst (λ (n : ℕ). AcceptedPiece n (r .piece .terms)) same (r .accepted) in
     λ k.
-    cells-answer (a .arity) (k .rules) p (r .read) (r .arityIs ∙ same) (c .before .before .before .before .before .before .before .before .before .before .before .pre .few) ok (k .accepted) (k .read) (r .laid) (c .answer-rules .ensures)
+    cells-answer (a .arity) (k .rules) p (r .read) (r .arityIs ∙ same) (c .before .before .before .before .before .before .before .before .before .before .before .pre .0 .few) ok (k .accepted) (k .read) (r .laid) (c .answer-rules .ensures)
 
 pub answer-piece-spec : {M : Type 1} → statement M
 answer-piece-spec =

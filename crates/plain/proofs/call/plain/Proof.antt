@@ -1,83 +1,87 @@
 -- The sheet is checked, then the piece is answered for.
-use Prim.Native.Nat.{ℕ}
-use mathlib.Core.Path.{sym, ap, _∙_}
+use Prim.Native.Nat.{ℕ, _-_}
+use mathlib.Core.Path.{sym, ap, subst, _∙_}
+use mathlib.Core.List.{List}
 use native.Mathlib.Omega.{arith}
 use denote.Ref.{now}
+use lib.ListN.{length, take, drop, length-replicate}
+use Rattle.records.proofs.ByteLists.{bytes-all}
+use Rattle.records.proofs.Parts.{rest}
 use Rattle.sheet_tests.specs.CheckSheet.{sheetCheckValues}
-use Rattle.plain.specs.Plain.{pieceReading, readingValues}
+use Rattle.sheet_tests.specs.views.Starts.{StartsIn, checkStarts}
+use Rattle.accepted.specs.views.AcceptedAs.{AcceptedAs}
 use Rattle.accepted.proofs.CheckedSheets.{check-accepts, check-refuses}
+use Rattle.plain.specs.Plain.{pieceReading, readingValues}
+use Rattle.plain.specs.views.SheetRules.{SheetRules}
 use Rattle.plain.proofs.PieceAnswers.{sheet-refused, sheet-answers}
 use Rattle.plain.proofs.RulesBehind.{sheet-rules}
 use borrow.Author.Needs.{needs}
 use Rattle.plain.proofs.call.plain.Statement.{statement}
 use Rattle.plain.proofs.call.plain.Tie as tie
-use Rattle.records.proofs.ByteLists.{bytes-all}
 
-check-sheet-requires : tie.Need-check-sheet-requires
-check-sheet-requires c κs = search needs
+check-noted-requires : tie.Need-check-noted-requires
+check-noted-requires c κs = (length-replicate {A = ℕ} 680 0, length-replicate {A = ℕ} 32 0)
 
-enum-known-checked : tie.Need-enum-known-checked
-enum-known-checked c = search needs
+-- Where the sheet was accepted.
+module _ (c : tie.After-known-told2) where
+  abbrev at-check : tie.After-check-noted
+  at-check = c .before .before .before
 
-enum-known-checked-2 : tie.Need-enum-known-checked-2
-enum-known-checked-2 c = search needs
+  abbrev start : tie.Start
+  start = at-check .before .before .before .before .before
 
-sub-answer-piece : tie.Need-sub-answer-piece
-sub-answer-piece c =
-    let a = c .before .before .before .before .before .before .args in
-    let s = now (a .sheet) in
-    let told = sym (ap sheetCheckValues (c .before .checked2 .given .1)) ∙ c .before .before .before .check-sheet .ensures in
-    let known = check-accepts s (c .before .checked2 .given .0 .0) (c .before .checked2 .given .0 .1 .0) (c .before .checked2 .given .0 .1 .1 .0) told in
-    omega (arith, known .whole)
+  abbrev known : AcceptedAs (now (start .args .sheet)) (c .before .checked2 .given .0 .0) (c .before .checked2 .given .0 .1 .0)
+  known =
+      check-accepts (now (start .args .sheet)) (c .before .checked2 .given .0 .0) (c .before .checked2 .given .0 .1 .0)
+      (c .before .checked2 .given .0 .1 .1 .0)
+      (sym (ap sheetCheckValues (c .before .checked2 .given .1)) ∙ at-check .check-noted .ensures .0)
+
+  abbrev rules
+      : let s = now (start .args .sheet) in
+      SheetRules (take (length s - 3) (drop 3 s)) (c .before .checked2 .given .0 .0) (c .before .checked2 .given .0 .1 .0)
+  rules =
+      let s = now (start .args .sheet) in
+      sheet-rules s (bytes-all s (λ i. omega (arith, at-check .before .before .before .before .shared-slice-known .given i))) known
 
 part-answer-piece-start : tie.Need-part-answer-piece-start
-part-answer-piece-start c =
-    let a = c .before .before .before .before .before .before .args in
-    let s = now (a .sheet) in
-    let told = sym (ap sheetCheckValues (c .before .checked2 .given .1)) ∙ c .before .before .before .check-sheet .ensures in
-    let known = check-accepts s (c .before .checked2 .given .0 .0) (c .before .checked2 .given .0 .1 .0) (c .before .checked2 .given .0 .1 .1 .0) told in
-    omega (arith, known .whole)
-
-part-answer-piece-end : tie.Need-part-answer-piece-end
-part-answer-piece-end c = search needs
+part-answer-piece-start c = omega (arith, known c .whole)
 
 answer-piece-requires : tie.Need-answer-piece-requires
 answer-piece-requires c κs =
-    let a = c .before .before .before .before .before .before .before .args in
-    let s = now (a .sheet) in
-    let told = sym (ap sheetCheckValues (c .before .before .checked2 .given .1)) ∙ c .before .before .before .before .check-sheet .ensures in
-    let known = check-accepts s (c .before .before .checked2 .given .0 .0) (c .before .before .checked2 .given .0 .1 .0) (c .before .before .checked2 .given .0 .1 .1 .0) told in
-    let bytes = bytes-all s (λ i. omega (arith, c .before .before .before .before .before .before .shared-slice-known .given i)) in
-    sheet-rules s bytes known
+    let checked = c .before .before .before in
+    let s = now (start checked .args .sheet) in
+    let told = at-check checked .check-noted .ensures .1 in
+    let starts = subst (checkStarts (drop 3 s) (at-check checked .check-noted .last .1 .1 .0)) (checked .before .checked2 .given .1) (told .0) in (
+      rules checked,
+      told .1,
+      starts .0,
+      subst
+          (λ (l : List ℕ).
+          StartsIn (checked .before .checked2 .given .0 .0) l (at-check checked .check-noted .last .1 .1 .0)
+          (checked .before .checked2 .given .0 .1 .0))
+          (sym (rest s 3)) (starts .1),
+    )
 
 returns : tie.Need-returns
 returns c =
-    let a = c .before .before .before .before .before .before .args in
-    let s = now (a .sheet) in
-    sheet-refused s (now (a .piece)) (check-refuses s (sym (ap sheetCheckValues (c .before .checked .given .1)) ∙ c .before .before .before .check-sheet .ensures))
+    let at-check = c .before .before .before in
+    let a = at-check .before .before .before .before .before .args in
+    sheet-refused (now (a .sheet)) (now (a .piece))
+    (check-refuses (now (a .sheet)) (sym (ap sheetCheckValues (c .before .checked .given .1)) ∙ at-check .check-noted .ensures .0))
 
 returns-2 : tie.Need-returns-2
 returns-2 c =
-    let a = c .before .before .before .before .before .before .before .before .args in
+    let checked = c .before .before .before .before in
+    let a = start checked .args in
     let s = now (a .sheet) in
-    let told = sym (ap sheetCheckValues (c .before .before .before .checked2 .given .1)) ∙ c .before .before .before .before .before .check-sheet .ensures in
-    let known = check-accepts s (c .before .before .before .checked2 .given .0 .0) (c .before .before .before .checked2 .given .0 .1 .0) (c .before .before .before .checked2 .given .0 .1 .1 .0) told in
     let p = now (a .piece) in
-    let bytes = bytes-all s (λ i. omega (arith, c .before .before .before .before .before .before .before .shared-slice-known .given i)) in
-    c .answer-piece .ensures (sheet-rules s bytes known)
-    ∙ ap (λ (n : ℕ). readingValues (pieceReading n (known .sheet .rules) p)) (sym (known .arityIs))
-    ∙ sheet-answers s p (known .accepted)
+    let is = known checked in
+    c .answer-piece .ensures (rules checked)
+    ∙ ap (λ (n : ℕ). readingValues (pieceReading n (is .sheet .rules) p)) (sym (is .arityIs))
+    ∙ sheet-answers s p (is .accepted)
 
 pub plain-spec : {M : Type 1} → statement M
 plain-spec =
     tie.close
-    (tie.spec
-    check-sheet-requires
-    enum-known-checked
-    enum-known-checked-2
-    sub-answer-piece
-    part-answer-piece-start
-    part-answer-piece-end
-    answer-piece-requires
-    returns
-    returns-2)
+    (tie.spec check-noted-requires (λ c. search needs) (λ c. search needs) part-answer-piece-start part-answer-piece-start
+    (λ c. search needs) answer-piece-requires returns returns-2)

@@ -1,161 +1,73 @@
--- The place test, by the kind of the record.
-use mathlib.Core.Path.{sym, ap, _∙_, subst}
+-- The place test, by the kind of the record: a variable's is that of its range.
+use mathlib.Core.Path.{_≡_, refl, sym, ap, _∙_, subst}
+use mathlib.Core.List.{List, [], _∷_}
+use mathlib.Core.Logic.{⊎-elim}
+use Prim.Native.Nat.{ℕ, _<_}
+use native.Mathlib.Omega.{arith}
+use types.Run.{OneOf}
 use denote.Ref.{now}
+use denote.Enum.Declared.{tagOf}
+use Rattle.sheet.specs.declared.PatternRecord.{PatternRecord}
+use Rattle.sheet.specs.declared.PatternRecord.the-variants.{Anything, Symbol, Range, Compound, Variable, Ranged}
 use Rattle.sheet.specs.views.NoteCode.{Fitting}
-use Rattle.outcomes.specs.views.CellOutcome.{placeCells}
-use Rattle.plain.specs.views.NotesOutcome.{recordOutcome}
+use Rattle.sheet.proofs.PatternRecord.{the-type}
+use Rattle.plain.specs.views.NotesOutcome.{fixedOutcome, recordOutcome}
 use borrow.Author.Needs.{needs}
 use Rattle.plain.proofs.rule.record_outcome.Statement.{statement}
 use Rattle.plain.proofs.rule.record_outcome.Tie as tie
 
-enum-told : tie.Need-enum-told
-enum-told c = search needs
+-- A variable's tag is none of those before it.
+variable-tag : (k : ℕ) → 3 < k → OneOf (0 ∷ 1 ∷ 2 ∷ 3 ∷ []) k → ⊥
+variable-tag k h o =
+    ⊎-elim (λ e. omega arith) (⊎-elim (λ e. omega arith) (⊎-elim (λ e. omega arith) (λ e. omega arith))) o
 
-enum-known-what : tie.Need-enum-known-what
-enum-known-what c = search needs
-
-symbol-code-requires : tie.Need-symbol-code-requires
-symbol-code-requires c κs = search needs
-
-place-outcome-requires : tie.Need-place-outcome-requires
-place-outcome-requires c κs = search needs
-
-enum-known-what-2 : tie.Need-enum-known-what-2
-enum-known-what-2 c = search needs
-
-number-code-requires : tie.Need-number-code-requires
-number-code-requires c κs = search needs
-
-number-code-requires-2 : tie.Need-number-code-requires-2
-number-code-requires-2 c κs = search needs
-
-place-outcome-requires-2 : tie.Need-place-outcome-requires-2
-place-outcome-requires-2 c κs = search needs
-
-enum-known-what-3 : tie.Need-enum-known-what-3
-enum-known-what-3 c = search needs
-
-compound-code-requires : tie.Need-compound-code-requires
-compound-code-requires c κs = search needs
-
-place-outcome-requires-3 : tie.Need-place-outcome-requires-3
-place-outcome-requires-3 c κs = search needs
-
-enum-known-what-4 : tie.Need-enum-known-what-4
-enum-known-what-4 c = search needs
-
-cast-u : tie.Need-cast-u
-cast-u c = search needs
-
-mul-range-outcome : tie.Need-mul-range-outcome
-mul-range-outcome c = search needs
+-- Any other record has its own test.
+fixed-record
+    : (cells low high : List ℕ) (p : ℕ) (r : PatternRecord) → OneOf (0 ∷ 1 ∷ 2 ∷ 3 ∷ []) (tagOf the-type r)
+    → fixedOutcome cells p r ≡ recordOutcome cells low high p r
+fixed-record cells low high p Anything o = refl
+fixed-record cells low high p (Symbol a) o = refl
+fixed-record cells low high p (Range l h) o = refl
+fixed-record cells low high p (Compound a n) o = refl
+fixed-record cells low high p (Variable v) o = absurd (variable-tag 4 (omega arith) o)
+fixed-record cells low high p (Ranged v l h) o = absurd (variable-tag 5 (omega arith) o)
 
 element-copy-out-range-outcome : tie.Need-element-copy-out-range-outcome
-element-copy-out-range-outcome c = subst Fitting (c .before .what4 .given .1) (c .before .before .before .pre .1)
-
-mul-range-outcome-2 : tie.Need-mul-range-outcome-2
-mul-range-outcome-2 c = search needs
+element-copy-out-range-outcome c = subst Fitting (c .before .what .given .1) (c .before .before .before .pre .1)
 
 element-copy-out-range-outcome-2 : tie.Need-element-copy-out-range-outcome-2
-element-copy-out-range-outcome-2 c = subst Fitting (c .before .before .what4 .given .1) (c .before .before .before .before .pre .1)
-
-range-outcome-requires : tie.Need-range-outcome-requires
-range-outcome-requires c κs = search needs
-
-enum-known-what-5 : tie.Need-enum-known-what-5
-enum-known-what-5 c = search needs
-
-cast-u-2 : tie.Need-cast-u-2
-cast-u-2 c = search needs
-
-mul-range-outcome-3 : tie.Need-mul-range-outcome-3
-mul-range-outcome-3 c = search needs
+element-copy-out-range-outcome-2 c =
+    subst Fitting (c .before .before .what .given .1) (c .before .before .before .before .pre .1)
 
 element-copy-out-range-outcome-3 : tie.Need-element-copy-out-range-outcome-3
-element-copy-out-range-outcome-3 c = subst Fitting (c .before .what5 .given .1) (c .before .before .before .pre .1) .0
-
-mul-range-outcome-4 : tie.Need-mul-range-outcome-4
-mul-range-outcome-4 c = search needs
+element-copy-out-range-outcome-3 c = subst Fitting (c .before .what2 .given .1) (c .before .before .before .pre .1) .0
 
 element-copy-out-range-outcome-4 : tie.Need-element-copy-out-range-outcome-4
-element-copy-out-range-outcome-4 c = subst Fitting (c .before .before .what5 .given .1) (c .before .before .before .before .pre .1) .0
-
-range-outcome-requires-2 : tie.Need-range-outcome-requires-2
-range-outcome-requires-2 c κs = search needs
+element-copy-out-range-outcome-4 c =
+    subst Fitting (c .before .before .what2 .given .1) (c .before .before .before .before .pre .1) .0
 
 returns : tie.Need-returns
-returns c = search needs
+returns c =
+    let a = c .before .before .before .before .before .before .args in
+    c .range-outcome .ensures
+    ∙ ap (recordOutcome (now (a .cells)) (a .t2 .low) (a .t2 .high) (a .place)) (sym (c .before .before .before .before .what .given .1))
 
 returns-2 : tie.Need-returns-2
 returns-2 c =
-    let a = c .before .before .before .before .before .args in
-    let cells = now (a .cells) in
-    c .place-outcome .ensures
-    ∙ (λ j. placeCells cells (a .place) (c .before .symbol-code .ensures j) (c .before .symbol-code .ensures j))
-    ∙ ap (recordOutcome cells (a .t2 .low) (a .t2 .high) (a .place)) (sym (c .before .before .before .what .given .1))
+    let a = c .before .before .before .before .before .before .args in
+    c .range-outcome2 .ensures
+    ∙ ap (recordOutcome (now (a .cells)) (a .t2 .low) (a .t2 .high) (a .place)) (sym (c .before .before .before .before .what2 .given .1))
 
 returns-3 : tie.Need-returns-3
 returns-3 c =
-    let a = c .before .before .before .before .before .before .args in
-    let cells = now (a .cells) in
-    c .place-outcome2 .ensures
-    ∙ (λ j. placeCells cells (a .place) (c .before .before .number-code .ensures j) (c .before .number-code2 .ensures j))
-    ∙ ap (recordOutcome cells (a .t2 .low) (a .t2 .high) (a .place)) (sym (c .before .before .before .before .what2 .given .1))
-
-returns-4 : tie.Need-returns-4
-returns-4 c =
-    let a = c .before .before .before .before .before .args in
-    let cells = now (a .cells) in
-    c .place-outcome3 .ensures
-    ∙ (λ j. placeCells cells (a .place) (c .before .compound-code .ensures j) (c .before .compound-code .ensures j))
-    ∙ ap (recordOutcome cells (a .t2 .low) (a .t2 .high) (a .place)) (sym (c .before .before .before .what3 .given .1))
-
-returns-5 : tie.Need-returns-5
-returns-5 c =
-    let a = c .before .before .before .before .before .before .args in
-    let cells = now (a .cells) in
-    c .range-outcome .ensures
-    ∙ ap (recordOutcome cells (a .t2 .low) (a .t2 .high) (a .place)) (sym (c .before .before .before .before .what4 .given .1))
-
-returns-6 : tie.Need-returns-6
-returns-6 c =
-    let a = c .before .before .before .before .before .before .args in
-    let cells = now (a .cells) in
-    c .range-outcome2 .ensures
-    ∙ ap (recordOutcome cells (a .t2 .low) (a .t2 .high) (a .place)) (sym (c .before .before .before .before .what5 .given .1))
+    let a = c .before .before .args in
+    c .fixed-outcome .ensures
+    ∙ fixed-record (now (a .cells)) (a .t2 .low) (a .t2 .high) (a .place) (a .what) (c .before .match .keys3)
 
 pub record-outcome-spec : {M : Type 1} → statement M
 record-outcome-spec =
     tie.close
-    (tie.spec
-    enum-told
-    enum-known-what
-    symbol-code-requires
-    place-outcome-requires
-    enum-known-what-2
-    number-code-requires
-    number-code-requires-2
-    place-outcome-requires-2
-    enum-known-what-3
-    compound-code-requires
-    place-outcome-requires-3
-    enum-known-what-4
-    cast-u
-    mul-range-outcome
-    element-copy-out-range-outcome
-    mul-range-outcome-2
-    element-copy-out-range-outcome-2
-    range-outcome-requires
-    enum-known-what-5
-    cast-u-2
-    mul-range-outcome-3
-    element-copy-out-range-outcome-3
-    mul-range-outcome-4
-    element-copy-out-range-outcome-4
-    range-outcome-requires-2
-    returns
-    returns-2
-    returns-3
-    returns-4
-    returns-5
-    returns-6)
+    (tie.spec (λ c. search needs) (λ c. search needs) (λ c. search needs) element-copy-out-range-outcome (λ c. search needs)
+    element-copy-out-range-outcome-2 (λ c κs. search needs) (λ c. search needs) (λ c. search needs) (λ c. search needs)
+    element-copy-out-range-outcome-3 (λ c. search needs) element-copy-out-range-outcome-4 (λ c κs. search needs)
+    (λ c κs. search needs) returns returns-2 returns-3)

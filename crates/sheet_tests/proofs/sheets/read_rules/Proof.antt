@@ -116,8 +116,11 @@ returns-5 c =
           counted = (c .before .count-places .ensures, omega (arith, c .before .count-places .ensures));
         },
         (
-          starts-done (start .args .arity) (start .args .rules) s (scan-rules .last .1 .1 .1 .1 .1 .1 .0) (scan2 .given .1)
-              (scan-rules .ensures .1 .1 .0),
+          (
+            start .pre .3,
+            starts-done (start .args .arity) (start .args .rules) s (scan-rules .last .1 .1 .1 .1 .1 .1 .0) (scan2 .given .1)
+                (scan-rules .ensures .1 .1 .0),
+          ),
           scan-rules .ensures .1 .1 .1,
         ),
       ),

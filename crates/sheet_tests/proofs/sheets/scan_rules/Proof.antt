@@ -150,7 +150,7 @@ loop-again c =
       start-next (start read .args .arity) (start read .args .s .now) (turn .i) (turn .at) (turn .inv .8)
           (names-meets (rule read) meet),
       starts-put (start read .args .arity) (start read .args .s .now) (turn .i) (turn .at) (turn .inv .8) (turn .starts)
-          (omega (arith, turn .inv .7, start read .pre .4)) (turn .inv .9),
+          (omega (arith, turn .inv .7, start read .pre .4)) (turn .inv .1) (turn .inv .9),
     )
 
 returns-3 : tie.Need-returns-3 Inv-loop μ-loop
