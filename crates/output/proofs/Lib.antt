@@ -1,7 +1,6 @@
--- The laws of the whole output: the lines of the pieces one after another, one turn, the walk of a piece, and what follows a build.
-pub mod LeastPiece
+-- The laws of the whole output: the line of the sheet, those of the pieces one after another, one turn, and what follows a build.
 pub mod PieceLines
 pub mod Progress
 pub mod Turns
-pub mod Walks
+pub mod SheetLine
 pub mod Outcomes

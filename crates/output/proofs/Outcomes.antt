@@ -25,7 +25,7 @@ use Rattle.build.specs.declared.Built.the-variants.{Written, Refused}
 use Rattle.build.specs.BuildOutcome.{BuildOutcome, builtValues, writtenIf, buildOutcome}
 use Rattle.build.specs.Building.{Building, bytesOf}
 use Rattle.build.proofs.BuiltBytes.{built-outcome, outcome-built}
-use Rattle.output.specs.views.Known.{GraphFor}
+use Rattle.output.specs.views.GraphFor.{GraphFor}
 use Rattle.output.proofs.Turns.{cut-take}
 
 -- What a build hands back and leaves in its buffer.

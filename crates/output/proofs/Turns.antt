@@ -20,22 +20,19 @@ use Rattle.lines.proofs.Wrote.{Wrote}
 use Rattle.output.specs.Listing.{firstWalk}
 use Rattle.output.specs.declared.Turn.{Turn}
 use Rattle.output.specs.declared.Turn.the-variants.{More, Last}
-use Rattle.output.specs.views.Turned.{Turned, turned, walkLine}
+use Rattle.walk_all.specs.views.FirstPiece.{firstReply}
+use Rattle.output.specs.views.Turned.{Turned, answered, turned, walkLine}
 
-module _ (reply : List ℕ → Reading Walk) (s : List ℕ) where
-  -- The first walk where no piece is read, where its walk is refused, and where it is answered.
-  pub turn-unread : {q : ℕ} → readPrefix s ≡ refused q → firstWalk reply s ≡ refused q
-  turn-unread e = ap (λ (r : Reading Piece). andThen r (λ k _. andThen (reply (take k s)) (λ _ w. took k w))) e
-
-  module _ {k : ℕ} {piece : Piece} (e : readPrefix s ≡ took k piece) where
-    read-first : firstWalk reply s ≡ andThen (reply (take k s)) (λ _ w. took k w)
-    read-first = ap (λ (r : Reading Piece). andThen r (λ k _. andThen (reply (take k s)) (λ _ w. took k w))) e
-
-    pub turn-refused : {q : ℕ} → reply (take k s) ≡ refused q → firstWalk reply s ≡ refused q
-    turn-refused r = read-first ∙ ap (λ (x : Reading Walk). andThen x (λ _ w. took k w)) r
-
-    pub turn-answered : {a : ℕ} {w : Walk} → reply (take k s) ≡ took a w → firstWalk reply s ≡ took k w
-    turn-answered r = read-first ∙ ap (λ (x : Reading Walk). andThen x (λ _ w. took k w)) r
+-- The first walk, from the reply of the first piece.
+pub first-answered : (reply : List ℕ → Reading Walk) (s : List ℕ) → answered (firstReply reply s) ≡ firstWalk reply s
+first-answered reply s = go (readPrefix s)
+  where
+    go
+        : (r : Reading Piece)
+        → answered (andThen r (λ k _. took k (reply (take k s))))
+        ≡ andThen r (λ k _. andThen (reply (take k s)) (λ _ w. took k w))
+    go (took k piece) = refl
+    go (refused q) = refl
 
 module _ (xs : List ℕ) (at number : ℕ) {t : Reading Walk} {end : ℕ} {ys : List ℕ} where
   pub turned-last
@@ -48,15 +45,13 @@ module _ (xs : List ℕ) (at number : ℕ) {t : Reading Walk} {end : ℕ} {ys : 
       → _≡_ {A = Turned} (record { turn = More k end; buffer = ys }) (turned xs at number t)
   turned-more {k} v e = (λ i. record { turn = More k (v .0 i); buffer = v .1 i }) ∙ sym (ap (turned xs at number) e)
 
--- The turn and the input by other names.
+-- The turn and the reply by other names.
 pub told-as
-    : (reply : List ℕ → Reading Walk) (number : ℕ) (xs : List ℕ) (at : ℕ) {r r' : Turn} {s s' ys : List ℕ} → r ≡ r' → s ≡ s'
-    → _≡_ {A = Turned} (record { turn = r; buffer = ys }) (turned xs at number (firstWalk reply s))
-    → _≡_ {A = Turned} (record { turn = r'; buffer = ys }) (turned xs at number (firstWalk reply s'))
-told-as reply number xs at {ys = ys} e f g =
-    sym (ap (λ (t : Turn). record { turn = t; buffer = ys }) e)
-    ∙ g
-    ∙ ap (λ (l : List ℕ). turned xs at number (firstWalk reply l)) f
+    : (number : ℕ) (xs : List ℕ) (at : ℕ) {r r' : Turn} {t t' : Reading Walk} {ys : List ℕ} → r ≡ r' → t ≡ t'
+    → _≡_ {A = Turned} (record { turn = r; buffer = ys }) (turned xs at number t)
+    → _≡_ {A = Turned} (record { turn = r'; buffer = ys }) (turned xs at number t')
+told-as number xs at {ys = ys} e f g =
+    sym (ap (λ (t : Turn). record { turn = t; buffer = ys }) e) ∙ g ∙ ap (turned xs at number) f
 
 -- What is handed back says which turn it was, and what was written.
 pub told-last

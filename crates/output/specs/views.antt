@@ -1,3 +1,3 @@
 -- How the code keeps things.
 pub mod Turned
-pub mod Known
+pub mod GraphFor

@@ -1,25 +1,20 @@
 // The whole output of the listing for given bytes of sheet and input: the sheet and its graph are read and checked once, then each
 // piece is.
 use build::Built;
-use graph_check::GraphCheck;
-use graph_check::index_graph;
-use piece::Prefix;
-use sheet_tests::TestsRead;
-use walk::Sizes;
-use walk::Walked;
-use walk::call::walk_checked;
+use sheet_tests::tested::count_places;
+use walk_all::First;
+use walk_all::Opened;
+use walk_all::first_piece::walk_first;
+use walk_all::open::open_graph;
 ghost use Prim.Native.Nat.{ℕ, _+_, _≤_, min};
 ghost use mathlib.Core.Path.{_≡_};
-ghost use mathlib.Core.List.{List};
 ghost use lib.ListN.{length};
 ghost use Rattle.io.specs.Counts.{Counts};
 ghost use Rattle.records.specs.Writing.{splice};
-ghost use Rattle.plain.specs.views.ReadAs.{ReadAs};
-ghost use Rattle.walk.specs.Walking.{walkReply, walkedReading};
-ghost use Rattle.walk.specs.views.Ready.{SomePiece};
-ghost use Rattle.output.specs.views.Known.{Known, GraphFor};
-ghost use Rattle.output.specs.Listing.{firstWalk, builtLines, listingBytes, mostBytes};
-ghost use Rattle.output.specs.views.Turned.{turned, Within, pieceOutput};
+ghost use Rattle.walk_all.specs.views.FirstPiece.{firstOf, PieceWithin};
+ghost use Rattle.output.specs.views.GraphFor.{GraphFor};
+ghost use Rattle.output.specs.Listing.{builtLines, listingBytes, mostBytes};
+ghost use Rattle.output.specs.views.Turned.{answered, turned, Within};
 
 // What came of a piece: its bytes and the position behind its line, or the position behind the line that ends the run.
 pub enum Turn {
@@ -27,107 +22,27 @@ pub enum Turn {
     Last(usize),
 }
 
-// The walk of a piece of so many arguments that was read into the cells: question 20, then over the graph. Not 20 for a piece of
-// the sheet's arity, nor a walk of a piece of another.
-fn walk_read(
-    sheet: &[u8],
-    graph: &[u8],
-    starts: &[u32; 1024],
-    words: &[u64; 11],
-    codes: &[u32; 65],
-    sizes: Sizes,
-    arity: u8,
-    cells: &[u32; 680],
-) -> Walked
-    requires { ⌜ Known (now sheet) (now graph) (now starts) (now words) (now codes) sizes ⌝ }
-    requires { ⌜ SomePiece (now cells) arity ⌝ }
-    ensures { λ r. ⌜ ((p : List ℕ) → ReadAs p (now (cells .entry)) arity
-        → walkedReading r ≡ walkReply (now (sheet .entry)) (now (graph .entry)) p) ⌝ }
-{
-    if arity != sizes.arity {
-        return Walked::Refused(20);
-    }
-    walk_checked(sheet, graph, starts, words, codes, sizes, cells)
-}
-
-// The line of the piece that the input begins with, at a position. Not a line for a piece whose walk is refused, nor a refusal that
-// lets the run go on.
-fn put_piece(
-    sheet: &[u8],
-    graph: &[u8],
-    starts: &[u32; 1024],
-    words: &[u64; 11],
-    codes: &[u32; 65],
-    sizes: Sizes,
-    input: &[u8],
-    number: u32,
-    out: &mut [u8],
-    at: usize,
-) -> Turn
-    requires { ⌜ Known (now sheet) (now graph) (now starts) (now words) (now codes) sizes ⌝ }
+// The line of a piece with a number, at a position. Not a line for a piece whose walk is refused, nor a refusal that lets the run
+// go on.
+fn put_first(first: First, number: u32, out: &mut [u8], at: usize) -> Turn
     requires { ⌜ at + 44 ≤ length (now out) ⌝ }
     ensures { λ r. ⌜ record { turn = r; buffer = now (out .exit) }
-        ≡ turned (now (out .entry)) at number
-        (firstWalk (walkReply (now (sheet .entry)) (now (graph .entry))) (now (input .entry))) ⌝ }
-    ensures { λ r. ⌜ Within (length (now (input .entry))) at r ⌝ }
+        ≡ turned (now (out .entry)) at number (answered (firstOf first)) ⌝ }
+    ensures { λ r. ⌜ ((bytes : ℕ) → PieceWithin bytes first → Within bytes at r) ⌝ }
 {
-    let mut cells = [0u32; 680];
-    let prefix = piece::read_prefix(input, &mut cells);
-    match prefix {
-        Prefix::Refused(q) => Turn::Last(lines::put_refused(out, at, q)),
-        Prefix::Read(arity, bytes) => {
-            let walked = walk_read(sheet, graph, starts, words, codes, sizes, arity, &cells);
-            match walked {
-                Walked::Refused(q) => Turn::Last(lines::put_refused(out, at, q)),
-                Walked::Answered(w) => {
-                    let answer = w.answer;
-                    let end = lines::put_piece_line(out, at, number, answer, w.edges, w.waits);
-                    Turn::More(bytes, end)
-                }
-            }
+    match first {
+        First::Unread(q) => Turn::Last(lines::put_refused(out, at, q)),
+        First::Refused(_, q) => Turn::Last(lines::put_refused(out, at, q)),
+        First::Answered(bytes, w) => {
+            let answer = w.answer;
+            let end = lines::put_piece_line(out, at, number, answer, w.edges, w.waits);
+            Turn::More(bytes, end)
         }
     }
 }
 
-// The lines of the pieces that the input holds, from a position on, and the position behind them; the next piece has number n. Not
-// the line of the first piece alone, nor a line after a refusal.
-fn put_pieces(
-    sheet: &[u8],
-    graph: &[u8],
-    starts: &[u32; 1024],
-    words: &[u64; 11],
-    codes: &[u32; 65],
-    sizes: Sizes,
-    input: &[u8],
-    out: &mut [u8],
-    at: usize,
-) -> usize
-    requires { ⌜ Known (now sheet) (now graph) (now starts) (now words) (now codes) sizes ⌝ }
-    requires { ⌜ (length (now input) ≤ 65536) × (at + 961224 ≤ length (now out)) ⌝ }
-    ensures { λ r. ⌜ (r ≡ at + length (pieceOutput (now (sheet .entry)) (now (graph .entry)) (now (input .entry))))
-        × (now (out .exit)
-        ≡ splice (now (out .entry)) at (pieceOutput (now (sheet .entry)) (now (graph .entry)) (now (input .entry)))) ⌝ }
-{
-    let mut from: usize = 0;
-    let mut n: u32 = 1;
-    let mut end = at;
-    while from < input.len() {
-        let rest = &input[from..];
-        let turn = put_piece(sheet, graph, starts, words, codes, sizes, rest, n, out, end);
-        match turn {
-            Turn::Last(last) => return last,
-            Turn::More(bytes, next) => {
-                from += bytes;
-                n += 1;
-                end = next;
-            }
-        }
-    }
-    end
-}
-
-// The lines after a build of so many nodes that refused nothing. Not the places alone counted as the sheet's tests, nor its line
-// without those of the pieces.
+// The lines after a build of so many nodes that refused nothing: that of the sheet, then one for each piece that the input holds.
+// Not the places alone counted as the sheet's tests, nor the line of the first piece alone, nor a line after a refusal.
 fn put_built(sheet: &[u8], graph: &[u8], nodes: u16, input: &[u8], out: &mut [u8]) -> usize
     requires { ⌜ GraphFor (now sheet) (now graph) nodes ⌝ }
     requires { ⌜ (length (now input) ≤ 65536) × (961248 ≤ length (now out)) ⌝ }
@@ -137,26 +52,30 @@ fn put_built(sheet: &[u8], graph: &[u8], nodes: u16, input: &[u8], out: &mut [u8
 {
     let mut words = [0u64; 11];
     let mut codes = [0u32; 65];
-    let read = sheet_tests::read_tests(sheet, &mut words, &mut codes);
-    match read {
-        TestsRead::Refused(q) => lines::put_refused(out, 0, q),
-        TestsRead::Accepted(arity, rules, places, pairs) => {
-            let mut starts = [0u32; 1024];
-            let index = index_graph(graph, &words, &codes, pairs, arity, rules, &mut starts);
-            match index {
-                GraphCheck::Refused(q) => lines::put_refused(out, 0, q),
-                GraphCheck::Accepted(_) => {
-                    let tests = (places + pairs) as u8;
-                    let at = lines::put_sheet_line(out, 0, arity, rules, tests, nodes);
-                    let sizes = Sizes {
-                        arity,
-                        rules,
-                        pairs,
-                        nodes,
-                    };
-                    put_pieces(sheet, graph, &starts, &words, &codes, sizes, input, out, at)
+    let mut starts = [0u32; 1024];
+    let opened = open_graph(sheet, graph, &mut words, &mut codes, &mut starts);
+    match opened {
+        Opened::Refused(q) => lines::put_refused(out, 0, q),
+        Opened::Ready(sizes) => {
+            let places = count_places(&words);
+            let tests = (places + sizes.pairs) as u8;
+            let mut end = lines::put_sheet_line(out, 0, sizes.arity, sizes.rules, tests, nodes);
+            let mut from: usize = 0;
+            let mut n: u32 = 1;
+            while from < input.len() {
+                let rest = &input[from..];
+                let first = walk_first(sheet, graph, &starts, &words, &codes, sizes, rest);
+                let turn = put_first(first, n, out, end);
+                match turn {
+                    Turn::Last(last) => return last,
+                    Turn::More(bytes, next) => {
+                        from += bytes;
+                        n += 1;
+                        end = next;
+                    }
                 }
             }
+            end
         }
     }
 }

@@ -18,7 +18,7 @@ use Rattle.walk_all.specs.declared.Turn.{Turn}
 use Rattle.walk_all.specs.declared.Turn.the-variants.{More, Last, Full}
 use Rattle.walk_all.specs.declared.First.{First}
 use Rattle.walk_all.specs.declared.First.the-variants.{Unread, Refused, Answered}
-use Rattle.walk_all.specs.views.FirstPiece.{firstReply, firstOf, Within}
+use Rattle.walk_all.specs.views.FirstPiece.{firstReply, firstOf, PieceWithin}
 use Rattle.walk_all.specs.views.Turns.{Turned, turned}
 
 abbrev pub told : Turn → List ℕ → Turned
@@ -136,7 +136,7 @@ module _ (ys : List ℕ) (at left : ℕ) {zs : List ℕ} {k bytes : ℕ} where
       let turn : More k ≡ Full = ap (λ (x : Turned). x .turn) e in
       let z : _≡_ {A = ℕ} 0 1 = cc in absurd (omega arith)
 
-  pub within-more : (f : First) → Within bytes f → told (More k) zs ≡ turned ys at left (firstOf f) → k ≤ bytes
+  pub within-more : (f : First) → PieceWithin bytes f → told (More k) zs ≡ turned ys at left (firstOf f) → k ≤ bytes
   within-more (Unread q) h e =
       let turn : More k ≡ Last = ap (λ (x : Turned). x .turn) e in
       let z : _≡_ {A = ℕ} 0 1 = cc in absurd (omega arith)

@@ -9,7 +9,7 @@ ghost use mathlib.Core.Path.{_≡_};
 ghost use lib.ListN.{length};
 ghost use Rattle.walk.specs.Walking.{walkReply};
 ghost use Rattle.walk_all.specs.views.Known.{Known};
-ghost use Rattle.walk_all.specs.views.FirstPiece.{firstOf, firstReply, Within};
+ghost use Rattle.walk_all.specs.views.FirstPiece.{firstOf, firstReply, PieceWithin};
 
 // The walk of the first piece: its questions, 20, then 26 and 27 on the way. Bytes may follow it. Not 20 for a piece of the sheet's
 // arity, nor the bytes of the whole input for those of the piece.
@@ -24,7 +24,7 @@ pub fn walk_first(
 ) -> First
     requires { ⌜ Known (now sheet) (now graph) (now starts) (now words) (now codes) sizes ⌝ }
     ensures { λ r. ⌜ firstOf r ≡ firstReply (walkReply (now (sheet .entry)) (now (graph .entry))) (now (input .entry)) ⌝ }
-    ensures { λ r. ⌜ Within (length (now (input .entry))) r ⌝ }
+    ensures { λ r. ⌜ PieceWithin (length (now (input .entry))) r ⌝ }
 {
     let mut cells = [0u32; 680];
     let prefix = read_prefix(input, &mut cells);

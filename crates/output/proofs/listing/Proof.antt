@@ -15,7 +15,7 @@ use Rattle.lines.proofs.Wrote.{wrote-as}
 use Rattle.records.proofs.ByteLists.{bytes-all}
 use Rattle.build.specs.declared.Built.the-variants.{Written}
 use Rattle.build.specs.BuildOutcome.{buildOutcome}
-use Rattle.output.specs.views.Known.{GraphFor}
+use Rattle.output.specs.views.GraphFor.{GraphFor}
 use Rattle.output.proofs.Turns.{from-start, counted, cut-length, cut-most}
 use Rattle.output.proofs.Outcomes.{outcome, emptyGraph, built-refused, built-written, built-fits, built-accepted, bytes-take, cut-both}
 use Rattle.output.proofs.listing.Statement.{statement}

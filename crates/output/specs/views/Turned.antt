@@ -2,12 +2,10 @@
 use Prim.Native.Nat.{ℕ, _+_, _≤_}
 use mathlib.Core.List.{List}
 use lib.ListN.{length}
-use Rattle.records.specs.Reading.{Reading, took, refused}
+use Rattle.records.specs.Reading.{Reading, took, refused, andThen}
 use Rattle.records.specs.Writing.{splice}
 use Rattle.decision.specs.Walk.{Walk}
 use Rattle.lines.specs.Lines.{pieceLine, refusedLine}
-use Rattle.walk.specs.Walking.{walkReply}
-use Rattle.output.specs.Listing.{pieceLines}
 use Rattle.output.specs.declared.Turn.{Turn}
 use Rattle.output.specs.declared.Turn.the-variants.{More, Last}
 
@@ -15,6 +13,10 @@ use Rattle.output.specs.declared.Turn.the-variants.{More, Last}
 pub record Turned : Type 0 where
   pub turn : Turn
   pub buffer : List ℕ
+
+-- The bytes of the first piece and the answer of its walk, or whichever question got a no.
+abbrev pub answered : Reading (Reading Walk) → Reading Walk
+answered r = andThen r (λ k reply. andThen reply (λ _ w. took k w))
 
 -- The line of a piece with this number.
 abbrev pub walkLine : ℕ → Walk → List ℕ
@@ -31,7 +33,3 @@ turned buffer at number (refused q) =
 abbrev pub Within : ℕ → ℕ → Turn → Type 0
 Within bytes at (More k end) = (3 ≤ k) × (k ≤ bytes) × (end ≤ at + 44)
 Within bytes at (Last end) = end ≤ at + 44
-
--- The lines of the pieces, for a sheet of bytes s and a graph of bytes g.
-abbrev pub pieceOutput : List ℕ → List ℕ → List ℕ → List ℕ
-pieceOutput s g input = pieceLines (walkReply s g) (length input) 1 input

@@ -19,7 +19,7 @@ firstOf (Refused k q) = took k (refused q)
 firstOf (Answered k w) = took k (took 0 (walkOf w))
 
 -- A piece has 3 bytes or more, all of them there.
-abbrev pub Within : ℕ → First → Type 0
-Within bytes (Unread q) = Unit
-Within bytes (Refused k q) = (3 ≤ k) × (k ≤ bytes)
-Within bytes (Answered k w) = (3 ≤ k) × (k ≤ bytes)
+abbrev pub PieceWithin : ℕ → First → Type 0
+PieceWithin bytes (Unread q) = Unit
+PieceWithin bytes (Refused k q) = (3 ≤ k) × (k ≤ bytes)
+PieceWithin bytes (Answered k w) = (3 ≤ k) × (k ≤ bytes)
