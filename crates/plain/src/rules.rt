@@ -42,8 +42,8 @@ fn moved(answer: Answer, rule: u8, outcome: TestOutcome) -> Answer
     }
 }
 
-// The outcome of the tests of an accepted sheet's rule, which the input begins with. Of a rule that is contradicted at an argument up
-// to its first compound no more is read. Not contradicted because a test is not known, nor holding where those arguments do.
+// The outcome of the tests of an accepted sheet's rule, which the input begins with. Of a rule that is contradicted at an argument
+// up to its first compound no more is read. Not contradicted because a test is not known, nor holding where those arguments do.
 fn tried(s: &[u8], arity: usize, cells: &[u32; 680], notes: &mut [u64; 680]) -> TestOutcome
     requires { ⌜ (arity ≤ 8) × (length (now notes) ≡ 680) × Narrow (now cells) ⌝ }
     ensures { λ r. ⌜ ((b : ℕ) (rule : Patterns) → readRule arity (now (s .entry)) ≡ took b rule
