@@ -24,7 +24,8 @@ use Rattle.sheet.proofs.Compounds.{row-count}
 use Rattle.sheet.proofs.PatternReads.{PatternIs, isAnything, isSymbol, isRange, isCompound, isVariable, isRanged, pattern-is}
 use Rattle.codes.specs.views.Codes.{compoundCode}
 use Rattle.outcomes.specs.views.CellOutcome.{placeCells}
-use Rattle.plain.specs.views.NotesOutcome.{flatBytes, fixedOutcome, noteOutcome, placesOutcome, pairsOutcome, notesOutcome, cellsOutcome}
+use Rattle.plain.specs.views.NotesOutcome.{flatBytes, fixedOutcome, noteOutcome}
+use Rattle.plain.specs.views.NotesOutcome.{placesOutcome, pairsOutcome, notesOutcome, cellsOutcome}
 
 -- The record of a head.
 abbrev recordIn : PatternHead → PatternRecord

@@ -73,6 +73,8 @@ module _ (codes : List ℕ) (n code : ℕ) (few : n ≤ 64) (size : length codes
         passed = λ c above.
             subst (λ (t : List ℕ). Passed (at + 1) c t) are
             (subst
-            (λ (i : ℕ). Passed i c (take (slot code (take n codes)) (take n codes) ++ (code ∷ drop (slot code (take n codes)) (take n codes))))
+            (λ (i : ℕ).
+            Passed i c
+            (take (slot code (take n codes)) (take n codes) ++ (code ∷ drop (slot code (take n codes)) (take n codes))))
             next (next-here code c (take n codes) above));
       }

@@ -9,7 +9,8 @@ use Rattle.marks.proofs.rule.+pattern+patterns.Proof.Pattern as of-patt
 use Rattle.marks.proofs.rule.patterns.Reads as patterns
 use Rattle.marks.proofs.rule.+pattern+patterns.Lts-patterns as patterns-lts
 use Rattle.marks.proofs.rule.+pattern+patterns.Proof.Patterns as of-patterns
-use Rattle.marks.proofs.rule.+pattern+patterns.Proof.Measures.{μ-pattern, pattern-at, pattern-calls, μ-patterns, patterns-at, patterns-calls, Inv-loop, μ-loop}
+use Rattle.marks.proofs.rule.+pattern+patterns.Proof.Measures.{μ-pattern, pattern-at, pattern-calls}
+use Rattle.marks.proofs.rule.+pattern+patterns.Proof.Measures.{μ-patterns, patterns-at, patterns-calls, Inv-loop, μ-loop}
 use Rattle.marks.proofs.rule.+pattern+patterns.{statement}
 use Rattle.marks.proofs.rule.+pattern+patterns.Tie.{close}
 

@@ -51,7 +51,9 @@ answer-piece-requires c κs =
     let checked = c .before .before .before in
     let s = now (start checked .args .sheet) in
     let told = at-check checked .check-noted .ensures .1 in
-    let starts = subst (checkStarts (drop 3 s) (at-check checked .check-noted .last .1 .1 .0)) (checked .before .checked2 .given .1) (told .0) in (
+    let starts =
+    subst (checkStarts (drop 3 s) (at-check checked .check-noted .last .1 .1 .0)) (checked .before .checked2 .given .1)
+    (told .0) in (
       rules checked,
       told .1,
       starts .0,

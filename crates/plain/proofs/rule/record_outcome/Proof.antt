@@ -50,13 +50,15 @@ returns : tie.Need-returns
 returns c =
     let a = c .before .before .before .before .before .before .args in
     c .range-outcome .ensures
-    ∙ ap (recordOutcome (now (a .cells)) (a .t2 .low) (a .t2 .high) (a .place)) (sym (c .before .before .before .before .what .given .1))
+    ∙ ap (recordOutcome (now (a .cells)) (a .t2 .low) (a .t2 .high) (a .place))
+    (sym (c .before .before .before .before .what .given .1))
 
 returns-2 : tie.Need-returns-2
 returns-2 c =
     let a = c .before .before .before .before .before .before .args in
     c .range-outcome2 .ensures
-    ∙ ap (recordOutcome (now (a .cells)) (a .t2 .low) (a .t2 .high) (a .place)) (sym (c .before .before .before .before .what2 .given .1))
+    ∙ ap (recordOutcome (now (a .cells)) (a .t2 .low) (a .t2 .high) (a .place))
+    (sym (c .before .before .before .before .what2 .given .1))
 
 returns-3 : tie.Need-returns-3
 returns-3 c =

@@ -114,7 +114,8 @@ returns-2 : tie.Need-returns-2 Inv-loop μ-loop
 returns-2 c =
     let a = c .before .before .before .args in
     let turn = c .before .loop in
-    turns-end (cellsOutcome (now (a .cells))) (a .arity) (a .count) (now (a .s)) (turn .i) (ruleStart (a .arity) (now (a .s)) (turn .i))
+    turns-end (cellsOutcome (now (a .cells))) (a .arity) (a .count) (now (a .s)) (turn .i)
+    (ruleStart (a .arity) (now (a .s)) (turn .i))
     (answerOf (turn .answer)) (omega arith)
     ∙ turn .inv .2
 

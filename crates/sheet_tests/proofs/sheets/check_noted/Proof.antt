@@ -39,8 +39,10 @@ returns c =
     let tests-noted = c .before .before .before .tests-noted in
     let start = c .before .before .before .before .before .before .before .before .before in
     let words = tests-noted .last .1 .0 in
-    let codes = tests-noted .last .1 .1 .0 in
-    (check-no words codes (acceptSheet (start .args .s .now)) (c .before .read .given .1) (tests-noted .ensures .0), (tt, tests-noted .ensures .1 .1 .1))
+    let codes = tests-noted .last .1 .1 .0 in (
+      check-no words codes (acceptSheet (start .args .s .now)) (c .before .read .given .1) (tests-noted .ensures .0),
+      (tt, tests-noted .ensures .1 .1 .1),
+    )
 
 returns-2 : tie.Need-returns-2
 returns-2 c =
@@ -50,7 +52,11 @@ returns-2 c =
     let codes = tests-noted .last .1 .1 .0 in (
       check-yes words codes (c .before .read2 .given .1) (tests-noted .ensures .1 .0) (acceptSheet (start .args .s .now))
           (tests-noted .ensures .0),
-      (starts-tests (drop 3 (start .args .s .now)) (tests-noted .last .1 .1 .1 .1 .0) _ _ _ _ (c .before .read2 .given .1) (tests-noted .ensures .1 .1 .0), tests-noted .ensures .1 .1 .1),
+      (
+        starts-tests (drop 3 (start .args .s .now)) (tests-noted .last .1 .1 .1 .1 .0) _ _ _ _ (c .before .read2 .given .1)
+            (tests-noted .ensures .1 .1 .0),
+        tests-noted .ensures .1 .1 .1,
+      ),
     )
 
 pub check-noted-spec : {M : Type 1} → statement M

@@ -18,8 +18,9 @@ returns : tie.Need-returns
 returns c =
     let start = c .before in
     let codes = start .args .notes .now in
+    let before = held (start .args .words .now) (start .args .codes .now) (start .args .count) in
     let none = ap (notesIn codes) (c .if1 .taken) ∙ notes-none codes in (
-      sym (ap (λ (ns : List Note). gatherNotes ns (held (start .args .words .now) (start .args .codes .now) (start .args .count))) none),
+      sym (ap (λ (ns : List Note). gatherNotes ns before) none),
       (start .pre .3, start .pre .4, start .pre .5),
     )
 

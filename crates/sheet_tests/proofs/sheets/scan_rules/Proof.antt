@@ -11,7 +11,8 @@ use Rattle.sheet_tests.specs.views.Gathered.{gather, held}
 use Rattle.sheet_tests.specs.views.Starts.{ruleStart, StartsIn}
 use Rattle.sheet_tests.proofs.Starting.{starts-none, starts-put, start-next}
 use Rattle.sheet_tests.proofs.Scanning.{bytes-known, scanFrom, scan-start, scan-end, scan-refused}
-use Rattle.sheet_tests.proofs.MarkedRules.{RuleMarked, rule-marked, marks-refused, names-apart, names-meets, marked-placed, scan-turn}
+use Rattle.sheet_tests.proofs.MarkedRules.{RuleMarked, rule-marked, marks-refused, names-apart}
+use Rattle.sheet_tests.proofs.MarkedRules.{names-meets, marked-placed, scan-turn}
 use borrow.Author.Needs.{needs}
 use Rattle.sheet_tests.proofs.sheets.scan_rules.Statement.{statement}
 use Rattle.sheet_tests.proofs.sheets.scan_rules.Tie as tie
@@ -19,7 +20,8 @@ use Rattle.sheet_tests.proofs.sheets.scan_rules.Tie as tie
 abbrev Inv-loop : tie.InvT-loop
 Inv-loop s arity rules notes₀ words₀ codes₀ starts₀ at₀ count₀ i₀ notes words codes starts at count i =
     (i ≤ rules) × (at ≤ length s) × (count ≤ 65) × (length notes ≡ 680) × (length words ≡ 11) × (length codes ≡ 65)
-    × (scanFrom arity rules s i at (held words codes count) ≡ mapReading (λ rs. gather rs (held words₀ codes₀ 0)) (readRules arity rules s))
+    × (scanFrom arity rules s i at (held words codes count)
+    ≡ mapReading (λ rs. gather rs (held words₀ codes₀ 0)) (readRules arity rules s))
     × (length starts ≡ 32) × (at ≡ ruleStart arity s i) × StartsIn arity s starts i
 
 abbrev μ-loop : tie.MeasureT-loop

@@ -66,7 +66,8 @@ module _ {t : ℕ} where
         let own = turn .before .loop in
         let comes = one-to-come (a .count) (own .i) (turn .loop-test .taken) in
         was-refused then told pattern-tried
-        (row-stops (patternRow marked (a .below)) (now (a .s)) (own .at) _ (own .here) (marksIn (own .words) (own .notes) (own .made)) _ comes)
+        (row-stops (patternRow marked (a .below)) (now (a .s)) (own .at) _ (own .here)
+        (marksIn (own .words) (own .notes) (own .made)) _ comes)
         ∙ own .inv .6
 
     module _ {bytes more : ℕ} (told : c .pattern .result ≡ Used bytes more) where
@@ -81,7 +82,8 @@ module _ {t : ℕ} where
           let a = start turn .args in
           let own = turn .before .loop in
           let comes = one-to-come (a .count) (own .i) (turn .loop-test .taken) in
-          row-goes-on (patternRow marked (a .below)) (now (a .s)) (own .at) _ (own .here) (marksIn (own .words) (own .notes) (own .made)) _ comes
+          row-goes-on (patternRow marked (a .below)) (now (a .s)) (own .at) _ (own .here)
+          (marksIn (own .words) (own .notes) (own .made)) _ comes
           (was-used then told pattern-tried) (step-is turn)
           ∙ own .inv .6
 
@@ -143,6 +145,7 @@ returns-2 t c =
     let own = c .before .loop in
     let a = c .before .before .before .before .args in
     let noted = marksIn (own .words) (own .notes) (own .made) in (
-      row-ended (patternRow marked (a .below)) (now (a .s)) (own .at) (a .count - own .i) (own .here) noted (omega arith) ∙ own .inv .6,
+      row-ended (patternRow marked (a .below)) (now (a .s)) (own .at) (a .count - own .i) (own .here) noted (omega arith)
+          ∙ own .inv .6,
       omega arith,
     )
