@@ -5,4 +5,5 @@ pub mod KeptNumbers
 pub mod MetTests
 pub mod OpenSets
 pub mod RulesLeft
+pub mod RuleBegins
 pub mod OwnWaits

@@ -6,23 +6,18 @@ use native.Mathlib.Omega.{arith}
 use lib.ListN.{length, getD, drop}
 use Rattle.records.specs.Reading.{Reading, took, refused, readRow}
 use Rattle.graph.specs.views.Rewriting.{IsTook, readOr}
+use Rattle.leaves.specs.views.Seeking.{rowFrom, Seeking}
 use Rattle.steps.proofs.RowsLeft.{first-there, others-left, first-others}
 
 module _ {A : Type 0} (one : List ℕ → Reading A) (other : A) (s : List ℕ) where
-  -- The n things from a position on.
-  abbrev rowFrom : ℕ → ℕ → List A
-  rowFrom n at = readOr [] (readRow [] _∷_ one n (drop at s))
+  abbrev Left : ℕ → ℕ → ℕ → ℕ → Type 0
+  Left = Seeking one other s
 
-  -- Of count things i were passed, up to a position, and thing k is among those that are left.
-  pub record Seeking (count k at i : ℕ) : Type 0 where
-    pub sought : i ≤ k
-    pub among : k < count
-    pub there : at ≤ length s
-    pub left : IsTook (readRow [] _∷_ one (count - i) (drop at s))
-    pub same : getD (rowFrom count 0) k other ≡ getD (rowFrom (count - i) at) (k - i) other
+  abbrev rows : ℕ → ℕ → List A
+  rows = rowFrom one other s
 
   -- Before the first.
-  pub seeking-starts : (count k : ℕ) → k < count → IsTook (readRow [] _∷_ one count s) → Seeking count k 0 0
+  pub seeking-starts : (count k : ℕ) → k < count → IsTook (readRow [] _∷_ one count s) → Left count k 0 0
   seeking-starts count k among left =
       let all : count ≡ count - 0 = omega arith in
       let here : k ≡ k - 0 = omega arith in
@@ -34,7 +29,7 @@ module _ {A : Type 0} (one : List ℕ → Reading A) (other : A) (s : List ℕ) 
         same = λ j. getD (readOr [] (readRow [] _∷_ one (all j) s)) (here j) other;
       }
 
-  module _ {count k at i : ℕ} (g : Seeking count k at i) where
+  module _ {count k at i : ℕ} (g : Left count k at i) where
     more : count - i ≡ suc (count - (i + 1))
     more = omega (arith, g .sought, g .among)
 
@@ -43,17 +38,17 @@ module _ {A : Type 0} (one : List ℕ → Reading A) (other : A) (s : List ℕ) 
     seeking-there e = first-there one s (count - i) (count - (i + 1)) at more (g .left) e
 
     module _ {a : ℕ} {x : A} (e : one (drop at s) ≡ took a x) where
-      these : rowFrom (count - i) at ≡ x ∷ rowFrom (count - (i + 1)) (at + a)
+      these : rows (count - i) at ≡ x ∷ rows (count - (i + 1)) (at + a)
       these = first-others one s (count - i) (count - (i + 1)) at more (g .left) e
 
       -- It is the one that is sought,
-      pub seeking-found : i ≡ k → x ≡ getD (rowFrom count 0) k other
+      pub seeking-found : i ≡ k → x ≡ getD (rows count 0) k other
       seeking-found h =
           let none : k - i ≡ 0 = omega arith in
           sym (g .same ∙ (λ j. getD (these j) (none j) other))
 
       -- or that one is behind it.
-      pub seeking-next : (i ≡ k → ⊥) → at + a ≤ length s → Seeking count k (at + a) (i + 1)
+      pub seeking-next : (i ≡ k → ⊥) → at + a ≤ length s → Left count k (at + a) (i + 1)
       seeking-next h inside =
           let later : k - i ≡ suc (k - (i + 1)) = omega (arith, g .sought) in
           record {

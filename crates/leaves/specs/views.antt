@@ -2,5 +2,6 @@
 pub mod TestNumbers
 pub mod OpenTests
 pub mod TakenNotes
+pub mod Seeking
 pub mod Kept
 pub mod LeafAnswers

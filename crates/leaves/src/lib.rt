@@ -1,4 +1,5 @@
 // What is answered at a leaf, and the tests that it waits for.
+pub mod begins; // where the rules begin
 pub mod number; // the numbers of tests
 pub mod own; // the tests of a rule that are not known
 pub mod rule; // the answer at an execute of a rule

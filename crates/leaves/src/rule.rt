@@ -1,5 +1,6 @@
 // The answer at an execute of a rule.
 use crate::Executed;
+use crate::begins::passed;
 use crate::own::own_waits;
 use outcomes::TestOutcome;
 use plain::Answer;
@@ -22,18 +23,28 @@ ghost use Rattle.graph.specs.views.Rewriting.{readOr};
 ghost use Rattle.leaves.specs.views.LeafAnswers.{executed, executedOf, ownWaits};
 ghost use Rattle.leaves.specs.views.TakenNotes.{takenNotes, countOf};
 ghost use Rattle.leaves.specs.views.Kept.{KeptNear, RuleRead};
+ghost use Rattle.leaves.specs.views.Seeking.{BeginAt};
 
 // The notes of a rule, from 1, of the rules, so many, that the input begins with: its bytes, and how many notes there are. The
-// rules were read before, so none is refused here. Not the notes of the rule after it, nor those of the first.
-pub fn notes_at(s: &[u8], arity: usize, count: u8, rule: u8, notes: &mut [u64; 680]) -> Took
+// rules were read before, so none is refused here; where the rule's begin is not noted, those before it are read again. Not the
+// notes of the rule after it, nor those of the first.
+pub fn notes_at(
+    s: &[u8],
+    arity: usize,
+    count: u8,
+    rule: u8,
+    begin: usize,
+    notes: &mut [u64; 680],
+) -> Took
     requires { ⌜ RuleRead (now s) arity count rule × (length (now notes) ≡ 680) ⌝ }
+    requires { ⌜ BeginAt (now s) arity count rule begin ⌝ }
     ensures { λ r. ⌜ takenNotes (now (notes .exit)) r
         ≡ some (ruleNotes (ruleAt (readOr [] (readRules arity count (now (s .entry)))) rule)) ⌝ }
     ensures { λ r. ⌜ (countOf r ≤ 680) × (length (now (notes .exit)) ≡ 680)
         × All Placed (notesIn (now (notes .exit)) (countOf r)) ⌝ }
 {
-    let mut at: usize = 0;
-    let mut i: u8 = 0;
+    let mut at = begin;
+    let mut i = passed(begin, rule);
     while i < count {
         let read = sheet::read_rule(&s[at..], arity, notes);
         let Took::Used(bytes, _) = read else {

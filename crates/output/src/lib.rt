@@ -6,6 +6,7 @@ use walk_all::First;
 use walk_all::Opened;
 use walk_all::first_piece::walk_first;
 use walk_all::open::open_graph;
+use walk_all::open::with_begins;
 ghost use Prim.Native.Nat.{ℕ, _+_, _≤_, min};
 ghost use mathlib.Core.Path.{_≡_};
 ghost use lib.ListN.{length};
@@ -56,10 +57,11 @@ fn put_built(sheet: &[u8], graph: &[u8], nodes: u16, input: &[u8], out: &mut [u8
     let opened = open_graph(sheet, graph, &mut words, &mut codes, &mut starts);
     match opened {
         Opened::Refused(q) => lines::put_refused(out, 0, q),
-        Opened::Ready(sizes) => {
+        Opened::Ready(arity, rules, pairs, nodes_read) => {
+            let sizes = with_begins(sheet, arity, rules, pairs, nodes_read);
             let places = count_places(&words);
-            let tests = (places + sizes.pairs) as u8;
-            let mut end = lines::put_sheet_line(out, 0, sizes.arity, sizes.rules, tests, nodes);
+            let tests = (places + pairs) as u8;
+            let mut end = lines::put_sheet_line(out, 0, arity, rules, tests, nodes);
             let mut from: usize = 0;
             let mut n: u32 = 1;
             while from < input.len() {

@@ -15,7 +15,7 @@ use sheet_tests::TestsRead;
 ghost use Prim.Native.Nat.{ℕ};
 ghost use mathlib.Core.Path.{_≡_};
 ghost use mathlib.Core.List.{List, []};
-ghost use lib.ListN.{length};
+ghost use lib.ListN.{length, drop};
 ghost use Rattle.sheet.specs.ReadSheet.{readRules};
 ghost use Rattle.accepted.specs.views.AcceptedAs.{AcceptedTests};
 ghost use Rattle.outcomes.specs.views.CompareCells.{Narrow};
@@ -23,6 +23,7 @@ ghost use Rattle.plain.specs.views.ReadAs.{ReadAs};
 ghost use Rattle.graph.specs.views.Rewriting.{readOr};
 ghost use Rattle.path.specs.views.Following.{cellsEnd, nodesAt};
 ghost use Rattle.leaves.specs.views.Kept.{Arrays};
+ghost use Rattle.leaves.specs.views.Seeking.{Begins};
 ghost use Rattle.walk.specs.views.LeafWalks.{endWalk};
 ghost use Rattle.walk.specs.views.Ready.{Ready, SomePiece, Checked};
 ghost use Rattle.walk.specs.Walking.{graphReply, pieceReply, walkReply, replyValues, walkedValues, walkedReading};
@@ -38,7 +39,8 @@ fn walk_nodes(
     sizes: Sizes,
     cells: &[u32; 680],
 ) -> Walked
-    requires { ⌜ Arrays (now words) (now codes) (sizes .pairs) × (length (now starts) ≡ 1024) × Narrow (now cells) ⌝ }
+    requires { ⌜ Arrays (now words) (now codes) (sizes .pairs) × (length (now starts) ≡ 1024) × Narrow (now cells)
+        × Begins (now s) (sizes .arity) (sizes .rules) (sizes .begins) ⌝ }
     requires { ⌜ Ready (now s) (now graph) (now starts) (now words) (now codes) (sizes .arity) (sizes .rules)
         (sizes .pairs) (sizes .nodes) ⌝ }
     ensures { λ r. ⌜ walkedReading r
@@ -78,7 +80,7 @@ pub fn walk_checked(
     cells: &[u32; 680],
 ) -> Walked
     requires { ⌜ Arrays (now words) (now codes) (sizes .pairs) × (length (now starts) ≡ 1024)
-        × SomePiece (now cells) (sizes .arity) ⌝ }
+        × SomePiece (now cells) (sizes .arity) × Begins (drop 3 (now sheet)) (sizes .arity) (sizes .rules) (sizes .begins) ⌝ }
     requires { ⌜ Checked (now sheet) (now graph) (now starts) (now words) (now codes) (sizes .arity) (sizes .rules)
         (sizes .pairs) (sizes .nodes) ⌝ }
     ensures { λ r. ⌜ ((t : AcceptedTests (now (sheet .entry)) (now (words .entry)) (now (codes .entry)) (sizes .arity)
@@ -121,6 +123,7 @@ fn walk_graph(
                 rules: sizes.rules,
                 pairs: sizes.pairs,
                 nodes,
+                begins: [0; 32],
             };
             walk_checked(sheet, graph, &starts, words, codes, all, cells)
         }
@@ -171,6 +174,7 @@ pub fn walk(sheet: &[u8], graph: &[u8], piece: &[u8]) -> Walked
                 rules,
                 pairs,
                 nodes: 0,
+                begins: [0; 32],
             };
             walk_piece(sheet, graph, piece, &words, &codes, sizes)
         }

@@ -5,10 +5,10 @@ pub mod result; // the bytes of a result
 
 use first_piece::walk_first;
 use open::open_graph;
+use open::with_begins;
 use result::put_result;
 use result::rule;
 use result::word;
-use walk::Sizes;
 use walk::Walk;
 ghost use Prim.Native.Nat.{_+_, _/_, _≤_, min};
 ghost use mathlib.Core.Path.{_≡_};
@@ -17,9 +17,9 @@ ghost use Rattle.walk_all.specs.WalkAll.{walkAll, mostResults, resultLen
 ghost use Rattle.walk_all.specs.views.FirstPiece.{firstOf};
 ghost use Rattle.walk_all.specs.views.Turns.{turned, leftBy};
 
-// What was read of a sheet and a graph, or the number of the question that got a no.
+// What was read of a sheet and a graph: arity, rules, pairs among the tests, nodes; or the number of the question that got a no.
 pub enum Opened {
-    Ready(Sizes),
+    Ready(u8, u8, usize, u16),
     Refused(u8),
 }
 
@@ -98,7 +98,8 @@ pub fn walk_all(sheet: &[u8], graph: &[u8], pieces: &[u8], results: &mut [u8]) -
     let opened = open_graph(sheet, graph, &mut words, &mut codes, &mut starts);
     match opened {
         Opened::Refused(q) => WalkedAll::Refused(q),
-        Opened::Ready(sizes) => {
+        Opened::Ready(arity, rules, pairs, nodes) => {
+            let sizes = with_begins(sheet, arity, rules, pairs, nodes);
             let room = room_for(results.len());
             let mut n: usize = 0;
             let mut from: usize = 0;

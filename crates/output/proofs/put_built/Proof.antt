@@ -14,6 +14,7 @@ use Rattle.lines.proofs.Wrote.{Wrote, wrote-as, wrote-behind}
 use Rattle.decision.specs.Walk.{Walk}
 use Rattle.walk.specs.Walking.{walkReply}
 use Rattle.walk_all.specs.views.Known.{OpenedAs, ReadyAs}
+use Rattle.walk_all.proofs.Opening.{rules-there, known-with}
 use Rattle.output.specs.Listing.{firstWalk, pieceLines, builtLines}
 use Rattle.output.specs.declared.Turn.{Turn}
 use Rattle.output.specs.views.Turned.{Turned, turned, Within, walkLine, answered}
@@ -25,18 +26,19 @@ use Rattle.output.proofs.put_built.Statement.{statement}
 use Rattle.output.proofs.put_built.Tie as tie
 
 abbrev Inv-loop : tie.InvT-loop
-Inv-loop sheet graph nodes input out₀ words codes starts sizes places tests end₀ from₀ n₀ out end from n =
+Inv-loop sheet graph nodes input out₀ words codes starts arity rules pairs nodes-read sizes places tests end₀ from₀ n₀ out end from n =
     (from ≤ length input) × (1 ≤ n) × (3 * n ≤ from + 3) × (end + 44 ≤ end₀ + 44 * n) × (length out ≡ length out₀)
     × Progress (walkReply sheet graph) input out₀ end₀ from n end out
 
 abbrev μ-loop : tie.MeasureT-loop
-μ-loop sheet graph nodes input out₀ words codes starts sizes places tests end₀ from₀ n₀ out end from n = length input - from
+μ-loop sheet graph nodes input out₀ words codes starts arity rules pairs nodes-read sizes places tests end₀ from₀ n₀ out end from n = length input - from
 
 -- Where the graph is accepted for the sheet.
 ready
     : (c : tie.After-opened2 Inv-loop μ-loop)
     → ReadyAs (now (c .before .before .before .before .before .before .before .before .before .before .args .sheet)) (now (c .before .before .before .before .before .before .before .before .before .before .args .graph)) (c .before .before .open-graph .last .1 .1 .1 .1 .0)
-    (c .before .before .open-graph .last .1 .1 .0) (c .before .before .open-graph .last .1 .1 .1 .0) (c .opened2 .given .0 .0)
+    (c .before .before .open-graph .last .1 .1 .0) (c .before .before .open-graph .last .1 .1 .1 .0) (c .opened2 .given .0 .0) (c .opened2 .given .0 .1 .0)
+    (c .opened2 .given .0 .1 .1 .0) (c .opened2 .given .0 .1 .1 .1 .0)
 ready c = subst (OpenedAs _ _ _ _ _) (c .opened2 .given .1) (c .before .before .open-graph .ensures)
 
 -- Where the line of the sheet stands at the front: the lines of the pieces behind it are all that is to be printed.
@@ -63,15 +65,14 @@ module _ (c : tie.After-slice-known3 Inv-loop μ-loop) where
       → Wrote (c .before .before .put-sheet-line .last .0) (c .before .before .put-sheet-line .result) (pieceLines reply (length input) 1 input) end ys
       → (end ≡ length all) × (ys ≡ splice buffer 0 all)
   all-printed w =
-      let known = ready (c .before .before .before .before .before .before .before .before) .known in
-      let sizes = c .before .before .before .before .before .before .before .before .opened2 .given .0 .0 in
-      let values = known-values (known .checked .sheet) (c .before .before .before .before .before .count-places .ensures) (omega (arith, known .allCodes, known .fewTests)) in
+      let known = ready (c .before .before .before .before .before .before .before .before) in
+      let values = known-values (known .checked .sheet) (c .before .before .before .before .count-places .ensures) (omega (arith, known .allCodes, known .fewTests)) in
       let lines = pieceLines reply (length input) 1 input in
       let is = ap (λ (x : SheetValues). sheetLine (x .arity) (x .rules) (x .tests) (c .before .before .before .before .before .before .before .before .before .before .before .before .before .before .before .before .before .before .args .nodes) ++ lines) values in
       let first = c .before .before .put-sheet-line in
       from-start buffer all
       (wrote-as buffer 0 is
-      (wrote-behind buffer 0 (sheetLine (sizes .arity) (sizes .rules) (c .before .before .before .before .before .count-places .result + sizes .pairs) (c .before .before .before .before .before .before .before .before .before .before .before .before .before .before .before .before .before .before .args .nodes)) lines
+      (wrote-behind buffer 0 (sheetLine (c .before .before .before .before .before .before .before .before .opened2 .given .0 .0) (c .before .before .before .before .before .before .before .before .opened2 .given .0 .1 .0) (c .before .before .before .before .count-places .result + c .before .before .before .before .before .before .before .before .opened2 .given .0 .1 .1 .0) (c .before .before .before .before .before .before .before .before .before .before .before .before .before .before .before .before .before .before .args .nodes)) lines
       (omega (arith, first .ensures .0 .0, first .ensures .1, c .before .before .before .before .before .before .before .before .before .before .before .before .before .before .before .before .before .before .pre .1 .1)) (first .ensures .0) w))
 
 -- The turn of the piece that comes next.
@@ -108,14 +109,17 @@ put-refused-requires c κs = omega (arith, c .before .before .before .before .be
 enum-known-opened-2 : tie.Need-enum-known-opened-2 Inv-loop μ-loop
 enum-known-opened-2 c = search needs
 
+with-begins-requires : tie.Need-with-begins-requires Inv-loop μ-loop
+with-begins-requires c κs = rules-there (ready (c .before))
+
 count-places-requires : tie.Need-count-places-requires Inv-loop μ-loop
-count-places-requires c κs = ready (c .before .before) .known .allWords
+count-places-requires c κs = ready (c .before .before .before) .allWords
 
 add-tests : tie.Need-add-tests Inv-loop μ-loop
-add-tests c = omega (arith, c .before .count-places .ensures, ready (c .before .before .before .before) .known .fewTests)
+add-tests c = omega (arith, c .count-places .ensures, ready (c .before .before .before .before) .fewTests)
 
 cast-tests : tie.Need-cast-tests Inv-loop μ-loop
-cast-tests c = omega (arith, c .before .count-places .ensures, ready (c .before .before .before .before) .known .fewTests)
+cast-tests c = omega (arith, c .count-places .ensures, ready (c .before .before .before .before) .fewTests)
 
 put-sheet-line-requires : tie.Need-put-sheet-line-requires Inv-loop μ-loop
 put-sheet-line-requires c κs = omega (arith, c .before .before .before .before .before .before .before .before .before .before .before .before .before .before .before .pre .1 .1)
@@ -142,7 +146,7 @@ part-rest-end : tie.Need-part-rest-end Inv-loop μ-loop
 part-rest-end c = search needs
 
 walk-first-requires : tie.Need-walk-first-requires Inv-loop μ-loop
-walk-first-requires c κs = ready (c .before .before .before .before .before .before .before .before .before .before .before .before .before .before) .known
+walk-first-requires c κs = known-with (ready (c .before .before .before .before .before .before .before .before .before .before .before .before .before .before)) (c .before .before .before .before .before .before .before .before .before .before .before .before .with-begins .ensures)
 
 put-first-requires : tie.Need-put-first-requires Inv-loop μ-loop
 put-first-requires c κs =
@@ -228,6 +232,7 @@ put-built-spec =
     enum-known-opened
     put-refused-requires
     enum-known-opened-2
+    with-begins-requires
     count-places-requires
     add-tests
     cast-tests

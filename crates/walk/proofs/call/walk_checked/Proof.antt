@@ -10,6 +10,7 @@ use Rattle.records.proofs.ByteLists.{bytes-all}
 use Rattle.sheet.specs.ReadSheet.{readRules}
 use Rattle.plain.proofs.PiecesRead.{read-narrow}
 use Rattle.graph.specs.views.Rewriting.{readOr}
+use Rattle.leaves.specs.views.Seeking.{Begins}
 use Rattle.path.specs.views.Following.{cellsEnd, nodesAt}
 use Rattle.walk.specs.views.LeafWalks.{endWalk}
 use Rattle.walk.specs.views.Ready.{Ready}
@@ -41,7 +42,12 @@ walk-nodes-requires c κs =
     let s-bytes = bytes-all s (λ i. omega (arith, c .before .before .shared-slice-known .given i)) in
     let g-bytes = bytes-all g (λ i. omega (arith, c .before .shared-slice-known2 .given i)) in
     let room : a .sizes .pairs ≤ length codes = omega (arith, pre .0 .allCodes, pre .0 .fewTests) in (
-      (pre .0, pre .1, read-narrow (pre .2 .readAs)),
+      (
+        pre .0,
+        pre .1,
+        read-narrow (pre .2 .readAs),
+        subst (λ (l : List ℕ). Begins l (a .sizes .arity) (a .sizes .rules) (a .sizes .begins)) (sym (rest s 3)) (pre .3),
+      ),
       subst (λ (l : List ℕ). Ready l g starts words codes (a .sizes .arity) (a .sizes .rules) (a .sizes .pairs) (a .sizes .nodes)) (sym (rest s 3))
           (ready-made s g words codes (checked .sheet) s-bytes g-bytes room (pre .0 .fewTests) starts (checked .graph)),
     )

@@ -1,9 +1,10 @@
 -- The graph is refused, or walked over.
 use Prim.Native.Nat.{ℕ}
 use native.Mathlib.Omega.{arith}
-use lib.ListN.{length-replicate}
+use lib.ListN.{drop, length-replicate}
 use denote.Ref.{now}
 use Rattle.graph_check.proofs.FoundGraph.{index-accepts, index-refuses}
+use Rattle.leaves.proofs.RuleBegins.{none-noted}
 use Rattle.walk.proofs.Replies.{graph-refuses}
 use borrow.Author.Needs.{needs}
 use Rattle.walk.proofs.call.walk_graph.Statement.{statement}
@@ -30,8 +31,10 @@ walk-checked-requires c κs =
     let t = start .pre .1 in
     let f =
     index-accepts (now (a .sheet)) (now (a .graph)) (now (a .words)) (now (a .codes)) starts t (index-graph .result)
-    (index-graph .ensures .0) (c .before .before .index2 .given .1) in
-    ((pre .0, index-graph .ensures .1, pre .1), record { sheet = t; graph = f })
+    (index-graph .ensures .0) (c .before .before .index2 .given .1) in (
+      (pre .0, index-graph .ensures .1, pre .1, none-noted (drop 3 (now (a .sheet))) (a .sizes .arity) (a .sizes .rules)),
+      record { sheet = t; graph = f },
+    )
 
 returns : tie.Need-returns
 returns c = λ t p k.

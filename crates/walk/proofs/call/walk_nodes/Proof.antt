@@ -73,7 +73,7 @@ at-execute-requires c κs =
     let inside =
     subst (λ (l : Leaf). LeafIn (sizes .rules) (leafOf l)) (c .before .leaf .given .1)
     (reached-leaf (sizes .rules) (nodesAt (now (a .graph)) (now (a .starts)) (sizes .nodes)) cells (ready .leaves) ends) in (
-      (record { fewArguments = ready .fewArguments; fromOne = inside .0; inside = inside .1; rulesRead = ready .rulesRead }, pre .2),
+      (record { fewArguments = ready .fewArguments; fromOne = inside .0; inside = inside .1; rulesRead = ready .rulesRead }, pre .2, pre .3),
       record { arrays = pre .0; near = ready .near },
     )
 

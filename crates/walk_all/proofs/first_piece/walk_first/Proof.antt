@@ -79,6 +79,7 @@ walk-checked-requires c κs =
         record { allWords = known .allWords; allCodes = known .allCodes; fewTests = known .fewTests },
         known .allStarts,
         record { bytes = take (bytes (c .before .before .before)) (input (c .before .before .before)); readAs = readAs (c .before) },
+        known .begins,
       ),
       known .checked,
     )

@@ -1,0 +1,17 @@
+-- `passed` meets its contract.
+use borrow.Author.Tests.{eq-eqb, ne-eqb}
+use borrow.Author.Needs.{needs}
+use Rattle.leaves.proofs.begins.passed.Statement.{statement}
+use Rattle.leaves.proofs.begins.passed.Tie as tie
+
+returns : tie.Need-returns
+returns c = simp (eq-eqb _ _ (c .if1 .taken))
+
+sub-result : tie.Need-sub-result
+sub-result c = search needs
+
+returns-2 : tie.Need-returns-2
+returns-2 c = simp (ne-eqb _ _ (c .if1 .left))
+
+pub passed-spec : {M : Type 1} → statement M
+passed-spec = tie.close (tie.spec returns sub-result returns-2)

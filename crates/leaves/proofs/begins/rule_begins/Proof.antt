@@ -1,0 +1,135 @@
+-- `rule_begins` meets its contract: every rule that is left is sought from the current position.
+use Prim.Native.Nat.{ℕ, _-_, _≤_, _<_}
+use mathlib.Core.Path.{_≡_, sym, subst}
+use native.Mathlib.Omega.{arith}
+use lib.ListN.{length, length-replicate}
+use denote.Ref.{now}
+use Rattle.terms.specs.Pattern.{pnil}
+use Rattle.sheet.specs.ReadSheet.{readRule}
+use Rattle.sheet_tests.proofs.Scanning.{bytes-known, rule-read}
+use Rattle.leaves.specs.views.Seeking.{Seeking, Begins}
+use Rattle.leaves.proofs.RulesLeft.{seeking-starts, seeking-next}
+use Rattle.leaves.proofs.RuleBegins.{begins-noted, none-noted}
+use borrow.Author.Needs.{needs}
+use Rattle.leaves.proofs.begins.rule_begins.Statement.{statement}
+use Rattle.leaves.proofs.begins.rule_begins.Tie as tie
+
+abbrev Inv-loop : tie.InvT-loop
+Inv-loop s arity count notes₀ begins₀ at₀ i₀ notes begins at i =
+    (length notes ≡ 680) × (length begins ≡ 32) × (at ≤ length s) × Begins s arity count begins
+    × ((k : ℕ) → i ≤ k → k < count → Seeking (readRule arity) pnil s count k at i)
+
+abbrev μ-loop : tie.MeasureT-loop
+μ-loop s arity count notes₀ begins₀ at₀ i₀ notes begins at i = count - i
+
+loop-holds : tie.Need-loop-holds Inv-loop μ-loop
+loop-holds c =
+    let a = c .before .args in
+    let s = now (a .s) in (
+      length-replicate {A = ℕ} 680 0,
+      length-replicate {A = ℕ} 32 0,
+      omega arith,
+      none-noted s (a .arity) (a .count),
+      λ k from among. seeking-starts (readRule (a .arity)) pnil s (a .count) k among (c .before .pre .1),
+    )
+
+cast-note : tie.Need-cast-note Inv-loop μ-loop
+cast-note c = search needs
+
+note-requires : tie.Need-note-requires Inv-loop μ-loop
+note-requires c κs = c .before .before .loop .inv .1
+
+sub-read-rule : tie.Need-sub-read-rule Inv-loop μ-loop
+sub-read-rule c = c .before .before .before .loop .inv .2
+
+part-read-rule-start : tie.Need-part-read-rule-start Inv-loop μ-loop
+part-read-rule-start c = c .before .before .before .loop .inv .2
+
+part-read-rule-end : tie.Need-part-read-rule-end Inv-loop μ-loop
+part-read-rule-end c = search needs
+
+read-rule-requires : tie.Need-read-rule-requires Inv-loop μ-loop
+read-rule-requires c κs = (c .before .before .before .before .before .before .before .pre .0, c .before .before .before .before .before .loop .inv .0)
+
+enum-known-read : tie.Need-enum-known-read Inv-loop μ-loop
+enum-known-read c = search needs
+
+enum-told : tie.Need-enum-told Inv-loop μ-loop
+enum-told c = search needs
+
+returns : tie.Need-returns Inv-loop μ-loop
+returns c =
+    let a = c .before .before .before .before .before .before .before .before .before .before .args in
+    let s = now (a .s) in
+    let loop = c .before .before .before .before .before .before .before .before .loop in
+    let inv = loop .inv in
+    let begins =
+    subst (Begins s (a .arity) (a .count)) (sym (c .before .before .before .before .before .note .ensures .0))
+    (begins-noted s (a .arity) (a .count) (loop .begins) (loop .i) (loop .at) (inv .1) (inv .3)
+    (inv .4 (loop .i) (omega arith) (c .before .before .before .before .before .before .before .loop-test .taken))) in
+    begins
+
+add-at : tie.Need-add-at Inv-loop μ-loop
+add-at c =
+    let a = c .before .before .before .before .before .before .before .before .before .before .before .args in
+    let s = now (a .s) in
+    let loop = c .before .before .before .before .before .before .before .before .before .loop in
+    let codes = c .before .before .before .read-rule .last .1 .1 .0 in
+    let read = c .before .before .before .read-rule .ensures in
+    let bytes = bytes-known s (λ i. omega (arith, c .before .before .before .before .before .before .before .before .before .before .shared-slice-known .given i)) in
+    let rule = rule-read (a .arity) (loop .at) s codes (c .before .before .before .read-rule .result) (read .0) (c .before .before .before .before .before .before .before .before .before .before .before .pre .0) bytes (c .before .read .given .1) (read .1) in
+    omega (arith, rule .used)
+
+add-i : tie.Need-add-i Inv-loop μ-loop
+add-i c = search needs
+
+loop-less : tie.Need-loop-less Inv-loop μ-loop
+loop-less c = search needs
+
+loop-again : tie.Need-loop-again Inv-loop μ-loop
+loop-again c =
+    let a = c .before .before .before .before .before .before .before .before .before .before .before .args in
+    let s = now (a .s) in
+    let loop = c .before .before .before .before .before .before .before .before .before .loop in
+    let inv = loop .inv in
+    let begins =
+    subst (Begins s (a .arity) (a .count)) (sym (c .before .before .before .before .before .before .note .ensures .0))
+    (begins-noted s (a .arity) (a .count) (loop .begins) (loop .i) (loop .at) (inv .1) (inv .3)
+    (inv .4 (loop .i) (omega arith) (c .before .before .before .before .before .before .before .before .loop-test .taken))) in
+    let codes = c .before .before .before .read-rule .last .1 .1 .0 in
+    let read = c .before .before .before .read-rule .ensures in
+    let bytes = bytes-known s (λ i. omega (arith, c .before .before .before .before .before .before .before .before .before .before .shared-slice-known .given i)) in
+    let rule = rule-read (a .arity) (loop .at) s codes (c .before .before .before .read-rule .result) (read .0) (c .before .before .before .before .before .before .before .before .before .before .before .pre .0) bytes (c .before .read .given .1) (read .1) in (
+      read .1 .entries,
+      c .before .before .before .before .before .before .note .ensures .1,
+      omega (arith, rule .used),
+      begins,
+      λ k from among.
+          seeking-next (readRule (a .arity)) pnil s (inv .4 k (omega arith) among) (rule .read) (λ e. omega (arith, e))
+          (omega (arith, rule .used)),
+    )
+
+returns-2 : tie.Need-returns-2 Inv-loop μ-loop
+returns-2 c = c .before .loop .inv .3
+
+pub rule-begins-spec : {M : Type 1} → statement M
+rule-begins-spec =
+    tie.close
+    (tie.spec
+    Inv-loop
+    μ-loop
+    loop-holds
+    cast-note
+    note-requires
+    sub-read-rule
+    part-read-rule-start
+    part-read-rule-end
+    read-rule-requires
+    enum-known-read
+    enum-told
+    returns
+    add-at
+    add-i
+    loop-less
+    loop-again
+    returns-2)
