@@ -7,3 +7,4 @@ pub mod Pieces
 pub mod Progress
 pub mod FewResults
 pub mod EachResult
+pub mod GoesOn

@@ -23,3 +23,8 @@ pieceAt (suc i) input = pieceAt i (drop (bytesOf input (readPrefix input)) input
 -- Result i of the buffer, from 0.
 abbrev pub resultAt : ℕ → List ℕ → List ℕ
 resultAt i buffer = take resultLength (drop (resultLength * i) buffer)
+
+-- The piece was read, whatever its walk says.
+abbrev pub WasRead : Reading (List ℕ) → Type 0
+WasRead (took k p) = Unit
+WasRead (refused q) = ⊥
