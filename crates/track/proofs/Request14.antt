@@ -1,0 +1,81 @@
+-- Request 14: "The result is always a table that request 1 accepts", and which place comes next at each step.
+use Prim.Native.Nat.{ℕ, zero, suc, _≤_, _<_}
+use mathlib.Core.Path.{_≡_, sym, ap, subst, _∙_}
+use mathlib.Core.Bool.{true}
+use mathlib.Core.Logic.{by-cases}
+use mathlib.Core.List.{List, [], _∷_}
+use native.Mathlib.Decide.{ℕ-discrete}
+use native.Mathlib.Omega.{arith}
+use lib.ListN.{getD, take}
+use lib.Seq.{take-all, take-append-le, getD-take, getD-at}
+use Rattle.records.specs.Reading.{took}
+use Rattle.order.specs.Table.{readTable}
+use Rattle.order.specs.TableBytes.{tableBytes}
+use Rattle.order.proofs.TableBytes.{bytes-read}
+use Rattle.track.specs.Track.{positionAt, mayFollow, nextPlace, downAfter, trackOrder}
+use Rattle.track.proofs.StepByStep.{after, next-least}
+
+-- "The result is always a table that request 1 accepts": whatever the positions, 28, 29 and 30 refuse nothing.
+pub track-accepted : (positions : List ℕ) → readTable (tableBytes (trackOrder positions)) ≡ took 1360 (trackOrder positions)
+unfolding trackOrder
+track-accepted positions =
+    let a = after positions 680 (omega arith) in bytes-read (downAfter positions 680) (a .size) (a .once) (a .first)
+
+-- Place p comes next where these places are down: it is one of those that may follow, none of them has a smaller position, and none
+-- that is lower has the same.
+pub record Next (positions down : List ℕ) (p : ℕ) : Type 0 where
+  pub inside : p < 680
+  pub follows : mayFollow down p ≡ true
+  pub smallest : (q : ℕ) → q < 680 → mayFollow down q ≡ true → positionAt positions p ≤ positionAt positions q
+  pub lowest : (q : ℕ) → q < 680 → mayFollow down q ≡ true → positionAt positions q ≡ positionAt positions p → p ≤ q
+
+-- The first n places of the order are those that are down after n steps,
+first-places : (positions : List ℕ) (n m : ℕ) → n ≤ m → m ≤ 680 → take n (downAfter positions m) ≡ downAfter positions n
+unfolding downAfter
+first-places positions n m some room =
+    by-cases (ℕ-discrete n m)
+    (λ (e : n ≡ m).
+    ap (λ (k : ℕ). take k (downAfter positions m)) e
+    ∙ take-all m (downAfter positions m) (omega (arith, after positions m room .size))
+    ∙ ap (downAfter positions) (sym e))
+    (λ (d : n ≡ m → ⊥). shorter m room (omega arith))
+  where
+    shorter : (k : ℕ) → k ≤ 680 → n < k → take n (downAfter positions k) ≡ downAfter positions n
+    shorter zero room h = absurd (omega arith)
+    shorter (suc k) room h =
+        let last = nextPlace positions (downAfter positions k) ∷ [] in
+        take-append-le n (downAfter positions k) last (omega (arith, after positions k (omega arith) .size))
+        ∙ by-cases (ℕ-discrete n k)
+        (λ (e : n ≡ k).
+        ap (λ (x : ℕ). take x (downAfter positions k)) e
+        ∙ take-all k (downAfter positions k) (omega (arith, after positions k (omega arith) .size))
+        ∙ ap (downAfter positions) (sym e))
+        (λ (d : n ≡ k → ⊥). shorter k (omega arith) (omega arith))
+
+-- and behind them stands the next.
+place-after : (positions : List ℕ) (n : ℕ) → n < 680 → getD (downAfter positions 680) n 0 ≡ nextPlace positions (downAfter positions n)
+unfolding downAfter
+place-after positions n h =
+    sym (getD-take (suc n) (downAfter positions 680) n 0 (omega arith))
+    ∙ ap (λ (l : List ℕ). getD l n 0) (first-places positions (suc n) 680 (omega arith) (omega arith))
+    ∙ getD-at (downAfter positions n) (nextPlace positions (downAfter positions n)) [] 0 n (after positions n (omega arith) .size)
+
+-- "Step by step": each place of the order comes next where those before it are down.
+pub track-least
+    : (positions : List ℕ) (n : ℕ) → n < 680
+    → Next positions (take n (trackOrder positions)) (getD (trackOrder positions) n 0)
+unfolding trackOrder
+track-least positions n h =
+    subst (λ (down : List ℕ). Next positions down (getD (downAfter positions 680) n 0))
+    (sym (first-places positions n 680 (omega arith) (omega arith)))
+    (subst (Next positions (downAfter positions n)) (sym (place-after positions n h)) next)
+  where
+    next : Next positions (downAfter positions n) (nextPlace positions (downAfter positions n))
+    next =
+        let l = next-least positions (after positions n (omega arith)) h in
+        record {
+          inside = l .to;
+          follows = l .passes;
+          smallest = λ q to f. omega (arith, l .least q (omega arith) to f, l .to, to);
+          lowest = λ q to f e. omega (arith, l .least q (omega arith) to f, e);
+        }

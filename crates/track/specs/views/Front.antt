@@ -1,0 +1,40 @@
+-- How the code keeps the places that may follow: a key for each place, of which the least is that of the place that comes next.
+use Prim.Native.Nat.{ℕ, zero, suc, _+_, _*_, _<_}
+use mathlib.Core.Path.{_≡_}
+use mathlib.Core.Bool.{Bool, _&&_, cond}
+use mathlib.Core.List.{List}
+use lib.Dec.{eqb, leb, ltb}
+use lib.ListN.{length, getD}
+use Rattle.places.specs.Numbering.{parentAt}
+use Rattle.track.specs.Track.{positionAt, mayFollow}
+
+-- By its position first, then by its number.
+abbrev pub keyOf : List ℕ → ℕ → ℕ
+keyOf positions p = positionAt positions p * 1024 + p
+
+-- The key of a place that may follow, and 2 to the power 26, which is above all keys, for any other.
+abbrev pub frontAt : List ℕ → List ℕ → ℕ → ℕ
+frontAt positions down p = cond (mayFollow down p) (keyOf positions p) 67108864
+
+-- The children of p, 680 for the arguments, that stand from one place to before another.
+abbrev pub isChild : ℕ → ℕ → ℕ → ℕ → Bool
+isChild p from to q = leb from q && ltb q to && eqb (parentAt q) p
+
+-- The keys with those of these children.
+pub record Opened (positions : List ℕ) (p from to : ℕ) (keys after : List ℕ) : Type 0 where
+  pub size : length after ≡ 680
+  pub at : (q : ℕ) → q < 680 → getD after q 0 ≡ cond (isChild p from to q) (keyOf positions q) (getD keys q 0)
+
+-- The keys where one more place is down: it has none, and its children have theirs.
+pub record PutDown (positions : List ℕ) (p : ℕ) (keys after : List ℕ) : Type 0 where
+  pub size : length after ≡ 680
+  pub at : (q : ℕ) → q < 680
+      → getD after q 0 ≡ cond (eqb q p) 67108864 (cond (eqb (parentAt q) p) (keyOf positions q) (getD keys q 0))
+
+-- The least of the first n keys.
+abbrev pub lesser : ℕ → ℕ → ℕ
+lesser best key = cond (ltb key best) key best
+
+unfoldable pub leastOf : List ℕ → ℕ → ℕ
+leastOf keys zero = 67108864
+leastOf keys (suc n) = lesser (leastOf keys n) (getD keys n 0)
