@@ -1,8 +1,10 @@
 -- The laws of the order of a track drawing.
 pub mod NextPlace
 pub mod StepByStep
-pub mod FrontLaws
+-- The keys of the places that may follow:
 pub mod OpenedKeys
+pub mod LeastKeys
+pub mod FrontLaws
 pub mod PutInOrder
 -- Request 14's sentences:
 pub mod Request14

@@ -1,11 +1,10 @@
--- The turns of the loops over keys: children one after the other, and the least key so far.
+-- The children of a place get their keys, one after the other, and where they stand.
 use Prim.Native.Nat.{ℕ, _+_, _≤_, _<_}
 use mathlib.Core.Path.{_≡_, sym, ap, subst, _∙_}
 use mathlib.Core.Bool.{Bool, false, _&&_, cond, and-false}
 use mathlib.Core.Logic.{inl, inr, by-cases}
 use mathlib.Core.List.{List}
 use native.Mathlib.Decide.{ℕ-discrete}
-use native.Mathlib.Numerals.{add-one}
 use native.Mathlib.Omega.{arith}
 use borrow.Author.Tests.{eq-eqb, ne-eqb, lt-ltb, le-ltb, le-leb, lt-leb}
 use lib.Dec.{eqb, leb, ltb}
@@ -15,16 +14,16 @@ use Rattle.basics.proofs.Numbers.{le-or-lt}
 use Rattle.places.specs.Numbering.{parentAt, levelsAt, stride}
 use Rattle.places.proofs.Below.{at-or-below-parent, at-or-below-range}
 use Rattle.places.proofs.Parents.{parent-before}
-use Rattle.track.specs.views.Front.{keyOf, isChild, Opened, PutDown, leastOf}
+use Rattle.track.specs.views.Front.{keyOf, isChild, Opened}
 
 -- No place stands before the end of a row that ends with it,
-ends-before : (p from q x : ℕ) → q ≤ x → isChild p from q x ≡ false
+pub ends-before : (p from q x : ℕ) → q ≤ x → isChild p from q x ≡ false
 ends-before p from q x h =
     let out = le-ltb x q h in
     (λ j. (leb from x && out j) && eqb (parentAt x) p) ∙ ap (λ (b : Bool). b && eqb (parentAt x) p) (and-false (leb from x))
 
 -- one that stands there is a child by its parent,
-ends-behind : (p from to x : ℕ) → from ≤ x → x < to → isChild p from to x ≡ eqb (parentAt x) p
+pub ends-behind : (p from to x : ℕ) → from ≤ x → x < to → isChild p from to x ≡ eqb (parentAt x) p
 ends-behind p from to x some within =
     let after = le-leb from x some in
     let inside = lt-ltb x to within in
@@ -39,7 +38,7 @@ same-end x q d =
     ]
 
 module _ (positions : List ℕ) (p from : ℕ) {keys₀ : List ℕ} where
-  pub opened-none : length keys₀ ≡ 680 → Opened positions p from from keys₀ keys₀
+  pub opened-none : length keys₀ ≡ 688 → Opened positions p from from keys₀ keys₀
   opened-none size = record {
     size = size;
     at = λ x h.
@@ -51,8 +50,8 @@ module _ (positions : List ℕ) (p from : ℕ) {keys₀ : List ℕ} where
         sym (ap (λ (b : Bool). cond b (keyOf positions x) (getD keys₀ x 0)) none);
   }
 
-  module _ {keys : List ℕ} (q : ℕ) (some : from ≤ q) (inside : q < 680) (o : Opened positions p from q keys₀ keys) where
-    other : (x : ℕ) → x < 680 → (x ≡ q → ⊥) → getD keys x 0 ≡ cond (isChild p from (q + 1) x) (keyOf positions x) (getD keys₀ x 0)
+  module _ {keys : List ℕ} (q : ℕ) (some : from ≤ q) (inside : q < 688) (o : Opened positions p from q keys₀ keys) where
+    other : (x : ℕ) → x < 688 → (x ≡ q → ⊥) → getD keys x 0 ≡ cond (isChild p from (q + 1) x) (keyOf positions x) (getD keys₀ x 0)
     other x h d =
         let same = same-end x q d in
         o .at x h ∙ (λ j. cond ((leb from x && same j) && eqb (parentAt x) p) (keyOf positions x) (getD keys₀ x 0))
@@ -90,54 +89,8 @@ module _ (positions : List ℕ) (p from : ℕ) {keys₀ : List ℕ} where
     }
 
 -- The places that have p as their parent stand behind it, within the places that it has.
-child-within : (p q : ℕ) → p < 680 → parentAt q ≡ p → (p < q) × (q < p + stride (levelsAt p))
+pub child-within : (p q : ℕ) → p < 680 → parentAt q ≡ p → (p < q) × (q < p + stride (levelsAt p))
 child-within p q inside e =
     let has : parentAt q ≡ 680 → ⊥ = λ t. omega (arith, t, e, inside) in
     let range = at-or-below-range (parentAt q) q .0 (at-or-below-parent q has) in
     (omega (arith, parent-before q has, e), subst (λ (x : ℕ). q < x + stride (levelsAt x)) e (range .1))
-
--- Where the key of p is taken away and its children get theirs, p is put down.
-pub put-down-is
-    : (positions keys after : List ℕ) (p end : ℕ) → p < 680 → end ≡ p + stride (levelsAt p) → length keys ≡ 680
-    → Opened positions p (p + 1) end (set keys p 67108864) after → PutDown positions p keys after
-put-down-is positions keys after p end inside is size o = record {
-  size = o .size;
-  at = λ q h.
-      o .at q h
-      ∙ by-cases (ℕ-discrete (parentAt q) p)
-      (λ (e : parentAt q ≡ p).
-      let within = child-within p q inside e in
-      let child = ends-behind p (p + 1) end q (omega (arith, within .0)) (omega (arith, within .1, is)) ∙ eq-eqb (parentAt q) p e in
-      let apart = ne-eqb q p (λ same. omega (arith, within .0, same)) in
-      ap (λ (b : Bool). cond b (keyOf positions q) (getD (set keys p 67108864) q 0)) child
-      ∙ sym
-      (λ j. cond (apart j) 67108864 (cond (eq-eqb (parentAt q) p e j) (keyOf positions q) (getD keys q 0))))
-      (λ (d : parentAt q ≡ p → ⊥).
-      let none = ne-eqb (parentAt q) p d in
-      (λ j. cond ((leb (p + 1) q && ltb q end) && none j) (keyOf positions q) (getD (set keys p 67108864) q 0))
-      ∙ ap (λ (b : Bool). cond b (keyOf positions q) (getD (set keys p 67108864) q 0)) (and-false (leb (p + 1) q && ltb q end))
-      ∙ by-cases (ℕ-discrete q p)
-      (λ (e : q ≡ p).
-      ap (λ (x : ℕ). getD (set keys p 67108864) x 0) e
-      ∙ getD-set-same keys p 67108864 0 (omega (arith, size))
-      ∙ sym (ap (λ (b : Bool). cond b 67108864 (cond (eqb (parentAt q) p) (keyOf positions q) (getD keys q 0))) (eq-eqb q p e)))
-      (λ (e : q ≡ p → ⊥).
-      getD-set-other keys p q 67108864 0 e
-      ∙ sym (λ j. cond (ne-eqb q p e j) 67108864 (cond (none j) (keyOf positions q) (getD keys q 0)))));
-}
-
--- A key below the least so far is the least now, and any other is not.
-pub least-now : (keys : List ℕ) (i best : ℕ) → best ≡ leastOf keys i → getD keys i 0 < best → getD keys i 0 ≡ leastOf keys (i + 1)
-unfolding leastOf
-least-now keys i best is h =
-    sym
-    (ap (leastOf keys) (add-one i)
-    ∙ ap (λ (b : Bool). cond b (getD keys i 0) (leastOf keys i)) (lt-ltb (getD keys i 0) (leastOf keys i) (omega (arith, is, h))))
-
-pub least-still : (keys : List ℕ) (i best : ℕ) → best ≡ leastOf keys i → best ≤ getD keys i 0 → best ≡ leastOf keys (i + 1)
-unfolding leastOf
-least-still keys i best is h =
-    is
-    ∙ sym
-    (ap (leastOf keys) (add-one i)
-    ∙ ap (λ (b : Bool). cond b (getD keys i 0) (leastOf keys i)) (le-ltb (getD keys i 0) (leastOf keys i) (omega (arith, is, h))))

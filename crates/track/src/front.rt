@@ -1,11 +1,12 @@
 // The places that may follow, as keys: one for each place.
-ghost use Prim.Native.Nat.{_%_, _≤_, _<_};
+ghost use Prim.Native.Nat.{_+_, _≤_, _<_};
 ghost use mathlib.Core.Path.{_≡_};
 ghost use lib.ListN.{length};
-ghost use Rattle.track.specs.views.Front.{keyOf, Opened, PutDown, leastOf};
+ghost use Rattle.track.specs.views.Front.{keyOf, Opened, leastOf, Settled, PutDown};
 
-// A key for each place: its position × 1,024 + its number where it may follow, 2 to the power 26 where not.
-pub type Keys = [u32; 680];
+// A key for each place: its position × 1,024 + its number where it may follow, 2 to the power 26 where not. Behind the 680 keys
+// the least of each argument's 85, so that the next place is one of eight.
+pub type Keys = [u32; 688];
 
 // The key of a place.
 fn key(positions: &[u8], p: usize) -> u32
@@ -19,7 +20,7 @@ fn key(positions: &[u8], p: usize) -> u32
 // Gives the children of p that stand from a place to before another their keys; of 680 these are the arguments.
 // Ruled out: a key for a place below a child of p; the key of p for its child.
 pub fn open_children(positions: &[u8], keys: &mut Keys, p: usize, from: usize, to: usize)
-    requires { ⌜ (length (now positions) ≡ 1360) × (length (now keys) ≡ 680) × (from ≤ to) × (to ≤ 680) ⌝ }
+    requires { ⌜ (length (now positions) ≡ 1360) × (length (now keys) ≡ 688) × (from ≤ to) × (to ≤ 680) ⌝ }
     ensures { λ _. ⌜ Opened (now (positions .entry)) p from to (now (keys .entry)) (now (keys .exit)) ⌝ }
 {
     let mut q = from;
@@ -31,31 +32,46 @@ pub fn open_children(positions: &[u8], keys: &mut Keys, p: usize, from: usize, t
     }
 }
 
-// Takes the key of place p away, and gives its children theirs.
-// Ruled out: a key left for p, which would be put down twice; one for the children of another place.
-pub fn put_down(positions: &[u8], keys: &mut Keys, p: usize)
-    requires { ⌜ (length (now positions) ≡ 1360) × (length (now keys) ≡ 680) × (p < 680) ⌝ }
-    ensures { λ _. ⌜ PutDown (now (positions .entry)) p (now (keys .entry)) (now (keys .exit)) ⌝ }
-{
-    keys[p] = 0x400_0000;
-    let end = p + places::step(places::depth(p) - 1);
-    open_children(positions, keys, p, p + 1, end);
-}
-
-// The place of the least key.
-// Ruled out: the place of the first key; the highest of the places at one position.
-pub fn least(keys: &Keys) -> u16
-    requires { ⌜ length (now keys) ≡ 680 ⌝ }
-    ensures { λ r. ⌜ r ≡ leastOf (now (keys .entry)) 680 % 1024 ⌝ }
+// The least of n keys, from one on.
+// Ruled out: the first of them; 0 of none.
+pub fn least(keys: &Keys, from: usize, n: usize) -> u32
+    requires { ⌜ (length (now keys) ≡ 688) × (from + n ≤ 688) ⌝ }
+    ensures { λ r. ⌜ r ≡ leastOf (now (keys .entry)) from n ⌝ }
 {
     let mut best: u32 = 0x400_0000;
     let mut i: usize = 0;
-    while i < 680 {
-        let key = keys[i];
+    while i < n {
+        let key = keys[from + i];
         if key < best {
             best = key;
         }
         i += 1;
     }
-    (best % 1024) as u16
+    best
+}
+
+// The least key of each argument's places, where no place is down.
+// Ruled out: the key of an argument for that of the next; a least of 84 places.
+pub fn settle(keys: &mut Keys)
+    requires { ⌜ length (now keys) ≡ 688 ⌝ }
+    ensures { λ _. ⌜ Settled 8 (now (keys .entry)) (now (keys .exit)) ⌝ }
+{
+    let mut a: usize = 0;
+    while a < 8 {
+        keys[680 + a] = least(keys, 85 * a, 85);
+        a += 1;
+    }
+}
+
+// Takes the key of place p away, gives its children theirs, and finds the least of its argument's places.
+// Ruled out: a key left for p, which would be put down twice; one for the children of another place.
+pub fn put_down(positions: &[u8], keys: &mut Keys, p: usize)
+    requires { ⌜ (length (now positions) ≡ 1360) × (length (now keys) ≡ 688) × (p < 680) ⌝ }
+    ensures { λ _. ⌜ PutDown (now (positions .entry)) p (now (keys .entry)) (now (keys .exit)) ⌝ }
+{
+    keys[p] = 0x400_0000;
+    let end = p + places::step(places::depth(p) - 1);
+    open_children(positions, keys, p, p + 1, end);
+    let a = p / 85;
+    keys[680 + a] = least(keys, 85 * a, 85);
 }

@@ -4,6 +4,7 @@ pub mod front; // the places that may follow, and which of them comes next
 use front::least;
 use front::open_children;
 use front::put_down;
+use front::settle;
 ghost use Prim.Native.Nat.{_≤_};
 ghost use mathlib.Core.Path.{_≡_};
 ghost use lib.ListN.{length};
@@ -25,12 +26,14 @@ fn put_order(positions: &[u8], buf: &mut [u8])
     requires { ⌜ (length (now positions) ≡ 1360) × (1360 ≤ length (now buf)) ⌝ }
     ensures { λ _. ⌜ now (buf .exit) ≡ splice (now (buf .entry)) 0 (tableBytes (trackOrder (now (positions .entry)))) ⌝ }
 {
-    let mut keys = [0x400_0000u32; 680];
+    let mut keys = [0x400_0000u32; 688];
     open_children(positions, &mut keys, 680, 0, 680);
+    settle(&mut keys);
     let mut end: usize = 0;
     let mut i: usize = 0;
     while i < 680 {
-        let place = least(&keys);
+        let key = least(&keys, 680, 8);
+        let place = (key % 1024) as u16;
         put_down(positions, &mut keys, place as usize);
         end = records::put(buf, end, &[records::high(place), records::low(place)]);
         i += 1;

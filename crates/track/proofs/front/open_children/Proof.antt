@@ -51,7 +51,7 @@ loop-again c =
     let turn = c .before .before .before .loop in
     let start = c .before .before .before .before .before in
     let a = start .args in
-    let inside : turn .q < 680 = omega (arith, c .before .before .loop-test .taken, start .pre .3) in (
+    let inside : turn .q < 688 = omega (arith, c .before .before .loop-test .taken, start .pre .3) in (
       omega (arith, turn .inv .0),
       omega (arith, c .before .before .loop-test .taken),
       ⊎-elim
