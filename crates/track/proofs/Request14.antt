@@ -1,33 +1,28 @@
 -- Request 14: "The result is always a table that request 1 accepts", and which place comes next at each step.
 use Prim.Native.Nat.{ℕ, zero, suc, _≤_, _<_}
-use mathlib.Core.Path.{_≡_, sym, ap, subst, _∙_}
+use mathlib.Core.Path.{_≡_, refl, sym, ap, subst, _∙_}
 use mathlib.Core.Bool.{true}
 use mathlib.Core.Logic.{by-cases}
 use mathlib.Core.List.{List, [], _∷_}
 use native.Mathlib.Decide.{ℕ-discrete}
 use native.Mathlib.Omega.{arith}
-use lib.ListN.{getD, take}
+use lib.ListN.{length, getD, take}
 use lib.Seq.{take-all, take-append-le, getD-take, getD-at}
 use Rattle.records.specs.Reading.{took}
+use Rattle.records.specs.Writing.{splice}
 use Rattle.order.specs.Table.{readTable}
 use Rattle.order.specs.TableBytes.{tableBytes}
 use Rattle.order.proofs.TableBytes.{bytes-read}
-use Rattle.track.specs.Track.{positionAt, mayFollow, nextPlace, downAfter, trackOrder}
+use Rattle.track.specs.Track.{nextPlace, downAfter, trackOrder, Next}
+use Rattle.track.specs.Ordering.{ordered}
 use Rattle.track.proofs.StepByStep.{after, next-least}
+use Rattle.track.proofs.PutInOrder.{not-long, no-room, written}
 
 -- "The result is always a table that request 1 accepts": whatever the positions, 28, 29 and 30 refuse nothing.
 pub track-accepted : (positions : List ℕ) → readTable (tableBytes (trackOrder positions)) ≡ took 1360 (trackOrder positions)
 unfolding trackOrder
 track-accepted positions =
     let a = after positions 680 (omega arith) in bytes-read (downAfter positions 680) (a .size) (a .once) (a .first)
-
--- Place p comes next where these places are down: it is one of those that may follow, none of them has a smaller position, and none
--- that is lower has the same.
-pub record Next (positions down : List ℕ) (p : ℕ) : Type 0 where
-  pub inside : p < 680
-  pub follows : mayFollow down p ≡ true
-  pub smallest : (q : ℕ) → q < 680 → mayFollow down q ≡ true → positionAt positions p ≤ positionAt positions q
-  pub lowest : (q : ℕ) → q < 680 → mayFollow down q ≡ true → positionAt positions q ≡ positionAt positions p → p ≤ q
 
 -- The first n places of the order are those that are down after n steps,
 first-places : (positions : List ℕ) (n m : ℕ) → n ≤ m → m ≤ 680 → take n (downAfter positions m) ≡ downAfter positions n
@@ -79,3 +74,21 @@ track-least positions n h =
           smallest = λ q to f. omega (arith, l .least q (omega arith) to f, l .to, to);
           lowest = λ q to f e. omega (arith, l .least q (omega arith) to f, e);
         }
+
+-- "It refuses a list that isn't 1,360 bytes (37) and then a buffer shorter than 1,360 bytes (38)", and leaves the buffer as it is;
+pub track-37
+    : (positions buffer : List ℕ) → (length positions ≡ 1360 → ⊥)
+    → ordered positions buffer ≡ record { refusal = 37; bytes = 0; buffer = buffer }
+track-37 positions buffer h = sym (not-long positions buffer h)
+
+pub track-38
+    : (positions buffer : List ℕ) → length positions ≡ 1360 → length buffer < 1360
+    → ordered positions buffer ≡ record { refusal = 38; bytes = 0; buffer = buffer }
+track-38 positions buffer size h = sym (no-room positions buffer size h)
+
+-- else the table stands at the front of the buffer, and what stood behind it stays.
+pub track-written
+    : (positions buffer : List ℕ) → length positions ≡ 1360 → 1360 ≤ length buffer
+    → ordered positions buffer
+    ≡ record { refusal = 0; bytes = 1360; buffer = splice buffer 0 (tableBytes (trackOrder positions)) }
+track-written positions buffer size room = sym (written positions buffer _ size room refl)

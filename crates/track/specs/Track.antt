@@ -1,6 +1,7 @@
 -- Order from the track drawing (document 02, request 14): "Owners know where each sensor sits but can't write request 1's table."
-use Prim.Native.Nat.{ℕ, zero, suc, _*_}
-use mathlib.Core.Bool.{Bool, _&&_, not, _||_, cond}
+use Prim.Native.Nat.{ℕ, zero, suc, _*_, _≤_, _<_}
+use mathlib.Core.Path.{_≡_}
+use mathlib.Core.Bool.{Bool, true, _&&_, not, _||_, cond}
 use mathlib.Core.List.{List, [], _∷_, _++_}
 use lib.Dec.{eqb, leb}
 use Rattle.basics.specs.Lists.{anyOf, filter, countFrom}
@@ -38,3 +39,11 @@ downAfter positions (suc n) = downAfter positions n ++ (nextPlace positions (dow
 -- All 680 of them.
 unfoldable pub trackOrder : List ℕ → List ℕ
 trackOrder positions = downAfter positions 680
+
+-- Place p comes next where these places are down: it is one of those that may follow, none of them has a smaller position, and none
+-- that is lower has the same.
+pub record Next (positions down : List ℕ) (p : ℕ) : Type 0 where
+  pub inside : p < 680
+  pub follows : mayFollow down p ≡ true
+  pub smallest : (q : ℕ) → q < 680 → mayFollow down q ≡ true → positionAt positions p ≤ positionAt positions q
+  pub lowest : (q : ℕ) → q < 680 → mayFollow down q ≡ true → positionAt positions q ≡ positionAt positions p → p ≤ q
