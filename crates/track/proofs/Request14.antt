@@ -1,22 +1,23 @@
 -- Request 14: "The result is always a table that request 1 accepts", and which place comes next at each step.
-use Prim.Native.Nat.{ℕ, zero, suc, _≤_, _<_}
+use Prim.Native.Nat.{ℕ, zero, suc, _+_, _≤_, _<_}
 use mathlib.Core.Path.{_≡_, refl, sym, ap, subst, _∙_}
 use mathlib.Core.Bool.{true}
 use mathlib.Core.Logic.{by-cases}
 use mathlib.Core.List.{List, [], _∷_}
 use native.Mathlib.Decide.{ℕ-discrete}
 use native.Mathlib.Omega.{arith}
-use lib.ListN.{length, getD, take}
-use lib.Seq.{take-all, take-append-le, getD-take, getD-at}
+use lib.ListN.{length, getD, take, drop}
+use lib.Seq.{take-at, take-all, take-append-le, getD-take, getD-at}
 use Rattle.records.specs.Reading.{took}
 use Rattle.records.specs.Writing.{splice}
+use Rattle.records.specs.Written.{Result}
 use Rattle.order.specs.Table.{readTable}
 use Rattle.order.specs.TableBytes.{tableBytes}
 use Rattle.order.proofs.TableBytes.{bytes-read}
 use Rattle.track.specs.Track.{nextPlace, downAfter, trackOrder, Next}
 use Rattle.track.specs.Ordering.{ordered}
 use Rattle.track.proofs.StepByStep.{after, next-least}
-use Rattle.track.proofs.PutInOrder.{not-long, no-room, written}
+use Rattle.track.proofs.PutInOrder.{order-length, not-long, no-room, written}
 
 -- "The result is always a table that request 1 accepts": whatever the positions, 28, 29 and 30 refuse nothing.
 pub track-accepted : (positions : List ℕ) → readTable (tableBytes (trackOrder positions)) ≡ took 1360 (trackOrder positions)
@@ -92,3 +93,17 @@ pub track-written
     → ordered positions buffer
     ≡ record { refusal = 0; bytes = 1360; buffer = splice buffer 0 (tableBytes (trackOrder positions)) }
 track-written positions buffer size room = sym (written positions buffer _ size room refl)
+
+-- So what is written is a table that request 1 accepts.
+pub written-accepted
+    : (positions buffer : List ℕ) → length positions ≡ 1360 → 1360 ≤ length buffer
+    → (ordered positions buffer .refusal ≡ 0)
+    × (readTable (take 1360 (ordered positions buffer .buffer)) ≡ took 1360 (trackOrder positions))
+written-accepted positions buffer size room =
+    let table = tableBytes (trackOrder positions) in
+    let is = track-written positions buffer size room in (
+      ap (λ (r : Result). r .refusal) is,
+      ap (λ (r : Result). readTable (take 1360 (r .buffer))) is
+          ∙ ap readTable (take-at table (drop (0 + length table) buffer) 1360 (order-length positions))
+          ∙ track-accepted positions,
+    )
