@@ -41,7 +41,8 @@ pub fn rule_begins(s: &[u8], arity: usize, count: u8) -> [u32; 32]
     begins
 }
 
-// How many rules are passed where the search for one starts at its begin. Not the rule itself.
+// How many rules are passed where the search for one starts at its begin, none where that is not noted. Not the rule itself too,
+// nor the rules before it where the search starts with the first.
 pub fn passed(begin: usize, rule: u8) -> u8
     requires { ⌜ 1 ≤ rule ⌝ }
     ensures { λ r. ⌜ r ≡ passedBy begin rule ⌝ }
