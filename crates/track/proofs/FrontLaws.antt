@@ -15,7 +15,7 @@ use Rattle.places.specs.Numbering.{parentAt}
 use Rattle.track.specs.Track.{isDown, mayFollow, nextPlace}
 use Rattle.places.proofs.Levels.{levels-fit-row}
 use Rattle.track.specs.views.Front.{keyOf, frontAt, Opened, leastOf, Settled, PutDown}
-use Rattle.track.proofs.OpenedKeys.{child-within}
+use Rattle.track.proofs.OpenedKeys.{child-within, argument-depth}
 use Rattle.track.proofs.LeastKeys.{least-low, least-met, least-same}
 use Rattle.track.proofs.StepByStep.{After, next-least, follows-new, new-follows, down-same, down-itself}
 
@@ -27,17 +27,18 @@ pub record Front (positions down keys : List ℕ) : Type 0 where
 
 -- At first the arguments may follow.
 pub front-first
-    : (positions opened keys : List ℕ) → Opened positions 680 0 680 (replicate 688 67108864) opened → Settled 8 opened keys
+    : (positions opened keys : List ℕ) → Opened positions 1 0 680 (replicate 688 67108864) opened → Settled 8 opened keys
     → Front positions [] keys
 front-first positions opened keys o s = record {
   size = s .size;
   at = λ q h.
       let within = lt-ltb q 680 h in
       let any = le-leb 0 q (omega arith) in
+      let argument = argument-depth q h in
       let none = getD-replicate {A = ℕ} 688 q 67108864 0 (omega arith) in
       s .at q h
       ∙ o .at q (omega arith)
-      ∙ (λ j. cond ((any j && within j) && eqb (parentAt q) 680) (keyOf positions q) (none j))
+      ∙ (λ j. cond ((any j && within j) && argument j) (keyOf positions q) (none j))
       ∙ ap (λ (b : Bool). cond b (keyOf positions q) 67108864) (sym (or-false (eqb (parentAt q) 680)));
   best = λ a h. s .best a h ∙ least-same opened keys (85 * a) 85 (λ i within. sym (s .at (85 * a + i) (omega arith)));
 }
@@ -48,11 +49,13 @@ same-argument p q inside e =
     let within = child-within p q inside e in
     omega (arith, within .0, within .1, levels-fit-row 4 p (p / 85 + 1) (omega arith))
 
-module _ (positions : List ℕ) {n : ℕ} {down : List ℕ} (a : After n down) (p : ℕ) (inside : p < 680) (follows : mayFollow down p ≡ true) where
+module _ (positions : List ℕ) {n : ℕ} {down : List ℕ} (a : After n down) (p : ℕ) (inside : p < 680)
+    (follows : mayFollow down p ≡ true) where
   -- Where p is down too it may not follow again,
   front-itself : (q : ℕ) → q ≡ p → frontAt positions (down ++ (p ∷ [])) q ≡ 67108864
   front-itself q e =
-      ap (λ (b : Bool). cond (not b && (eqb (parentAt q) 680 || isDown (down ++ (p ∷ [])) (parentAt q))) (keyOf positions q) 67108864)
+      ap (λ (b : Bool). cond (not b && (eqb (parentAt q) 680 || isDown (down ++ (p ∷ [])) (parentAt q)))
+      (keyOf positions q) 67108864)
       (down-itself down p q e)
 
   -- its children may,
@@ -79,7 +82,9 @@ module _ (positions : List ℕ) {n : ℕ} {down : List ℕ} (a : After n down) (
       let parent = down-same down p (parentAt q) e in
       λ j. cond (not (itself j) && (eqb (parentAt q) 680 || parent j)) (keyOf positions q) 67108864
 
-  pub front-more : {keys after : List ℕ} → Front positions down keys → PutDown positions p keys after → Front positions (down ++ (p ∷ [])) after
+  pub front-more
+      : {keys after : List ℕ} → Front positions down keys → PutDown positions p keys after
+      → Front positions (down ++ (p ∷ [])) after
   front-more {keys} {after} f o = record {
     size = o .size;
     at = λ q h.
@@ -123,11 +128,14 @@ module _ (positions : List ℕ) {n : ℕ} {down keys : List ℕ} (few : (q : ℕ
       let own = f .at p (l .to) ∙ ap (λ (b : Bool). cond b (keyOf positions p) 67108864) (l .passes) in
       let place : 85 * (p / 85) + p % 85 ≡ p = omega arith in
       let within : p / 85 < 8 = omega (arith, l .to) in
+      let least = least-low keys (85 * (p / 85)) 85 (p % 85) (omega arith) in
       omega
-      (arith, own, least-low keys 680 8 (p / 85) within, f .best (p / 85) within, least-low keys (85 * (p / 85)) 85 (p % 85) (omega arith), ap (λ (x : ℕ). getD keys x 0) place)
+      (arith, own, least-low keys 680 8 (p / 85) within, f .best (p / 85) within, least, ap (λ (x : ℕ). getD keys x 0) place)
 
   -- A least key that is a place's is that of the next place.
-  least-of : (q : ℕ) → q < 680 → leastOf keys 680 8 ≡ getD keys q 0 → leastOf keys 680 8 ≡ keyOf positions (nextPlace positions down)
+  least-of
+      : (q : ℕ) → q < 680 → leastOf keys 680 8 ≡ getD keys q 0
+      → leastOf keys 680 8 ≡ keyOf positions (nextPlace positions down)
   least-of q inside is =
       let l = next-least positions a h in
       let p = nextPlace positions down in

@@ -1,21 +1,22 @@
 -- The least of some keys, the turns of the loops that find it, and the keys where one more place is down.
 use Prim.Native.Nat.{ℕ, zero, suc, _+_, _*_, _/_, _≤_, _<_}
 use mathlib.Core.Path.{_≡_, refl, sym, ap, subst, _∙_}
-use mathlib.Core.Bool.{Bool, _&&_, cond, and-false}
+use mathlib.Core.Bool.{Bool, false, _&&_, cond}
 use mathlib.Core.Logic.{_⊎_, inl, inr, by-cases}
 use mathlib.Core.List.{List}
 use native.Mathlib.Decide.{ℕ-discrete}
 use native.Mathlib.Numerals.{add-one}
 use native.Mathlib.Omega.{arith}
-use borrow.Author.Tests.{eq-eqb, ne-eqb, lt-ltb, le-ltb, ltb-true, ltb-false}
-use lib.Dec.{eqb, leb, ltb}
+use borrow.Author.Tests.{eq-eqb, ne-eqb, lt-ltb, le-ltb, lt-leb, ltb-true, ltb-false}
+use lib.Dec.{eqb, ltb}
 use lib.ListN.{length, getD, set, length-set}
 use lib.Seq.{getD-set-same, getD-set-other}
 use Rattle.basics.proofs.Booleans.{by-test}
-use Rattle.places.specs.Numbering.{parentAt, levelsAt, stride}
+use Rattle.basics.proofs.Numbers.{le-or-lt}
+use Rattle.places.specs.Numbering.{parentAt, depthAt, levelsAt, stride}
 use Rattle.places.proofs.Levels.{levels-fit-row}
-use Rattle.track.specs.views.Front.{keyOf, Opened, lesser, leastOf, Settled, PutDown}
-use Rattle.track.proofs.OpenedKeys.{ends-before, ends-behind, child-within}
+use Rattle.track.specs.views.Front.{keyOf, isAt, Opened, lesser, leastOf, Settled, PutDown}
+use Rattle.track.proofs.OpenedKeys.{ends-before, ends-behind, child-within, within-child}
 
 -- A key below the least so far is the least now, and any other is not.
 pub least-now
@@ -29,7 +30,8 @@ least-now keys from i best is h =
     (lt-ltb (getD keys (from + i) 0) (leastOf keys from i) (omega (arith, is, h))))
 
 pub least-still
-    : (keys : List ℕ) (from i best : ℕ) → best ≡ leastOf keys from i → best ≤ getD keys (from + i) 0 → best ≡ leastOf keys from (i + 1)
+    : (keys : List ℕ) (from i best : ℕ) → best ≡ leastOf keys from i → best ≤ getD keys (from + i) 0
+    → best ≡ leastOf keys from (i + 1)
 unfolding leastOf
 least-still keys from i best is h =
     is
@@ -103,10 +105,25 @@ settled-more {keys₀} {keys} a best h s is = record {
       getD-set-other keys (680 + a) (680 + b) best 0 (λ e. d (omega arith)) ∙ s .best b (omega arith));
 }
 
+-- A place that has not p as its parent is no place one deeper within the places of p.
+no-child
+    : (p end q : ℕ) → p < 680 → end ≡ p + stride (levelsAt p) → (parentAt q ≡ p → ⊥) → isAt (depthAt p + 1) (p + 1) end q ≡ false
+no-child p end q inside is d =
+    elim (le-or-lt end q) [
+      | inl h ↦ ends-before (depthAt p + 1) (p + 1) end q h
+      | inr h ↦
+          elim (le-or-lt (p + 1) q) [
+            | inl k ↦
+                ends-behind (depthAt p + 1) (p + 1) end q k h
+                ∙ ne-eqb (depthAt q) (depthAt p + 1) (λ e. d (within-child p q inside (omega (arith, k)) (omega (arith, h, is)) e))
+            | inr k ↦ (let out = lt-leb (p + 1) q k in λ j. (out j && ltb q end) && eqb (depthAt q) (depthAt p + 1))
+          ]
+    ]
+
 -- Where the key of p is taken away and its children get theirs, p is put down.
 pub put-down-is
     : (positions keys opened : List ℕ) (p end best : ℕ) → p < 680 → end ≡ p + stride (levelsAt p) → length keys ≡ 688
-    → Opened positions p (p + 1) end (set keys p 67108864) opened → best ≡ leastOf opened (85 * (p / 85)) 85
+    → Opened positions (depthAt p + 1) (p + 1) end (set keys p 67108864) opened → best ≡ leastOf opened (85 * (p / 85)) 85
     → PutDown positions p keys (set opened (680 + p / 85) best)
 put-down-is positions keys opened p end best inside is size o least = record {
   size = length-set opened (680 + p / 85) best ∙ o .size;
@@ -116,15 +133,16 @@ put-down-is positions keys opened p end best inside is size o least = record {
       ∙ by-cases (ℕ-discrete (parentAt q) p)
       (λ (e : parentAt q ≡ p).
       let within = child-within p q inside e in
-      let child = ends-behind p (p + 1) end q (omega (arith, within .0)) (omega (arith, within .1, is)) ∙ eq-eqb (parentAt q) p e in
+      let child =
+      ends-behind (depthAt p + 1) (p + 1) end q (omega (arith, within .0)) (omega (arith, within .1, is))
+      ∙ eq-eqb (depthAt q) (depthAt p + 1) (within .2) in
       let apart = ne-eqb q p (λ same. omega (arith, within .0, same)) in
       ap (λ (b : Bool). cond b (keyOf positions q) (getD (set keys p 67108864) q 0)) child
       ∙ sym
       (λ j. cond (apart j) 67108864 (cond (eq-eqb (parentAt q) p e j) (keyOf positions q) (getD keys q 0))))
       (λ (d : parentAt q ≡ p → ⊥).
       let none = ne-eqb (parentAt q) p d in
-      (λ j. cond ((leb (p + 1) q && ltb q end) && none j) (keyOf positions q) (getD (set keys p 67108864) q 0))
-      ∙ ap (λ (b : Bool). cond b (keyOf positions q) (getD (set keys p 67108864) q 0)) (and-false (leb (p + 1) q && ltb q end))
+      ap (λ (b : Bool). cond b (keyOf positions q) (getD (set keys p 67108864) q 0)) (no-child p end q inside is d)
       ∙ by-cases (ℕ-discrete q p)
       (λ (e : q ≡ p).
       ap (λ (x : ℕ). getD (set keys p 67108864) x 0) e
@@ -142,6 +160,6 @@ put-down-is positions keys opened p end best inside is size o least = record {
       getD-set-other opened (680 + p / 85) (680 + a) best 0 (λ e. d (omega arith))
       ∙ o .at (680 + a) (omega arith)
       ∙ ap (λ (b : Bool). cond b (keyOf positions (680 + a)) (getD (set keys p 67108864) (680 + a) 0))
-      (ends-before p (p + 1) end (680 + a) (omega (arith, is, levels-fit-row 4 p 8 inside)))
+      (ends-before (depthAt p + 1) (p + 1) end (680 + a) (omega (arith, is, levels-fit-row 4 p 8 inside)))
       ∙ getD-set-other keys p (680 + a) 67108864 0 (λ e. omega arith);
 }

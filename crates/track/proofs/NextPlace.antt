@@ -31,7 +31,11 @@ module _ (positions : List ℕ) (f : ℕ → Bool) where
   -- The first place does not pass,
   found-later : (a k r : ℕ) → f a ≡ false → Found (suc a) k r → Found a (suc k) r
   found-later a k r out (inl h) =
-      inl (h .0, λ q from to. by-cases (ℕ-discrete q a) (λ (e : q ≡ a). ap f e ∙ out) (λ (d : q ≡ a → ⊥). h .1 q (omega arith) (omega arith)))
+      inl (
+        h .0,
+        λ q from to. by-cases (ℕ-discrete q a) (λ (e : q ≡ a). ap f e ∙ out)
+            (λ (d : q ≡ a → ⊥). h .1 q (omega arith) (omega arith)),
+      )
   found-later a k r out (inr l) =
       inr
       record {
@@ -54,14 +58,16 @@ module _ (positions : List ℕ) (f : ℕ → Bool) where
         to = omega arith;
         passes = in-a;
         least = λ q from to in-q.
-            by-cases (ℕ-discrete q a) (λ (e : q ≡ a). subst (λ (x : ℕ). keyOf positions a ≤ keyOf positions x) (sym e) (omega arith))
+            by-cases (ℕ-discrete q a) (λ (e : q ≡ a). subst (λ (x : ℕ). keyOf positions a ≤ keyOf positions x) (sym e)
+            (omega arith))
             (λ (d : q ≡ a → ⊥). h q (omega arith) (omega arith) in-q);
       }
 
   -- or it passes and another is.
   found-nearer : (a k r : ℕ) → a + suc k ≤ 680 → f a ≡ true → Found (suc a) k r → Found a (suc k) (nearer positions a r)
   found-nearer a k r room in-a (inl h) =
-      subst (Found a (suc k)) (sym (ap (λ (b : Bool). cond (b || leb (positionAt positions a) (positionAt positions r)) a r) (eq-eqb r 680 (h .0))))
+      subst (Found a (suc k)) (sym (ap (λ (b : Bool). cond (b || leb (positionAt positions a) (positionAt positions r)) a r)
+      (eq-eqb r 680 (h .0))))
       (found-here a k in-a (λ q from to in-q. absurd (true≢false (sym in-q ∙ h .1 q from to))))
   found-nearer a k r room in-a (inr l) =
       let place = ne-eqb r 680 (λ e. omega (arith, l .to, e)) in
@@ -70,7 +76,8 @@ module _ (positions : List ℕ) (f : ℕ → Bool) where
       let is : nearer positions a r ≡ a =
       (λ j. cond (place j || e j) a r) in
       let near = leb-true (positionAt positions a) (positionAt positions r) e in
-      subst (Found a (suc k)) (sym is) (found-here a k in-a (λ q from to in-q. omega (arith, near, l .from, l .least q from to in-q))))
+      subst (Found a (suc k)) (sym is) (found-here a k in-a
+      (λ q from to in-q. omega (arith, near, l .from, l .least q from to in-q))))
       (λ e.
       let is : nearer positions a r ≡ r =
       (λ j. cond (place j || e j) a r) in
@@ -94,12 +101,14 @@ module _ (positions : List ℕ) (f : ℕ → Bool) where
       let later = nearest positions (filter f (countFrom (suc a) k)) in
       let l = filter f (countFrom (suc a) k) in
       by-test (f a)
-      (λ e. subst (λ (b : Bool). Found a (suc k) (nearest positions (cond b (a ∷ l) l))) (sym e) (found-nearer a k later room e rest))
+      (λ e. subst (λ (b : Bool). Found a (suc k) (nearest positions (cond b (a ∷ l) l))) (sym e)
+      (found-nearer a k later room e rest))
       (λ e. subst (λ (b : Bool). Found a (suc k) (nearest positions (cond b (a ∷ l) l))) (sym e) (found-later a k later e rest))
 
 -- What comes next is the place of the least key, if there is one that may follow.
 pub next-found
     : (positions down : List ℕ)
-    → ((nextPlace positions down ≡ 680) × None (mayFollow down) 0 680) ⊎ Least positions (mayFollow down) 0 680 (nextPlace positions down)
+    → ((nextPlace positions down ≡ 680) × None (mayFollow down) 0 680) ⊎ Least positions (mayFollow down) 0 680
+    (nextPlace positions down)
 unfolding nextPlace
 next-found positions down = found positions (mayFollow down) 0 680 (omega arith)

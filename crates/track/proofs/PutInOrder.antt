@@ -50,7 +50,7 @@ pub record PutSo (positions buf₀ : List ℕ) (i : ℕ) (keys buf : List ℕ) (
 
 pub put-first
     : (positions buf₀ opened keys : List ℕ) → 1360 ≤ length buf₀ → ((q : ℕ) → q < 680 → keyOf positions q < 67108864)
-    → Opened positions 680 0 680 (replicate 688 67108864) opened → Settled 8 opened keys → PutSo positions buf₀ 0 keys buf₀ 0
+    → Opened positions 1 0 680 (replicate 688 67108864) opened → Settled 8 opened keys → PutSo positions buf₀ 0 keys buf₀ 0
 unfolding downAfter
 put-first positions buf₀ opened keys room few o s = record {
   within = omega arith;
@@ -116,10 +116,13 @@ module _ {positions buf₀ : List ℕ} {i : ℕ} {keys buf : List ℕ} {end : �
       s .wrote .1 ∙ ap (λ (n : ℕ). splice buf₀ 0 (tableBytes (downAfter positions n))) last
 
 -- What is answered: 37,
-pub not-long : (positions buffer : List ℕ) → (length positions ≡ 1360 → ⊥) → record { refusal = 37; bytes = 0; buffer = buffer } ≡ ordered positions buffer
+pub not-long
+    : (positions buffer : List ℕ) → (length positions ≡ 1360 → ⊥)
+    → record { refusal = 37; bytes = 0; buffer = buffer } ≡ ordered positions buffer
 unfolding ordered
 not-long positions buffer h =
-    sym (ap (λ (b : Bool). resultOf buffer (ask 37 b (askFits 38 buffer (tableBytes (trackOrder positions))))) (ne-eqb (length positions) 1360 h))
+    sym (ap (λ (b : Bool). resultOf buffer (ask 37 b (askFits 38 buffer (tableBytes (trackOrder positions)))))
+    (ne-eqb (length positions) 1360 h))
 
 -- then 38,
 fits-by

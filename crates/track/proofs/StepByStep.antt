@@ -91,12 +91,19 @@ all-down down none (suc k) room q h =
     (λ e. absurd (true≢false (sym (new-follows down q e rests) ∙ none q (omega arith) (omega arith))))
 
 -- While fewer than 680 are down, one comes next.
-pub next-least : (positions : List ℕ) {n : ℕ} {down : List ℕ} → After n down → n < 680 → Least positions (mayFollow down) 0 680 (nextPlace positions down)
+pub next-least
+    : (positions : List ℕ) {n : ℕ} {down : List ℕ} → After n down → n < 680
+    → Least positions (mayFollow down) 0 680 (nextPlace positions down)
 next-least positions {n} {down} a h =
     elim (next-found positions down) [
       | inl f ↦
           absurd
-          (omega (arith, a .size, covered 0 680 down (λ x from to. found-mem x down (is-true (all-down down (f .1) 680 (omega arith) x (omega arith))))))
+          (omega (
+            arith,
+            a .size,
+            covered 0 680 down
+                (λ x from to. found-mem x down (is-true (all-down down (f .1) 680 (omega arith) x (omega arith)))),
+          ))
       | inr l ↦ l
     ]
 
@@ -126,7 +133,9 @@ first-more (x ∷ down) p first apart =
     (λ q h. apart q (ap (λ (b : Bool). eqb q x || b) h ∙ or-true (eqb q x))) in
     λ j. new j && rest j
 
-pub after-more : {n : ℕ} {down : List ℕ} → After n down → (p : ℕ) → p < 680 → mayFollow down p ≡ true → After (suc n) (down ++ (p ∷ []))
+pub after-more
+    : {n : ℕ} {down : List ℕ} → After n down → (p : ℕ) → p < 680 → mayFollow down p ≡ true
+    → After (suc n) (down ++ (p ∷ []))
 after-more {n} {down} a p inside follows =
     let new = follows-new down p follows in
     record {

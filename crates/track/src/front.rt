@@ -17,15 +17,15 @@ fn key(positions: &[u8], p: usize) -> u32
     (position as u32) * 1024 + (p as u32)
 }
 
-// Gives the children of p that stand from a place to before another their keys; of 680 these are the arguments.
-// Ruled out: a key for a place below a child of p; the key of p for its child.
-pub fn open_children(positions: &[u8], keys: &mut Keys, p: usize, from: usize, to: usize)
+// Gives the places at one depth that stand from a place to before another their keys.
+// Ruled out: a key for a place at the next depth; the key of the first of them for all.
+pub fn open_places(positions: &[u8], keys: &mut Keys, depth: usize, from: usize, to: usize)
     requires { ⌜ (length (now positions) ≡ 1360) × (length (now keys) ≡ 688) × (from ≤ to) × (to ≤ 680) ⌝ }
-    ensures { λ _. ⌜ Opened (now (positions .entry)) p from to (now (keys .entry)) (now (keys .exit)) ⌝ }
+    ensures { λ _. ⌜ Opened (now (positions .entry)) depth from to (now (keys .entry)) (now (keys .exit)) ⌝ }
 {
     let mut q = from;
     while q < to {
-        if places::parent(q) == p {
+        if places::depth(q) == depth {
             keys[q] = key(positions, q);
         }
         q += 1;
@@ -63,15 +63,17 @@ pub fn settle(keys: &mut Keys)
     }
 }
 
-// Takes the key of place p away, gives its children theirs, and finds the least of its argument's places.
+// Takes the key of place p away, gives its children theirs, which are the places below it that are one deeper, and finds the least
+// of its argument's places.
 // Ruled out: a key left for p, which would be put down twice; one for the children of another place.
 pub fn put_down(positions: &[u8], keys: &mut Keys, p: usize)
     requires { ⌜ (length (now positions) ≡ 1360) × (length (now keys) ≡ 688) × (p < 680) ⌝ }
     ensures { λ _. ⌜ PutDown (now (positions .entry)) p (now (keys .entry)) (now (keys .exit)) ⌝ }
 {
     keys[p] = 0x400_0000;
-    let end = p + places::step(places::depth(p) - 1);
-    open_children(positions, keys, p, p + 1, end);
+    let depth = places::depth(p);
+    let end = p + places::step(depth - 1);
+    open_places(positions, keys, depth + 1, p + 1, end);
     let a = p / 85;
     keys[680 + a] = least(keys, 85 * a, 85);
 }

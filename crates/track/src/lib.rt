@@ -2,7 +2,7 @@
 pub mod front; // the places that may follow, and which of them comes next
 
 use front::least;
-use front::open_children;
+use front::open_places;
 use front::put_down;
 use front::settle;
 ghost use Prim.Native.Nat.{_≤_};
@@ -27,7 +27,7 @@ fn put_order(positions: &[u8], buf: &mut [u8])
     ensures { λ _. ⌜ now (buf .exit) ≡ splice (now (buf .entry)) 0 (tableBytes (trackOrder (now (positions .entry)))) ⌝ }
 {
     let mut keys = [0x400_0000u32; 688];
-    open_children(positions, &mut keys, 680, 0, 680);
+    open_places(positions, &mut keys, 1, 0, 680);
     settle(&mut keys);
     let mut end: usize = 0;
     let mut i: usize = 0;

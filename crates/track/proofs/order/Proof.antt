@@ -4,23 +4,18 @@ use Rattle.track.proofs.PutInOrder.{not-long, no-room, written}
 use Rattle.track.proofs.order.Statement.{statement}
 use Rattle.track.proofs.order.Tie as tie
 
--- src/lib.rt:46:9
 returns : tie.Need-returns
 returns c = not-long _ _ (c .if1 .taken)
 
--- src/lib.rt:49:9
 returns-2 : tie.Need-returns-2
 returns-2 c = no-room _ _ (c .before .if1 .left) (c .if2 .taken)
 
--- src/lib.rt:51:5
 put-order-requires : tie.Need-put-order-requires
 put-order-requires c κs = (c .before .before .if1 .left, c .before .if2 .left)
 
--- src/lib.rt:42:1
 same-length : tie.Need-same-length
 same-length c = search needs
 
--- src/lib.rt:42:1
 returns-3 : tie.Need-returns-3
 returns-3 c =
     written _ _ _ (c .before .before .before .before .before .if1 .left) (c .before .before .before .before .if2 .left)

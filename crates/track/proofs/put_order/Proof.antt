@@ -16,37 +16,31 @@ Inv-loop positions buf₀ keys₀ end₀ i₀ buf keys end i = (length positions
 abbrev μ-loop : tie.MeasureT-loop
 μ-loop positions buf₀ keys₀ end₀ i₀ buf keys end i = 680 - i
 
--- src/lib.rt:30:5
-open-children-requires : tie.Need-open-children-requires Inv-loop μ-loop
-open-children-requires c κs = search needs
+open-places-requires : tie.Need-open-places-requires Inv-loop μ-loop
+open-places-requires c κs = search needs
 
--- src/lib.rt:31:5
 settle-requires : tie.Need-settle-requires Inv-loop μ-loop
-settle-requires c κs = c .before .open-children .ensures .size
+settle-requires c κs = c .before .open-places .ensures .size
 
--- src/lib.rt:34:5
 loop-holds : tie.Need-loop-holds Inv-loop μ-loop
 loop-holds c =
     let start = c .before .before .before .before .before .before in
     let known = c .before .before .before .before .before .shared-slice-known .given in (
       start .pre .0,
-      put-first _ _ _ _ (start .pre .1) (λ q h. omega (arith, known (2 * q), known (2 * q + 1))) (c .before .before .open-children .ensures)
+      put-first _ _ _ _ (start .pre .1) (λ q h. omega (arith, known (2 * q), known (2 * q + 1)))
+          (c .before .before .open-places .ensures)
           (c .settle .ensures),
     )
 
--- src/lib.rt:35:13
 least-requires : tie.Need-least-requires Inv-loop μ-loop
 least-requires c κs = (c .before .before .loop .inv .1 .front .size, omega arith)
 
--- src/lib.rt:36:21
 cast-place : tie.Need-cast-place Inv-loop μ-loop
 cast-place c = search needs
 
--- src/lib.rt:37:40
 cast-put-down : tie.Need-cast-put-down Inv-loop μ-loop
 cast-put-down c = search needs
 
--- src/lib.rt:37:9
 put-down-requires : tie.Need-put-down-requires Inv-loop μ-loop
 put-down-requires c κs =
     let turn = c .before .before .before .before .loop in
@@ -57,47 +51,41 @@ put-down-requires c κs =
           (ap (λ (k : ℕ). k % 1024) (key .ensures)),
     )
 
--- src/lib.rt:38:40
 high-requires : tie.Need-high-requires Inv-loop μ-loop
 high-requires c κs = search needs
 
--- src/lib.rt:38:62
 low-requires : tie.Need-low-requires Inv-loop μ-loop
 low-requires c κs = search needs
 
--- src/lib.rt:38:38
 slice-aggregate-put : tie.Need-slice-aggregate-put Inv-loop μ-loop
 slice-aggregate-put c = search needs
 
--- src/lib.rt:38:9
 put-requires : tie.Need-put-requires Inv-loop μ-loop
 put-requires c κs =
-    put-room (c .before .before .before .before .before .before .before .before .before .loop .inv .1) (c .before .before .before .before .before .before .before .before .loop-test .taken)
+    put-room (c .before .before .before .before .before .before .before .before .before .loop .inv .1)
+    (c .before .before .before .before .before .before .before .before .loop-test .taken)
 
--- src/lib.rt:39:9
 add-i : tie.Need-add-i Inv-loop μ-loop
 add-i c = search needs
 
--- src/lib.rt:34:5
 loop-less : tie.Need-loop-less Inv-loop μ-loop
 loop-less c = search needs
 
--- src/lib.rt:34:5
 loop-again : tie.Need-loop-again Inv-loop μ-loop
 loop-again c =
     let turn = c .before .before .before .before .before .before .before .before .before .before .before .before .loop in
     let key = c .before .before .before .before .before .before .before .before .before .least in (
       turn .inv .0,
-      put-next (turn .inv .1) (c .before .before .before .before .before .before .before .before .before .before .before .loop-test .taken) (key .result % 1024) (ap (λ (k : ℕ). k % 1024) (key .ensures)) _ _ _
+      put-next (turn .inv .1)
+          (c .before .before .before .before .before .before .before .before .before .before .before .loop-test .taken) (key .result % 1024) (ap (λ (k : ℕ). k % 1024) (key .ensures)) _ _ _
           (c .before .before .before .before .before .before .before .put-down .ensures)
-          (wrote-as (turn .buf) (turn .end) (λ j. c .before .before .before .before .before .high .ensures j ∷ c .before .before .before .before .low .ensures j ∷ []) (c .before .before .put .ensures)),
+          (wrote-as (turn .buf) (turn .end)
+          (λ j. c .before .before .before .before .before .high .ensures j ∷ c .before .before .before .before .low .ensures j ∷ []) (c .before .before .put .ensures)),
     )
 
--- src/lib.rt:25:1
 same-length : tie.Need-same-length Inv-loop μ-loop
 same-length c = put-same (c .before .loop .inv .1)
 
--- src/lib.rt:25:1
 returns : tie.Need-returns Inv-loop μ-loop
 returns c = put-all (c .before .loop .inv .1) (c .loop-test .left)
 
@@ -107,7 +95,7 @@ put-order-spec =
     (tie.spec
     Inv-loop
     μ-loop
-    open-children-requires
+    open-places-requires
     settle-requires
     loop-holds
     least-requires

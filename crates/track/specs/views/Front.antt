@@ -6,7 +6,7 @@ use mathlib.Core.Bool.{Bool, _&&_, cond}
 use mathlib.Core.List.{List}
 use lib.Dec.{eqb, leb, ltb}
 use lib.ListN.{length, getD}
-use Rattle.places.specs.Numbering.{parentAt}
+use Rattle.places.specs.Numbering.{depthAt, parentAt}
 use Rattle.track.specs.Track.{positionAt, mayFollow}
 
 -- By its position first, then by its number.
@@ -17,14 +17,14 @@ keyOf positions p = positionAt positions p * 1024 + p
 abbrev pub frontAt : List ℕ → List ℕ → ℕ → ℕ
 frontAt positions down p = cond (mayFollow down p) (keyOf positions p) 67108864
 
--- The children of p, 680 for the arguments, that stand from one place to before another.
-abbrev pub isChild : ℕ → ℕ → ℕ → ℕ → Bool
-isChild p from to q = leb from q && ltb q to && eqb (parentAt q) p
+-- The places at one depth that stand from one place to before another.
+abbrev pub isAt : ℕ → ℕ → ℕ → ℕ → Bool
+isAt depth from to q = leb from q && ltb q to && eqb (depthAt q) depth
 
--- The keys with those of these children.
-pub record Opened (positions : List ℕ) (p from to : ℕ) (keys after : List ℕ) : Type 0 where
+-- The keys with those of these places.
+pub record Opened (positions : List ℕ) (depth from to : ℕ) (keys after : List ℕ) : Type 0 where
   pub size : length after ≡ 688
-  pub at : (q : ℕ) → q < 688 → getD after q 0 ≡ cond (isChild p from to q) (keyOf positions q) (getD keys q 0)
+  pub at : (q : ℕ) → q < 688 → getD after q 0 ≡ cond (isAt depth from to q) (keyOf positions q) (getD keys q 0)
 
 -- The least of the n keys from one on.
 abbrev pub lesser : ℕ → ℕ → ℕ
@@ -40,8 +40,7 @@ pub record Settled (n : ℕ) (keys after : List ℕ) : Type 0 where
   pub at : (q : ℕ) → q < 680 → getD after q 0 ≡ getD keys q 0
   pub best : (a : ℕ) → a < n → getD after (680 + a) 0 ≡ leastOf keys (85 * a) 85
 
--- The keys where one more place is down: it has none, its children have theirs, and its argument's places
--- their least.
+-- The keys where one more place is down: it has none, its children have theirs, and its argument's places their least.
 pub record PutDown (positions : List ℕ) (p : ℕ) (keys after : List ℕ) : Type 0 where
   pub size : length after ≡ 688
   pub at : (q : ℕ) → q < 680

@@ -16,32 +16,25 @@ Inv-loop keys from n best₀ i₀ best i = (i ≤ n) × (best ≡ leastOf keys f
 abbrev μ-loop : tie.MeasureT-loop
 μ-loop keys from n best₀ i₀ best i = n - i
 
--- src/front.rt:43:5
 loop-holds : tie.Need-loop-holds Inv-loop μ-loop
 unfolding leastOf
 loop-holds c = (omega arith, refl)
 
--- src/front.rt:44:24
 add-key : tie.Need-add-key Inv-loop μ-loop
 add-key c = search needs
 
--- src/front.rt:44:19
 mul-key : tie.Need-mul-key Inv-loop μ-loop
 mul-key c = search needs
 
--- src/front.rt:44:19
 element-copy-out-key : tie.Need-element-copy-out-key Inv-loop μ-loop
 element-copy-out-key c = search needs
 
--- src/front.rt:48:9
 add-i : tie.Need-add-i Inv-loop μ-loop
 add-i c = search needs
 
--- src/front.rt:43:5
 loop-less : tie.Need-loop-less Inv-loop μ-loop
 loop-less c = search needs
 
--- src/front.rt:43:5
 loop-again : tie.Need-loop-again Inv-loop μ-loop
 loop-again c =
     let turn = c .before .before .before .loop in
@@ -51,7 +44,6 @@ loop-again c =
           (λ w. w .1 ∙ least-still (now (a .keys)) (a .from) (turn .i) (turn .best) (turn .inv .1) (w .0 .left)) (c .if1 .came),
     )
 
--- src/front.rt:37:1
 returns : tie.Need-returns Inv-loop μ-loop
 returns c =
     let a = c .before .before .args in

@@ -15,39 +15,30 @@ Inv-loop keys₀ a₀ keys a = (a ≤ 8) × Settled a keys₀ keys
 abbrev μ-loop : tie.MeasureT-loop
 μ-loop keys₀ a₀ keys a = 8 - a
 
--- src/front.rt:60:5
 loop-holds : tie.Need-loop-holds Inv-loop μ-loop
 loop-holds c = (omega arith, settled-none _ (c .pre))
 
--- src/front.rt:61:37
 mul-least : tie.Need-mul-least Inv-loop μ-loop
 mul-least c = search needs
 
--- src/front.rt:61:25
 least-requires : tie.Need-least-requires Inv-loop μ-loop
 least-requires c κs = (c .before .before .loop .inv .1 .size, omega (arith, c .before .loop-test .taken))
 
--- src/front.rt:61:14
 add-keys : tie.Need-add-keys Inv-loop μ-loop
 add-keys c = search needs
 
--- src/front.rt:61:9
 mul-keys : tie.Need-mul-keys Inv-loop μ-loop
 mul-keys c = search needs
 
--- src/front.rt:61:9
 element-write-keys : tie.Need-element-write-keys Inv-loop μ-loop
 element-write-keys c = search needs
 
--- src/front.rt:62:9
 add-a : tie.Need-add-a Inv-loop μ-loop
 add-a c = search needs
 
--- src/front.rt:60:5
 loop-less : tie.Need-loop-less Inv-loop μ-loop
 loop-less c = search needs
 
--- src/front.rt:60:5
 loop-again : tie.Need-loop-again Inv-loop μ-loop
 loop-again c =
     let turn = c .before .before .before .loop in
@@ -56,7 +47,6 @@ loop-again c =
       settled-more (turn .a) (c .least .result) within (turn .inv .1) (c .least .ensures),
     )
 
--- src/front.rt:55:1
 returns : tie.Need-returns Inv-loop μ-loop
 returns c =
     let turn = c .before .loop in
