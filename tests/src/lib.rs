@@ -5,14 +5,15 @@
 //! test compares them by `==`; `both` makes a call of each and does so. `fast` is the fastest plain code
 //! for most of the calls, an anchor for speed. `generate` is the package that makes sheets, pieces and
 //! graphs, good and damaged. `fillings` answers by trying fillings. `vectors` reads the shared vectors.
-//! `window` calls the library's windows, and `cells` says what becomes of a window's cells. `count` says how often
-//! a test met what it should.
+//! `window` calls the library's windows, and `cells` says what becomes of a window's cells. `programs` finds the
+//! programs that the kit builds. `count` says how often a test met what it should.
 
 pub mod both;
 pub mod cells;
 pub mod count;
 pub mod fast;
 pub mod fillings;
+pub mod programs;
 pub mod reference;
 pub mod results;
 pub mod vectors;

@@ -12,17 +12,11 @@ use voltunnis_tests::generate::random::Random;
 use voltunnis_tests::generate::sheets::sheet;
 use voltunnis_tests::generate::stock::Stock;
 use voltunnis_tests::generate::trees::{piece_bytes, Pattern, SheetTree, Term};
+use voltunnis_tests::programs::program;
 use voltunnis_tests::reference::listing::listing;
 use voltunnis_tests::vectors;
 
 const EXAMPLE: &str = "10 02 02 24 00 24 00 21 00 01 21 00 02";
-
-/// The program, which `rt check listing` writes.
-fn program() -> PathBuf {
-    let program = Path::new(env!("CARGO_MANIFEST_DIR")).join("../target/bin/listing");
-    assert!(program.exists(), "there is no target/bin/listing: run `rt check listing` first");
-    program.canonicalize().expect("a path")
-}
 
 /// An empty folder for one test.
 fn folder(name: &str) -> PathBuf {
@@ -36,7 +30,7 @@ fn folder(name: &str) -> PathBuf {
 fn run(folder: &Path, pieces: &[u8]) -> String {
     let input = folder.join("pieces");
     fs::write(&input, pieces).expect("a file");
-    let output = Command::new(program())
+    let output = Command::new(program("listing"))
         .current_dir(folder)
         .stdin(File::open(&input).expect("a file"))
         .output()
@@ -139,7 +133,7 @@ fn pieces_may_come_in_parts() {
     let folder = folder("parts");
     let (sheet, pieces) = (from_hex(EXAMPLE), from_hex("11 02 30 31 00 01").repeat(12_000));
     fs::write(folder.join("sheet.bin"), &sheet).expect("a file");
-    let mut child = Command::new(program())
+    let mut child = Command::new(program("listing"))
         .current_dir(&folder)
         .stdin(Stdio::piped())
         .stdout(Stdio::piped())

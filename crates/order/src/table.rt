@@ -4,7 +4,7 @@ use places::Parents;
 ghost use mathlib.Core.Path.{_≡_};
 ghost use Prim.Native.Nat.{_<_};
 ghost use lib.ListN.{length};
-ghost use Rattle.places.specs.views.AllParents.{AllParents};
+ghost use Rattle.places.specs.AllParents.{AllParents};
 ghost use Rattle.order.specs.Table.{readTable, checkRefusal, tableRefusal};
 ghost use Rattle.order.specs.views.TableRead.{tableRead, isNew, isLate};
 

@@ -65,10 +65,11 @@ module _ (a end : ℕ) (buf : List ℕ) (passed : Passed a end buf) where
     }
 
   -- At the end all lines do, and nothing else.
-  pub passed-all : 8 < a → (end ≡ 5210) × (buf ≡ parentLines)
+  pub passed-all : 8 < a → (buf ≡ parentLines) × (length buf ≡ 5210)
   passed-all done =
       let eight : a - 1 ≡ 8 = omega (arith, passed .to) in
       let all = subst (λ (i : ℕ). RowsWrote (passed .held) 0 0 85 i end buf) eight (passed .wrote) in
       let none : drop (0 + length parentLines) (passed .held) ≡ [] =
       drop-of-length-le (passed .held) {i = 0 + length parentLines} (omega (arith, text-length, passed .size)) in
-      (omega (arith, all .0, text-length), all .1 ∙ ap (parentLines ++_) none ∙ append-nil parentLines)
+      let is = all .1 ∙ ap (parentLines ++_) none ∙ append-nil parentLines in
+      (is, ap length is ∙ text-length)

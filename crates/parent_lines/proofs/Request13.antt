@@ -6,7 +6,9 @@ use Prim.Native.Nat.{ℕ, suc, _<_}
 use borrow.Author.Tests.{eqb-true}
 use lib.Dec.{eqb}
 use lib.ListN.{length, getD}
+use lib.Seq.{ext-getD}
 use Rattle.places.specs.Numbering.{parentAt}
+use Rattle.places.specs.AllParents.{AllParents}
 use Rattle.places.proofs.TableRule.{follows, entry}
 use Rattle.parent_lines.specs.ParentLines.{placeLine, linesFrom, parentLines}
 use Rattle.parent_lines.specs.CountedOut.{Line, countedOut, placesOf, parentsOf, text}
@@ -36,8 +38,9 @@ counted-all = refl
 pub counted-in-order : (n : ℕ) → n < 680 → getD (placesOf countedOut) n 0 ≡ n
 counted-in-order n inside = entry (λ (k : ℕ). k) (placesOf countedOut) refl n inside
 
--- and the number beside place n is entry n of the constant table, which `places::parent` hands back: by its contract that is the
--- parent of place n.
-pub counted-is-table
-    : (n read : ℕ) → n < 680 → read ≡ parentAt n → getD (parentsOf countedOut) n 0 ≡ read
-counted-is-table n read inside is = entry parentAt (parentsOf countedOut) refl n inside ∙ sym is
+-- and the numbers beside them are the constant table's, entry for entry: `AllParents` is what the contract of `places::all_parents`
+-- says of that table, which it hands back.
+pub counted-is-table : (table : List ℕ) → AllParents table → parentsOf countedOut ≡ table
+counted-is-table table all =
+    ext-getD 0 (parentsOf countedOut) table (sym (all .entries))
+    (λ n inside. entry parentAt (parentsOf countedOut) refl n inside ∙ sym (all .entry n inside))

@@ -42,8 +42,8 @@ fn put_place(buf: &mut [u8], at: usize, d: usize, p: usize, up: usize) -> usize
 }
 
 // The 680 lines, 5,210 bytes. Not an argument below itself or below 0, nor a child below its sister.
-pub fn put_parents(buf: &mut ParentText) -> usize
-    ensures { λ r. ⌜ (r ≡ 5210) × (now (buf .exit) ≡ parentLines) ⌝ }
+pub fn put_parents(buf: &mut ParentText)
+    ensures { λ _. ⌜ (now (buf .exit) ≡ parentLines) × (length (now (buf .exit)) ≡ 5210) ⌝ }
 {
     *buf = [0; 5210];
     let mut end: usize = 0;
@@ -53,5 +53,4 @@ pub fn put_parents(buf: &mut ParentText) -> usize
         end = put_place(buf, end, 1, p, 680);
         a += 1;
     }
-    end
 }

@@ -6,7 +6,7 @@ use mathlib.Core.List.{List}
 use native.Mathlib.Omega.{arith}
 use lib.ListN.{length}
 use Rattle.places.specs.Numbering.{parentAt}
-use Rattle.places.specs.views.AllParents.{AllParents}
+use Rattle.places.specs.AllParents.{AllParents}
 use Rattle.places.proofs.TableRule.{follows, entry}
 
 pub table-parents : (table : List ℕ) → length table ≡ 680 → follows parentAt 0 table ≡ true → AllParents table

@@ -9,6 +9,7 @@ pub mod graph;
 pub mod keys;
 pub mod listing;
 pub mod order;
+pub mod parents;
 pub mod piece;
 pub mod places;
 pub mod plain;

@@ -1,4 +1,4 @@
--- The parents of all places in an array.
+-- The constant table of parents (document 01, "Places and tests").
 use Prim.Native.Nat.{ℕ, _<_}
 use mathlib.Core.Path.{_≡_}
 use mathlib.Core.List.{List}
