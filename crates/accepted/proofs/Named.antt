@@ -3,7 +3,7 @@ use Prim.Native.Nat.{ℕ, zero, suc}
 use mathlib.Core.Bool.{Bool, true, false}
 use mathlib.Core.List.{List}
 use lib.ListN.{drop}
-use Rattle.records.specs.Reading.{Reading, took, refused, ask, after, andThen, readRow}
+use Rattle.records.specs.Reading.{Reading, took, refused, ask, after, andThen, readRow, mapReading}
 
 module _ (P : ℕ → Type 0) where
   -- A refusal has one of the numbers.
@@ -24,6 +24,10 @@ module _ (P : ℕ → Type 0) where
   pub after-named : {A B : Type 0} (a : ℕ) (f : A → B) (x : Reading A) → Named x → Named (after a f x)
   after-named a f (took b y) h = h
   after-named a f (refused q) h = h
+
+  pub map-named : {A B : Type 0} (f : A → B) (x : Reading A) → Named x → Named (mapReading f x)
+  map-named f (took a y) h = h
+  map-named f (refused q) h = h
 
   pub row-named
       : {A L : Type 0} (empty : L) (join : A → L → L) (one : List ℕ → Reading A) → ((s : List ℕ) → Named (one s))

@@ -4,3 +4,4 @@ pub mod MetOnce
 pub mod ExploreSteps
 pub mod Explored
 pub mod ExploreMap
+pub mod MappedEdges

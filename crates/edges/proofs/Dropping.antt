@@ -5,12 +5,10 @@ use mathlib.Core.Bool.{Bool, true, false, not, _&&_, _||_, and-true}
 use lib.Bits.{bitAnd}
 use lib.Count.{trailingZeros}
 use Rattle.basics.specs.Lists.{anyBelow}
-use Rattle.basics.proofs.AnyBelow.{any-none}
 use Rattle.masks.specs.Mask.{has, maskOf}
-use Rattle.masks.proofs.Membership.{has-empty}
 use Rattle.masks.proofs.Extensionality.{has-maskOf, maskOf-lt, maskOf-unique}
 use Rattle.masks.proofs.Operations.{and-fits}
-use Rattle.masks.proofs.LowestMember.{any-lowest}
+use Rattle.masks.proofs.LowestMember.{any-lowest, none-left}
 
 -- Where a loop over the members of m stands that takes a set from `from` for each member t, with i in that set where q t i holds:
 -- what is left of `from` after the members passed is in `all`, the members to come are in `left`.
@@ -54,9 +52,4 @@ module _ (w : ℕ) (q : ℕ → ℕ → Bool) (from m all left : ℕ) (s : Dropp
   pub dropping-done : left ≡ 0 → all ≡ maskOf w (λ i. has from i && not (anyBelow w (λ t. has m t && q t i)))
   dropping-done e =
       maskOf-unique w all (λ i. has from i && not (anyBelow w (λ t. has m t && q t i))) (s .all-fits)
-      (λ i l. sym (and-true (has all i)) ∙ ap (λ (b : Bool). has all i && not b) (sym (none-left i)) ∙ s .whole i l)
-    where
-      none-left : (i : ℕ) → anyBelow w (λ t. has left t && q t i) ≡ false
-      none-left i =
-          any-none w (λ t. has left t && q t i)
-          (λ t l. ap (λ (b : Bool). b && q t i) (ap (λ (x : ℕ). has x t) e ∙ has-empty t))
+      (λ i l. sym (and-true (has all i)) ∙ ap (λ (b : Bool). has all i && not b) (sym (none-left w left (λ t. q t i) e)) ∙ s .whole i l)

@@ -8,3 +8,4 @@ pub mod CaseOrder
 pub mod TestedPlaces
 pub mod AcceptedNodes
 pub mod Spelled
+pub mod RowsLeft

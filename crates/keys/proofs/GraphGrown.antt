@@ -21,10 +21,11 @@ use Rattle.edges.specs.views.VertexKey.{vertexKey, vertexIn, Fits}
 use Rattle.edges.specs.views.KeysBehind.{rootIn}
 use Rattle.edges.specs.views.NodeIn.{nodeIn}
 use Rattle.met.specs.views.KeysMet.{keyNumber}
+use Rattle.decision.proofs.exploring.MappedEdges.{edges-mapped}
 use Rattle.keys.specs.views.Grown.{keysFrom, nodesFrom}
 use Rattle.keys.proofs.Names.{named-vertex, told-apart}
 use Rattle.keys.proofs.Occurring.{Occurs, edges-occur, root-occurs, occurs-fits}
-use Rattle.keys.proofs.Targets.{nodes-same, edges-mapped}
+use Rattle.keys.proofs.Targets.{nodes-same}
 
 -- What holds along edges holds of all that is met.
 all-explored

@@ -33,19 +33,6 @@ nodes-same {A} f g h (switch n cs x y) e =
     λ i. switch n (rest i) (s .1 .0 i) (s .1 .1 .0 i)
 nodes-same f g h (pairNode p q x y) e = λ i. pairNode p q (e .0 i) (e .1 .0 i)
 
--- The edges of a node with other targets lead to these.
-pub edges-mapped : {A B : Type 0} (f : A → B) (node : Node A) → edges (mapNode f node) ≡ map f (edges node)
-edges-mapped f (end l) = refl
-edges-mapped {A} {B} f (switch n cs x y) = go cs
-  where
-    go
-        : (cs : List (CaseEdge A))
-        → map (λ (c : CaseEdge B). c .target) (map (mapCase f) cs) ++ f x ∷ f y ∷ []
-        ≡ map f (map (λ (c : CaseEdge A). c .target) cs ++ x ∷ y ∷ [])
-    go [] = refl
-    go (c ∷ cs) = ap (λ (l : List B). f (c .target) ∷ l) (go cs)
-edges-mapped f (pairNode p q x y) = refl
-
 -- The record of a case is as long wherever it leads,
 case-anywhere : (c : Case) (m n : ℕ) → length (caseBytes c m) ≡ length (caseBytes c n)
 case-anywhere (symbolCase a) m n = refl

@@ -7,7 +7,7 @@ use lib.ListN.{length, getD, drop}
 use Rattle.records.specs.Reading.{Reading, took, refused, readRow}
 use Rattle.graph.specs.views.Rewriting.{IsTook, readOr}
 use Rattle.leaves.specs.views.Seeking.{rowFrom, Seeking}
-use Rattle.steps.proofs.RowsLeft.{first-there, others-left, first-others}
+use Rattle.graph.proofs.RowsLeft.{row-there, others-left, first-others}
 
 module _ {A : Type 0} (one : List ℕ → Reading A) (other : A) (s : List ℕ) where
   abbrev Left : ℕ → ℕ → ℕ → ℕ → Type 0
@@ -35,7 +35,7 @@ module _ {A : Type 0} (one : List ℕ → Reading A) (other : A) (s : List ℕ) 
 
     -- The next is there to be read.
     pub seeking-there : {q : ℕ} → one (drop at s) ≡ refused q → ⊥
-    seeking-there e = first-there one s (count - i) (count - (i + 1)) at more (g .left) e
+    seeking-there e = row-there one s (count - i) (count - (i + 1)) at more (g .left) e
 
     module _ {a : ℕ} {x : A} (e : one (drop at s) ≡ took a x) where
       these : rows (count - i) at ≡ x ∷ rows (count - (i + 1)) (at + a)

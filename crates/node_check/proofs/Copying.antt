@@ -1,21 +1,21 @@
 -- Records that are read and written again, one after another, at the position at which they were read. One law for rows of any
 -- number of things.
-use Prim.Native.Nat.{ℕ, _+_, _-_, _<_, _≤_}
+use Prim.Native.Nat.{ℕ, suc, _+_, _-_, _<_, _≤_}
 use mathlib.Core.Path.{_≡_, refl, sym, ap, subst, _∙_}
 use mathlib.Core.List.{List, [], _∷_, _++_}
 use native.Mathlib.Omega.{arith}
 use lib.ListN.{length, drop, length-drop, length-append}
-use lib.Seq.{drop-drop}
 use Rattle.records.specs.Fields.{IsByte}
-use Rattle.records.specs.Reading.{Reading, took, refused, after, readRow}
+use Rattle.records.specs.Reading.{Reading, took, refused, readRow}
 use Rattle.records.specs.Writing.{splice}
-use Rattle.records.proofs.Rows.{row-none, row-next, row-refused}
+use Rattle.records.proofs.Rows.{row-none}
 use Rattle.records.proofs.Writing.{splice-none, splice-more, splice-length}
 use Rattle.basics.specs.Lists.{All}
 use Rattle.graph.specs.views.Rewriting.{IsTook, readOr}
 use Rattle.node_check.specs.declared.Copied.{Copied}
 use Rattle.node_check.specs.declared.Copied.the-variants.{To, Refused}
 use Rattle.graph.proofs.Spelling.{Spelled, begins-read, begins-length}
+use Rattle.graph.proofs.RowsLeft.{row-there, others-left, first-others}
 use Rattle.records.proofs.ByteLists.{bytes-drop}
 
 -- Where a copy ends,
@@ -26,15 +26,6 @@ endOf (Refused q) = 0
 -- and one that ends somewhere is not refused.
 pub not-refused : {n q : ℕ} → To n ≡ Refused q → ⊥
 not-refused e = let z : _≡_ {A = ℕ} 0 1 = cc in absurd (omega arith)
-
--- What was read behind something else.
-pub after-took : {A B : Type 0} (a : ℕ) (f : A → B) (r : Reading A) → IsTook (after a f r) → IsTook r
-after-took a f (took b x) h = tt
-after-took a f (refused q) h = h
-
-pub after-or : {A : Type 0} (a : ℕ) (x : A) (r : Reading (List A)) → IsTook r → readOr [] (after a (_∷_ x) r) ≡ x ∷ readOr [] r
-after-or a x (took b xs) h = refl
-after-or a x (refused q) h = absurd h
 
 -- How many bytes a reading took, and what was read where something was.
 abbrev pub bytesOf : {A : Type 0} → Reading A → ℕ
@@ -91,12 +82,12 @@ module _
           )
 
       module _ (next : i < count) where
-        some : count - i ≡ 0 → ⊥
-        some e = omega arith
+        one-more : count - i ≡ suc (count - (i + 1))
+        one-more = omega arith
 
         -- The next thing is there to be read.
         pub copied-first : {q : ℕ} → one (drop at s) ≡ refused q → ⊥
-        copied-first e = subst IsTook (row-refused [] _∷_ one (count - i) (drop at s) some e) (c .left)
+        copied-first e = row-there one s (count - i) (count - (i + 1)) at one-more (c .left) e
 
         pub first-there : IsTook (one (drop at s))
         first-there = go (one (drop at s)) refl
@@ -120,17 +111,12 @@ module _
           abbrev rest : Reading (List A)
           rest = readRow [] _∷_ one (count - (i + 1)) (drop (at + a) s)
 
-          goes-on : readRow [] _∷_ one (count - i) (drop at s) ≡ after a (_∷_ x) rest
-          goes-on =
-              let fewer : count - i - 1 ≡ count - (i + 1) = omega arith in
-              row-next [] _∷_ one (count - i) (drop at s) some e
-              ∙ (λ j. after a (_∷_ x) (readRow [] _∷_ one (fewer j) (drop-drop a at s j)))
-
           rest-left : IsTook rest
-          rest-left = after-took a (_∷_ x) rest (subst IsTook goes-on (c .left))
+          rest-left = others-left one s (count - i) (count - (i + 1)) at one-more (c .left) e
 
           first-more : bytesAt one row s (count - i) at ≡ bytes x ++ bytesAt one row s (count - (i + 1)) (at + a)
-          first-more = ap (λ r. row (readOr [] r)) goes-on ∙ ap row (after-or a x rest rest-left) ∙ more x (readOr [] rest)
+          first-more =
+              ap row (first-others one s (count - i) (count - (i + 1)) at one-more (c .left) e) ∙ more x (readOr [] rest)
 
           -- One more is written.
           pub copied-next

@@ -4,9 +4,9 @@ use mathlib.Core.List.{List}
 use native.Mathlib.Omega.{arith}
 use lib.Dec.{eqb}
 use lib.ListN.{length}
-use Rattle.records.specs.Reading.{Reading, took, refused, ask, mapReading}
+use Rattle.records.specs.Reading.{took, ask}
 use Rattle.accepted.specs.Questions.{Between}
-use Rattle.accepted.proofs.Named.{Named, ask-named}
+use Rattle.accepted.proofs.Named.{Named, ask-named, map-named}
 use Rattle.order.specs.Table.{tablePlaces, eachOnce, parentsFirst, readTable}
 use Rattle.order.specs.Asking.{Asking, lowest, byTable, readAsking}
 
@@ -18,10 +18,6 @@ table-named bytes =
     ask-named (Between 28 30) 28 (eqb (length bytes) 1360) (ask 29 (eachOnce places) first) (omega arith, omega arith)
     (ask-named (Between 28 30) 29 (eachOnce places) first (omega arith, omega arith)
     (ask-named (Between 28 30) 30 (parentsFirst places) (took 1360 places) (omega arith, omega arith) tt))
-
-map-named : {A B : Type 0} (P : ℕ → Type 0) (f : A → B) (r : Reading A) → Named P r → Named P (mapReading f r)
-map-named P f (took k x) h = tt
-map-named P f (refused q) h = h
 
 pub asking-named : (asking : Asking) → Named (Between 28 30) (readAsking asking)
 asking-named lowest = tt

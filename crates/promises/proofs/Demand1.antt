@@ -32,13 +32,13 @@ use Rattle.build.specs.BuildOutcome.{notBuilt, writtenIf, graphWritten, sheetBu
 use Rattle.tidy.specs.TidySheet.{tidyBytes}
 use Rattle.tidy.specs.Tidied.{tidied}
 use Rattle.walk.specs.Walking.{graphReply, pieceReply, walkReply, replyValues}
-use Rattle.accepted.proofs.Named.{Named, ask-named, then-named, named-wider}
+use Rattle.accepted.proofs.Named.{Named, ask-named, then-named, named-wider, map-named}
 use Rattle.accepted.proofs.Questions.{sheet-named}
 use Rattle.promises.specs.Questions.{PieceQuestion, GraphQuestion, PathQuestion, PlainQuestion, AskedQuestion}
 use Rattle.promises.specs.Questions.{CheckQuestion, RewriteQuestion, TidyQuestion, WalkQuestion}
 use Rattle.promises.specs.Questions.{AnswersOr, BuildEnds, WriterEnds}
 use Rattle.promises.proofs.PieceQuestions.{piece-named}
-use Rattle.promises.proofs.GraphQuestions.{graph-named, mapped-named, walk-named}
+use Rattle.promises.proofs.GraphQuestions.{graph-named, walk-named}
 use Rattle.promises.proofs.PathEdges.{edges-are-the-path, path-few}
 use Rattle.accepted.specs.Questions.{Between, SheetQuestion}
 
@@ -176,7 +176,7 @@ rewrite-answers s g buffer =
     (λ _ sheet. mapReading (graphBytes (sheet .arity) (length (sheet .rules))) (readGraph sheet g))
     (named-wider SheetQuestion RewriteQuestion (λ q h. inl (inl h)) (acceptSheet s) (sheet-named s))
     (λ _ sheet.
-    mapped-named RewriteQuestion (graphBytes (sheet .arity) (length (sheet .rules))) (readGraph sheet g)
+    map-named RewriteQuestion (graphBytes (sheet .arity) (length (sheet .rules))) (readGraph sheet g)
     (named-wider GraphQuestion RewriteQuestion (λ q h. inl (inr h)) (readGraph sheet g) (graph-named sheet g))))
     (λ _ bytes.
     ask-named RewriteQuestion 19 (leb (length bytes) (length buffer)) (took (length bytes) bytes) (inr refl) tt))

@@ -6,7 +6,7 @@ use native.Mathlib.Omega.{arith}
 use lib.Dec.{leb, eqb}
 use lib.ListN.{length, getD, drop}
 use Rattle.records.specs.Fields.{wideAt}
-use Rattle.records.specs.Reading.{Reading, took, refused, ask, after, mapReading}
+use Rattle.records.specs.Reading.{Reading, took, refused, ask, after}
 use Rattle.terms.specs.Term.{Terms}
 use Rattle.terms.specs.Pattern.{Patterns}
 use Rattle.sheet_tests.specs.SheetTests.{Test}
@@ -25,7 +25,7 @@ use Rattle.graph.specs.declared.CaseHead.{CaseHead}
 use Rattle.graph.specs.declared.CaseHead.the-variants as case
 use Rattle.graph.specs.views.NodeRecord.{wholeNode, wholeCase, nodeHead, caseHead, onCase, onNode}
 use Rattle.graph.specs.ReadGraph.{readCases, isSheetTest, inRange, inOrder, readNode, readNodes, endGraph, hasHeader, readBy, readGraph, readCase, readRecord}
-use Rattle.accepted.proofs.Named.{Named, ask-named, then-named, after-named, row-named}
+use Rattle.accepted.proofs.Named.{Named, ask-named, then-named, after-named, map-named, row-named}
 use Rattle.promises.specs.Questions.{GraphQuestion, PathQuestion}
 use Rattle.graph.proofs.ByKinds.{case-by-kind, node-by-kind}
 use mathlib.Core.Path.{sym, subst}
@@ -124,11 +124,6 @@ graph-named sheet s =
     (end-named (length s - 5) read
     (row-named GraphQuestion [] _∷_ (readNode test rules (wideAt s 3)) (node-named test rules (wideAt s 3)) (wideAt s 3) (drop 5 s)))
 
--- What is made of a reading is refused as it is.
-pub mapped-named : (P : ℕ → Type 0) {A B : Type 0} (f : A → B) (x : Reading A) → Named P x → Named P (mapReading f x)
-mapped-named P f (took a y) h = tt
-mapped-named P f (refused q) h = h
-
 -- A path is refused by 26 or 27, and so is the walk along it.
 module _ (nodes : List (Node ℕ)) (piece : Terms) where
   path-named : (more n : ℕ) → Named PathQuestion (pathFrom nodes piece more n)
@@ -144,8 +139,8 @@ module _ (nodes : List (Node ℕ)) (piece : Terms) where
           : ((m : ℕ) → Named PathQuestion (pathFrom nodes piece more m)) → (x : Step ℕ)
           → Named PathQuestion (nextStep (λ m. pathFrom nodes piece more m) n x)
       go later (stop l) = tt
-      go later (goTo m) = mapped-named PathQuestion _ (pathFrom nodes piece more m) (later m)
+      go later (goTo m) = map-named PathQuestion _ (pathFrom nodes piece more m) (later m)
       go later noWay = (omega arith, omega arith)
 
   pub walk-named : (rules : List Patterns) → Named PathQuestion (walk rules nodes piece)
-  walk-named rules = mapped-named PathQuestion _ (path nodes piece) (path-named mostEdges 0)
+  walk-named rules = map-named PathQuestion _ (path nodes piece) (path-named mostEdges 0)

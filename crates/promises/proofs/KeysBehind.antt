@@ -3,7 +3,7 @@
 use Prim.Native.Nat.{ℕ, zero, suc, _<_}
 use mathlib.Core.Path.{_≡_, refl, sym, ap, subst, _∙_}
 use mathlib.Core.Logic.{_↔_, _⊎_, inl, inr}
-use mathlib.Core.List.{List, [], _∷_, _++_, map}
+use mathlib.Core.List.{List, [], _∷_, map}
 use mathlib.Core.Option.{Option, some, none}
 use native.Mathlib.Omega.{arith}
 use lib.ListN.{length, getD, length-map}
@@ -13,29 +13,17 @@ use Rattle.basics.proofs.Positions.{mem-at, number-of}
 use Rattle.terms.specs.Term.{nil}
 use Rattle.terms.specs.Pattern.{Patterns}
 use Rattle.decision.specs.Key.{Key, failNode, Vertex, leaf, rootKey, vertexOf, sameVertex}
-use Rattle.decision.specs.Node.{Node, CaseEdge, end, switch, pairNode, edges, mapCase, mapNode}
+use Rattle.decision.specs.Node.{Node, end, edges, mapNode}
 use Rattle.decision.specs.Edges.{nodeOf}
 use Rattle.decision.specs.Graph.{nextVertices, vertices, numbered, numberedIf, graphIn}
 use Rattle.decision.specs.Sharing.{SameLeaf, KeyBehind, root, along}
 use Rattle.decision.proofs.built.BuiltNodes.{numberOf, edges-met, node-at, root-met, root-number}
 use Rattle.decision.proofs.keys.EdgeKeys.{LedTo, ledKey, edges-led}
 use Rattle.decision.proofs.exploring.MetOnce.{number-right}
+use Rattle.decision.proofs.exploring.MappedEdges.{edges-mapped}
 use Rattle.decision.proofs.keys.SameVertex.{same-vertex, vertex-same}
 use Rattle.decision.proofs.built.Sharing.{listing, one-node-exactly}
 use Rattle.decision.proofs.built.OneLeaf.{one-number}
-
--- The edges of a node with other targets are those targets.
-map-cases
-    : {A B : Type 0} (f : A → B) (cs : List (CaseEdge A)) (rest : List A)
-    → map (λ (c : CaseEdge B). c .target) (map (mapCase f) cs) ++ map f rest
-    ≡ map f (map (λ (c : CaseEdge A). c .target) cs ++ rest)
-map-cases f [] rest = refl
-map-cases f (c ∷ cs) rest = ap (λ l. f (c .target) ∷ l) (map-cases f cs rest)
-
-map-edges : {A B : Type 0} (f : A → B) (node : Node A) → edges (mapNode f node) ≡ map f (edges node)
-map-edges f (end l) = refl
-map-edges f (switch n cs x y) = map-cases f cs (x ∷ y ∷ [])
-map-edges f (pairNode p q x y) = refl
 
 get-map
     : {A B : Type 0} (f : A → B) (d : A) (e : B) (xs : List A) (i : ℕ) → i < length (map f xs)
@@ -59,7 +47,7 @@ module _ (rules : List Patterns) (order : List ℕ) (vs : List Vertex) (listed :
   listed-edges v {n} member numbers =
       let at = node-at rules order vs listed nil v member in
       let node = subst (λ (x : ℕ). getD nodes x (end failNode) ≡ mapNode number (nodeOf rules order v)) numbers at in
-      ap edges node ∙ map-edges number (nodeOf rules order v)
+      ap edges node ∙ edges-mapped number (nodeOf rules order v)
 
   behind : {n : ℕ} {key : Key} → KeyBehind rules order nodes n key → Mem (vertexOf rules key) vs × (number (vertexOf rules key) ≡ n)
   behind root = (root-met rules order vs listed, root-number rules order vs listed)

@@ -18,7 +18,7 @@ use Rattle.graph.specs.views.Rewriting.{IsTook, readOr}
 use Rattle.node_check.specs.views.CaseRanges.{rangeOf}
 use Rattle.node_check.proofs.CasesPass.{case-fits, case-refused}
 use Rattle.node_check.proofs.CopiedRecords.{edgeOf, edge-read}
-use Rattle.steps.proofs.RowsLeft.{first-there, others-left, first-others}
+use Rattle.graph.proofs.RowsLeft.{row-there, others-left, first-others}
 use Rattle.steps.specs.views.CodeSteps.{takesCode, followCode}
 
 module _ (s : List ℕ) (neither code : ℕ) where
@@ -59,7 +59,7 @@ module _ (s : List ℕ) (neither code : ℕ) where
       -- The next case is whole.
       pub passed-whole : {q : ℕ} → caseHead (drop at s) ≡ Refused q → ⊥
       passed-whole e =
-          first-there readCase s (count - i) (count - (i + 1)) at more (p .left) (case-refused (drop at s) e)
+          row-there readCase s (count - i) (count - (i + 1)) at more (p .left) (case-refused (drop at s) e)
 
       module _ (c : CaseRecord) (e : caseHead (drop at s) ≡ Whole c) where
         read : readCase (drop at s) ≡ took (rangeOf c .bytes) (edgeOf c)

@@ -1,7 +1,6 @@
 -- The laws of a walk's steps: the cases that are left, the step at a node's record, and what the piece says of it.
 pub mod HandedBack
 pub mod CodeCases
-pub mod RowsLeft
 pub mod CasesLeft
 pub mod NodeSteps
 pub mod StepsMade
