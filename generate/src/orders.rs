@@ -12,6 +12,19 @@ pub const PLACES: u16 = 680;
 const ARGUMENT: u16 = SPAN[0];
 const ARGUMENTS: u16 = PLACES / ARGUMENT;
 
+/// The argument that a place is below, and so on down to the place.
+pub fn way(place: u16) -> Vec<u16> {
+    let mut offset = place % SPAN[0];
+    let mut way = vec![place - offset];
+    for span in &SPAN[1..] {
+        if offset > 0 {
+            offset = (offset - 1) % span;
+            way.push(place - offset);
+        }
+    }
+    way
+}
+
 /// The table that spells these places.
 pub fn table(places: &[u16]) -> Vec<u8> {
     places.iter().flat_map(|place| place.to_be_bytes()).collect()
@@ -117,7 +130,7 @@ impl Fault {
         let (at, step) = (random.below(places.len()), random.between(1, places.len() - 1));
         let other = places[(at + step) % places.len()];
         match self {
-            Fault::Length => return resized(random, &places),
+            Fault::Length => return resized(random, table(&places)),
             Fault::OutOfRange => places[at] = beyond(random),
             Fault::Twice => places[at] = other,
             Fault::BeforeParent => early(random, &mut places),
@@ -135,9 +148,8 @@ impl Fault {
     }
 }
 
-/// The table of other lengths.
-fn resized(random: &mut Random, places: &[u16]) -> Vec<u8> {
-    let mut bytes = table(places);
+/// Bytes of another length than 1,360: the first of these, or all and zeros.
+pub fn resized(random: &mut Random, mut bytes: Vec<u8>) -> Vec<u8> {
     bytes.resize(random.pick(&[0, 1, 2, 1358, 1359, 1361, 1362, 2720]), 0);
     bytes
 }

@@ -2,7 +2,7 @@
 
 use super::{lower, parts, sheets};
 use crate::asked::SPAN;
-use crate::orders::PLACES;
+use crate::orders::{way, PLACES};
 use std::collections::BTreeSet;
 use std::ops::Range;
 
@@ -23,19 +23,6 @@ pub enum Step {
 pub fn read(table: &[u8]) -> Option<Vec<u16>> {
     let places = || table.chunks_exact(2).map(|two| u16::from_be_bytes([two[0], two[1]])).collect();
     (table.len() == 2 * usize::from(PLACES)).then(places)
-}
-
-/// The argument that a place is below, and so on down to the place.
-fn way(place: u16) -> Vec<u16> {
-    let mut offset = place % SPAN[0];
-    let mut way = vec![place - offset];
-    for span in &SPAN[1..] {
-        if offset > 0 {
-            offset = (offset - 1) % span;
-            way.push(place - offset);
-        }
-    }
-    way
 }
 
 /// All steps to try, those that change most first; these places are tested.

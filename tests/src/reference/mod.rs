@@ -15,6 +15,7 @@ pub mod places;
 pub mod plain;
 pub mod sheet;
 pub mod tidy;
+pub mod track;
 pub mod truth;
 pub mod variables;
 pub mod walk;
