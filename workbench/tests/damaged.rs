@@ -11,10 +11,11 @@ use voltunnis_generate::pieces::piece;
 use voltunnis_generate::random::Random;
 use voltunnis_generate::sheets::small_sheet;
 use voltunnis_generate::stock::Stock;
+use voltunnis_generate::tracks::some_list;
 use voltunnis_generate::trees::piece_bytes;
 use voltunnis_workbench::locate;
 use voltunnis_workbench::notation::{
-    parse_graph, parse_order, parse_pieces, parse_sheet, Graph, Names, Piece, Sheet,
+    parse_graph, parse_order, parse_pieces, parse_sheet, parse_track, Graph, Names, Piece, Sheet,
 };
 
 /// Runs `vt` on what may be anything: it ends with a status of its own and never by a panic.
@@ -45,6 +46,8 @@ fn damaged_files_are_refused_or_read() {
         folder.write("graph.bin", graph(&mut random, &Asked::of(&tree), || None));
         let order = some_table(&mut random);
         folder.write("order.bin", if round % 3 == 0 { damaged(&mut random, &order) } else { order });
+        let track = some_list(&mut random);
+        folder.write("track.bin", if round % 3 == 0 { damaged(&mut random, &track) } else { track });
         for words in [
             &["check", "sheet.bin", "pieces.bin"][..],
             &["text", "sheet.bin"],
@@ -59,6 +62,9 @@ fn damaged_files_are_refused_or_read() {
             &["check", "--sheet", "whole.bin", "order.bin"],
             &["text", "order.bin"],
             &["try", "--order", "order.bin", "--pieces", "pieces.bin", "whole.bin"],
+            &["check", "--positions", "track.bin"],
+            &["text", "--positions", "track.bin"],
+            &["text", "track.bin"],
         ] {
             met[survives(&folder, words) as usize] += 1;
         }
@@ -84,8 +90,10 @@ fn bytes_taken_as_text_are_refused_or_read() {
 }
 
 /// Pieces of texts, of which odd ones are made.
-const CHIPS: [&str; 37] = [
+const CHIPS: [&str; 39] = [
     "order\n",
+    "track\n",
+    " at ",
     "rest",
     "argument 2",
     "sheet",
@@ -128,7 +136,14 @@ const CHIPS: [&str; 37] = [
 fn parsers_take_any_text() {
     let mut random = Random::new(0x7465_7874);
     for round in 0..60_000 {
-        let heads = ["", "sheet 2\n", "graph 1, 1 rule, 2 nodes\n0: ", "name a = 1\n(", "order\nargument 1"];
+        let heads = [
+            "",
+            "sheet 2\n",
+            "graph 1, 1 rule, 2 nodes\n0: ",
+            "name a = 1\n(",
+            "order\nargument 1",
+            "track\nargument 1 at 5",
+        ];
         let head = heads[round % heads.len()];
         let text: String = [head]
             .into_iter()
@@ -140,6 +155,7 @@ fn parsers_take_any_text() {
             parse_pieces(&text, &Names::default()).err(),
             parse_graph(&text, &Names::default()).err(),
             parse_order(&text).err(),
+            parse_track(&text).err(),
         ];
         for fault in faults.into_iter().flatten() {
             assert!(fault.show("odd", &text).lines().count() >= 3, "{text:?}");

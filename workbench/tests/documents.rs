@@ -7,7 +7,7 @@ use common::Folder;
 use std::fs;
 use std::path::Path;
 use std::process::Command;
-use voltunnis_workbench::notation::{parse_graph, parse_order, parse_pieces, parse_sheet};
+use voltunnis_workbench::notation::{parse_graph, parse_order, parse_pieces, parse_sheet, parse_track};
 
 /// A block of a document: what stands after its fence, and its text.
 fn blocks(document: &str) -> Vec<(&str, &str)> {
@@ -101,6 +101,16 @@ fn the_notations_examples_are_accepted() {
                 let places = order.places();
                 assert_eq!((places[0], &places[85..88], places[107]), (85, &[170, 192, 193][..], 171));
                 assert_eq!(places[595..], (0..85).collect::<Vec<u16>>());
+            }
+            "text drawing.track" => {
+                let positions = parse_track(text).expect("a drawing").positions();
+                // Argument 2 from place 85 on, argument 3 from 170 on, its part 2 from 192 to 212.
+                assert_eq!((positions[85], positions[169], positions[170]), (120, 120, 340));
+                assert_eq!(
+                    (positions[191], positions[192], positions[212], positions[213]),
+                    (340, 560, 560, 340)
+                );
+                assert_eq!((positions[0], positions[255], positions[679]), (900, 65535, 65535));
             }
             other => panic!("an unknown block {other}"),
         }

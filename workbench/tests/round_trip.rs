@@ -1,5 +1,6 @@
 //! Bytes to text to bytes: the same bytes, for 100,000 accepted sheets, as many accepted pieces, and the
-//! graphs of some; and for what is refused, as long as its records can be read.
+//! graphs of some, for reading orders and track positions; and for what is refused, as long as its records can
+//! be read.
 
 use voltunnis_generate::asked::Asked;
 use voltunnis_generate::bytes::to_hex;
@@ -12,10 +13,11 @@ use voltunnis_generate::pieces::piece;
 use voltunnis_generate::random::Random;
 use voltunnis_generate::sheets::sheet;
 use voltunnis_generate::stock::Stock;
+use voltunnis_generate::tracks::{list, Sort};
 use voltunnis_generate::trees::piece_bytes;
 use voltunnis_workbench::notation::{
-    parse_graph, parse_order, parse_piece, parse_sheet, print_graph, print_order, print_piece, print_sheet,
-    Graph, Names, SheetText,
+    parse_graph, parse_order, parse_piece, parse_sheet, parse_track, print_graph, print_order, print_piece,
+    print_sheet, print_track, Graph, Names, SheetText,
 };
 
 const ROUNDS: usize = 100_000;
@@ -193,5 +195,57 @@ fn a_table_that_is_refused_comes_back_if_it_has_each_place_once() {
         for fault in [Fault::Length, Fault::OutOfRange, Fault::Twice] {
             assert!(print_order(&fault.put(&mut random, &places)).is_err(), "{fault:?}");
         }
+    }
+}
+
+/// The lines in which positions are printed, the first left out; parsed again they are the same positions.
+#[track_caller]
+fn track_again(positions: &[u16]) -> Vec<String> {
+    let bytes = list(positions);
+    let text = print_track(&bytes).expect("positions that can be read");
+    let track = parse_track(&text).unwrap_or_else(|fault| panic!("{}", fault.show("printed", &text)));
+    assert!(track.bytes() == bytes, "{text}");
+    assert_eq!(track.print(), text);
+    text.lines().skip(1).map(String::from).collect()
+}
+
+#[test]
+fn track_positions_come_back_as_they_were() {
+    assert_eq!(track_again(&[65535; 680]), [""; 0]);
+    let arguments: Vec<String> = (1..=8).map(|argument| format!("argument {argument} at 0")).collect();
+    assert_eq!(track_again(&[0; 680]), arguments);
+    let each: Vec<u16> = (0..680).rev().collect();
+    assert_eq!(track_again(&each)[..2], ["argument 8, part 4.4.4 at 0", "argument 8, part 4.4.3 at 1"]);
+    let mut random = Random::new(0x7472_6163);
+    for sort in [Sort::ALL; 100].into_iter().flatten() {
+        let lines = track_again(&sort.positions(&mut random)).len();
+        // Where no place stands where its parent does, each has a line.
+        let every = matches!(sort, Sort::Reversed | Sort::ParentsLast | Sort::Numbered);
+        assert!(!every || lines == 680, "{sort:?}: {lines} lines");
+        assert!(sort != Sort::Equal || lines <= 8, "{sort:?}: {lines} lines");
+    }
+}
+
+/// Lines may stand in any order, and a place may be named that stands where it would unnamed.
+#[test]
+fn a_drawing_can_be_written_in_many_ways() {
+    let mut random = Random::new(0x6472_6177);
+    for sort in [Sort::ALL; 20].into_iter().flatten() {
+        let positions = sort.positions(&mut random);
+        let mut lines: Vec<String> = positions
+            .iter()
+            .enumerate()
+            .map(|(place, position)| format!("place {place} at {position}"))
+            .collect();
+        (1..lines.len()).for_each(|at| lines.swap(at, random.below(at + 1)));
+        let track = parse_track(&format!("track\n{}\n", lines.join("\n"))).expect("a drawing");
+        assert_eq!((track.lines.len(), track.positions()), (680, positions));
+    }
+}
+
+#[test]
+fn bytes_of_another_length_are_no_track_positions() {
+    for (length, at) in [(0, 0), (1, 0), (2, 2), (1358, 1358), (1359, 1358), (1361, 1360), (2720, 1360)] {
+        assert_eq!(print_track(&vec![1; length]).expect_err("another length").at, at, "{length} bytes");
     }
 }

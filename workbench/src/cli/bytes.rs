@@ -8,6 +8,7 @@ use super::out::Out;
 use super::pieces::pieces;
 use super::source::{About, Source};
 use super::stop::Stop;
+use super::track::{track, POSITIONS};
 use super::Command;
 use crate::json::{Fields, Json};
 use crate::notation::{Graph, Names, Sheet};
@@ -15,15 +16,16 @@ use crate::notation::{Graph, Names, Sheet};
 pub const COMMAND: Command = Command {
     name: "bytes",
     usage: "FILE",
-    summary: "turn a sheet, pieces, a graph or an order into bytes",
+    summary: "turn a sheet, pieces, a graph, an order or a track into bytes",
     about: "Writes the bytes of what a text spells, if the library accepts it. Pieces follow one another.\n\
             Without -o the bytes are shown in hexadecimal: a head, then a line for each rule, piece or node;\n\
-            of an order lines of 20 places. A graph needs its sheet: --sheet.",
-    options: &[OUTPUT, SHEET, BYTES, JSON],
+            of an order lines of 20 places, of a track lines of 20 positions. A graph needs its sheet: --sheet.",
+    options: &[OUTPUT, SHEET, BYTES, POSITIONS, JSON],
     examples: &[
         ("vt bytes coins.sheet", "show the sheet's bytes"),
         ("vt bytes coins.sheet -o sheet.bin", "write them to a file"),
         ("vt bytes track.order -o order.bin", "write the table of a reading order"),
+        ("vt bytes drawing.track -o positions.bin", "write the list of track positions"),
     ],
     run,
 };
@@ -47,7 +49,8 @@ fn run(args: &Args, out: &Out) -> Result<(), Stop> {
                 .ok_or_else(|| args.wrong(&format!("{path} is a graph: add its sheet, --sheet SHEET")))?;
             ("graph", graph_parts(&GraphInput::accepted(&source, &sheet)?.graph))
         }
-        About::Order => ("order", OrderInput::of(&source)?.bytes.chunks(40).map(<[u8]>::to_vec).collect()),
+        About::Order => ("order", wide_parts(&OrderInput::of(&source)?.bytes)),
+        About::Track => ("track", wide_parts(&track(&source)?.bytes())),
     };
     write(args, out, vec![("kind", Json::text(kind))], &parts)
 }
@@ -73,6 +76,11 @@ pub fn graph_parts(graph: &Graph) -> Vec<Vec<u8>> {
         parts.push(bytes);
     }
     parts
+}
+
+/// The bytes of wide numbers, 20 of them at a time.
+fn wide_parts(bytes: &[u8]) -> Vec<Vec<u8>> {
+    bytes.chunks(40).map(<[u8]>::to_vec).collect()
 }
 
 /// Writes bytes to the file that is named, or shows them, a part a line.

@@ -8,6 +8,7 @@ use super::pieces::pieces;
 use super::refused;
 use super::source::{About, Source};
 use super::stop::Stop;
+use super::track::{track, track_says, POSITIONS};
 use super::Command;
 use crate::json::{Fields, Json};
 use crate::notation::{count, places, Names};
@@ -23,8 +24,9 @@ pub const COMMAND: Command = Command {
     summary: "ask whether sheets, pieces, graphs and orders are accepted",
     about: "Says in a line what each file holds, or which question got a no, and where.\n\
             A graph is checked with its sheet: --sheet. Pieces may be, and must then have its arity. Of a reading\n\
-            order with a sheet is said in which order its places are asked, and how large its graph is then.",
-    options: &[SHEET, BYTES, JSON],
+            order with a sheet is said in which order its places are asked, and how large its graph is then. Of a\n\
+            track drawing is said at how many positions its places stand.",
+    options: &[SHEET, BYTES, POSITIONS, JSON],
     examples: &[
         ("vt check coins.sheet", "is the sheet accepted, and how large is its graph?"),
         ("vt check --sheet coins.sheet theirs.bin", "is another maker's graph accepted?"),
@@ -92,6 +94,10 @@ fn one(path: &str, args: &Args, sheet: Option<&SheetInput>) -> Result<(String, J
         About::Order => {
             let (line, more) = order_says(&OrderInput::of(&source)?, sheet);
             Ok((line, accepted("order", more)))
+        }
+        About::Track => {
+            let (line, more) = track_says(&track(&source)?);
+            Ok((line, accepted("track", more)))
         }
     }
 }

@@ -21,6 +21,7 @@ pub mod stop;
 mod table;
 mod text;
 mod tidy;
+mod track;
 mod try_pieces;
 mod vectors;
 

@@ -3,6 +3,7 @@
 use super::args::{Args, BYTES};
 use super::out::reason;
 use super::stop::Stop;
+use super::track::POSITIONS;
 use std::ffi::OsStr;
 use std::io::Read;
 use std::path::Path;
@@ -18,15 +19,18 @@ pub enum Content {
 pub struct Source {
     pub name: String,
     pub content: Content,
+    /// Whether bytes are said to be track positions.
+    positions: bool,
 }
 
-/// What an input is about, by the ending of its name or else by its first word or byte.
+/// What an input is about, by the ending of its name or an option, or else by its first word or byte.
 #[derive(Clone, Copy, Debug, PartialEq, Eq)]
 pub enum About {
     Sheet,
     Pieces,
     Graph,
     Order,
+    Track,
 }
 
 /// Whether a file of this name holds bytes.
@@ -36,8 +40,8 @@ pub fn holds_bytes(path: &str) -> bool {
 
 impl Source {
     /// Reads a file, or standard input for `-`. A file that ends in .bin holds bytes, one that ends in
-    /// .sheet, .pieces, .graph, .order or .txt text; any other, and standard input, text unless `--bytes` is
-    /// given.
+    /// .sheet, .pieces, .graph, .order, .track or .txt text; any other, and standard input, text unless
+    /// `--bytes` or `--positions` is given.
     pub fn load(path: &str, args: &Args) -> Result<Source, Stop> {
         let mut bytes = Vec::new();
         let (name, read) = match path {
@@ -46,18 +50,19 @@ impl Source {
         };
         read.map_err(|error| Stop::wrong(format!("{name}: {}", reason(&error))))?;
         let is_bytes = match Path::new(path).extension().and_then(OsStr::to_str) {
-            Some("sheet" | "pieces" | "graph" | "order" | "txt") => false,
-            _ => holds_bytes(path) || args.has(BYTES),
+            Some("sheet" | "pieces" | "graph" | "order" | "track" | "txt") => false,
+            _ => holds_bytes(path) || args.has(BYTES) || args.has(POSITIONS),
         };
+        let source = |content| Source { name: name.into(), content, positions: args.has(POSITIONS) };
         if is_bytes {
-            return Ok(Source { name: name.into(), content: Content::Bytes(bytes) });
+            return Ok(source(Content::Bytes(bytes)));
         }
         if matches!(bytes.first(), Some(0x00..=0x02 | 0x10..=0x12)) {
             let help = "it begins as bytes do: call it .bin or say --bytes";
             return Err(Stop::wrong(format!("{name}: not a text; {help}")));
         }
         match String::from_utf8(bytes) {
-            Ok(text) => Ok(Source { name: name.into(), content: Content::Text(text) }),
+            Ok(text) => Ok(source(Content::Text(text))),
             Err(error) => {
                 let at = error.utf8_error().valid_up_to();
                 Err(Stop::wrong(format!("{name}: not a text: byte {at} is no character of UTF-8")))
@@ -80,6 +85,8 @@ impl Source {
             Content::Text(_) if self.name.ends_with(".pieces") => About::Pieces,
             Content::Text(_) if self.name.ends_with(".graph") => About::Graph,
             Content::Text(_) if self.name.ends_with(".order") => About::Order,
+            Content::Text(_) if self.name.ends_with(".track") => About::Track,
+            Content::Bytes(_) if self.positions => About::Track,
             Content::Bytes(bytes) => match bytes.first() {
                 Some(0x10) => About::Sheet,
                 Some(0x11) => About::Pieces,
@@ -96,6 +103,7 @@ impl Source {
                 match first {
                     Some(line) if line.starts_with("graph") => About::Graph,
                     Some(line) if line.starts_with("order") => About::Order,
+                    Some(line) if line.starts_with("track") => About::Track,
                     Some(line) if line.starts_with('(') => About::Pieces,
                     _ => About::Sheet,
                 }

@@ -8,6 +8,7 @@ use super::out::Out;
 use super::pieces::pieces;
 use super::source::{About, Source};
 use super::stop::Stop;
+use super::track::{track, POSITIONS};
 use super::Command;
 use crate::json::Json;
 use crate::notation::Names;
@@ -15,15 +16,16 @@ use crate::notation::Names;
 pub const COMMAND: Command = Command {
     name: "text",
     usage: "FILE",
-    summary: "turn bytes into text: a sheet, pieces, a graph or an order in words",
+    summary: "turn bytes into text: a sheet, pieces, a graph, an order or a track in words",
     about: "Prints a sheet's rules, pieces one a line, a graph's nodes, cases and edges in words, or the lines of\n\
-            a reading order.\n\
+            a reading order or of a track drawing.\n\
             With --sheet its names stand for ids, and the leaves of a graph show their rules; the graph is\n\
             then checked with it.",
-    options: &[OUTPUT, SHEET, BYTES, JSON],
+    options: &[OUTPUT, SHEET, BYTES, POSITIONS, JSON],
     examples: &[
         ("vt text sheet.bin", "a sheet as text"),
         ("vt build coins.sheet -o - | vt text --bytes --sheet coins.sheet -", "the nodes of a sheet's graph"),
+        ("vt text --positions positions.bin", "where each place stands on a track"),
     ],
     run,
 };
@@ -50,6 +52,7 @@ fn run(args: &Args, out: &Out) -> Result<(), Stop> {
         }
         About::Graph => ("graph", graph_text(&source, sheet.as_ref())?),
         About::Order => ("order", OrderInput::of(&source)?.order.print()),
+        About::Track => ("track", track(&source)?.print()),
     };
     match (args.value(OUTPUT), args.has(JSON)) {
         (Some(path), false) => out.file(path, text.as_bytes()),

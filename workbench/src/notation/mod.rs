@@ -1,7 +1,8 @@
-//! The notation for sheets, pieces, graphs and reading orders, as docs/NOTATION.md describes it.
+//! The notation for sheets, pieces, graphs, reading orders and track drawings, as docs/NOTATION.md describes
+//! it.
 //!
-//! Printing and parsing are inverse: the bytes of a sheet, a piece, a graph or an order, printed and parsed
-//! again, are the same bytes.
+//! Printing and parsing are inverse: the bytes of a sheet, a piece, a graph, an order or a drawing, printed
+//! and parsed again, are the same bytes.
 
 mod names;
 mod order;
@@ -10,6 +11,7 @@ mod parse_order;
 mod parse_piece;
 mod parse_place;
 mod parse_sheet;
+mod parse_track;
 mod parser;
 pub mod places;
 mod print;
@@ -17,6 +19,7 @@ mod print_graph;
 mod read;
 mod span;
 mod token;
+mod track;
 mod tree;
 mod write;
 
@@ -26,9 +29,11 @@ pub use parse_graph::parse_graph;
 pub use parse_order::parse_order;
 pub use parse_piece::{parse_piece, parse_pieces};
 pub use parse_sheet::{parse_sheet, SheetText};
+pub use parse_track::parse_track;
 pub use print_graph::count;
 pub use read::Unread;
 pub use span::{position, Fault, Position, Span};
+pub use track::{Spot, Track};
 pub use tree::{Case, Form, Graph, Kind, Node, Pattern, Piece, Rule, Sheet, Term, What};
 
 /// The sheet that these bytes spell, as text.
@@ -81,4 +86,19 @@ pub fn print_graph(bytes: &[u8]) -> Result<String, Unread> {
 /// ```
 pub fn print_order(bytes: &[u8]) -> Result<String, Unread> {
     Order::read(bytes).map(|order| order.print())
+}
+
+/// The track drawing that this list of positions spells, as text.
+///
+/// ```
+/// use voltunnis_workbench::notation::print_track;
+///
+/// // Argument 2 with all below it at 120, all else at the end of the track.
+/// let positions = (0..680u16).map(|place| if place / 85 == 1 { 120 } else { 65535 });
+/// let list: Vec<u8> = positions.flat_map(u16::to_be_bytes).collect();
+/// assert_eq!(print_track(&list).unwrap(), "track\nargument 2 at 120\n");
+/// assert_eq!(print_track(&list[1..]).unwrap_err().at, 1358);
+/// ```
+pub fn print_track(bytes: &[u8]) -> Result<String, Unread> {
+    Track::read(bytes).map(|track| track.print())
 }

@@ -1,8 +1,8 @@
 //! Places from text.
 
 use super::parser::Parser;
-use super::places;
-use super::span::Fault;
+use super::places::{self, PLACES};
+use super::span::{Fault, Span};
 
 /// A place in words, or by its number: `argument 1, part 3.2`, `place 43`.
 pub fn place(parser: &mut Parser, expected: &str) -> Result<u16, Fault> {
@@ -28,4 +28,18 @@ pub fn place(parser: &mut Parser, expected: &str) -> Result<u16, Fault> {
         let expected = "expected an argument from 1 to 8 and up to 3 parts from 1 to 4";
         Fault::new(start.to(parser.last()), format!("{expected}, found `{found}`"))
     })
+}
+
+/// One of all places, with the part of the text that it takes.
+pub fn one_of_all(parser: &mut Parser, expected: &str) -> Result<(u16, Span), Fault> {
+    let start = parser.span();
+    let place = place(parser, expected)?;
+    let at = start.to(parser.last());
+    match place < PLACES {
+        true => Ok((place, at)),
+        false => {
+            let found = &parser.text[at.start..at.end];
+            Err(Fault::new(at, format!("expected a place from 0 to 679, found `{found}`")))
+        }
+    }
 }

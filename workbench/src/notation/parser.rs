@@ -1,4 +1,4 @@
-//! What the parsers of sheets, pieces and graphs have in common.
+//! What the parsers of the notation have in common.
 
 use super::names::Names;
 use super::read::DEEPEST;
@@ -113,6 +113,29 @@ impl<'a> Parser<'a> {
         }
     }
 
+    /// Takes a head of one word, and then all lines, each by this function.
+    pub fn headed(
+        &mut self,
+        head: &str,
+        expected: &str,
+        help: &str,
+        mut line: impl FnMut(&mut Self) -> Result<(), Fault>,
+    ) -> Result<(), Fault> {
+        self.skip();
+        if !self.accept_word(head) {
+            return Err(self.expected(expected).help(help));
+        }
+        self.line_end()?;
+        loop {
+            self.skip();
+            if self.at_end() {
+                return Ok(());
+            }
+            line(self)?;
+            self.line_end()?;
+        }
+    }
+
     pub fn at_end(&self) -> bool {
         *self.peek() == Token::End
     }
@@ -123,6 +146,12 @@ impl<'a> Parser<'a> {
             Token::Wrong(fault) => fault.clone(),
             found => Fault::new(self.span(), format!("expected {what}, found {}", found.describe())),
         }
+    }
+
+    /// The fault that something stands twice, as these words say.
+    pub fn twice(&self, at: Span, words: &str, known: Span) -> Fault {
+        let line = position(self.text, known.start).line;
+        Fault::new(at, format!("{words} stands twice")).help(format!("line {line} has it"))
     }
 
     /// Declares the names of all lines that begin with `name`.
