@@ -4,7 +4,7 @@ use mathlib.Core.Bool.{Bool, false, _&&_}
 use mathlib.Core.List.{List, [], _∷_, _++_, map}
 use lib.Dec.{leb, ltb, eqb}
 use Rattle.basics.specs.Order.{insertBy, pairBefore}
-use Rattle.terms.specs.Term.{Term, count, unknown, symbol, number, compound}
+use Rattle.terms.specs.Term.{Term, count, unknown, symbol, numbers, compound}
 use Rattle.terms.specs.RuleTests.{Want, aSymbol, aNumber, aCompound, Range}
 use Rattle.decision.specs.Runs.{runs}
 
@@ -14,17 +14,17 @@ pub data Case : Type 0 where
   compoundCase : ℕ → ℕ → Case
   numbersCase : ℕ → ℕ → Case
 
--- The case takes a term.
+-- The case takes a term: a number that it contains, a span if it contains all of it.
 abbrev pub takes : Case → Term → Bool
 takes c unknown = false
 takes (symbolCase a) (symbol b) = eqb a b
-takes (symbolCase a) (number b) = false
+takes (symbolCase a) (numbers b c) = false
 takes (symbolCase a) (compound b ts) = false
 takes (compoundCase a n) (symbol b) = false
-takes (compoundCase a n) (number b) = false
+takes (compoundCase a n) (numbers b c) = false
 takes (compoundCase a n) (compound b ts) = eqb a b && eqb n (count ts)
 takes (numbersCase l h) (symbol b) = false
-takes (numbersCase l h) (number b) = leb l b && leb b h
+takes (numbersCase l h) (numbers a b) = leb l a && leb b h
 takes (numbersCase l h) (compound b ts) = false
 
 -- "A case drops the rules that want something else": what it takes is what is wanted.

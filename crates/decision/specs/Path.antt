@@ -3,7 +3,7 @@ use Prim.Native.Nat.{ℕ, zero, suc}
 use mathlib.Core.List.{List, [], _∷_}
 use lib.ListN.{getD}
 use Rattle.records.specs.Reading.{Reading, took, refused, mapReading}
-use Rattle.terms.specs.Term.{Terms, unknown, symbol, number, compound}
+use Rattle.terms.specs.Term.{Terms, unknown, symbol, numbers, compound}
 use Rattle.terms.specs.Lookup.{Found, lacking, found, termAt}
 use Rattle.terms.specs.Outcome.{Outcome, holds, notKnown, contradicted, compare}
 use Rattle.decision.specs.Key.{Leaf, failNode}
@@ -20,7 +20,7 @@ abbrev pub switchStep : {A : Type 0} → List (CaseEdge A) → A → A → Found
 switchStep cs neither unknownEdge lacking = noWay
 switchStep cs neither unknownEdge (found unknown) = goTo unknownEdge
 switchStep cs neither unknownEdge (found (symbol a)) = goTo (follow cs neither (symbol a))
-switchStep cs neither unknownEdge (found (number a)) = goTo (follow cs neither (number a))
+switchStep cs neither unknownEdge (found (numbers a b)) = goTo (follow cs neither (numbers a b))
 switchStep cs neither unknownEdge (found (compound a ts)) = goTo (follow cs neither (compound a ts))
 
 -- By no where they differ, by other where they are equal or it is not known.

@@ -5,7 +5,7 @@ use mathlib.Core.Bool.{true, false}
 use native.Mathlib.Omega.{arith}
 use lib.Dec.{T, eqb}
 use borrow.Author.Tests.{le-leb, lt-leb, le-ltb, lt-ltb, ne-eqb}
-use Rattle.terms.specs.Term.{Term, count, unknown, symbol, number, compound, Wide}
+use Rattle.terms.specs.Term.{Term, count, unknown, symbol, numbers, compound, Wide}
 use Rattle.terms.specs.Lookup.{Found, lacking, found}
 use Rattle.terms.specs.Filling.{WellFormed}
 use Rattle.terms.proofs.TermPlaces.{IfFound}
@@ -18,7 +18,7 @@ use Rattle.outcomes.proofs.Hidden.{isUnknown}
 pub code-some : (t : Term) → termCode t ≡ 0 → ⊥
 code-some unknown e = omega arith
 code-some (symbol a) e = omega arith
-code-some (number a) e = omega arith
+code-some (numbers a b) e = omega arith
 code-some (compound a ts) e = omega arith
 
 -- Nothing but an unknown has its code.
@@ -26,7 +26,7 @@ pub code-unknown : (f : Found) → IfFound WellFormed f → eqb (foundCode f) un
 code-unknown lacking ok = refl
 code-unknown (found unknown) ok = refl
 code-unknown (found (symbol a)) ok = ne-eqb (symbolCode a) unknownCode (λ e. omega arith)
-code-unknown (found (number a)) ok = ne-eqb (numberCode a) unknownCode (λ e. omega arith)
+code-unknown (found (numbers a b)) ok = ne-eqb (numberCode a) unknownCode (λ e. omega (arith, ok .0, ok .1))
 code-unknown (found (compound a ts)) ok =
     ne-eqb (compoundCode a (count ts)) unknownCode (λ e. omega (arith, ok .0, ok .2))
 
@@ -50,5 +50,5 @@ pub code-arity : (f : Found) → IfFound WellFormed f → T (isCompound (foundCo
 code-arity lacking ok h = omega arith
 code-arity (found unknown) ok h = omega arith
 code-arity (found (symbol a)) ok h = absurd (subst T (symbol-leaf a ok) h)
-code-arity (found (number a)) ok h = absurd (subst T (number-leaf a) h)
+code-arity (found (numbers a b)) ok h = absurd (subst T (number-leaf a) h)
 code-arity (found (compound a ts)) ok h = omega (arith, ok .2)

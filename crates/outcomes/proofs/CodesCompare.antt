@@ -1,14 +1,16 @@
 -- Two terms compare as their codes say, but for the arguments of compounds.
 use Prim.Native.Nat.{ℕ}
-use mathlib.Core.Path.{_≡_, refl, _∙_}
+use mathlib.Core.Path.{_≡_, refl, sym, _∙_}
 use mathlib.Core.Bool.{Bool, true, false, _&&_, _||_, cond}
 use native.Mathlib.Omega.{arith}
 use lib.Dec.{eqb}
 use borrow.Author.Tests.{ne-eqb}
-use Rattle.terms.specs.Term.{Term, count, unknown, symbol, number, compound}
+use Rattle.terms.specs.Term.{Term, count, unknown, symbol, numbers, compound}
 use Rattle.terms.specs.Lookup.{found}
 use Rattle.terms.specs.Outcome.{Outcome, holds, notKnown, contradicted, known, compare}
 use Rattle.terms.specs.Filling.{WellFormed}
+use Rattle.terms.specs.Accepted.{Exact}
+use Rattle.terms.proofs.Spans.{spans-numbers}
 use Rattle.codes.specs.views.Codes.{symbolCode, numberCode, compoundCode, unknownCode, termCode}
 use Rattle.codes.proofs.CodeOrder.{same-of-sort, same-compound}
 use Rattle.outcomes.specs.views.CompareCells.{isCompound, compareCodes}
@@ -19,10 +21,10 @@ use Rattle.outcomes.proofs.Codes.{code-unknown, symbol-leaf, number-lea
 abbrev pub byCodes : Term → Term → Outcome → Outcome
 byCodes unknown u x = notKnown
 byCodes (symbol a) u x = compare (symbol a) u
-byCodes (number a) u x = compare (number a) u
+byCodes (numbers a b) u x = compare (numbers a b) u
 byCodes (compound a ts) unknown x = notKnown
 byCodes (compound a ts) (symbol b) x = contradicted
-byCodes (compound a ts) (number b) x = contradicted
+byCodes (compound a ts) (numbers b c) x = contradicted
 byCodes (compound a ts) (compound b us) x = cond (eqb a b && eqb (count ts) (count us)) x contradicted
 
 -- Two codes compare by whether they are unknown, the same, and a compound's.
@@ -59,33 +61,33 @@ second-unknown a x = go (eqb a unknownCode)
 
 -- Two codes compare as their terms do.
 pub codes-compare
-    : (t u : Term) (x : Outcome) → WellFormed t → WellFormed u → compareCodes (termCode t) (termCode u) x ≡ byCodes t u
-    x
-codes-compare unknown u x ok ok-other = refl
-codes-compare (symbol a) unknown x ok ok-other = second-unknown (symbolCode a) x
-codes-compare (symbol a) (symbol b) x ok ok-other =
+    : (t u : Term) (x : Outcome) → WellFormed t → WellFormed u → Exact t → Exact u
+    → compareCodes (termCode t) (termCode u) x ≡ byCodes t u x
+codes-compare unknown u x ok ok-other exact exact-other = refl
+codes-compare (symbol a) unknown x ok ok-other exact exact-other = second-unknown (symbolCode a) x
+codes-compare (symbol a) (symbol b) x ok ok-other exact exact-other =
     by-tests (symbolCode a) (symbolCode b) x (code-unknown (found (symbol a)) ok)
     (code-unknown (found (symbol b)) ok-other)
     (same-of-sort 0x1000000 a b) (symbol-leaf a ok) ∙ chosen (eqb a b)
-codes-compare (symbol a) (number b) x ok ok-other =
-    differ (symbol a) (number b) x ok ok-other refl refl (λ e. omega arith)
-codes-compare (symbol a) (compound b us) x ok ok-other =
+codes-compare (symbol a) (numbers b c) x ok ok-other exact exact-other =
+    differ (symbol a) (numbers b c) x ok ok-other refl refl (λ e. omega arith)
+codes-compare (symbol a) (compound b us) x ok ok-other exact exact-other =
     differ (symbol a) (compound b us) x ok ok-other refl refl (λ e. omega arith)
-codes-compare (number a) unknown x ok ok-other = second-unknown (numberCode a) x
-codes-compare (number a) (symbol b) x ok ok-other =
-    differ (number a) (symbol b) x ok ok-other refl refl (λ e. omega arith)
-codes-compare (number a) (number b) x ok ok-other =
-    by-tests (numberCode a) (numberCode b) x (code-unknown (found (number a)) ok)
-    (code-unknown (found (number b)) ok-other)
-    (same-of-sort 0x3000000 a b) (number-leaf a) ∙ chosen (eqb a b)
-codes-compare (number a) (compound b us) x ok ok-other =
-    differ (number a) (compound b us) x ok ok-other refl refl (λ e. omega (arith, ok-other .0, ok-other .2))
-codes-compare (compound a ts) unknown x ok ok-other = second-unknown (compoundCode a (count ts)) x
-codes-compare (compound a ts) (symbol b) x ok ok-other =
+codes-compare (numbers a b) unknown x ok ok-other exact exact-other = second-unknown (numberCode a) x
+codes-compare (numbers a b) (symbol c) x ok ok-other exact exact-other =
+    differ (numbers a b) (symbol c) x ok ok-other refl refl (λ e. omega arith)
+codes-compare (numbers a b) (numbers c d) x ok ok-other exact exact-other =
+    by-tests (numberCode a) (numberCode c) x (code-unknown (found (numbers a b)) ok)
+    (code-unknown (found (numbers c d)) ok-other)
+    (same-of-sort 0x3000000 a c) (number-leaf a) ∙ chosen (eqb a c) ∙ sym (spans-numbers a b c d exact exact-other)
+codes-compare (numbers a b) (compound c us) x ok ok-other exact exact-other =
+    differ (numbers a b) (compound c us) x ok ok-other refl refl (λ e. omega (arith, ok-other .0, ok-other .2))
+codes-compare (compound a ts) unknown x ok ok-other exact exact-other = second-unknown (compoundCode a (count ts)) x
+codes-compare (compound a ts) (symbol b) x ok ok-other exact exact-other =
     differ (compound a ts) (symbol b) x ok ok-other refl refl (λ e. omega arith)
-codes-compare (compound a ts) (number b) x ok ok-other =
-    differ (compound a ts) (number b) x ok ok-other refl refl (λ e. omega (arith, ok .0, ok .2))
-codes-compare (compound a ts) (compound b us) x ok ok-other =
+codes-compare (compound a ts) (numbers b c) x ok ok-other exact exact-other =
+    differ (compound a ts) (numbers b c) x ok ok-other refl refl (λ e. omega (arith, ok .0, ok .2))
+codes-compare (compound a ts) (compound b us) x ok ok-other exact exact-other =
     by-tests (compoundCode a (count ts)) (compoundCode b (count us)) x (code-unknown (found (compound a ts)) ok)
     (code-unknown (found (compound b us)) ok-other) (same-compound a (count ts) b (count us) (omega (arith, ok .2)) (omega (arith, ok-other .2)))
     (compound-code a (count ts) (ok .0) (ok .2))

@@ -9,7 +9,7 @@ use native.Mathlib.Omega.{arith}
 use lib.Dec.{ltb, lt→ltb, ltb→lt}
 use Rattle.places.specs.Numbering.{stride, levelsIn}
 use Rattle.places.proofs.Levels.{levels-first, levels-next, levels-below, levels-fit}
-use Rattle.terms.specs.Term.{Term, Terms, unknown, symbol, number, compound, nil, cons}
+use Rattle.terms.specs.Term.{Term, Terms, unknown, symbol, numbers, compound, nil, cons}
 use Rattle.terms.specs.Lookup.{Found, lacking, found, find, finds}
 use Rattle.basics.proofs.Booleans.{cond-true, cond-false, cond-related}
 
@@ -20,8 +20,8 @@ abbrev mutual
   findWith x unknown r (suc n) = x
   findWith x (symbol a) r zero = found (symbol a)
   findWith x (symbol a) r (suc n) = lacking
-  findWith x (number a) r zero = found (number a)
-  findWith x (number a) r (suc n) = lacking
+  findWith x (numbers a b) r zero = found (numbers a b)
+  findWith x (numbers a b) r (suc n) = lacking
   findWith x (compound a ts) r zero = found (compound a ts)
   findWith x (compound a ts) r (suc n) = findsWith x ts (pred r) n
 
@@ -37,8 +37,8 @@ mutual
   find-is unknown r (suc n) = refl
   find-is (symbol a) r zero = refl
   find-is (symbol a) r (suc n) = refl
-  find-is (number a) r zero = refl
-  find-is (number a) r (suc n) = refl
+  find-is (numbers a b) r zero = refl
+  find-is (numbers a b) r (suc n) = refl
   find-is (compound a ts) r zero = refl
   find-is (compound a ts) r (suc n) = finds-is ts (pred r) n
 
@@ -53,7 +53,7 @@ module _ (x : Found) where
   pub with-zero : (t : Term) (r : ℕ) → findWith x t r 0 ≡ found t
   with-zero unknown r = refl
   with-zero (symbol a) r = refl
-  with-zero (number a) r = refl
+  with-zero (numbers a b) r = refl
   with-zero (compound a ts) r = refl
 
   -- The first places of a row are those of its first term,
@@ -105,8 +105,8 @@ module _ (x : Found) (stays : Stays x) where
         ap (findWith x unknown r) (suc-add n m) ∙ sym (stays (levelsIn r (suc n)) m)
     with-composes (symbol a) r zero m inside near = from-first x (symbol a) r m
     with-composes (symbol a) r (suc n) m inside near = ap (findWith x (symbol a) r) (suc-add n m)
-    with-composes (number a) r zero m inside near = from-first x (number a) r m
-    with-composes (number a) r (suc n) m inside near = ap (findWith x (number a) r) (suc-add n m)
+    with-composes (numbers a b) r zero m inside near = from-first x (numbers a b) r m
+    with-composes (numbers a b) r (suc n) m inside near = ap (findWith x (numbers a b) r) (suc-add n m)
     with-composes (compound a ts) r zero m inside near = from-first x (compound a ts) r m
     with-composes (compound a ts) zero (suc n) m inside near = absurd (omega arith)
     with-composes (compound a ts) (suc r) (suc n) m inside near =

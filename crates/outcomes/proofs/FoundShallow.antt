@@ -5,7 +5,7 @@ use native.Mathlib.Decide.{decLt}
 use native.Mathlib.Omega.{arith}
 use Rattle.places.specs.Numbering.{stride, levelsIn}
 use Rattle.places.proofs.Levels.{levels-first, levels-next, levels-below, levels-range}
-use Rattle.terms.specs.Term.{Term, Terms, unknown, symbol, number, compound, nil, cons}
+use Rattle.terms.specs.Term.{Term, Terms, unknown, symbol, numbers, compound, nil, cons}
 use Rattle.terms.specs.Lookup.{Found, lacking, found, find, finds}
 use Rattle.terms.specs.Accepted.{Shallow, Shallows}
 use Rattle.terms.proofs.TermPlaces.{finds-here, finds-there}
@@ -26,8 +26,8 @@ mutual
   find-shallow unknown r n h inside = levels-range r n h .0
   find-shallow (symbol a) r zero h inside = levels-range r 0 h .0
   find-shallow (symbol a) r (suc n) h inside = tt
-  find-shallow (number a) r zero h inside = levels-range r 0 h .0
-  find-shallow (number a) r (suc n) h inside = tt
+  find-shallow (numbers a b) r zero h inside = levels-range r 0 h .0
+  find-shallow (numbers a b) r (suc n) h inside = tt
   find-shallow (compound a ts) r zero h inside = subst (Shallow (compound a ts)) (sym (levels-first r)) h
   find-shallow (compound a ts) zero (suc n) h inside = absurd (omega arith)
   find-shallow (compound a ts) (suc r) (suc n) h inside =

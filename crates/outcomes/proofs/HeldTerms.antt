@@ -8,11 +8,11 @@ use lib.ListN.{getD}
 use lib.Dec.{eqb}
 use borrow.Author.Tests.{eqb-true, eqb-false}
 use Rattle.places.specs.Numbering.{stride}
-use Rattle.terms.specs.Term.{Term, Terms, count, unknown, symbol, number, compound, nil, cons}
+use Rattle.terms.specs.Term.{Term, Terms, count, unknown, symbol, numbers, compound, nil, cons}
 use Rattle.terms.specs.Lookup.{lacking}
 use Rattle.terms.specs.Outcome.{Outcome, holds, notKnown, contradicted, known, _and_, compare, compares}
 use Rattle.terms.specs.Filling.{WellFormed, WellFormeds}
-use Rattle.terms.specs.Accepted.{Shallow, Shallows}
+use Rattle.terms.specs.Accepted.{Shallow, Shallows, Exact, Exacts}
 use Rattle.terms.proofs.TermPlaces.{extent}
 use Rattle.piece.proofs.Rooms.{no-arguments}
 use Rattle.codes.specs.views.Codes.{termCode}
@@ -85,12 +85,12 @@ module _ (cells : List ℕ) where
 
   -- Two held terms compare by their codes.
   held-compare
-      : (t u : Term) (below other p q : ℕ) → WellFormed t → WellFormed u → Held t (suc below) p → Held u (suc other) q
-      → compareAt cells below other p q ≡ byCodes t u (compareBelow cells below other p q)
-  held-compare t u below other p q ok ok-other held held-other =
+      : (t u : Term) (below other p q : ℕ) → WellFormed t → WellFormed u → Exact t → Exact u → Held t (suc below) p
+      → Held u (suc other) q → compareAt cells below other p q ≡ byCodes t u (compareBelow cells below other p q)
+  held-compare t u below other p q ok ok-other exact exact-other held held-other =
       by-codes cells below other p q
       ∙ ap₂ (λ a b. compareCodes a b (compareBelow cells below other p q)) (held-code t below p held) (held-code u other q held-other)
-      ∙ codes-compare t u (compareBelow cells below other p q) ok ok-other
+      ∙ codes-compare t u (compareBelow cells below other p q) ok ok-other exact exact-other
 
   -- The arity in a held compound's code is the number of its arguments.
   arity-held : (a : ℕ) (ts : Terms) (below p : ℕ) → count ts ≤ 4 → Held (compound a ts) (suc below) p → arityOf (getD cells p 0) ≡ count ts
@@ -100,42 +100,44 @@ module _ (cells : List ℕ) where
     -- Cells compare as the terms that they hold,
     pub terms-compare
         : (t u : Term) (below other p q : ℕ) → WellFormed t → WellFormed u → Shallow t (suc below) → Shallow u (suc other)
-        → Held t (suc below) p → Held u (suc other) q → compareAt cells below other p q ≡ compare t u
-    terms-compare unknown u below other p q ok ok-other shallow shallow-other held held-other =
-        held-compare unknown u below other p q ok ok-other held held-other
-    terms-compare (symbol a) u below other p q ok ok-other shallow shallow-other held held-other =
-        held-compare (symbol a) u below other p q ok ok-other held held-other
-    terms-compare (number a) u below other p q ok ok-other shallow shallow-other held held-other =
-        held-compare (number a) u below other p q ok ok-other held held-other
-    terms-compare (compound a ts) unknown below other p q ok ok-other shallow shallow-other held held-other =
-        held-compare (compound a ts) unknown below other p q ok ok-other held held-other
-    terms-compare (compound a ts) (symbol b) below other p q ok ok-other shallow shallow-other held held-other =
-        held-compare (compound a ts) (symbol b) below other p q ok ok-other held held-other
-    terms-compare (compound a ts) (number b) below other p q ok ok-other shallow shallow-other held held-other =
-        held-compare (compound a ts) (number b) below other p q ok ok-other held held-other
-    terms-compare (compound a ts) (compound b us) zero other p q ok ok-other shallow shallow-other held held-other =
+        → Exact t → Exact u → Held t (suc below) p → Held u (suc other) q → compareAt cells below other p q ≡ compare t u
+    terms-compare unknown u below other p q ok ok′ shallow shallow′ exact exact′ held held′ =
+        held-compare unknown u below other p q ok ok′ exact exact′ held held′
+    terms-compare (symbol a) u below other p q ok ok′ shallow shallow′ exact exact′ held held′ =
+        held-compare (symbol a) u below other p q ok ok′ exact exact′ held held′
+    terms-compare (numbers a c) u below other p q ok ok′ shallow shallow′ exact exact′ held held′ =
+        held-compare (numbers a c) u below other p q ok ok′ exact exact′ held held′
+    terms-compare (compound a ts) unknown below other p q ok ok′ shallow shallow′ exact exact′ held held′ =
+        held-compare (compound a ts) unknown below other p q ok ok′ exact exact′ held held′
+    terms-compare (compound a ts) (symbol b) below other p q ok ok′ shallow shallow′ exact exact′ held held′ =
+        held-compare (compound a ts) (symbol b) below other p q ok ok′ exact exact′ held held′
+    terms-compare (compound a ts) (numbers b c) below other p q ok ok′ shallow shallow′ exact exact′ held held′ =
+        held-compare (compound a ts) (numbers b c) below other p q ok ok′ exact exact′ held held′
+    terms-compare (compound a ts) (compound b us) zero other p q ok ok′ shallow shallow′ exact exact′ held held′ =
         absurd (no-arguments ts (ok .1) (shallow .1))
-    terms-compare (compound a ts) (compound b us) (suc below) zero p q ok ok-other shallow shallow-other held held-other =
-        absurd (no-arguments us (ok-other .1) (shallow-other .1))
-    terms-compare (compound a ts) (compound b us) (suc below) (suc other) p q ok ok-other shallow shallow-other held held-other =
+    terms-compare (compound a ts) (compound b us) (suc below) zero p q ok ok′ shallow shallow′ exact exact′ held held′ =
+        absurd (no-arguments us (ok′ .1) (shallow′ .1))
+    terms-compare (compound a ts) (compound b us) (suc below) (suc other) p q ok ok′ shallow shallow′ exact exact′ held held′ =
         let one = compareAt cells below other in
-        held-compare (compound a ts) (compound b us) (suc below) (suc other) p q ok ok-other held held-other
+        held-compare (compound a ts) (compound b us) (suc below) (suc other) p q ok ok′ exact exact′ held held′
         ∙ compounds-compare a b ts us _ (λ same.
         ap (λ (n : ℕ). compareRow one (stride (suc below)) (stride (suc other)) n (p + 1) (q + 1)) (arity-held a ts (suc below) p (ok .2) held)
-        ∙ rows-compare ts us below other (p + 1) (q + 1) same (ok .3) (ok-other .3) (shallow .1) (shallow-other .1)
-        (held-arguments a ts below p (ok .2) held) (held-arguments b us other q (ok-other .2) held-other))
+        ∙ rows-compare ts us below other (p + 1) (q + 1) same (ok .3) (ok′ .3) (shallow .1) (shallow′ .1)
+        exact exact′ (held-arguments a ts below p (ok .2) held) (held-arguments b us other q (ok′ .2) held′))
 
     -- and so do rows of cells.
     rows-compare
         : (ts us : Terms) (below other p q : ℕ) → count ts ≡ count us → WellFormeds ts → WellFormeds us
-        → Shallows ts (suc below) → Shallows us (suc other) → HeldRow ts (suc below) p → HeldRow us (suc other) q
+        → Shallows ts (suc below) → Shallows us (suc other) → Exacts ts → Exacts us → HeldRow ts (suc below) p
+        → HeldRow us (suc other) q
         → compareRow (compareAt cells below other) (stride (suc below)) (stride (suc other)) (count ts) p q ≡ compares ts us
-    rows-compare nil nil below other p q same ok ok-other shallow shallow-other held held-other = refl
-    rows-compare nil (cons u us) below other p q same ok ok-other shallow shallow-other held held-other = absurd (omega arith)
-    rows-compare (cons t ts) nil below other p q same ok ok-other shallow shallow-other held held-other = absurd (omega arith)
-    rows-compare (cons t ts) (cons u us) below other p q same ok ok-other shallow shallow-other held held-other =
+    rows-compare nil nil below other p q same ok ok′ shallow shallow′ exact exact′ held held′ = refl
+    rows-compare nil (cons u us) below other p q same ok ok′ shallow shallow′ exact exact′ held held′ = absurd (omega arith)
+    rows-compare (cons t ts) nil below other p q same ok ok′ shallow shallow′ exact exact′ held held′ = absurd (omega arith)
+    rows-compare (cons t ts) (cons u us) below other p q same ok ok′ shallow shallow′ exact exact′ held held′ =
         ap₂ _and_
-        (terms-compare t u below other p q (ok .0) (ok-other .0) (shallow .0) (shallow-other .0)
-        (held-first t ts (suc below) p held) (held-first u us (suc other) q held-other))
-        (rows-compare ts us below other (p + stride (suc below)) (q + stride (suc other)) (omega arith) (ok .1) (ok-other .1)
-        (shallow .1) (shallow-other .1) (held-others t ts (suc below) p held) (held-others u us (suc other) q held-other))
+        (terms-compare t u below other p q (ok .0) (ok′ .0) (shallow .0) (shallow′ .0)
+        (exact .0) (exact′ .0) (held-first t ts (suc below) p held) (held-first u us (suc other) q held′))
+        (rows-compare ts us below other (p + stride (suc below)) (q + stride (suc other)) (omega arith) (ok .1) (ok′ .1)
+        (shallow .1) (shallow′ .1) (exact .1) (exact′ .1) (held-others t ts (suc below) p held)
+        (held-others u us (suc other) q held′))

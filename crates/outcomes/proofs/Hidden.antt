@@ -8,7 +8,7 @@ use native.Mathlib.Omega.{arith}
 use lib.Dec.{ltb}
 use Rattle.places.specs.Numbering.{stride}
 use Rattle.places.proofs.Rows.{stride-grows}
-use Rattle.terms.specs.Term.{Term, Terms, unknown, symbol, number, compound, nil, cons}
+use Rattle.terms.specs.Term.{Term, Terms, unknown, symbol, numbers, compound, nil, cons}
 use Rattle.terms.specs.Lookup.{Found, lacking, found}
 use Rattle.basics.proofs.Booleans.{cond-related}
 use Rattle.outcomes.proofs.FindWith.{findWith, findsWith, with-zero, with-here, with-there, goOn}
@@ -25,8 +25,8 @@ mutual
   stores unknown r (suc n) = hidden
   stores (symbol a) r zero = shown (found (symbol a))
   stores (symbol a) r (suc n) = shown lacking
-  stores (number a) r zero = shown (found (number a))
-  stores (number a) r (suc n) = shown lacking
+  stores (numbers a b) r zero = shown (found (numbers a b))
+  stores (numbers a b) r (suc n) = shown lacking
   stores (compound a ts) r zero = shown (found (compound a ts))
   stores (compound a ts) r (suc n) = stores-row ts (pred r) n
 
@@ -54,7 +54,7 @@ abbrev pub isUnknown : Found → Bool
 isUnknown lacking = false
 isUnknown (found unknown) = true
 isUnknown (found (symbol a)) = false
-isUnknown (found (number a)) = false
+isUnknown (found (numbers a b)) = false
 isUnknown (found (compound a ts)) = false
 
 -- An unknown, or nothing.
@@ -80,7 +80,7 @@ pub child-found
 child-found (shown lacking) l k some = refl
 child-found (shown (found unknown)) l k some = refl
 child-found (shown (found (symbol a))) l k some = refl
-child-found (shown (found (number a))) l k some = refl
+child-found (shown (found (numbers a b))) l k some = refl
 child-found (shown (found (compound a ts))) l k some =
     first-same (found unknown) lacking ts l k some ∙ sym (or-nothing (findsWith lacking ts l (k * stride l)))
 child-found hidden l k some = refl

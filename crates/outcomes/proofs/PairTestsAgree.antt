@@ -7,14 +7,15 @@ use lib.Dec.{eqb}
 use borrow.Author.Tests.{ne-eqb}
 use Rattle.places.specs.Numbering.{stride, levelsAt}
 use Rattle.places.proofs.Levels.{levels-range, levels-fit-row}
-use Rattle.terms.specs.Term.{Term, Terms, unknown, symbol, number, compound}
+use Rattle.terms.specs.Term.{Term, Terms, unknown, symbol, numbers, compound}
 use Rattle.terms.specs.RuleTests.{both}
 use Rattle.terms.specs.Lookup.{Found, lacking, found, termAt}
 use Rattle.terms.specs.Outcome.{Outcome, notKnown, contradicted, compare, atPlaces, pairOutcome}
 use Rattle.terms.specs.Filling.{WellFormed}
-use Rattle.terms.specs.Accepted.{AcceptedPiece, Shallow}
+use Rattle.terms.specs.Accepted.{AcceptedPiece, Shallow, Exact}
 use Rattle.terms.proofs.TermPlaces.{IfFound}
 use Rattle.terms.proofs.WellFormed.{finds-well-formed}
+use Rattle.terms.proofs.Exact.{finds-exact}
 use Rattle.codes.specs.views.Codes.{unknownCode, termCode}
 use Rattle.piece.specs.views.Cells.{foundCode}
 use Rattle.piece.specs.views.LaidOut.{pieceCells}
@@ -35,7 +36,7 @@ module _ (x : Outcome) where
       → cond (isUnknown (found u)) notKnown x ≡ compare t u
   second-agrees t unknown known = sym (compare-unknown t)
   second-agrees t (symbol b) known = known refl
-  second-agrees t (number b) known = known refl
+  second-agrees t (numbers b c) known = known refl
   second-agrees t (compound b us) known = known refl
 
   -- and so where the first is.
@@ -44,7 +45,7 @@ module _ (x : Outcome) where
       → cond (isUnknown (found t) || isUnknown (found u)) notKnown x ≡ compare t u
   terms-agree unknown u known = refl
   terms-agree (symbol a) u known = second-agrees (symbol a) u (known refl)
-  terms-agree (number a) u known = second-agrees (number a) u (known refl)
+  terms-agree (numbers a b) u known = second-agrees (numbers a b) u (known refl)
   terms-agree (compound a ts) u known = second-agrees (compound a ts) u (known refl)
 
 -- Where the second place is lacking, the test is contradicted.
@@ -109,6 +110,10 @@ module _ (arity : ℕ) (piece : Terms) (accepted : AcceptedPiece arity piece) (f
     well-formed : WellFormed t
     well-formed = subst (IfFound WellFormed) at-p (finds-well-formed piece (accepted .wellFormed) 4 p)
 
+    -- Its numbers are known exactly.
+    exact : Exact t
+    exact = subst (IfFound Exact) at-p (finds-exact piece (accepted .exact) 4 p)
+
   -- An equality test on the cells of an accepted piece is the equality test of the piece.
   pub pair-test-agrees
       : (p q : ℕ) → p < 680 → q < 680 → pairCells (pieceCells piece) p q ≡ pairOutcome piece (both p q)
@@ -122,5 +127,5 @@ module _ (arity : ℕ) (piece : Terms) (accepted : AcceptedPiece arity piece) (f
       (finds-well-formed piece (accepted .wellFormed) 4 p) (finds-well-formed piece (accepted .wellFormed) 4 q)
       (λ t u at-p at-q known known-q.
       terms-compare cells t u below other p q (well-formed p inside t at-p) (well-formed q inside-q u at-q)
-      (shallow p inside t at-p) (shallow q inside-q u at-q) (held p inside t at-p known)
-      (held q inside-q u at-q known-q))
+      (shallow p inside t at-p) (shallow q inside-q u at-q) (exact p inside t at-p)
+      (exact q inside-q u at-q) (held p inside t at-p known) (held q inside-q u at-q known-q))

@@ -4,14 +4,15 @@ use mathlib.Core.Path.{_≡_, ap, _∙_}
 use mathlib.Core.Bool.{Bool, cond}
 use mathlib.Core.Logic.{inl, inr}
 use native.Mathlib.Omega.{arith}
-use Rattle.terms.specs.Term.{Terms, count, unknown, symbol, number, compound}
+use Rattle.terms.specs.Term.{Terms, count, unknown, symbol, numbers, compound}
 use Rattle.terms.specs.RuleTests.{Want, aSymbol, aNumber, aCompound, at}
 use Rattle.terms.specs.Lookup.{Found, lacking, found, termAt}
 use Rattle.terms.specs.Outcome.{Outcome, notKnown, known, fits, atPlace, placeOutcome}
-use Rattle.terms.specs.Accepted.{AcceptedPiece}
+use Rattle.terms.specs.Accepted.{AcceptedPiece, Exact}
 use Rattle.terms.specs.Filling.{WellFormed}
 use Rattle.terms.proofs.TermPlaces.{IfFound}
 use Rattle.terms.proofs.WellFormed.{finds-well-formed}
+use Rattle.terms.proofs.Exact.{finds-exact}
 use Rattle.codes.specs.views.Codes.{symbolCode, numberCode, compoundCode, unknownCode, wantLow, wantHigh}
 use Rattle.codes.proofs.FitCodes.{WantFields, under, symbol-fits, number-fits, compound-fits}
 use Rattle.piece.specs.views.Cells.{foundCode}
@@ -46,15 +47,17 @@ low-some (aCompound a n) = omega arith
 
 -- What a want says of the codes that what stands at a place can have is what it says of the term.
 want-agrees
-    : (w : Want) (f : Found) → WantFields w → IfFound WellFormed f
+    : (w : Want) (f : Found) → WantFields w → IfFound WellFormed f → IfFound Exact f
     → outcomeAt w (cond (isUnknown f) (symbolCode 0) (foundCode f)) (cond (isUnknown f) (pred unknownCode) (foundCode f))
     ≡ atPlace (fits w) f
-want-agrees w lacking fields ok = at-code (wantLow w) (wantHigh w) 0 ∙ ap known (under (wantLow w) (wantHigh w) 0 (low-some w))
-want-agrees w (found unknown) fields ok = at-unknown w fields
-want-agrees w (found (symbol b)) fields ok =
+want-agrees w lacking fields ok exact =
+    at-code (wantLow w) (wantHigh w) 0 ∙ ap known (under (wantLow w) (wantHigh w) 0 (low-some w))
+want-agrees w (found unknown) fields ok exact = at-unknown w fields
+want-agrees w (found (symbol b)) fields ok exact =
     at-code (wantLow w) (wantHigh w) (symbolCode b) ∙ symbol-fits w b fields ok
-want-agrees w (found (number b)) fields ok = at-code (wantLow w) (wantHigh w) (numberCode b) ∙ number-fits w b fields
-want-agrees w (found (compound b ts)) fields ok =
+want-agrees w (found (numbers b c)) fields ok exact =
+    at-code (wantLow w) (wantHigh w) (numberCode b) ∙ number-fits w b fields ∙ ap (λ (d : ℕ). fits w (numbers b d)) exact
+want-agrees w (found (compound b ts)) fields ok exact =
     at-code (wantLow w) (wantHigh w) (compoundCode b (count ts)) ∙ compound-fits w b ts fields (ok .0) (ok .2)
 
 -- A place test on the cells of an accepted piece is the place test of the piece.
@@ -67,4 +70,4 @@ place-test-agrees arity piece accepted few w fields n inside =
     ap (λ (cell : ℕ). outcomeAt w (runLow cell) (runHigh cell)) (look-finds arity piece accepted few n inside)
     ∙ ap (λ (b : Bool). outcomeAt w (cond b (symbolCode 0) code) (cond b (pred unknownCode) code))
     (code-unknown (termAt piece n) ok)
-    ∙ want-agrees w (termAt piece n) fields ok
+    ∙ want-agrees w (termAt piece n) fields ok (finds-exact piece (accepted .exact) 4 n)

@@ -9,7 +9,7 @@ use native.Mathlib.Omega.{arith}
 use lib.ListN.{length, getD, set, length-set}
 use lib.Seq.{getD-set-same, getD-set-other}
 use Rattle.places.specs.Numbering.{stride}
-use Rattle.terms.specs.Term.{Term, Terms, count, unknown, symbol, number, compound, nil, cons}
+use Rattle.terms.specs.Term.{Term, Terms, count, unknown, symbol, numbers, compound, nil, cons}
 use Rattle.terms.specs.Lookup.{lacking}
 use Rattle.terms.specs.Filling.{WellFormed, WellFormeds}
 use Rattle.terms.specs.Accepted.{Shallow, Shallows}
@@ -24,7 +24,7 @@ mutual
   pub term-length : (t : Term) (below p : ℕ) (cells : List ℕ) → length (storeTerm t below p cells) ≡ length cells
   term-length unknown below p cells = length-set cells p unknownCode
   term-length (symbol a) below p cells = length-set cells p (symbolCode a)
-  term-length (number a) below p cells = length-set cells p (numberCode a)
+  term-length (numbers a b) below p cells = length-set cells p (numberCode a)
   term-length (compound a ts) below p cells =
       terms-length ts (pred below) (p + 1) (set cells p (compoundCode a (count ts)))
       ∙ length-set cells p (compoundCode a (count ts))
@@ -42,7 +42,7 @@ mutual
       → getD (storeTerm t below p cells) i 0 ≡ getD cells i 0
   term-before unknown below p cells i h = getD-set-other cells p i unknownCode 0 (λ e. omega arith)
   term-before (symbol a) below p cells i h = getD-set-other cells p i (symbolCode a) 0 (λ e. omega arith)
-  term-before (number a) below p cells i h = getD-set-other cells p i (numberCode a) 0 (λ e. omega arith)
+  term-before (numbers a b) below p cells i h = getD-set-other cells p i (numberCode a) 0 (λ e. omega arith)
   term-before (compound a ts) below p cells i h =
       let code = compoundCode a (count ts) in
       terms-before ts (pred below) (p + 1) (set cells p code) i (omega arith)
@@ -68,7 +68,7 @@ mutual
       → p + stride (suc below) ≤ i → getD (storeTerm t below p cells) i 0 ≡ getD cells i 0
   term-after unknown below p cells i ok shallow h = getD-set-other cells p i unknownCode 0 (λ e. omega arith)
   term-after (symbol a) below p cells i ok shallow h = getD-set-other cells p i (symbolCode a) 0 (λ e. omega arith)
-  term-after (number a) below p cells i ok shallow h = getD-set-other cells p i (numberCode a) 0 (λ e. omega arith)
+  term-after (numbers a b) below p cells i ok shallow h = getD-set-other cells p i (numberCode a) 0 (λ e. omega arith)
   term-after (compound a ts) zero p cells i ok shallow h = absurd (no-arguments ts (ok .1) (shallow .1))
   term-after (compound a ts) (suc below) p cells i ok shallow h =
       let code = compoundCode a (count ts) in
@@ -141,8 +141,8 @@ mutual
   term-stored unknown below p cells (suc n) ok shallow empty h = code-later cells p _ empty unknownCode n h
   term-stored (symbol a) below p cells zero ok shallow empty h = code-here cells p _ empty (symbolCode a) h
   term-stored (symbol a) below p cells (suc n) ok shallow empty h = code-later cells p _ empty (symbolCode a) n h
-  term-stored (number a) below p cells zero ok shallow empty h = code-here cells p _ empty (numberCode a) h
-  term-stored (number a) below p cells (suc n) ok shallow empty h = code-later cells p _ empty (numberCode a) n h
+  term-stored (numbers a b) below p cells zero ok shallow empty h = code-here cells p _ empty (numberCode a) h
+  term-stored (numbers a b) below p cells (suc n) ok shallow empty h = code-later cells p _ empty (numberCode a) n h
   term-stored (compound a ts) below p cells zero ok shallow empty h =
       let code = compoundCode a (count ts) in
       terms-before ts (pred below) (p + 1) (set cells p code) (p + 0) (omega arith) ∙ code-here cells p _ empty code h

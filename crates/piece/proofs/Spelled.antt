@@ -44,6 +44,7 @@ piece-of s a n b ts head terms = record {
       arguments = terms .counted;
       wellFormed = terms .wellFormed;
       shallow = terms .shallow;
+      exact = terms .exact;
     };
   };
   size = let two = head .bytes in let size = terms .size in omega arith;
@@ -85,7 +86,7 @@ prefix-reads piece rest sound =
     let read = right-arity s there refl (sound .someArgument) (sound .fewArguments) in
     let terms =
     ap (λ n. readTerms 3 n (termsBytes (piece .terms) ++ rest)) (sym (sound .accepted .arguments))
-    ∙ terms-read (piece .terms) 3 rest (sound .accepted .wellFormed) (sound .accepted .shallow) in
+    ∙ terms-read (piece .terms) 3 rest (sound .accepted .wellFormed) (sound .accepted .shallow) (sound .accepted .exact) in
     let size : 2 + length (termsBytes (piece .terms)) ≡ length (pieceBytes piece) = omega arith in
     ap (λ r. andThen r (λ a n. after a (λ ts. record { arity = n; terms = ts }) (readTerms 3 n (drop a s)))) (sym read)
     ∙ ap (after 2 (λ ts. record { arity = piece .arity; terms = ts })) terms ∙ ap (λ k. took k piece) size

@@ -11,9 +11,9 @@ use lib.Dec.{leb}
 use borrow.Author.Tests.{leb-true}
 use Rattle.records.specs.Fields.{wideThen, AreBytes}
 use Rattle.records.specs.Reading.{Reading, took, refused, ask, after, andThen, readRow}
-use Rattle.terms.specs.Term.{Term, Terms, count, unknown, symbol, number, compound, nil, cons, Wide}
+use Rattle.terms.specs.Term.{Term, Terms, count, unknown, symbol, number, numbers, compound, nil, cons, Wide}
 use Rattle.terms.specs.Filling.{WellFormed, WellFormeds}
-use Rattle.terms.specs.Accepted.{Shallow, Shallows}
+use Rattle.terms.specs.Accepted.{Shallow, Shallows, Exact, Exacts}
 use Rattle.piece.specs.declared.TermRecord.the-variants.{Unknown, Symbol, Number, Compound}
 use Rattle.piece.specs.declared.TermHead.{TermHead}
 use Rattle.piece.specs.declared.TermHead.the-variants.{Whole, Refused}
@@ -30,6 +30,7 @@ use Rattle.records.proofs.ByteLists.{bytes-drop}
 pub record TermSpelled (s : List ℕ) (below k : ℕ) (t : Term) : Type 0 where
   pub wellFormed : WellFormed t
   pub shallow : Shallow t (suc below)
+  pub exact : Exact t
   pub size : k ≡ length (termBytes t)
   pub bytes : s ≡ termBytes t ++ drop k s
 
@@ -38,6 +39,7 @@ pub record TermsSpelled (s : List ℕ) (below n k : ℕ) (ts : Terms) : Type 0 w
   pub counted : count ts ≡ n
   pub wellFormed : WellFormeds ts
   pub shallow : Shallows ts (suc below)
+  pub exact : Exacts ts
   pub size : k ≡ length (termsBytes ts)
   pub bytes : s ≡ termsBytes ts ++ drop k s
 
@@ -59,6 +61,7 @@ cons-spelled s below n a b t ts first others = record {
   counted = ap suc (others .counted);
   wellFormed = (first .wellFormed, others .wellFormed);
   shallow = (first .shallow, others .shallow);
+  exact = (first .exact, others .exact);
   size =
       let size-first = first .size in
       let size-others = others .size in
@@ -73,7 +76,8 @@ row-spelled
     : (below : ℕ) → ((s : List ℕ) → AreBytes s → TermRead s below (readTerm below s))
     → (n : ℕ) (s : List ℕ) → AreBytes s → TermsRead s below n (readTerms below n s)
 unfolding readRow
-row-spelled below one zero s bytes = record { counted = refl; wellFormed = tt; shallow = tt; size = refl; bytes = refl }
+row-spelled below one zero s bytes =
+    record { counted = refl; wellFormed = tt; shallow = tt; exact = tt; size = refl; bytes = refl }
 row-spelled below one (suc n) s bytes =
     first (readTerm below s) (one s bytes) (λ a. row-spelled below one n (drop a s) (bytes-drop a s bytes))
   where
@@ -99,6 +103,7 @@ compound-spelled s below a n k ts head wide least most arguments =
     record {
       wellFormed = (wide, omega arith, omega arith, arguments .wellFormed);
       shallow = (omega arith, arguments .shallow);
+      exact = arguments .exact;
       size = let size = arguments .size in omega arith;
       bytes =
           head
@@ -131,11 +136,11 @@ by-head-spelled
     → ((a n : ℕ) → s ≡ recordThen (Compound a n) (drop 4 s) → Wide a → TermRead s below (readCompound below s a n))
     → (h : TermHead) → HeadSpells s h → TermRead s below (onHead (readCompound below s) h)
 by-head-spelled s below compounds (Whole Unknown) spelled =
-    record { wellFormed = tt; shallow = omega arith; size = refl; bytes = spelled .0 }
+    record { wellFormed = tt; shallow = omega arith; exact = tt; size = refl; bytes = spelled .0 }
 by-head-spelled s below compounds (Whole (Symbol a)) spelled =
-    record { wellFormed = spelled .1; shallow = omega arith; size = refl; bytes = spelled .0 }
+    record { wellFormed = spelled .1; shallow = omega arith; exact = tt; size = refl; bytes = spelled .0 }
 by-head-spelled s below compounds (Whole (Number a)) spelled =
-    record { wellFormed = spelled .1; shallow = omega arith; size = refl; bytes = spelled .0 }
+    record { wellFormed = (omega arith, spelled .1); shallow = omega arith; exact = refl; size = refl; bytes = spelled .0 }
 by-head-spelled s below compounds (Whole (Compound a n)) spelled = compounds a n (spelled .0) (spelled .1)
 by-head-spelled s below compounds (Refused q) spelled = tt
 
@@ -181,32 +186,34 @@ one-reads below n s read = rw read
 mutual
   -- The bytes of an accepted term are read as the term, whatever follows them,
   pub term-reads
-      : (t : Term) (below : ℕ) (rest : List ℕ) → WellFormed t → Shallow t (suc below)
+      : (t : Term) (below : ℕ) (rest : List ℕ) → WellFormed t → Shallow t (suc below) → Exact t
       → readTerm below (termBytes t ++ rest) ≡ took (length (termBytes t)) t
-  term-reads unknown below rest ok shallow = read-head below (termBytes unknown ++ rest) (spelled-head Unknown rest tt)
-  term-reads (symbol a) below rest ok shallow =
+  term-reads unknown below rest ok shallow exact =
+      read-head below (termBytes unknown ++ rest) (spelled-head Unknown rest tt)
+  term-reads (symbol a) below rest ok shallow exact =
       read-head below (termBytes (symbol a) ++ rest) (spelled-head (Symbol a) rest ok)
-  term-reads (number a) below rest ok shallow =
-      read-head below (termBytes (number a) ++ rest) (spelled-head (Number a) rest ok)
-  term-reads (compound a ts) zero rest ok shallow = absurd (no-arguments ts (ok .1) (shallow .1))
-  term-reads (compound a ts) (suc below) rest ok shallow =
+  term-reads (numbers a b) below rest ok shallow exact =
+      read-head below (termBytes (number a) ++ rest) (spelled-head (Number a) rest (omega (arith, ok .1)))
+      ∙ ap (λ c. took 3 (numbers a c)) exact
+  term-reads (compound a ts) zero rest ok shallow exact = absurd (no-arguments ts (ok .1) (shallow .1))
+  term-reads (compound a ts) (suc below) rest ok shallow exact =
       let s = termBytes (compound a ts) ++ rest in
       let size : 4 + length (termsBytes ts) ≡ length (termBytes (compound a ts)) = omega arith in
       read-head (suc below) s (spelled-head (Compound a (count ts)) (termsBytes ts ++ rest) (ok .0))
       ∙ compound-reads below s a (count ts) (ok .1) (ok .2)
-      ∙ ap (after 4 (compound a)) (terms-read ts below rest (ok .3) (shallow .1))
+      ∙ ap (after 4 (compound a)) (terms-read ts below rest (ok .3) (shallow .1) exact)
       ∙ ap (λ k. took k (compound a ts)) size
 
   -- and so are the bytes of a row of accepted terms.
   pub terms-read
-      : (ts : Terms) (below : ℕ) (rest : List ℕ) → WellFormeds ts → Shallows ts (suc below)
+      : (ts : Terms) (below : ℕ) (rest : List ℕ) → WellFormeds ts → Shallows ts (suc below) → Exacts ts
       → readTerms below (count ts) (termsBytes ts ++ rest) ≡ took (length (termsBytes ts)) ts
-  terms-read nil below rest ok shallow = none-read below rest
-  terms-read (cons t ts) below rest ok shallow =
+  terms-read nil below rest ok shallow exact = none-read below rest
+  terms-read (cons t ts) below rest ok shallow exact =
       let s = termBytes t ++ (termsBytes ts ++ rest) in
       ap (readTerms below (suc (count ts))) (append-assoc (termBytes t) (termsBytes ts) rest)
-      ∙ one-reads below (count ts) s (term-reads t below (termsBytes ts ++ rest) (ok .0) (shallow .0))
+      ∙ one-reads below (count ts) s (term-reads t below (termsBytes ts ++ rest) (ok .0) (shallow .0) (exact .0))
       ∙ ap (λ l. after (length (termBytes t)) (cons t) (readTerms below (count ts) l))
       (drop-append-seam (termBytes t) (termsBytes ts ++ rest))
-      ∙ ap (after (length (termBytes t)) (cons t)) (terms-read ts below rest (ok .1) (shallow .1))
+      ∙ ap (after (length (termBytes t)) (cons t)) (terms-read ts below rest (ok .1) (shallow .1) (exact .1))
       ∙ ap (λ k. took k (cons t ts)) (sym (length-append (termBytes t) (termsBytes ts)))

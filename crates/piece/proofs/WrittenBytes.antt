@@ -3,7 +3,7 @@ use mathlib.Core.List.{[], _∷_}
 use native.Mathlib.Omega.{arith}
 use Rattle.records.specs.Fields.{AreBytes}
 use Rattle.records.proofs.ByteLists.{bytes-append, wide-bytes}
-use Rattle.terms.specs.Term.{Term, Terms, count, unknown, symbol, number, compound, nil, cons}
+use Rattle.terms.specs.Term.{Term, Terms, count, unknown, symbol, numbers, compound, nil, cons}
 use Rattle.terms.specs.Filling.{WellFormed, WellFormeds}
 use Rattle.piece.specs.Piece.{Piece, SoundPiece}
 use Rattle.piece.specs.WritePiece.{termBytes, termsBytes, pieceBytes}
@@ -13,7 +13,7 @@ mutual
   term-written : (t : Term) → WellFormed t → AreBytes (termBytes t)
   term-written unknown ok = (omega arith, tt)
   term-written (symbol a) ok = (omega arith, wide-bytes a [] tt)
-  term-written (number a) ok = (omega arith, wide-bytes a [] tt)
+  term-written (numbers a b) ok = (omega arith, wide-bytes a [] tt)
   term-written (compound a ts) ok =
       (omega arith, wide-bytes a (count ts ∷ termsBytes ts) (omega (arith, ok .2), terms-written ts (ok .3)))
 

@@ -2,14 +2,15 @@
 use Prim.Native.Nat.{ℕ}
 use mathlib.Core.List.{List, [], _∷_, _++_}
 use Rattle.records.specs.Fields.{wideThen}
-use Rattle.terms.specs.Term.{Term, Terms, count, unknown, symbol, number, compound, nil, cons}
+use Rattle.terms.specs.Term.{Term, Terms, count, unknown, symbol, numbers, compound, nil, cons}
 use Rattle.piece.specs.Piece.{Piece}
 
+-- A number is one that is known exactly.
 abbrev mutual
   pub termBytes : Term → List ℕ
   termBytes unknown = 0x30 ∷ []
   termBytes (symbol a) = 0x31 ∷ wideThen a []
-  termBytes (number a) = 0x32 ∷ wideThen a []
+  termBytes (numbers a b) = 0x32 ∷ wideThen a []
   termBytes (compound a ts) = 0x33 ∷ wideThen a (count ts ∷ termsBytes ts)
 
   pub termsBytes : Terms → List ℕ

@@ -65,7 +65,7 @@ module _ {s p q : List ℕ} {sheet : Sheet} {piece further : Piece} (ok : Accept
         : {w : Walk} → walkReply s g p ≡ took 0 w → w .answer ≡ suspend → StillListed (w .waits) → walkReply s g q ≡ took 0 w
     suspends-still {w} e suspends listed =
         walk-over-nodes g okFurther read
-        ∙ wait-sentence-accepted (sheet .rules) nodes graph (piece .terms) (further .terms) more w
+        ∙ wait-sentence-accepted (sheet .rules) nodes graph (piece .terms) (further .terms) (terms-accepted ok .exact) more w
         (sym (walk-over-nodes g ok read) ∙ e) suspends listed
 
     values-still

@@ -6,13 +6,14 @@ use mathlib.Core.List.{List}
 use lib.Dec.{eqb}
 use borrow.Author.Tests.{ne-eqb}
 use Rattle.basics.specs.Lists.{All}
-use Rattle.terms.specs.Term.{Terms, unknown, symbol, number, compound}
+use Rattle.terms.specs.Term.{Terms, unknown, symbol, numbers, compound}
 use Rattle.terms.specs.Lookup.{Found, lacking, found, termAt}
 use Rattle.terms.specs.Outcome.{atPlaces}
 use Rattle.terms.specs.Filling.{WellFormed}
-use Rattle.terms.specs.Accepted.{AcceptedPiece}
+use Rattle.terms.specs.Accepted.{AcceptedPiece, Exact}
 use Rattle.terms.proofs.TermPlaces.{IfFound}
 use Rattle.terms.proofs.WellFormed.{finds-well-formed}
+use Rattle.terms.proofs.Exact.{finds-exact}
 use Rattle.codes.specs.views.Codes.{unknownCode, termCode}
 use Rattle.piece.specs.views.Cells.{foundCode}
 use Rattle.piece.specs.views.LaidOut.{pieceCells}
@@ -39,17 +40,19 @@ module _ (cs : List (CaseEdge ℕ)) (x y : ℕ) where
 
   -- So at a switch the code of what is found leads where the found does.
   switch-agrees
-      : (f : Found) → All (λ (c : CaseEdge ℕ). CaseFields (c .case)) cs → IfFound WellFormed f
+      : (f : Found) → All (λ (c : CaseEdge ℕ). CaseFields (c .case)) cs → IfFound WellFormed f → IfFound Exact f
       → codeStep cs x y (foundCode f) ≡ switchStep cs x y f
-  switch-agrees lacking h ok = refl
-  switch-agrees (found unknown) h ok = refl
-  switch-agrees (found (symbol a)) h ok =
-      leads-on (termCode (symbol a)) false (code-some (symbol a)) (code-unknown (found (symbol a)) ok) (follow-code cs x (symbol a) h ok)
-  switch-agrees (found (number a)) h ok =
-      leads-on (termCode (number a)) false (code-some (number a)) (code-unknown (found (number a)) ok) (follow-code cs x (number a) h ok)
-  switch-agrees (found (compound a ts)) h ok =
+  switch-agrees lacking h ok exact = refl
+  switch-agrees (found unknown) h ok exact = refl
+  switch-agrees (found (symbol a)) h ok exact =
+      leads-on (termCode (symbol a)) false (code-some (symbol a)) (code-unknown (found (symbol a)) ok)
+      (follow-code cs x (symbol a) h ok exact)
+  switch-agrees (found (numbers a b)) h ok exact =
+      leads-on (termCode (numbers a b)) false (code-some (numbers a b)) (code-unknown (found (numbers a b)) ok)
+      (follow-code cs x (numbers a b) h ok exact)
+  switch-agrees (found (compound a ts)) h ok exact =
       leads-on (termCode (compound a ts)) false (code-some (compound a ts)) (code-unknown (found (compound a ts)) ok)
-      (follow-code cs x (compound a ts) h ok)
+      (follow-code cs x (compound a ts) h ok exact)
 
 -- A code is 0 exactly where nothing is found.
 abbrev isLacking : Found → Bool
@@ -73,6 +76,7 @@ module _ (arity : ℕ) (piece : Terms) (accepted : AcceptedPiece arity piece) (f
   step-agrees (switch n cs x y) near fit =
       ap (codeStep cs x y) (look-finds arity piece accepted few n near)
       ∙ switch-agrees cs x y (termAt piece n) fit (finds-well-formed piece (accepted .wellFormed) 4 n)
+      (finds-exact piece (accepted .exact) 4 n)
   step-agrees (pairNode p q x y) near fit =
       let outcome = pair-test-agrees arity piece accepted few p q (near .0) (near .1) in
       let left = ap (λ (k : ℕ). eqb k 0) (look-finds arity piece accepted few p (near .0)) ∙ code-lacking (termAt piece p) in

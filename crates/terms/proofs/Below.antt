@@ -6,7 +6,7 @@ use native.Mathlib.Omega.{arith}
 use lib.Dec.{leb, ltb, T, leb→le, ltb→lt}
 use Rattle.places.specs.Numbering.{stride, levelsIn, levelsAt, atOrBelow}
 use Rattle.places.proofs.Levels.{levels-next, levels-below, levels-fit}
-use Rattle.terms.specs.Term.{Term, Terms, unknown, symbol, number, compound, nil, cons}
+use Rattle.terms.specs.Term.{Term, Terms, unknown, symbol, numbers, compound, nil, cons}
 use Rattle.terms.specs.Lookup.{find, finds, termAt}
 use Rattle.terms.proofs.Unknown.{IsUnknown}
 use Rattle.basics.proofs.Booleans.{both-true}
@@ -20,8 +20,8 @@ mutual
   find-below unknown r n m inside after near u = tt
   find-below (symbol a) r zero m inside after near u = absurd u
   find-below (symbol a) r (suc n) m inside after near u = absurd u
-  find-below (number a) r zero m inside after near u = absurd u
-  find-below (number a) r (suc n) m inside after near u = absurd u
+  find-below (numbers a b) r zero m inside after near u = absurd u
+  find-below (numbers a b) r (suc n) m inside after near u = absurd u
   find-below (compound a ts) r zero m inside after near u = absurd u
   find-below (compound a ts) zero (suc n) m inside after near u = absurd (omega arith)
   find-below (compound a ts) (suc r) (suc n) zero inside after near u = absurd (omega arith)

@@ -1,42 +1,46 @@
--- What document 01 says of two terms, sentence by sentence, and that `compare` says exactly this.
-use Prim.Native.Nat.{ℕ, zero, suc}
+-- What document 01, and document 02's request 4, say of two terms, sentence by sentence, and that `compare` says exactly this.
+use Prim.Native.Nat.{ℕ, zero, suc, _<_}
 use mathlib.Core.Path.{_≡_, refl, ap, subst}
-use mathlib.Core.Logic.{_↔_, inl, inr}
+use mathlib.Core.Logic.{_↔_, _⊎_, inl, inr}
 use lib.Dec.{eqb}
 use native.Mathlib.Omega.{arith}
 use Rattle.basics.proofs.Clash.{clash}
-use Rattle.terms.specs.Term.{Term, Terms, count, unknown, symbol, number, compound, nil, cons}
+use Rattle.terms.specs.Term.{Term, Terms, count, unknown, symbol, numbers, compound, nil, cons}
 use Rattle.terms.specs.Lookup.{found}
 use Rattle.terms.specs.Outcome.{notKnown, Holds, NotKnown, Contradicted, known, compare, compares}
 use Rattle.terms.proofs.Outcomes.{and-holds, holds-and, and-contradicted, contradicted-left, contradicted-right}
 use Rattle.terms.proofs.KnownTests.{numbers-equal, equal-numbers, numbers-differ, differ-numbers, neither}
+use Rattle.terms.proofs.Spans.{spans-differ, spans-equal}
 use Rattle.terms.proofs.Arguments.{argumentOf}
 
 -- Beside an unknown nothing is known.
 pub compare-unknown : (t : Term) → compare t unknown ≡ notKnown
 compare-unknown unknown = refl
 compare-unknown (symbol a) = refl
-compare-unknown (number a) = refl
+compare-unknown (numbers a b) = refl
 compare-unknown (compound a ts) = refl
 
--- The term holds no unknown.
+-- The term holds no unknown, and no span of several numbers.
 abbrev mutual
-  pub NoUnknown : Term → Type 0
-  NoUnknown unknown = ⊥
-  NoUnknown (symbol a) = Unit
-  NoUnknown (number a) = Unit
-  NoUnknown (compound a ts) = NoUnknowns ts
+  pub Known : Term → Type 0
+  Known unknown = ⊥
+  Known (symbol a) = Unit
+  Known (numbers a b) = a ≡ b
+  Known (compound a ts) = Knowns ts
 
-  pub NoUnknowns : Terms → Type 0
-  NoUnknowns nil = Unit
-  NoUnknowns (cons t ts) = NoUnknown t × NoUnknowns ts
+  pub Knowns : Terms → Type 0
+  Knowns nil = Unit
+  Knowns (cons t ts) = Known t × Knowns ts
 
--- "Two terms are equal when they are the same and hold no unknown."
+-- "Two terms are equal when they are the same and hold no unknown", "and a span of several numbers makes a comparison otherwise
+-- not known".
 abbrev pub TermsEqual : Term → Term → Type 0
-TermsEqual t u = (t ≡ u) × NoUnknown t
+TermsEqual t u = (t ≡ u) × Known t
 
 -- "Compounds differ when id or arity differ or when some pair of their arguments in turn differs; two symbols or two
--- numbers differ when they are not the same; a symbol, a number and a compound differ from one another."
+-- numbers differ when they are not the same; a symbol, a number and a compound differ from one another." "Spans with no common
+-- number differ", one of them ending before the other begins, and "a span differs from every symbol and compound as a number
+-- does".
 pub data TermsDiffer : Term → Term → Type 0 where
   ids : {a b : ℕ} {ts us : Terms} → (a ≡ b → ⊥) → TermsDiffer (compound a ts) (compound b us)
   arities : {a b : ℕ} {ts us : Terms} → (count ts ≡ count us → ⊥) → TermsDiffer (compound a ts) (compound b us)
@@ -44,36 +48,40 @@ pub data TermsDiffer : Term → Term → Type 0 where
       : {a b : ℕ} {ts us : Terms} (j : ℕ) {t u : Term} → argumentOf ts j ≡ found t → argumentOf us j ≡ found u → TermsDiffer t u
       → TermsDiffer (compound a ts) (compound b us)
   symbols : {a b : ℕ} → (a ≡ b → ⊥) → TermsDiffer (symbol a) (symbol b)
-  numbers : {a b : ℕ} → (a ≡ b → ⊥) → TermsDiffer (number a) (number b)
-  symbolNumber : {a b : ℕ} → TermsDiffer (symbol a) (number b)
+  spans : {a b c d : ℕ} → (b < c) ⊎ (d < a) → TermsDiffer (numbers a b) (numbers c d)
+  symbolNumber : {a b c : ℕ} → TermsDiffer (symbol a) (numbers b c)
   symbolCompound : {a b : ℕ} {us : Terms} → TermsDiffer (symbol a) (compound b us)
-  numberSymbol : {a b : ℕ} → TermsDiffer (number a) (symbol b)
-  numberCompound : {a b : ℕ} {us : Terms} → TermsDiffer (number a) (compound b us)
+  numberSymbol : {a b c : ℕ} → TermsDiffer (numbers a b) (symbol c)
+  numberCompound : {a b c : ℕ} {us : Terms} → TermsDiffer (numbers a b) (compound c us)
   compoundSymbol : {a b : ℕ} {ts : Terms} → TermsDiffer (compound a ts) (symbol b)
-  compoundNumber : {a b : ℕ} {ts : Terms} → TermsDiffer (compound a ts) (number b)
+  compoundNumber : {a b c : ℕ} {ts : Terms} → TermsDiffer (compound a ts) (numbers b c)
 
 mutual
-  -- Where `compare` holds, the terms are the same and hold no unknown,
+  -- Where `compare` holds, the terms are the same and nothing in them is unknown,
   pub holds-equal : (t u : Term) → Holds (compare t u) → TermsEqual t u
   holds-equal unknown u h = absurd h
   holds-equal (symbol a) unknown h = absurd h
   holds-equal (symbol a) (symbol b) h = (ap symbol (numbers-equal a b h), tt)
-  holds-equal (symbol a) (number b) h = absurd h
+  holds-equal (symbol a) (numbers b c) h = absurd h
   holds-equal (symbol a) (compound b us) h = absurd h
-  holds-equal (number a) unknown h = absurd h
-  holds-equal (number a) (symbol b) h = absurd h
-  holds-equal (number a) (number b) h = (ap number (numbers-equal a b h), tt)
-  holds-equal (number a) (compound b us) h = absurd h
+  holds-equal (numbers a b) unknown h = absurd h
+  holds-equal (numbers a b) (symbol c) h = absurd h
+  holds-equal (numbers a b) (numbers c d) h =
+      let x = spans-equal a b c d .0 h in
+      let low : a ≡ c = x .2 in
+      let high : b ≡ d = omega (arith, x .0, x .1, x .2) in
+      (λ i. numbers (low i) (high i), x .0)
+  holds-equal (numbers a b) (compound c us) h = absurd h
   holds-equal (compound a ts) unknown h = absurd h
   holds-equal (compound a ts) (symbol b) h = absurd h
-  holds-equal (compound a ts) (number b) h = absurd h
+  holds-equal (compound a ts) (numbers b c) h = absurd h
   holds-equal (compound a ts) (compound b us) h =
       let x = and-holds (known (eqb a b)) (compares ts us) h in
       let d = numbers-equal a b (x .0) in
       let e = holds-equals ts us (x .1) in
       (λ i. compound (d i) (e .0 i), e .1)
 
-  pub holds-equals : (ts us : Terms) → Holds (compares ts us) → (ts ≡ us) × NoUnknowns ts
+  pub holds-equals : (ts us : Terms) → Holds (compares ts us) → (ts ≡ us) × Knowns ts
   holds-equals nil nil h = (refl, tt)
   holds-equals nil (cons u us) h = absurd h
   holds-equals (cons t ts) nil h = absurd h
@@ -84,15 +92,15 @@ mutual
       (λ i. cons (d .0 i) (e .0 i), (d .1, e .1))
 
 mutual
-  -- and a term that holds no unknown is equal to itself.
-  pub same-holds : (t : Term) → NoUnknown t → Holds (compare t t)
+  -- and a term in which nothing is unknown is equal to itself.
+  pub same-holds : (t : Term) → Known t → Holds (compare t t)
   same-holds unknown h = absurd h
   same-holds (symbol a) h = equal-numbers a a refl
-  same-holds (number a) h = equal-numbers a a refl
+  same-holds (numbers a b) h = spans-equal a b a b .1 (h, h, refl)
   same-holds (compound a ts) h =
       holds-and (known (eqb a a)) (compares ts ts) (equal-numbers a a refl) (all-same-hold ts h)
 
-  all-same-hold : (ts : Terms) → NoUnknowns ts → Holds (compares ts ts)
+  all-same-hold : (ts : Terms) → Knowns ts → Holds (compares ts ts)
   all-same-hold nil h = tt
   all-same-hold (cons t ts) h =
       holds-and (compare t t) (compares ts ts) (same-holds t (h .0)) (all-same-hold ts (h .1))
@@ -121,15 +129,15 @@ mutual
   contradicted-differ unknown u c = absurd c
   contradicted-differ (symbol a) unknown c = absurd c
   contradicted-differ (symbol a) (symbol b) c = symbols (numbers-differ a b c)
-  contradicted-differ (symbol a) (number b) c = symbolNumber
+  contradicted-differ (symbol a) (numbers b d) c = symbolNumber
   contradicted-differ (symbol a) (compound b us) c = symbolCompound
-  contradicted-differ (number a) unknown c = absurd c
-  contradicted-differ (number a) (symbol b) c = numberSymbol
-  contradicted-differ (number a) (number b) c = numbers (numbers-differ a b c)
-  contradicted-differ (number a) (compound b us) c = numberCompound
+  contradicted-differ (numbers a b) unknown c = absurd c
+  contradicted-differ (numbers a b) (symbol d) c = numberSymbol
+  contradicted-differ (numbers a b) (numbers d e) c = spans (spans-differ a b d e .0 c)
+  contradicted-differ (numbers a b) (compound d us) c = numberCompound
   contradicted-differ (compound a ts) unknown c = absurd c
   contradicted-differ (compound a ts) (symbol b) c = compoundSymbol
-  contradicted-differ (compound a ts) (number b) c = compoundNumber
+  contradicted-differ (compound a ts) (numbers b d) c = compoundNumber
   contradicted-differ (compound a ts) (compound b us) c =
       elim (and-contradicted (known (eqb a b)) (compares ts us) c) [
         | inl k ↦ ids (numbers-differ a b k)
@@ -180,7 +188,7 @@ differ-contradicted (arities {a} {b} {ts} {us} n) =
 differ-contradicted (arguments {a} {b} {ts} {us} j d e x) =
     contradicted-right (known (eqb a b)) (compares ts us) (pair-contradicted ts us j d e (differ-contradicted x))
 differ-contradicted (symbols {a} {b} n) = differ-numbers a b n
-differ-contradicted (numbers {a} {b} n) = differ-numbers a b n
+differ-contradicted (spans {a} {b} {c} {d} n) = spans-differ a b c d .1 n
 differ-contradicted symbolNumber = tt
 differ-contradicted symbolCompound = tt
 differ-contradicted numberSymbol = tt
@@ -188,7 +196,7 @@ differ-contradicted numberCompound = tt
 differ-contradicted compoundSymbol = tt
 differ-contradicted compoundNumber = tt
 
--- Document 01's sentences on two terms: `compare` holds exactly when they are equal, is contradicted exactly when they
+-- The sentences on two terms: `compare` holds exactly when they are equal, is contradicted exactly when they
 -- differ, and "anything else is not known".
 pub record Compared (t u : Term) : Type 0 where
   pub whenHolds : Holds (compare t u) ↔ TermsEqual t u
@@ -216,5 +224,5 @@ unknown-left u = tt
 pub unknown-right : (t : Term) → NotKnown (compare t unknown)
 unknown-right unknown = tt
 unknown-right (symbol a) = tt
-unknown-right (number a) = tt
+unknown-right (numbers a b) = tt
 unknown-right (compound a ts) = tt

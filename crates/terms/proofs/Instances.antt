@@ -1,25 +1,27 @@
 -- A filling with chosen terms at the places of the variables. Where no place test is contradicted, the chosen terms
 -- fill what stands at the variables' places, and they meet the variables' ranges, there is a filling that has them
 -- there and meets every place test. For patterns of any depth.
-use Prim.Native.Nat.{ℕ, zero, suc, pred, _+_, _≤_}
-use mathlib.Core.Path.{_≡_, sym, subst, _∙_}
+use Prim.Native.Nat.{ℕ, zero, suc, pred, _+_, _≤_, max}
+use mathlib.Core.Path.{_≡_, refl, sym, subst, _∙_}
 use mathlib.Core.Bool.{_&&_}
 use mathlib.Core.List.{List, [], _∷_}
 use mathlib.Core.Option.{Option, some, none}
 use native.Mathlib.Omega.{arith}
-use lib.Dec.{leb, eqb, T, le→leb, eqb→eq, eqb-refl}
+use lib.Dec.{eqb, T, eqb→eq, eqb-refl}
 use Rattle.places.specs.Numbering.{stride}
 use Rattle.basics.specs.Lists.{All}
-use Rattle.terms.specs.Term.{Term, Terms, count, Wide, unknown, symbol, number, compound, nil, cons}
+use Rattle.terms.specs.Term.{Term, Terms, count, Wide, unknown, symbol, number, numbers, compound, nil, cons}
 use Rattle.terms.specs.Pattern.{Pattern, Patterns, countPatterns, anything, theSymbol, theRange, theCompound, variable, rangedVariable, pnil, pcons}
 use Rattle.terms.specs.RuleTests.{Want, aSymbol, aNumber, aCompound, PlaceTest, at, Occurrence, Range, rangeTest, patternVariables, patternsVariables, patternTests, patternsTests}
 use Rattle.terms.specs.Lookup.{Found, found}
 use Rattle.terms.specs.Outcome.{Holds, fits, atPlace}
-use Rattle.terms.specs.Filling.{Grounds, putUnknown, putSymbol, putNumber, putCompound, putNil, putCons, Fills, Filling}
+use Rattle.terms.specs.Filling.{Grounds, WellFormed, WellFormeds, Fills, Filling}
+use Rattle.terms.specs.Filling.{putUnknown, putSymbol, putNumbers, putCompound, putNil, putCons}
 use Rattle.terms.specs.Accepted.{Sound, Sounds}
 use Rattle.basics.proofs.Booleans.{both-true, true-both}
 use Rattle.basics.proofs.ListLaws.{all-split, all-join}
 use Rattle.terms.proofs.Outcomes.{Open, open-true, true-holds}
+use Rattle.terms.proofs.Spans.{range-holds-at, range-open-at}
 use Rattle.terms.proofs.Stays.{puts-count}
 use Rattle.terms.proofs.TermPlaces.{IfFound, unknowns, count-unknowns, Shows, Showss, shows-root, shows-arguments, shows-unknown, shows-head, shows-tail}
 use Rattle.terms.proofs.ConstantFilling.{fillWith, fill-with, zero-ground}
@@ -48,18 +50,25 @@ Fitting w t = (g : Term) × Fills t g × Holds (fits w g)
 fitting-symbol : (a : ℕ) → Wide a → (t : Term) → Open (fits (aSymbol a) t) → Fitting (aSymbol a) t
 fitting-symbol a wide unknown o = (symbol a, putUnknown wide, true-holds (eqb a a) (eqb-refl a))
 fitting-symbol a wide (symbol b) o = (symbol b, putSymbol, true-holds (eqb a b) (open-true (eqb a b) o))
-fitting-symbol a wide (number b) o = absurd o
+fitting-symbol a wide (numbers b c) o = absurd o
 fitting-symbol a wide (compound b ts) o = absurd o
 
 -- Where a range is not ruled out, some filling is a number in it.
-pub fitting-number : (l h : ℕ) → l ≤ h → Wide h → (t : Term) → Open (fits (aNumber l h) t) → Fitting (aNumber l h) t
-fitting-number l h le wide unknown o =
-    let inside : T (leb l l && leb l h) = true-both (leb l l) (leb l h) (le→leb l l (omega arith)) (le→leb l h le) in
-    (number l, putUnknown {g = number l} (omega arith), true-holds (leb l l && leb l h) inside)
-fitting-number l h le wide (symbol b) o = absurd o
-fitting-number l h le wide (number b) o =
-    (number b, putNumber, true-holds (leb l b && leb b h) (open-true (leb l b && leb b h) o))
-fitting-number l h le wide (compound b ts) o = absurd o
+pub fitting-number
+    : (l h : ℕ) → l ≤ h → Wide h → (t : Term) → WellFormed t → Open (fits (aNumber l h) t) → Fitting (aNumber l h) t
+fitting-number l h le wide unknown ok o =
+    (number l, putUnknown {g = number l} (refl, omega arith), range-holds-at l h l l .1 (omega arith, le))
+fitting-number l h le wide (symbol b) ok o = absurd o
+fitting-number l h le wide (numbers a b) ok o =
+    let s = range-open-at l h a b (ok .0) .0 o in
+    let v = max l a in
+    let high : v ≤ b = omega (arith, s .0, ok .0) in
+    let ground : (v ≡ v) × Wide v = (refl, omega (arith, ok .1)) in (
+      number v,
+      putNumbers {a = a} {b = b} {c = v} {d = v} (omega arith) (omega arith) high ground,
+      range-holds-at l h v v .1 (omega arith, omega (arith, s .1)),
+    )
+fitting-number l h le wide (compound b ts) ok o = absurd o
 
 -- A compound of that id and that many arguments is what is wanted.
 fits-compound : (a c n : ℕ) (gs : Terms) → T (eqb a c) → n ≡ count gs → Holds (fits (aCompound a n) (compound c gs))
@@ -71,6 +80,11 @@ fits-compound a c n gs h e =
 unknowns-ground : (k : ℕ) {gs : Terms} → Filling (unknowns k) gs → Grounds gs
 unknowns-ground zero putNil = tt
 unknowns-ground (suc k) (putCons (putUnknown h) fs) = (h, unknowns-ground k fs)
+
+-- k unknowns are well-formed.
+unknowns-formed : (k : ℕ) → WellFormeds (unknowns k)
+unknowns-formed zero = tt
+unknowns-formed (suc k) = (tt, unknowns-formed k)
 
 -- A test that holds of a term that is shown holds at its place.
 holds-root
@@ -161,68 +175,69 @@ module _ (rangeOf : ℕ → Option Range) (chosen : Occurrence → Term) where
     mutual
       -- A term with no contradicted place test, and suitable terms for the variables, has such a filling,
       pub instance-of
-          : (p : Pattern) (t : Term) (r b : ℕ) → Sound p r → Shows look t r b
+          : (p : Pattern) (t : Term) (r b : ℕ) → Sound p r → WellFormed t → Shows look t r b
           → All (OpenIn look) (patternTests rangeOf p r b) → All (Suits look) (patternVariables p r b)
           → Instance t r b (patternTests rangeOf p r b) (patternVariables p r b)
-      instance-of anything t r b sound shown opens suits = record {
+      instance-of anything t r b sound ok shown opens suits = record {
         term = fillWith t (symbol 0);
-        fills = fill-with t (symbol 0) zero-ground;
+        fills = fill-with t (symbol 0) ok zero-ground;
         meets = λ after shows. tt;
         stand = λ after shows. tt;
       }
-      instance-of (theSymbol a) t r b sound shown opens suits =
+      instance-of (theSymbol a) t r b sound ok shown opens suits =
           leaf-instance (aSymbol a) t r b (sound .0)
           (fitting-symbol a (sound .1) t (open-root look (aSymbol a) t r b (sound .0) shown (opens .0)))
-      instance-of (theRange l h) t r b sound shown opens suits =
+      instance-of (theRange l h) t r b sound ok shown opens suits =
           leaf-instance (aNumber l h) t r b (sound .0)
-          (fitting-number l h (sound .1) (sound .2) t (open-root look (aNumber l h) t r b (sound .0) shown (opens .0)))
-      instance-of (theCompound a ps) unknown r b sound shown opens suits =
+          (fitting-number l h (sound .1) (sound .2) t ok (open-root look (aNumber l h) t r b (sound .0) shown (opens .0)))
+      instance-of (theCompound a ps) unknown r b sound ok shown opens suits =
           let n = countPatterns ps in
           let below = shows-unknown look n r b (sound .0) (sound .3) shown in
-          let xs = instances-of ps (unknowns n) (pred r) (suc b) (sound .4) (count-unknowns n) below (opens .1) suits in
+          let formed = unknowns-formed n in
+          let xs = instances-of ps (unknowns n) (pred r) (suc b) (sound .4) formed (count-unknowns n) below (opens .1) suits in
           let e : n ≡ count (xs .terms) = sym (count-unknowns n) ∙ puts-count (xs .fills) in
           compound-instance a a ps unknown (unknowns n) r b sound (eqb-refl a) (sym (count-unknowns n)) xs
           (putUnknown {g = compound a (xs .terms)}
           (sound .1, omega (arith, sound .2), omega (arith, sound .3), unknowns-ground n (xs .fills)))
-      instance-of (theCompound a ps) (symbol c) r b sound shown opens suits =
+      instance-of (theCompound a ps) (symbol c) r b sound ok shown opens suits =
           absurd (open-root look (aCompound a (countPatterns ps)) (symbol c) r b (sound .0) shown (opens .0))
-      instance-of (theCompound a ps) (number c) r b sound shown opens suits =
-          absurd (open-root look (aCompound a (countPatterns ps)) (number c) r b (sound .0) shown (opens .0))
-      instance-of (theCompound a ps) (compound c ts) r b sound shown opens suits =
+      instance-of (theCompound a ps) (numbers c d) r b sound ok shown opens suits =
+          absurd (open-root look (aCompound a (countPatterns ps)) (numbers c d) r b (sound .0) shown (opens .0))
+      instance-of (theCompound a ps) (compound c ts) r b sound ok shown opens suits =
           let n = countPatterns ps in
           let fit = open-root look (aCompound a n) (compound c ts) r b (sound .0) shown (opens .0) in
           let same = both-true (eqb a c) (eqb n (count ts)) (open-true (eqb a c && eqb n (count ts)) fit) in
           let e : n ≡ count ts = eqb→eq n (count ts) (same .1) in
           let below = shows-arguments look c ts r b (sound .0) (omega (arith, sound .3)) shown in
-          let xs = instances-of ps ts (pred r) (suc b) (sound .4) (sym e) below (opens .1) suits in
+          let xs = instances-of ps ts (pred r) (suc b) (sound .4) (ok .3) (sym e) below (opens .1) suits in
           compound-instance a c ps (compound c ts) ts r b sound (same .0) e xs (putCompound (xs .fills))
-      instance-of (variable v) t r b sound shown opens suits = variable-instance look v t r b (sound .0) shown (suits .0)
-      instance-of (rangedVariable v l h) t r b sound shown opens suits =
+      instance-of (variable v) t r b sound ok shown opens suits = variable-instance look v t r b (sound .0) shown (suits .0)
+      instance-of (rangedVariable v l h) t r b sound ok shown opens suits =
           variable-instance look v t r b (sound .0) shown (suits .0)
 
       -- and so has a row of terms.
       pub instances-of
-          : (ps : Patterns) (ts : Terms) (r b : ℕ) → Sounds ps r → count ts ≡ countPatterns ps → Showss look ts r b
-          → All (OpenIn look) (patternsTests rangeOf ps r b) → All (Suits look) (patternsVariables ps r b)
+          : (ps : Patterns) (ts : Terms) (r b : ℕ) → Sounds ps r → WellFormeds ts → count ts ≡ countPatterns ps
+          → Showss look ts r b → All (OpenIn look) (patternsTests rangeOf ps r b) → All (Suits look) (patternsVariables ps r b)
           → Instances ts r b (patternsTests rangeOf ps r b) (patternsVariables ps r b)
-      instances-of pnil nil r b sound same shown opens suits = record {
+      instances-of pnil nil r b sound ok same shown opens suits = record {
         terms = nil;
         fills = putNil;
         meets = λ after shows. tt;
         stand = λ after shows. tt;
       }
-      instances-of pnil (cons t ts) r b sound same shown opens suits = absurd (omega arith)
-      instances-of (pcons p ps) nil r b sound same shown opens suits = absurd (omega arith)
-      instances-of (pcons p ps) (cons t ts) r b sound same shown opens suits =
+      instances-of pnil (cons t ts) r b sound ok same shown opens suits = absurd (omega arith)
+      instances-of (pcons p ps) nil r b sound ok same shown opens suits = absurd (omega arith)
+      instances-of (pcons p ps) (cons t ts) r b sound ok same shown opens suits =
           let tests = patternTests rangeOf p r b in
           let later = patternsTests rangeOf ps r (b + stride r) in
           let variables = patternVariables p r b in
           let others = patternsVariables ps r (b + stride r) in
           let openParts = all-split (OpenIn look) tests later opens in
           let suitParts = all-split (Suits look) variables others suits in
-          let x = instance-of p t r b (sound .0) (shows-head look t ts r b shown) (openParts .0) (suitParts .0) in
+          let x = instance-of p t r b (sound .0) (ok .0) (shows-head look t ts r b shown) (openParts .0) (suitParts .0) in
           let rest = shows-tail look t ts r b shown in
-          let xs = instances-of ps ts r (b + stride r) (sound .1) (omega arith) rest (openParts .1) (suitParts .1) in
+          let xs = instances-of ps ts r (b + stride r) (sound .1) (ok .1) (omega arith) rest (openParts .1) (suitParts .1) in
           record {
             terms = cons (x .term) (xs .terms);
             fills = putCons (x .fills) (xs .fills);

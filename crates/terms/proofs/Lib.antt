@@ -4,9 +4,11 @@ pub mod RuleOutcomes
 pub mod Unknown
 pub mod Arguments
 pub mod KnownTests
+pub mod Spans
 pub mod CompareSentences
 pub mod Stays
 pub mod TermPlaces
+pub mod Exact
 pub mod Numbered
 pub mod WellFormed
 pub mod ConstantFilling
@@ -38,5 +40,3 @@ pub mod MarkedPlain
 pub mod Matching
 pub mod VariableSentences
 pub mod Meaning
--- Spans of numbers, beside a range and beside one another.
-pub mod Spans

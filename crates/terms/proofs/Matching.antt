@@ -2,15 +2,16 @@
 -- symbol (wide id)", "22 range (wide low, wide high): a number from low to high", "23 compound (wide id, arity), then its
 -- arguments", "24 variable (its number)", "25 ranged variable (its number, wide low, wide high)".
 use Prim.Native.Nat.{ℕ, suc, _≤_, min, max}
-use mathlib.Core.Path.{_≡_, refl, ap, subst, _∙_}
+use mathlib.Core.Path.{_≡_, refl, ap, sym, subst, _∙_}
 use mathlib.Core.Option.{Option, some, none}
 use native.Mathlib.Omega.{arith}
 use lib.Dec.{eqb, eqb→eq, eqb-refl}
 use Rattle.basics.proofs.Booleans.{cond-by}
-use Rattle.terms.specs.Term.{Term, Terms, count, symbol, number, compound, nil, cons}
+use Rattle.terms.specs.Term.{Term, Terms, count, symbol, number, numbers, compound, nil, cons}
 use Rattle.terms.specs.Pattern.{Pattern, Patterns, countPatterns, anything, theSymbol, theRange, theCompound, variable, rangedVariable, pnil, pcons}
 use Rattle.terms.specs.RuleTests.{aNumber, Range, commonPart, patternRange, patternsRange}
 use Rattle.terms.specs.Outcome.{Holds, fits}
+use Rattle.terms.specs.Filling.{Ground}
 use Rattle.terms.proofs.PlaceSentences.{Wanted, inRange, fits-wanted, wanted-fits}
 use Rattle.terms.proofs.Instances.{InRange}
 
@@ -36,21 +37,27 @@ pub match-count : {σ : ℕ → Term} {ps : Patterns} {ts : Terms} → AllMatch 
 match-count asNil = refl
 match-count (asCons m ms) = ap suc (match-count ms)
 
--- A term in a range is a number.
-pub range-in : (l h : ℕ) {t : Term} → Wanted (aNumber l h) t → (n : ℕ) × (t ≡ number n) × (l ≤ n) × (n ≤ h)
-range-in l h (inRange {n = n} p q) = (n, refl, p, q)
+-- A term in a range is a number or a span,
+span-in : (l h : ℕ) {t : Term} → Wanted (aNumber l h) t → (a b : ℕ) × (t ≡ numbers a b) × (l ≤ a) × (b ≤ h)
+span-in l h (inRange {a = a} {b = b} p q) = (a, b, refl, p, q)
+
+-- and one without unknowns is a number.
+pub range-in : (l h : ℕ) {t : Term} → Ground t → Wanted (aNumber l h) t → (n : ℕ) × (t ≡ number n) × (l ≤ n) × (n ≤ h)
+range-in l h ground (inRange {a = a} {b = b} p q) =
+    (a, λ i. numbers a (sym (ground .0) i), p, omega (arith, ground .0))
 
 -- A term in two ranges is in their common part.
 in-common : (x y : Option Range) (t : Term) → InRange x t → InRange y t → InRange (commonPart x y) t
 in-common none y t h k = k
 in-common (some x) none t h k = h
 in-common (some x) (some y) t h k =
-    let a = range-in (x .low) (x .high) (fits-wanted (aNumber (x .low) (x .high)) t h) in
-    let b = range-in (y .low) (y .high) (fits-wanted (aNumber (y .low) (y .high)) t k) in
-    let same : a .0 ≡ b .0 = cc (a .1, b .1) in
-    let low : max (x .low) (y .low) ≤ a .0 = omega (arith, a .2, b .2) in
-    let high : a .0 ≤ min (x .high) (y .high) = omega (arith, a .3, b .3) in
-    rw (a .1) (wanted-fits (inRange low high))
+    let a = span-in (x .low) (x .high) (fits-wanted (aNumber (x .low) (x .high)) t h) in
+    let b = span-in (y .low) (y .high) (fits-wanted (aNumber (y .low) (y .high)) t k) in
+    let lows : a .0 ≡ b .0 = cc (a .2, b .2) in
+    let highs : a .1 ≡ b .1 = cc (a .2, b .2) in
+    let low : max (x .low) (y .low) ≤ a .0 = omega (arith, a .3, b .3) in
+    let high : a .1 ≤ min (x .high) (y .high) = omega (arith, a .4, b .4) in
+    rw (a .2) (wanted-fits (inRange low high))
 
 module _ {σ : ℕ → Term} where
   mutual
@@ -64,7 +71,7 @@ module _ {σ : ℕ → Term} where
     match-range (asRanged {v = u} {l = l} {h = h} {n = n} e p q) v =
         cond-by (λ (x : Option Range). InRange x (σ v)) (eqb u v)
         (λ k. subst (λ (t : Term). Holds (fits (aNumber l h) t)) (e ∙ ap σ (eqb→eq u v k))
-        (wanted-fits (inRange {l = l} {h = h} {n = n} p q)))
+        (wanted-fits (inRange {l = l} {h = h} {a = n} {b = n} p q)))
         (λ k. tt)
 
     pub match-ranges : {ps : Patterns} {ts : Terms} → AllMatch σ ps ts → (v : ℕ) → InRange (patternsRange ps v) (σ v)

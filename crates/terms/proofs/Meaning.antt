@@ -1,26 +1,27 @@
 -- What a rule means: a piece without unknowns meets a rule of an accepted sheet exactly when its arguments match the rule's
 -- patterns, with one term for each variable. For patterns and terms of any depth.
-use Prim.Native.Nat.{ℕ, zero, suc, pred, _+_, _-_, _≤_}
+use Prim.Native.Nat.{ℕ, suc, pred, _+_, _≤_}
 use mathlib.Core.Path.{_≡_, ap, sym, subst, _∙_}
 use mathlib.Core.Bool.{cond}
 use mathlib.Core.Logic.{_↔_}
 use mathlib.Core.List.{List, [], _∷_}
 use mathlib.Core.Option.{Option, some, none}
 use native.Mathlib.Omega.{arith}
-use lib.Dec.{eqb, ltb, eqb→eq, eqb-refl}
+use lib.Dec.{eqb, eqb→eq, eqb-refl}
 use Rattle.places.specs.Numbering.{stride}
 use Rattle.basics.specs.Lists.{All}
-use Rattle.basics.proofs.Booleans.{cond-by, cond-holds}
+use Rattle.basics.proofs.Booleans.{cond-by}
 use Rattle.basics.proofs.ListLaws.{all-split, all-join}
-use Rattle.terms.specs.Term.{Term, Terms, count, unknown, symbol, number, compound, nil, cons}
+use Rattle.terms.specs.Term.{Term, Terms, count, symbol, number, compound, nil, cons}
 use Rattle.terms.specs.Pattern.{Pattern, Patterns, countPatterns, anything, theSymbol, theRange, theCompound, variable, rangedVariable, pnil, pcons}
 use Rattle.terms.specs.RuleTests.{Want, aSymbol, aNumber, aCompound, at, both, Occurrence, Range, rangeTest, patternsRange}
 use Rattle.terms.specs.RuleTests.{patternVariables, patternsVariables, patternTests, patternsTests, pairsWith, pairsOf, ruleVariables}
-use Rattle.terms.specs.Lookup.{Found, lacking, found, find, finds, termAt}
+use Rattle.terms.specs.Lookup.{Found, lacking, found, finds, termAt}
 use Rattle.terms.specs.Outcome.{Holds, fits, atPlace, atPlaces, Meets}
 use Rattle.terms.specs.Filling.{Ground, Grounds, Filling}
 use Rattle.terms.specs.Accepted.{Sound, Sounds, AcceptedRule, AcceptedPiece}
-use Rattle.terms.proofs.TermPlaces.{IfFound, extent, Shows, Showss, shows-root, shows-arguments, shows-head, shows-tail, shows-row}
+use Rattle.terms.proofs.TermPlaces.{IfFound, finds-each, extent}
+use Rattle.terms.proofs.TermPlaces.{Shows, Showss, shows-root, shows-arguments, shows-head, shows-tail, shows-row}
 use Rattle.terms.proofs.Stays.{puts-count}
 use Rattle.terms.proofs.Instances.{HoldsIn, InRange}
 use Rattle.terms.proofs.VariableTerms.{HoldsPair}
@@ -57,11 +58,11 @@ module _ (rangeOf : ℕ → Option Range) (σ : ℕ → Term) (look : ℕ → Fo
 
   -- A ranged variable's term is in the range of its record where the variable's range test holds.
   ranged-match
-      : (v l h : ℕ) (t : Term) (r b : ℕ) → 1 ≤ r → Shows look t r b → (x : Option Range) → Narrows x l h → t ≡ σ v
-      → All (HoldsIn look) (rangeTest b x) → Matches σ (rangedVariable v l h) t
-  ranged-match v l h t r b deep shown none narrow e k = absurd narrow
-  ranged-match v l h t r b deep shown (some x) narrow e k =
-      let n = range-in (x .low) (x .high) (root-holds look (aNumber (x .low) (x .high)) t r b deep shown (k .0)) in
+      : (v l h : ℕ) (t : Term) (r b : ℕ) → 1 ≤ r → Ground t → Shows look t r b → (x : Option Range) → Narrows x l h
+      → t ≡ σ v → All (HoldsIn look) (rangeTest b x) → Matches σ (rangedVariable v l h) t
+  ranged-match v l h t r b deep ground shown none narrow e k = absurd narrow
+  ranged-match v l h t r b deep ground shown (some x) narrow e k =
+      let n = range-in (x .low) (x .high) ground (root-holds look (aNumber (x .low) (x .high)) t r b deep shown (k .0)) in
       let low : l ≤ n .0 = omega (arith, n .2, narrow .0) in
       let high : n .0 ≤ h = omega (arith, n .3, narrow .1) in
       subst (Matches σ (rangedVariable v l h)) (sym (n .1)) (asRanged {n = n .0} (sym (n .1) ∙ e) low high)
@@ -78,10 +79,8 @@ module _ (rangeOf : ℕ → Option Range) (σ : ℕ → Term) (look : ℕ → Fo
         as-symbol : {a : ℕ} {t : Term} → Wanted (aSymbol a) t → Matches σ (theSymbol a) t
         as-symbol thatSymbol = asSymbol
     tests-match (theRange l u) t r b sound ground shown narrow h s =
-        as-range (root-holds look (aNumber l u) t r b (sound .0) shown (h .0))
-      where
-        as-range : {l u : ℕ} {t : Term} → Wanted (aNumber l u) t → Matches σ (theRange l u) t
-        as-range (inRange p q) = asRange p q
+        let n = range-in l u ground (root-holds look (aNumber l u) t r b (sound .0) shown (h .0)) in
+        subst (Matches σ (theRange l u)) (sym (n .1)) (asRange (n .2) (n .3))
     tests-match (theCompound a ps) t r b sound ground shown narrow h s =
         as-compound t ground shown (root-holds look (aCompound a (countPatterns ps)) t r b (sound .0) shown (h .0))
         (λ ts below same e. all-tests-match ps ts (pred r) (suc b) (sound .4) below e same narrow (h .1) s)
@@ -95,7 +94,7 @@ module _ (rangeOf : ℕ → Option Range) (σ : ℕ → Term) (look : ℕ → Fo
     tests-match (variable v) t r b sound ground shown narrow h s =
         asVariable (s .0 t (shows-root look t r b (sound .0) shown))
     tests-match (rangedVariable v l u) t r b sound ground shown narrow h s =
-        ranged-match v l u t r b (sound .0) shown (rangeOf v) narrow (s .0 t (shows-root look t r b (sound .0) shown)) h
+        ranged-match v l u t r b (sound .0) ground shown (rangeOf v) narrow (s .0 t (shows-root look t r b (sound .0) shown)) h
 
     -- and so do the terms of a row.
     all-tests-match
@@ -206,23 +205,9 @@ module _ (look : ℕ → Found) where
       own t e =
           cond-by (λ (u : Term). t ≡ u) (eqb (o .name) (o .name)) (λ k. ap termIn (sym e)) (λ k. absurd (k (eqb-refl (o .name))))
 
-mutual
-  -- What stands in a term without unknowns is such a term,
-  find-ground : (t : Term) → Ground t → (r n : ℕ) → IfFound Ground (find t r n)
-  find-ground unknown ok r n = absurd ok
-  find-ground (symbol a) ok r zero = ok
-  find-ground (symbol a) ok r (suc n) = tt
-  find-ground (number a) ok r zero = ok
-  find-ground (number a) ok r (suc n) = tt
-  find-ground (compound a ts) ok r zero = ok
-  find-ground (compound a ts) ok r (suc n) = finds-ground ts (ok .3) (pred r) n
-
-  -- and so in a row of them.
-  finds-ground : (ts : Terms) → Grounds ts → (r n : ℕ) → IfFound Ground (finds ts r n)
-  finds-ground nil ok r n = tt
-  finds-ground (cons t ts) ok r n =
-      cond-holds (IfFound Ground) (ltb n (stride r)) (find t r n) (finds ts r (n - stride r))
-      (find-ground t (ok .0) r n) (finds-ground ts (ok .1) r (n - stride r))
+-- What stands in terms without unknowns is such a term.
+finds-ground : (ts : Terms) → Grounds ts → (r n : ℕ) → IfFound Ground (finds ts r n)
+finds-ground = finds-each Ground Grounds (λ a ts ok. ok .3) (λ t ts ok. ok)
 
 -- A piece without unknowns meets an accepted rule of its arity exactly when there is a term for each variable with which
 -- its arguments match the rule's patterns.

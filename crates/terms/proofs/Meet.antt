@@ -1,27 +1,34 @@
 -- The meet of terms that do not differ: their most general common instance. Terms that pairwise do not differ have a
--- common filling, because every unknown stands at one place only.
-use Prim.Native.Nat.{ℕ, suc}
+-- common filling, because every unknown stands at one place only, and spans that pairwise have a number in common have one
+-- that is in all of them.
+use Prim.Native.Nat.{ℕ, suc, min, max}
 use mathlib.Core.Path.{_≡_, refl, ap, subst}
 use mathlib.Core.List.{List, [], _∷_}
 use native.Mathlib.Omega.{arith}
 use lib.Dec.{eqb, eqb→eq}
 use Rattle.basics.specs.Lists.{All}
-use Rattle.terms.specs.Term.{Term, Terms, count, unknown, symbol, number, compound, nil, cons}
+use Rattle.terms.specs.Term.{Term, Terms, count, unknown, symbol, numbers, compound, nil, cons}
 use Rattle.terms.specs.RuleTests.{aNumber}
 use Rattle.terms.specs.Outcome.{known, fits, compare, compares}
-use Rattle.terms.specs.Filling.{WellFormed, WellFormeds, putUnknown, putSymbol, putNumber, putCompound, putNil, putCons, Fills, Filling}
+use Rattle.terms.specs.Filling.{WellFormed, WellFormeds, Fills, Filling}
+use Rattle.terms.specs.Filling.{putUnknown, putSymbol, putNumbers, putCompound, putNil, putCons}
 use Rattle.terms.proofs.Outcomes.{Open, and-open, open-and, open-true}
+use Rattle.terms.proofs.Spans.{range-open-at, spans-open}
 use Rattle.terms.proofs.WellFormed.{fills-ground}
 
--- The meet of two terms: where one is unknown, the other; of two compounds, the compound of their arguments' meets.
+-- The meet of two terms: where one is unknown, the other; of two spans, their common part; of two compounds, the compound of
+-- their arguments' meets.
 abbrev mutual
   pub meet : Term → Term → Term
   meet unknown u = u
   meet (symbol a) u = symbol a
-  meet (number a) u = number a
+  meet (numbers a b) unknown = numbers a b
+  meet (numbers a b) (symbol c) = numbers a b
+  meet (numbers a b) (numbers c d) = numbers (max a c) (min b d)
+  meet (numbers a b) (compound c us) = numbers a b
   meet (compound a ts) unknown = compound a ts
   meet (compound a ts) (symbol b) = compound a ts
-  meet (compound a ts) (number b) = compound a ts
+  meet (compound a ts) (numbers b c) = compound a ts
   meet (compound a ts) (compound b us) = compound a (meets ts us)
 
   pub meets : Terms → Terms → Terms
@@ -39,17 +46,18 @@ mutual
   meet-fills (symbol a) (symbol b) {g} okt oku p f =
       let e : a ≡ b = eqb→eq a b (open-true (eqb a b) p) in
       (f, subst (λ c. Fills (symbol c) g) e f)
-  meet-fills (symbol a) (number b) okt oku p f = absurd p
+  meet-fills (symbol a) (numbers b c) okt oku p f = absurd p
   meet-fills (symbol a) (compound b us) okt oku p f = absurd p
-  meet-fills (number a) unknown okt oku p f = (f, putUnknown (fills-ground okt f))
-  meet-fills (number a) (symbol b) okt oku p f = absurd p
-  meet-fills (number a) (number b) {g} okt oku p f =
-      let e : a ≡ b = eqb→eq a b (open-true (eqb a b) p) in
-      (f, subst (λ c. Fills (number c) g) e f)
-  meet-fills (number a) (compound b us) okt oku p f = absurd p
+  meet-fills (numbers a b) unknown okt oku p f = (f, putUnknown (fills-ground okt f))
+  meet-fills (numbers a b) (symbol c) okt oku p f = absurd p
+  meet-fills (numbers a b) (numbers c d) okt oku p (putNumbers {c = x} {d = y} from ordered to ground) = (
+    putNumbers {a = a} {b = b} {c = x} {d = y} (omega arith) ordered (omega arith) ground,
+    putNumbers {a = c} {b = d} {c = x} {d = y} (omega arith) ordered (omega arith) ground,
+  )
+  meet-fills (numbers a b) (compound c us) okt oku p f = absurd p
   meet-fills (compound a ts) unknown okt oku p f = (f, putUnknown (fills-ground okt f))
   meet-fills (compound a ts) (symbol b) okt oku p f = absurd p
-  meet-fills (compound a ts) (number b) okt oku p f = absurd p
+  meet-fills (compound a ts) (numbers b c) okt oku p f = absurd p
   meet-fills (compound a ts) (compound b us) okt oku p (putCompound {gs = gs} fs) =
       let x = and-open (known (eqb a b)) (compares ts us) p in
       let e : a ≡ b = eqb→eq a b (open-true (eqb a b) (x .0)) in
@@ -74,7 +82,9 @@ mutual
   pub fills-meet : {t u g : Term} → Fills t g → Fills u g → Fills (meet t u) g
   fills-meet (putUnknown h) k = k
   fills-meet putSymbol k = putSymbol
-  fills-meet putNumber k = putNumber
+  fills-meet (putNumbers x y z h) (putUnknown k) = putNumbers x y z h
+  fills-meet (putNumbers {a = a} {b = b} {c = c} {d = d} x y z h) (putNumbers {a = e} {b = f} u v w k) =
+      putNumbers {a = max a e} {b = min b f} {c = c} {d = d} (omega arith) y (omega arith) h
   fills-meet (putCompound fs) (putUnknown k) = putCompound fs
   fills-meet (putCompound fs) (putCompound ks) = putCompound (filling-meets fs ks)
 
@@ -89,13 +99,22 @@ mutual
       : (t u v : Term) → Open (compare t u) → Open (compare t v) → Open (compare u v) → Open (compare (meet t u) v)
   meet-open unknown u v tu tv uv = uv
   meet-open (symbol a) u v tu tv uv = tv
-  meet-open (number a) u v tu tv uv = tv
+  meet-open (numbers a b) unknown v tu tv uv = tv
+  meet-open (numbers a b) (symbol c) v tu tv uv = tv
+  meet-open (numbers a b) (numbers c d) unknown tu tv uv = tt
+  meet-open (numbers a b) (numbers c d) (symbol e) tu tv uv = tv
+  meet-open (numbers a b) (numbers c d) (numbers e f) tu tv uv =
+      let x = spans-open a b e f .0 tv in
+      let y = spans-open c d e f .0 uv in
+      spans-open (max a c) (min b d) e f .1 (omega (arith, x .0, y .0), omega (arith, x .1, y .1))
+  meet-open (numbers a b) (numbers c d) (compound e vs) tu tv uv = tv
+  meet-open (numbers a b) (compound c us) v tu tv uv = tv
   meet-open (compound a ts) unknown v tu tv uv = tv
   meet-open (compound a ts) (symbol b) v tu tv uv = tv
-  meet-open (compound a ts) (number b) v tu tv uv = tv
+  meet-open (compound a ts) (numbers b c) v tu tv uv = tv
   meet-open (compound a ts) (compound b us) unknown tu tv uv = tt
   meet-open (compound a ts) (compound b us) (symbol c) tu tv uv = tv
-  meet-open (compound a ts) (compound b us) (number c) tu tv uv = tv
+  meet-open (compound a ts) (compound b us) (numbers c d) tu tv uv = tv
   meet-open (compound a ts) (compound b us) (compound c vs) tu tv uv =
       let x = and-open (known (eqb a b)) (compares ts us) tu in
       let y = and-open (known (eqb a c)) (compares ts vs) tv in
@@ -123,33 +142,47 @@ meets-count (cons t ts) nil = refl
 meets-count (cons t ts) (cons u us) = ap suc (meets-count ts us)
 
 mutual
-  -- The meet of well-formed terms is well-formed,
-  pub meet-well-formed : (t u : Term) → WellFormed t → WellFormed u → WellFormed (meet t u)
-  meet-well-formed unknown u okt oku = oku
-  meet-well-formed (symbol a) u okt oku = okt
-  meet-well-formed (number a) u okt oku = okt
-  meet-well-formed (compound a ts) unknown okt oku = okt
-  meet-well-formed (compound a ts) (symbol b) okt oku = okt
-  meet-well-formed (compound a ts) (number b) okt oku = okt
-  meet-well-formed (compound a ts) (compound b us) okt oku =
+  -- The meet of well-formed terms that do not differ is well-formed: two spans that do not differ have a number in common,
+  pub meet-well-formed : (t u : Term) → WellFormed t → WellFormed u → Open (compare t u) → WellFormed (meet t u)
+  meet-well-formed unknown u okt oku p = oku
+  meet-well-formed (symbol a) u okt oku p = okt
+  meet-well-formed (numbers a b) unknown okt oku p = okt
+  meet-well-formed (numbers a b) (symbol c) okt oku p = okt
+  meet-well-formed (numbers a b) (numbers c d) okt oku p =
+      let x = spans-open a b c d .0 p in (omega (arith, x .0, x .1, okt .0, oku .0), omega (arith, okt .1))
+  meet-well-formed (numbers a b) (compound c us) okt oku p = okt
+  meet-well-formed (compound a ts) unknown okt oku p = okt
+  meet-well-formed (compound a ts) (symbol b) okt oku p = okt
+  meet-well-formed (compound a ts) (numbers b c) okt oku p = okt
+  meet-well-formed (compound a ts) (compound b us) okt oku p =
       let e = meets-count ts us in
-      (okt .0, omega (arith, okt .1), omega (arith, okt .2), meets-well-formed ts us (okt .3) (oku .3))
+      let x = and-open (known (eqb a b)) (compares ts us) p in
+      (okt .0, omega (arith, okt .1), omega (arith, okt .2), meets-well-formed ts us (okt .3) (oku .3) (x .1))
 
   -- and so for rows of terms.
-  pub meets-well-formed : (ts us : Terms) → WellFormeds ts → WellFormeds us → WellFormeds (meets ts us)
-  meets-well-formed nil us okt oku = tt
-  meets-well-formed (cons t ts) nil okt oku = okt
-  meets-well-formed (cons t ts) (cons u us) okt oku =
-      (meet-well-formed t u (okt .0) (oku .0), meets-well-formed ts us (okt .1) (oku .1))
+  pub meets-well-formed
+      : (ts us : Terms) → WellFormeds ts → WellFormeds us → Open (compares ts us) → WellFormeds (meets ts us)
+  meets-well-formed nil us okt oku p = tt
+  meets-well-formed (cons t ts) nil okt oku p = okt
+  meets-well-formed (cons t ts) (cons u us) okt oku p =
+      let x = and-open (compare t u) (compares ts us) p in
+      (meet-well-formed t u (okt .0) (oku .0) (x .0), meets-well-formed ts us (okt .1) (oku .1) (x .1))
 
--- A range that is ruled out by neither of two terms is not ruled out by their meet.
+-- A range that is ruled out by neither of two terms that do not differ is not ruled out by their meet.
 meet-number
-    : (l h : ℕ) (t u : Term) → Open (fits (aNumber l h) t) → Open (fits (aNumber l h) u)
-    → Open (fits (aNumber l h) (meet t u))
-meet-number l h unknown u x y = y
-meet-number l h (symbol a) u x y = x
-meet-number l h (number a) u x y = x
-meet-number l h (compound a ts) u x y = absurd x
+    : (l h : ℕ) (t u : Term) → WellFormed t → WellFormed u → Open (compare t u) → Open (fits (aNumber l h) t)
+    → Open (fits (aNumber l h) u) → Open (fits (aNumber l h) (meet t u))
+meet-number l h unknown u okt oku p x y = y
+meet-number l h (symbol a) u okt oku p x y = x
+meet-number l h (numbers a b) unknown okt oku p x y = x
+meet-number l h (numbers a b) (symbol c) okt oku p x y = absurd y
+meet-number l h (numbers a b) (numbers c d) okt oku p x y =
+    let first = range-open-at l h a b (okt .0) .0 x in
+    let second = range-open-at l h c d (oku .0) .0 y in
+    let ordered = meet-well-formed (numbers a b) (numbers c d) okt oku p .0 in
+    range-open-at l h (max a c) (min b d) ordered .1 (omega (arith, first .0, second .0), omega (arith, first .1, second .1))
+meet-number l h (numbers a b) (compound c us) okt oku p x y = absurd y
+meet-number l h (compound a ts) u okt oku p x y = absurd x
 
 -- The meet of t with each of a list.
 abbrev pub meetAll : Term → List Term → Term
@@ -176,18 +209,24 @@ pub meet-all-fills
 meet-all-fills t [] okt oku p pairs f = (f, tt)
 meet-all-fills t (u ∷ us) okt oku p pairs f =
     let others = meet-open-to t u us (p .0) (p .1) (pairs .0) in
-    let x = meet-all-fills (meet t u) us (meet-well-formed t u okt (oku .0)) (oku .1) others (pairs .1) f in
+    let x = meet-all-fills (meet t u) us (meet-well-formed t u okt (oku .0) (p .0)) (oku .1) others (pairs .1) f in
     let y = meet-fills t u okt (oku .0) (p .0) (x .0) in
     (y .0, (y .1, x .1))
 
--- The meet of well-formed terms is well-formed.
-pub meet-all-well-formed : (t : Term) (us : List Term) → WellFormed t → All WellFormed us → WellFormed (meetAll t us)
-meet-all-well-formed t [] okt oku = okt
-meet-all-well-formed t (u ∷ us) okt oku = meet-all-well-formed (meet t u) us (meet-well-formed t u okt (oku .0)) (oku .1)
+-- The meet of well-formed terms of which no two differ is well-formed.
+pub meet-all-well-formed
+    : (t : Term) (us : List Term) → WellFormed t → All WellFormed us → OpenTo t us → Pairwise us → WellFormed (meetAll t us)
+meet-all-well-formed t [] okt oku p pairs = okt
+meet-all-well-formed t (u ∷ us) okt oku p pairs =
+    meet-all-well-formed (meet t u) us (meet-well-formed t u okt (oku .0) (p .0)) (oku .1)
+    (meet-open-to t u us (p .0) (p .1) (pairs .0)) (pairs .1)
 
 -- A range that none of the terms rules out is not ruled out by their meet.
 pub meet-all-number
-    : (l h : ℕ) (t : Term) (us : List Term) → Open (fits (aNumber l h) t)
-    → All (λ (u : Term). Open (fits (aNumber l h) u)) us → Open (fits (aNumber l h) (meetAll t us))
-meet-all-number l h t [] x y = x
-meet-all-number l h t (u ∷ us) x y = meet-all-number l h (meet t u) us (meet-number l h t u x (y .0)) (y .1)
+    : (l h : ℕ) (t : Term) (us : List Term) → WellFormed t → All WellFormed us → OpenTo t us → Pairwise us
+    → Open (fits (aNumber l h) t) → All (λ (u : Term). Open (fits (aNumber l h) u)) us
+    → Open (fits (aNumber l h) (meetAll t us))
+meet-all-number l h t [] okt oku p pairs x y = x
+meet-all-number l h t (u ∷ us) okt oku p pairs x y =
+    meet-all-number l h (meet t u) us (meet-well-formed t u okt (oku .0) (p .0)) (oku .1)
+    (meet-open-to t u us (p .0) (p .1) (pairs .0)) (pairs .1) (meet-number l h t u okt (oku .0) (p .0) x (y .0)) (y .1)

@@ -11,12 +11,13 @@ use Rattle.terms.specs.Pattern.{Patterns}
 use Rattle.terms.specs.RuleTests.{PlaceTest, PairTest, Occurrence, patternsRange, patternsTests, placeTests, pairTests, ruleVariables}
 use Rattle.terms.specs.Lookup.{Found, lacking, found, termAt}
 use Rattle.terms.specs.Outcome.{Holds, NotKnown, atPlaces, placeOutcome, pairOutcome}
-use Rattle.terms.specs.Filling.{Filling}
+use Rattle.terms.specs.Filling.{WellFormed, Filling}
 use Rattle.terms.specs.Accepted.{AcceptedRule, AcceptedPiece}
 use Rattle.basics.proofs.Booleans.{cond-true, cond-false}
 use Rattle.basics.proofs.ListLaws.{all-always, all-at}
 use Rattle.terms.proofs.Outcomes.{Open}
-use Rattle.terms.proofs.TermPlaces.{shows-row}
+use Rattle.terms.proofs.TermPlaces.{IfFound, shows-row}
+use Rattle.terms.proofs.WellFormed.{finds-well-formed}
 use Rattle.terms.proofs.ConstantFilling.{fillWith, fill-with, zero-ground}
 use Rattle.terms.proofs.Instances.{FillsFound, OpenIn, Stands, Suits, Instances, instances-of}
 use Rattle.terms.proofs.PreorderTests.{noRange, all-tests-split}
@@ -29,9 +30,9 @@ plain lacking = symbol 0
 plain (found t) = fillWith t (symbol 0)
 
 -- It fills what stands there.
-plain-fills : (x : Found) → FillsFound x (plain x)
-plain-fills lacking = tt
-plain-fills (found t) = fill-with t (symbol 0) zero-ground
+plain-fills : (x : Found) → IfFound WellFormed x → FillsFound x (plain x)
+plain-fills lacking ok = tt
+plain-fills (found t) ok = fill-with t (symbol 0) ok zero-ground
 
 -- Terms for the places: as given, but g at place p.
 abbrev put : ℕ → Term → (ℕ → Term) → ℕ → Term
@@ -66,9 +67,11 @@ module _ (look : ℕ → Found) (p q : ℕ) (g h : Term) where
       ∙ cond-true (eqb q q) h (plain (look q)) (eqb-refl q)
 
   -- and each fills what stands there.
-  two-fills : FillsFound (look p) g → FillsFound (look q) h → (n : ℕ) → FillsFound (look n) (two n)
-  two-fills first second n =
-      put-fills look p g rest first n (put-fills look q h (λ m. plain (look m)) second n (plain-fills (look n)))
+  two-fills
+      : ((n : ℕ) → IfFound WellFormed (look n)) → FillsFound (look p) g → FillsFound (look q) h → (n : ℕ)
+      → FillsFound (look n) (two n)
+  two-fills ok first second n =
+      put-fills look p g rest first n (put-fills look q h (λ m. plain (look m)) second n (plain-fills (look n) (ok n)))
 
 module _
     (arity : ℕ) (rule : Patterns) (piece : Terms) (a : AcceptedRule arity rule) (c : AcceptedPiece arity piece)
@@ -88,7 +91,7 @@ module _
           let same = c .arguments ∙ sym (a .arguments) in
           let fixed = all-tests-split (patternsRange rule) (OpenIn look) rule 4 0 opens .0 in
           let suits = all-always (Suits noRange chosen look) (λ o. (fills (o .place), tt)) (ruleVariables rule) in
-          instances-of noRange chosen look rule piece 4 0 (a .sound) same (shows-row piece 4) fixed suits
+          instances-of noRange chosen look rule piece 4 0 (a .sound) (c .wellFormed) same (shows-row piece 4) fixed suits
 
       -- The places of an equality test are in order, and the given terms stand at them.
       abbrev Placed : PairTest → Type 0
@@ -115,13 +118,16 @@ module _
         go lacking z ey ez k = absurd k
         go (found t) lacking ey ez k = absurd k
         go (found t) (found u) ey ez k =
-            let w = apart t u k in
+            let ok : (n : ℕ) → IfFound WellFormed (look n) = finds-well-formed piece (c .wellFormed) 4 in
+            let okt = subst (IfFound WellFormed) ey (ok (x .first)) in
+            let oku = subst (IfFound WellFormed) ez (ok (x .second)) in
+            let w = apart t u okt oku k in
             let g = w .left in
             let h = w .right in
             let first : FillsFound (look (x .first)) g = subst (λ y. FillsFound y g) (sym ey) (w .fillsLeft) in
             let second : FillsFound (look (x .second)) h = subst (λ y. FillsFound y h) (sym ez) (w .fillsRight) in
             let given = two look (x .first) (x .second) g h in
-            let fills = two-fills look (x .first) (x .second) g h first second in
+            let fills = two-fills look (x .first) (x .second) g h ok first second in
             let f = filled given fills in
             let placed = all-at (Placed given fills) m (all-placed given fills) in
             let e = placed .1 ∙ ap found (two-first look (x .first) (x .second) g h) in

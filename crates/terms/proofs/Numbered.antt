@@ -12,7 +12,7 @@ use Rattle.places.proofs.Rows.{child-fit}
 use Rattle.places.proofs.Levels.{stride-of, levels-first-of}
 use Rattle.places.proofs.Parents.{levels-of-child-place}
 use Rattle.basics.proofs.Clash.{clash}
-use Rattle.terms.specs.Term.{Term, Terms, unknown, symbol, number, compound, nil, cons}
+use Rattle.terms.specs.Term.{Term, Terms, unknown, symbol, numbers, compound, nil, cons}
 use Rattle.terms.specs.Lookup.{Found, found, find, finds, termAt}
 use Rattle.terms.specs.Filling.{WellFormed, WellFormeds}
 use Rattle.terms.specs.Accepted.{Shallow, Shallows, AcceptedPiece}
@@ -34,7 +34,7 @@ pub data TermStands (piece : Terms) : ℕ → ℕ → Term → Type 0 where
 shallow-level : (t : Term) (r : ℕ) → Shallow t r → 1 ≤ r
 shallow-level unknown r h = h
 shallow-level (symbol a) r h = h
-shallow-level (number a) r h = h
+shallow-level (numbers a b) r h = h
 shallow-level (compound a ts) r h = h .0
 
 -- The arguments of a well-formed compound have a level of their own.
@@ -178,8 +178,8 @@ module _ (piece : Terms) (ok : WellFormeds piece) (shallow : Shallows piece 4) w
         let same : unknown ≡ u = cc in rw (← same) (unknown-stands r b n s inside)
     find-stands (symbol a) r b zero {u} s inside e = first-stands (symbol a) r b s e
     find-stands (symbol a) r b (suc n) s inside e = clash (cc)
-    find-stands (number a) r b zero {u} s inside e = first-stands (number a) r b s e
-    find-stands (number a) r b (suc n) s inside e = clash (cc)
+    find-stands (numbers a c) r b zero {u} s inside e = first-stands (numbers a c) r b s e
+    find-stands (numbers a c) r b (suc n) s inside e = clash (cc)
     find-stands (compound a ts) r b zero {u} s inside e = first-stands (compound a ts) r b s e
     find-stands (compound a ts) r b (suc n) {u} s inside e =
         let place : suc b + n ≡ b + suc n = omega arith in

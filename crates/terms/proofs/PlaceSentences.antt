@@ -1,17 +1,17 @@
--- What document 01 says of a place test, and that `fits` says exactly this; what it says of a place that the piece lacks;
--- and that a rule has at most one test for each place.
-use Prim.Native.Nat.{ℕ, suc, _+_, _≤_}
+-- What document 01, and document 02's request 4, say of a place test, and that `fits` says exactly this; what is said of a
+-- place that the piece lacks; and that a rule has at most one test for each place.
+use Prim.Native.Nat.{ℕ, suc, _+_, _≤_, _<_}
 use mathlib.Core.Path.{_≡_, refl, ap, subst}
 use mathlib.Core.Bool.{_&&_}
 use mathlib.Core.Logic.{_↔_, _⊎_, inl, inr}
 use mathlib.Core.List.{List, [], _∷_}
 use native.Mathlib.Omega.{arith}
-use lib.Dec.{leb, eqb, leb→le, le→leb, eqb→eq}
+use lib.Dec.{eqb, eqb→eq}
 use Rattle.basics.specs.Lists.{Mem}
 use Rattle.basics.proofs.Booleans.{both-true, true-both}
 use Rattle.basics.proofs.ListLaws.{all-at, mem-cases, mem-none}
 use Rattle.basics.proofs.Numbers.{eq-true}
-use Rattle.terms.specs.Term.{Term, Terms, count, unknown, symbol, number, compound}
+use Rattle.terms.specs.Term.{Term, Terms, count, unknown, symbol, numbers, compound}
 use Rattle.terms.specs.Pattern.{Patterns, countPatterns}
 use Rattle.terms.specs.RuleTests.{Want, aSymbol, aNumber, aCompound, PlaceTest, patternsRange, placeTests}
 use Rattle.terms.specs.Lookup.{lacking, termAt}
@@ -19,29 +19,31 @@ use Rattle.terms.specs.Outcome.{Holds, NotKnown, Contradicted, fits, pla
 use Rattle.terms.specs.Accepted.{AcceptedRule}
 use Rattle.terms.proofs.Outcomes.{true-holds, known-decided}
 use Rattle.terms.proofs.KnownTests.{holds-true, numbers-equal, else-contradicted}
+use Rattle.terms.proofs.Spans.{range-holds-at, range-not-known}
 use Rattle.terms.proofs.TermPlaces.{extent}
 use Rattle.terms.proofs.Ascending.{Ascends, ascends-from}
 use Rattle.terms.proofs.PreorderTests.{testPlace, all-tests-ascend}
 
--- What is wanted: "that symbol, .. a compound of that id and arity, or .. a number in that range".
+-- What is wanted: "that symbol, .. a compound of that id and arity, or .. a number in that range", and "a span wholly inside
+-- it".
 pub data Wanted : Want → Term → Type 0 where
   thatSymbol : {a : ℕ} → Wanted (aSymbol a) (symbol a)
   thatCompound : {a n : ℕ} {ts : Terms} → n ≡ count ts → Wanted (aCompound a n) (compound a ts)
-  inRange : {l h n : ℕ} → l ≤ n → n ≤ h → Wanted (aNumber l h) (number n)
+  inRange : {l h a b : ℕ} → l ≤ a → b ≤ h → Wanted (aNumber l h) (numbers a b)
 
--- "A place test holds at that symbol, at a compound of that id and arity, or at a number in that range",
+-- "A place test holds at that symbol, at a compound of that id and arity, or at a number in that range", "a range's test holds
+-- at a span wholly inside it",
 pub fits-wanted : (w : Want) (t : Term) → Holds (fits w t) → Wanted w t
 fits-wanted w unknown h = absurd h
 fits-wanted (aSymbol a) (symbol b) h =
     subst (λ (x : ℕ). Wanted (aSymbol a) (symbol x)) (numbers-equal a b h) thatSymbol
-fits-wanted (aSymbol a) (number b) h = absurd h
+fits-wanted (aSymbol a) (numbers b c) h = absurd h
 fits-wanted (aSymbol a) (compound b ts) h = absurd h
 fits-wanted (aNumber l k) (symbol b) h = absurd h
-fits-wanted (aNumber l k) (number b) h =
-    let s = both-true (leb l b) (leb b k) (holds-true (leb l b && leb b k) h) in inRange (leb→le l b (s .0)) (leb→le b k (s .1))
+fits-wanted (aNumber l k) (numbers a b) h = let s = range-holds-at l k a b .0 h in inRange (s .0) (s .1)
 fits-wanted (aNumber l k) (compound b ts) h = absurd h
 fits-wanted (aCompound a n) (symbol b) h = absurd h
-fits-wanted (aCompound a n) (number b) h = absurd h
+fits-wanted (aCompound a n) (numbers b c) h = absurd h
 fits-wanted (aCompound a n) (compound b ts) h =
     let s = both-true (eqb a b) (eqb n (count ts)) (holds-true (eqb a b && eqb n (count ts)) h) in
     rw (eqb→eq a b (s .0)) (thatCompound (eqb→eq n (count ts) (s .1)))
@@ -51,40 +53,46 @@ wanted-fits (thatSymbol {a = a}) = true-holds (eqb a a) (eq-true a a refl)
 wanted-fits (thatCompound {a = a} {n = n} {ts = ts} e) =
     let m = count ts in
     true-holds (eqb a a && eqb n m) (true-both (eqb a a) (eqb n m) (eq-true a a refl) (eq-true n m e))
-wanted-fits (inRange {l = l} {h = h} {n = n} p q) =
-    true-holds (leb l n && leb n h) (true-both (leb l n) (leb n h) (le→leb l n p) (le→leb n h q))
+wanted-fits (inRange {l = l} {h = h} {a = a} {b = b} p q) = range-holds-at l h a b .1 (p, q)
 
--- "it is not known at an unknown"
-fits-unknown : (w : Want) (t : Term) → NotKnown (fits w t) → t ≡ unknown
-fits-unknown w unknown n = refl
-fits-unknown (aSymbol a) (symbol b) n = absurd (known-decided (eqb a b) n)
-fits-unknown (aSymbol a) (number b) n = absurd n
-fits-unknown (aSymbol a) (compound b ts) n = absurd n
-fits-unknown (aNumber l h) (symbol b) n = absurd n
-fits-unknown (aNumber l h) (number b) n = absurd (known-decided (leb l b && leb b h) n)
-fits-unknown (aNumber l h) (compound b ts) n = absurd n
-fits-unknown (aCompound a k) (symbol b) n = absurd n
-fits-unknown (aCompound a k) (number b) n = absurd n
-fits-unknown (aCompound a k) (compound b ts) n = absurd (known-decided (eqb a b && eqb k (count ts)) n)
+-- Where it may still turn out either way: at an unknown, and for a range at a span that lies neither wholly inside nor wholly
+-- outside it.
+pub data Unsure : Want → Term → Type 0 where
+  atUnknown : {w : Want} → Unsure w unknown
+  partlyInside : {l h a b : ℕ} → ((l ≤ a) × (b ≤ h) → ⊥) → ((b < l) ⊎ (h < a) → ⊥) → Unsure (aNumber l h) (numbers a b)
 
-unknown-fits : (w : Want) {t : Term} → t ≡ unknown → NotKnown (fits w t)
-unknown-fits w e = rw e tt
+-- "it is not known at an unknown", and a range's test at such a span,
+fits-unsure : (w : Want) (t : Term) → NotKnown (fits w t) → Unsure w t
+fits-unsure w unknown n = atUnknown
+fits-unsure (aSymbol a) (symbol b) n = absurd (known-decided (eqb a b) n)
+fits-unsure (aSymbol a) (numbers b c) n = absurd n
+fits-unsure (aSymbol a) (compound b ts) n = absurd n
+fits-unsure (aNumber l h) (symbol b) n = absurd n
+fits-unsure (aNumber l h) (numbers a b) n = let s = range-not-known l h a b .0 n in partlyInside (s .0) (s .1)
+fits-unsure (aNumber l h) (compound b ts) n = absurd n
+fits-unsure (aCompound a k) (symbol b) n = absurd n
+fits-unsure (aCompound a k) (numbers b c) n = absurd n
+fits-unsure (aCompound a k) (compound b ts) n = absurd (known-decided (eqb a b && eqb k (count ts)) n)
+
+unsure-fits : {w : Want} {t : Term} → Unsure w t → NotKnown (fits w t)
+unsure-fits atUnknown = tt
+unsure-fits (partlyInside {l = l} {h = h} {a = a} {b = b} p q) = range-not-known l h a b .1 (p, q)
 
 -- "and contradicted at anything else".
 pub record PlaceTested (w : Want) (t : Term) : Type 0 where
   pub whenHolds : Holds (fits w t) ↔ Wanted w t
-  pub whenNotKnown : NotKnown (fits w t) ↔ (t ≡ unknown)
-  pub whenContradicted : Contradicted (fits w t) ↔ ((Wanted w t → ⊥) × (t ≡ unknown → ⊥))
+  pub whenNotKnown : NotKnown (fits w t) ↔ Unsure w t
+  pub whenContradicted : Contradicted (fits w t) ↔ ((Wanted w t → ⊥) × (Unsure w t → ⊥))
 
 pub place-tested : (w : Want) (t : Term) → PlaceTested w t
 place-tested w t =
     let other = else-contradicted (fits w t) in
     record {
       whenHolds = (fits-wanted w t, λ x. wanted-fits x);
-      whenNotKnown = (fits-unknown w t, unknown-fits w);
+      whenNotKnown = (fits-unsure w t, λ x. unsure-fits x);
       whenContradicted = (
-        λ c. let x = other .0 c in (λ y. x .0 (wanted-fits y), λ e. x .1 (unknown-fits w e)),
-        λ x. other .1 (λ h. x .0 (fits-wanted w t h), λ n. x .1 (fits-unknown w t n)),
+        λ c. let x = other .0 c in (λ y. x .0 (wanted-fits y), λ e. x .1 (unsure-fits e)),
+        λ x. other .1 (λ h. x .0 (fits-wanted w t h), λ n. x .1 (fits-unsure w t n)),
       );
     }
 

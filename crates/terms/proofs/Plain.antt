@@ -35,7 +35,8 @@ rules-say arity rules piece accepted ok i isRule =
 pub plain-answer-right
     : (arity : ℕ) (rules : List Patterns) (piece : Terms) → All (AcceptedRule arity) rules → AcceptedPiece arity piece
     → Right rules piece (plainAnswer rules piece)
-plain-answer-right arity rules piece accepted ok = plain-right rules piece (rules-say arity rules piece accepted ok)
+plain-answer-right arity rules piece accepted ok =
+    plain-right rules piece (ok .wellFormed) (rules-say arity rules piece accepted ok)
 
 -- The plain answer of a piece filled in further is "fail where it answered fail, commit i where commit i, and execute i,
 -- commit i or fail where execute i".
@@ -50,4 +51,5 @@ plain-answer-keeps arity rules piece further accepted ok okFurther more =
     let rightFurther = plain-answer-right arity rules further accepted okFurther in
     let before = plainAnswer rules piece in
     let after = plainAnswer rules further in
-    right-keeps rules piece further (λ i. rule-stays more (ruleAt rules i)) say sayFurther before after right rightFurther
+    right-keeps rules piece further (ok .wellFormed) (okFurther .wellFormed) (λ i. rule-stays more (ruleAt rules i)) say
+    sayFurther before after right rightFurther

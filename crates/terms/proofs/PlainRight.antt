@@ -11,6 +11,7 @@ use Rattle.basics.specs.Lists.{filter, countFrom}
 use Rattle.terms.specs.Term.{Terms}
 use Rattle.terms.specs.Pattern.{Patterns}
 use Rattle.terms.specs.Outcome.{Outcome, Contradicted, ruleOutcome}
+use Rattle.terms.specs.Filling.{WellFormeds}
 use Rattle.terms.specs.Answer.{ruleAt, isOpen, decide, plainAnswer}
 use Rattle.terms.specs.Right.{IsRule, Right}
 use Rattle.terms.proofs.Outcomes.{Open, is-open, is-not-open}
@@ -29,7 +30,7 @@ filter-cases Q f x xs = go (f x)
     go true kept left = kept tt
     go false kept left = left (λ h. h)
 
-module _ (rules : List Patterns) (piece : Terms)
+module _ (rules : List Patterns) (piece : Terms) (ok : WellFormeds piece)
     (law : (i : ℕ) → IsRule rules piece i → Says (ruleOutcome (ruleAt rules i) piece) (ruleAt rules i) piece) where
   abbrev outcome : ℕ → Outcome
   outcome i = ruleOutcome (ruleAt rules i) piece
@@ -56,18 +57,18 @@ module _ (rules : List Patterns) (piece : Terms)
       : (i n k : ℕ) → IsRule rules piece i → Open (outcome i) → i < n → n + k ≡ suc (length rules) → ClosedBut i n
       → RightFor (i ∷ filter isOpenRule (countFrom n k))
   one-open i n zero isRule may later end before =
-      right-only rules piece law i isRule (λ j other. before j (omega arith) other)
+      right-only rules piece ok law i isRule (λ j other. before j (omega arith) other)
   one-open i n (suc k) isRule may later end before =
       let other : IsRule rules piece n = (omega arith, omega arith) in
       filter-cases (λ l. RightFor (i ∷ l)) isOpenRule n (countFrom (suc n) k)
-      (λ kept. right-suspend rules piece law i n isRule other (λ e. omega arith) may (is-open (outcome n) kept))
+      (λ kept. right-suspend rules piece ok law i n isRule other (λ e. omega arith) may (is-open (outcome n) kept))
       (λ left. one-open i (suc n) k isRule may (omega arith) (omega arith) (closed-next i n before left))
 
   -- Where no rule before n is open, the answer with the k rules from n on is right.
   none-open
       : (n k : ℕ) → 1 ≤ n → n + k ≡ suc (length rules) → ClosedBut 0 n → RightFor (filter isOpenRule (countFrom n k))
   none-open n zero first end before =
-      right-fail rules piece law (λ j isRule. before j (omega arith) isRule (λ e. omega arith))
+      right-fail rules piece ok law (λ j isRule. before j (omega arith) isRule (λ e. omega arith))
   none-open n (suc k) first end before =
       let only : ClosedBut n (suc n) = λ j l isRule differ. before j (omega arith) isRule (λ e. omega arith) in
       filter-cases RightFor isOpenRule n (countFrom (suc n) k)

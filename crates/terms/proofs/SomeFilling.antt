@@ -81,7 +81,7 @@ module _
     filled : Instances rangeOf chosen piece 4 0 (placeTests rule) variables
     filled =
         let same = c .arguments ∙ sym (a .arguments) in
-        instances-of rangeOf chosen look rule piece 4 0 (a .sound) same (shows-row piece 4) (opens .0) suits
+        instances-of rangeOf chosen look rule piece 4 0 (a .sound) (c .wellFormed) same (shows-row piece 4) (opens .0) suits
 
     -- It meets the equality tests too.
     pairs-met : All (HoldsPair (termAt (filled .terms))) (pairTests rule)

@@ -1,5 +1,5 @@
--- What a range says of a span, and what two spans say of one another (document 02, request 4), in words of order and of the numbers
--- that they have. A span from a to b has a number: a is at most b.
+-- What a range says of a span, and what two spans say of one another (document 02, request 4), in words of order and of the
+-- numbers that they have. A span from a to b has a number: a is at most b.
 use Prim.Native.Nat.{ℕ, _≤_, _<_, max}
 use mathlib.Core.Path.{_≡_, refl, sym}
 use mathlib.Core.Bool.{Bool, true, false, _&&_, _||_, cond}
@@ -10,16 +10,9 @@ use borrow.Author.Tests.{leb-true, leb-false, lt-ltb, le-ltb, eq-eqb, ne-eqb}
 use Rattle.basics.proofs.Booleans.{both-true, true-both, either-true, true-left, true-right, cond-by}
 use Rattle.basics.proofs.Numbers.{le-or-lt, both-le, eq-true}
 use Rattle.terms.specs.Outcome.{Outcome, holds, notKnown, contradicted, Holds, NotKnown, Contradicted, known}
+use Rattle.terms.specs.Outcome.{inside, compareSpans}
 use Rattle.terms.proofs.Outcomes.{Open, Stays, not-known-open}
 use Rattle.terms.proofs.KnownTests.{neither}
-
--- "A range's test holds at a span wholly inside it, is contradicted at one wholly outside, else is not known."
-abbrev pub inside : ℕ → ℕ → ℕ → ℕ → Outcome
-inside l h a b = cond (leb l a && leb b h) holds (cond (ltb b l || ltb h a) contradicted notKnown)
-
--- "Spans with no common number differ, .. and a span of several numbers makes a comparison otherwise not known."
-abbrev pub compareSpans : ℕ → ℕ → ℕ → ℕ → Outcome
-compareSpans a b c d = cond (ltb b c || ltb d a) contradicted (cond (eqb a b && eqb c d) holds notKnown)
 
 -- A number of the span.
 abbrev pub Within : ℕ → ℕ → ℕ → Type 0
@@ -61,6 +54,14 @@ module _ (l h a b : ℕ) where
     by-two (λ x. Holds x → (l ≤ a) × (b ≤ h)) within outside (λ t k. both-le l a b h .0 t) (λ n t k. absurd k)
         (λ n m k. absurd k),
     λ s. by-two Holds within outside (λ t. tt) (λ n t. n (both-le l a b h .1 s)) (λ n m. n (both-le l a b h .1 s)),
+  )
+
+  -- "else is not known", neither wholly inside nor wholly outside,
+  pub range-not-known : NotKnown (inside l h a b) ↔ (((l ≤ a) × (b ≤ h) → ⊥) × ((b < l) ⊎ (h < a) → ⊥))
+  range-not-known = (
+    by-two (λ x. NotKnown x → ((l ≤ a) × (b ≤ h) → ⊥) × ((b < l) ⊎ (h < a) → ⊥)) within outside (λ t k. absurd k)
+        (λ n t k. absurd k) (λ n m k. (λ s. n (both-le l a b h .1 s), λ s. m (one-lt b l h a .1 s))),
+    λ s. by-two NotKnown within outside (λ t. s .0 (both-le l a b h .0 t)) (λ n t. s .1 (one-lt b l h a .0 t)) (λ n m. tt),
   )
 
   module _ (o : a ≤ b) where
@@ -210,16 +211,19 @@ module _ (a b c d : ℕ) where
       ((omega arith, omega (arith, s .0)), (omega arith, omega (arith, s .1)))
 
 -- Spans of one number each compare as these numbers do.
-pub spans-numbers : (a c : ℕ) → compareSpans a a c c ≡ known (eqb a c)
-spans-numbers a c =
-    elim (le-or-lt c a) [
-      | inr p ↦ (rw (lt-ltb a c p, ne-eqb a c (λ e. omega arith)))
-      | inl p ↦ elim (le-or-lt a c) [
-        | inr q ↦ (rw (le-ltb a c p, lt-ltb c a q, ne-eqb a c (λ e. omega arith)))
-        | inl q ↦ (let e : a ≡ c = omega arith in
-            rw (le-ltb a c p, le-ltb c a q, eq-eqb a a refl, eq-eqb c c refl, eq-eqb a c e))
-      ]
-    ]
+pub spans-numbers : (a b c d : ℕ) → a ≡ b → c ≡ d → compareSpans a b c d ≡ known (eqb a c)
+spans-numbers a b c d e f = rw (← e, ← f) (at-numbers a c)
+  where
+    at-numbers : (a c : ℕ) → compareSpans a a c c ≡ known (eqb a c)
+    at-numbers a c =
+        elim (le-or-lt c a) [
+          | inr p ↦ (rw (lt-ltb a c p, ne-eqb a c (λ e. omega arith)))
+          | inl p ↦ elim (le-or-lt a c) [
+            | inr q ↦ (rw (le-ltb a c p, lt-ltb c a q, ne-eqb a c (λ e. omega arith)))
+            | inl q ↦ (let e : a ≡ c = omega arith in
+                rw (le-ltb a c p, le-ltb c a q, eq-eqb a a refl, eq-eqb c c refl, eq-eqb a c e))
+          ]
+        ]
 
 -- What two spans say stays when both are narrowed.
 pub spans-stay

@@ -1,17 +1,19 @@
 -- A test that holds, or is contradicted, in a piece does so in every filling of it and in every piece filled in
--- further. Both put terms in unknowns, so there is one law for both, whatever is asked of those terms.
+-- further. Both put terms in unknowns and narrow spans, so there is one law for both, whatever is asked of those terms.
 use Prim.Native.Nat.{ℕ, zero, suc, pred, _-_}
 use mathlib.Core.Path.{_≡_, refl, ap, subst}
 use mathlib.Core.Bool.{_&&_}
-use lib.Dec.{leb, ltb, eqb}
+use lib.Dec.{ltb, eqb}
 use Rattle.places.specs.Numbering.{stride}
-use Rattle.terms.specs.Term.{Term, Terms, count, unknown, symbol, number, compound}
+use Rattle.terms.specs.Term.{Term, Terms, count, unknown, symbol, numbers, compound}
 use Rattle.terms.specs.Pattern.{Patterns}
 use Rattle.terms.specs.RuleTests.{Want, aSymbol, aNumber, aCompound, PlaceTest, PairTest, placeTests, pairTests}
 use Rattle.terms.specs.Lookup.{Found, lacking, found, find, finds}
 use Rattle.terms.specs.Outcome.{known, fits, compare, compares, atPlace, atPlaces, placeOutcome, pairOutcome, together, ruleOutcome}
-use Rattle.terms.specs.Filling.{Puts, Putss, putUnknown, putSymbol, putNumber, putCompound, putNil, putCons, Filling, FilledFurther}
+use Rattle.terms.specs.Filling.{Puts, Putss, Filling, FilledFurther}
+use Rattle.terms.specs.Filling.{putUnknown, putSymbol, putNumbers, putCompound, putNil, putCons}
 use Rattle.basics.proofs.Booleans.{cond-related}
+use Rattle.terms.proofs.Spans.{inside-stays, spans-stay}
 use Rattle.terms.proofs.Outcomes.{Stays, Kept, stays-kept, known-stays, and-stays, together-stays}
 
 -- Filling in keeps the number of terms.
@@ -32,8 +34,8 @@ module _ {P : Term → Type 0} where
     find-becomes (putUnknown h) r n = wasUnknown
     find-becomes putSymbol r zero = filledIn putSymbol
     find-becomes putSymbol r (suc n) = staysLacking
-    find-becomes putNumber r zero = filledIn putNumber
-    find-becomes putNumber r (suc n) = staysLacking
+    find-becomes (putNumbers x y z h) r zero = filledIn (putNumbers x y z h)
+    find-becomes (putNumbers x y z h) r (suc n) = staysLacking
     find-becomes (putCompound fs) r zero = filledIn (putCompound fs)
     find-becomes (putCompound fs) r (suc n) = finds-becomes fs (pred r) n
 
@@ -49,9 +51,9 @@ module _ {P : Term → Type 0} where
   fits-stays (aSymbol a) (putSymbol {a = b}) = known-stays (eqb a b)
   fits-stays (aNumber l h) putSymbol = tt
   fits-stays (aCompound a n) putSymbol = tt
-  fits-stays (aSymbol a) putNumber = tt
-  fits-stays (aNumber l h) (putNumber {a = b}) = known-stays (leb l b && leb b h)
-  fits-stays (aCompound a n) putNumber = tt
+  fits-stays (aSymbol a) (putNumbers x y z p) = tt
+  fits-stays (aNumber l h) (putNumbers {a = a} {b = b} {c = c} {d = d} x y z p) = inside-stays l h a b c d x y z
+  fits-stays (aCompound a n) (putNumbers x y z p) = tt
   fits-stays (aSymbol a) (putCompound fs) = tt
   fits-stays (aNumber l h) (putCompound fs) = tt
   fits-stays (aCompound a n) (putCompound {a = b} {ts = ts} fs) =
@@ -64,15 +66,16 @@ module _ {P : Term → Type 0} where
     compare-stays (putUnknown x) e = tt
     compare-stays putSymbol (putUnknown y) = tt
     compare-stays (putSymbol {a = a}) (putSymbol {a = b}) = known-stays (eqb a b)
-    compare-stays putSymbol putNumber = tt
+    compare-stays putSymbol (putNumbers x y z p) = tt
     compare-stays putSymbol (putCompound ys) = tt
-    compare-stays putNumber (putUnknown y) = tt
-    compare-stays putNumber putSymbol = tt
-    compare-stays (putNumber {a = a}) (putNumber {a = b}) = known-stays (eqb a b)
-    compare-stays putNumber (putCompound ys) = tt
+    compare-stays (putNumbers x y z p) (putUnknown q) = tt
+    compare-stays (putNumbers x y z p) putSymbol = tt
+    compare-stays (putNumbers {a = a} {b = b} {c = e} {d = f} x y z p) (putNumbers {a = c} {b = d} {c = g} {d = h} u v w q) =
+        spans-stay a b c d e f g h x y z u v w
+    compare-stays (putNumbers x y z p) (putCompound ys) = tt
     compare-stays (putCompound xs) (putUnknown y) = tt
     compare-stays (putCompound xs) putSymbol = tt
-    compare-stays (putCompound xs) putNumber = tt
+    compare-stays (putCompound xs) (putNumbers x y z p) = tt
     compare-stays (putCompound {a = a} {ts = ts} {gs = gs} xs) (putCompound {a = b} {ts = us} {gs = hs} ys) =
         and-stays (known (eqb a b)) (compares ts us) (known (eqb a b)) (compares gs hs) (known-stays (eqb a b))
         (compares-stays xs ys)
@@ -103,7 +106,7 @@ module _ {P : Term → Type 0} where
   at-places-stays wasUnknown wasUnknown = tt
   at-places-stays (filledIn {t = unknown} f) wasUnknown = tt
   at-places-stays (filledIn {t = symbol a} f) wasUnknown = tt
-  at-places-stays (filledIn {t = number a} f) wasUnknown = tt
+  at-places-stays (filledIn {t = numbers a b} f) wasUnknown = tt
   at-places-stays (filledIn {t = compound a ts} f) wasUnknown = tt
 
   -- A place test stays when the piece is filled in,

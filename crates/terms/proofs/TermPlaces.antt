@@ -8,9 +8,9 @@ use native.Mathlib.Omega.{arith}
 use lib.Dec.{ltb, lt→ltb, ltb→lt}
 use Rattle.places.specs.Numbering.{stride}
 use Rattle.places.proofs.Levels.{stride-of}
-use Rattle.terms.specs.Term.{Term, Terms, count, unknown, symbol, number, compound, nil, cons}
+use Rattle.terms.specs.Term.{Term, Terms, count, unknown, symbol, numbers, compound, nil, cons}
 use Rattle.terms.specs.Lookup.{Found, lacking, found, find, finds}
-use Rattle.basics.proofs.Booleans.{cond-true, cond-false}
+use Rattle.basics.proofs.Booleans.{cond-true, cond-false, cond-holds}
 
 -- Q holds of what stands there, if anything does.
 abbrev pub IfFound : (Term → Type 0) → Found → Type 0
@@ -22,11 +22,35 @@ pub found-always : (Q : Term → Type 0) → ((t : Term) → Q t) → (x : Found
 found-always Q h lacking = tt
 found-always Q h (found t) = h t
 
+-- What is asked of a term, of its arguments and of theirs holds of all that stands in the term.
+module _
+    (Q : Term → Type 0) (Row : Terms → Type 0) (arguments : (a : ℕ) (ts : Terms) → Q (compound a ts) → Row ts)
+    (each : (t : Term) (ts : Terms) → Row (cons t ts) → Q t × Row ts)
+  where
+    mutual
+      -- In a term,
+      find-each : (t : Term) → Q t → (r n : ℕ) → IfFound Q (find t r n)
+      find-each unknown ok r n = ok
+      find-each (symbol a) ok r zero = ok
+      find-each (symbol a) ok r (suc n) = tt
+      find-each (numbers a b) ok r zero = ok
+      find-each (numbers a b) ok r (suc n) = tt
+      find-each (compound a ts) ok r zero = ok
+      find-each (compound a ts) ok r (suc n) = finds-each ts (arguments a ts ok) (pred r) n
+
+      -- and in a row of terms.
+      pub finds-each : (ts : Terms) → Row ts → (r n : ℕ) → IfFound Q (finds ts r n)
+      finds-each nil ok r n = tt
+      finds-each (cons t ts) ok r n =
+          let x = each t ts ok in
+          cond-holds (IfFound Q) (ltb n (stride r)) (find t r n) (finds ts r (n - stride r)) (find-each t (x .0) r n)
+          (finds-each ts (x .1) r (n - stride r))
+
 -- A term itself stands at its place.
 pub find-zero : (t : Term) (r : ℕ) → find t r 0 ≡ found t
 find-zero unknown r = refl
 find-zero (symbol a) r = refl
-find-zero (number a) r = refl
+find-zero (numbers a b) r = refl
 find-zero (compound a ts) r = refl
 
 -- The first places of a row are those of its first term,

@@ -10,7 +10,7 @@ use native.Mathlib.Omega.{arith}
 use lib.Dec.{eqb, eqb→eq}
 use Rattle.places.specs.Numbering.{stride}
 use Rattle.basics.specs.Lists.{Mem, All}
-use Rattle.terms.specs.Term.{Term, Terms, count, unknown, symbol, number, compound, nil, cons}
+use Rattle.terms.specs.Term.{Term, Terms, count, unknown, symbol, numbers, compound, nil, cons}
 use Rattle.terms.specs.Pattern.{Pattern, Patterns, countPatterns, anything, theSymbol, theRange, theCompound, variable, rangedVariable, pnil, pcons}
 use Rattle.terms.specs.RuleTests.{aCompound, PlaceTest, at, PairTest, Occurrence, Range, patternsRange, rangeTest}
 use Rattle.terms.specs.RuleTests.{patternTests, patternsTests, patternVariables, patternsVariables}
@@ -70,7 +70,7 @@ module _ (rangeOf : ℕ → Option Range) (look : ℕ → Found) (Listed : Place
       → (us : Terms) × (count us ≡ n) × Showss look us (pred r) (suc b)
   shown-below a n unknown r b deep few shown o = (unknowns n, count-unknowns n, shows-unknown look n r b deep few shown)
   shown-below a n (symbol c) r b deep few shown o = absurd o
-  shown-below a n (number c) r b deep few shown o = absurd o
+  shown-below a n (numbers c d) r b deep few shown o = absurd o
   shown-below a n (compound c us) r b deep few shown o =
       let same = both-true (eqb a c) (eqb n (count us)) (open-true (eqb a c && eqb n (count us)) o) in
       let e : n ≡ count us = eqb→eq n (count us) (same .1) in

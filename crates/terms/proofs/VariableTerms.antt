@@ -44,18 +44,25 @@ common x ts nonempty wide ok pairs may = go x nonempty wide may
     m : Term
     m = meetAll unknown ts
 
+    beside : OpenTo unknown ts
+    beside = all-always (λ (t : Term). Open (compare unknown t)) (λ t. tt) ts
+
+    formed : WellFormed m
+    formed = meet-all-well-formed unknown ts tt ok beside pairs
+
     from : (y : Option Range) (g : Term) → Fills m g → InRange y g → Common y ts
     from y g fill inside = record {
       term = g;
-      ground = fills-ground (meet-all-well-formed unknown ts tt ok) fill;
-      fills = meet-all-fills unknown ts tt ok (all-always (λ (t : Term). Open (compare unknown t)) (λ t. tt) ts) pairs fill .1;
+      ground = fills-ground formed fill;
+      fills = meet-all-fills unknown ts tt ok beside pairs fill .1;
       inside = inside;
     }
 
     go : (y : Option Range) → InCommon y → WideRange y → All (OpenRange y) ts → Common y ts
-    go none nonempty wide may = from none (fillWith m (symbol 0)) (fill-with m (symbol 0) zero-ground) tt
+    go none nonempty wide may = from none (fillWith m (symbol 0)) (fill-with m (symbol 0) formed zero-ground) tt
     go (some y) nonempty wide may =
-        let z = fitting-number (y .low) (y .high) nonempty wide m (meet-all-number (y .low) (y .high) unknown ts tt may) in
+        let may-be = meet-all-number (y .low) (y .high) unknown ts tt ok beside pairs tt may in
+        let z = fitting-number (y .low) (y .high) nonempty wide m formed may-be in
         from (some y) (z .0) (z .1) (z .2)
 
 -- What stands there as a list: of one term or none.

@@ -1,23 +1,24 @@
 -- Well-formed terms, as an accepted piece has them, and ground ones, as its fillings have.
-use Prim.Native.Nat.{ℕ, zero, suc, pred, _-_}
+use Prim.Native.Nat.{ℕ}
+use mathlib.Core.Path.{refl}
 use native.Mathlib.Omega.{arith}
-use lib.Dec.{ltb, eqb, eqb-refl}
-use Rattle.places.specs.Numbering.{stride}
-use Rattle.terms.specs.Term.{Term, Terms, unknown, symbol, number, compound, nil, cons}
-use Rattle.terms.specs.Lookup.{find, finds}
+use lib.Dec.{eqb, eqb-refl}
+use Rattle.terms.specs.Term.{Term, Terms, unknown, symbol, numbers, compound, nil, cons}
+use Rattle.terms.specs.Lookup.{finds}
 use Rattle.terms.specs.Outcome.{Holds, known, compare, compares}
-use Rattle.terms.specs.Filling.{Ground, Grounds, WellFormed, WellFormeds, putUnknown, putSymbol, putNumber, putCompound, putNil, putCons, Fills, Filling}
-use Rattle.basics.proofs.Booleans.{cond-holds}
+use Rattle.terms.specs.Filling.{Ground, Grounds, WellFormed, WellFormeds, Fills, Filling}
+use Rattle.terms.specs.Filling.{putUnknown, putSymbol, putNumbers, putCompound, putNil, putCons}
 use Rattle.terms.proofs.Outcomes.{true-holds, holds-and}
+use Rattle.terms.proofs.Spans.{spans-equal}
 use Rattle.terms.proofs.Stays.{puts-count}
-use Rattle.terms.proofs.TermPlaces.{IfFound}
+use Rattle.terms.proofs.TermPlaces.{IfFound, finds-each}
 
 mutual
   -- A filling of a well-formed term is ground,
   pub fills-ground : {t g : Term} → WellFormed t → Fills t g → Ground g
   fills-ground ok (putUnknown h) = h
   fills-ground ok putSymbol = ok
-  fills-ground ok putNumber = ok
+  fills-ground ok (putNumbers x y z h) = h
   fills-ground ok (putCompound fs) =
       let e = puts-count fs in
       (ok .0, omega (arith, ok .1), omega (arith, ok .2), filling-ground (ok .3) fs)
@@ -32,7 +33,7 @@ mutual
   pub equal-self : (g : Term) → Ground g → Holds (compare g g)
   equal-self unknown ok = absurd ok
   equal-self (symbol a) ok = true-holds (eqb a a) (eqb-refl a)
-  equal-self (number a) ok = true-holds (eqb a a) (eqb-refl a)
+  equal-self (numbers a b) ok = spans-equal a b a b .1 (ok .0, ok .0, refl)
   equal-self (compound a gs) ok =
       holds-and (known (eqb a a)) (compares gs gs) (true-holds (eqb a a) (eqb-refl a)) (equals-self gs (ok .3))
 
@@ -42,20 +43,6 @@ mutual
   equals-self (cons g gs) ok =
       holds-and (compare g g) (compares gs gs) (equal-self g (ok .0)) (equals-self gs (ok .1))
 
-mutual
-  -- At each place of a well-formed term stands a well-formed one, if any,
-  pub find-well-formed : (t : Term) → WellFormed t → (r n : ℕ) → IfFound WellFormed (find t r n)
-  find-well-formed unknown ok r n = tt
-  find-well-formed (symbol a) ok r zero = ok
-  find-well-formed (symbol a) ok r (suc n) = tt
-  find-well-formed (number a) ok r zero = ok
-  find-well-formed (number a) ok r (suc n) = tt
-  find-well-formed (compound a ts) ok r zero = ok
-  find-well-formed (compound a ts) ok r (suc n) = finds-well-formed ts (ok .3) (pred r) n
-
-  -- and so for a row of them.
-  pub finds-well-formed : (ts : Terms) → WellFormeds ts → (r n : ℕ) → IfFound WellFormed (finds ts r n)
-  finds-well-formed nil ok r n = tt
-  finds-well-formed (cons t ts) ok r n =
-      cond-holds (IfFound WellFormed) (ltb n (stride r)) (find t r n) (finds ts r (n - stride r))
-      (find-well-formed t (ok .0) r n) (finds-well-formed ts (ok .1) r (n - stride r))
+-- At each place of well-formed terms stands a well-formed one, if any.
+pub finds-well-formed : (ts : Terms) → WellFormeds ts → (r n : ℕ) → IfFound WellFormed (finds ts r n)
+finds-well-formed = finds-each WellFormed WellFormeds (λ a ts ok. ok .3) (λ t ts ok. ok)

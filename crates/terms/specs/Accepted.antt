@@ -2,7 +2,7 @@
 use Prim.Native.Nat.{ℕ, pred, _≤_, _<_}
 use mathlib.Core.Path.{_≡_}
 use mathlib.Core.Option.{Option, some, none}
-use Rattle.terms.specs.Term.{Term, Terms, count, Wide, unknown, symbol, number, compound, nil, cons}
+use Rattle.terms.specs.Term.{Term, Terms, count, Wide, unknown, symbol, numbers, compound, nil, cons}
 use Rattle.terms.specs.Pattern.{Pattern, Patterns, countPatterns, pnil, pcons}
 use Rattle.terms.specs.Pattern.{anything, theSymbol, theRange, theCompound, variable, rangedVariable}
 use Rattle.terms.specs.RuleTests.{Range, patternsRange}
@@ -39,15 +39,28 @@ abbrev mutual
   pub Shallow : Term → ℕ → Type 0
   Shallow unknown r = 1 ≤ r
   Shallow (symbol a) r = 1 ≤ r
-  Shallow (number a) r = 1 ≤ r
+  Shallow (numbers a b) r = 1 ≤ r
   Shallow (compound a ts) r = (1 ≤ r) × Shallows ts (pred r)
 
   pub Shallows : Terms → ℕ → Type 0
   Shallows nil r = Unit
   Shallows (cons t ts) r = Shallow t r × Shallows ts r
 
+-- Every number is known exactly: no record of a piece has a span of several numbers.
+abbrev mutual
+  pub Exact : Term → Type 0
+  Exact unknown = Unit
+  Exact (symbol a) = Unit
+  Exact (numbers a b) = a ≡ b
+  Exact (compound a ts) = Exacts ts
+
+  pub Exacts : Terms → Type 0
+  Exacts nil = Unit
+  Exacts (cons t ts) = Exact t × Exacts ts
+
 -- An accepted piece of that arity.
 pub record AcceptedPiece (arity : ℕ) (piece : Terms) : Type 0 where
   pub arguments : count piece ≡ arity
   pub wellFormed : WellFormeds piece
   pub shallow : Shallows piece 4
+  pub exact : Exacts piece

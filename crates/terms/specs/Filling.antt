@@ -1,51 +1,54 @@
--- Fillings of a piece, and pieces filled in further (document 01, "Places and tests").
+-- Fillings of a piece, and pieces filled in further (document 01, "Places and tests"; document 02, request 4).
 use Prim.Native.Nat.{ℕ, _≤_}
-use Rattle.terms.specs.Term.{Term, Terms, count, Wide, unknown, symbol, number, compound, nil, cons}
+use mathlib.Core.Path.{_≡_}
+use Rattle.terms.specs.Term.{Term, Terms, count, Wide, unknown, symbol, numbers, compound, nil, cons}
 
--- What a filling puts in an unknown: "a term without unknowns, of any depth and compound arities 1 to 4". Its ids and numbers
--- are 0 to 65,535, as in records.
+-- What a filling puts in: "a term without unknowns, of any depth and compound arities 1 to 4". Its ids and numbers are 0 to
+-- 65,535, as in records, and its numbers are known.
 abbrev mutual
   pub Ground : Term → Type 0
   Ground unknown = ⊥
   Ground (symbol a) = Wide a
-  Ground (number a) = Wide a
+  Ground (numbers a b) = (a ≡ b) × Wide b
   Ground (compound a ts) = Wide a × (1 ≤ count ts) × (count ts ≤ 4) × Grounds ts
 
   pub Grounds : Terms → Type 0
   Grounds nil = Unit
   Grounds (cons t ts) = Ground t × Grounds ts
 
--- What filling in more puts in an unknown: "terms, which may hold unknowns".
+-- What filling in more puts in: "terms, which may hold unknowns". A span has a number, low being at most high.
 abbrev mutual
   pub WellFormed : Term → Type 0
   WellFormed unknown = Unit
   WellFormed (symbol a) = Wide a
-  WellFormed (number a) = Wide a
+  WellFormed (numbers a b) = (a ≤ b) × Wide b
   WellFormed (compound a ts) = Wide a × (1 ≤ count ts) × (count ts ≤ 4) × WellFormeds ts
 
   pub WellFormeds : Terms → Type 0
   WellFormeds nil = Unit
   WellFormeds (cons t ts) = WellFormed t × WellFormeds ts
 
--- Filling in: each unknown becomes a term of which P holds, and all else stays.
+-- Filling in: each unknown becomes a term of which P holds, each span a narrower one of which P holds, and all else stays.
 mutual
   pub data Puts (P : Term → Type 0) : Term → Term → Type 0 where
     putUnknown : {g : Term} → P g → Puts P unknown g
     putSymbol : {a : ℕ} → Puts P (symbol a) (symbol a)
-    putNumber : {a : ℕ} → Puts P (number a) (number a)
+    putNumbers : {a b c d : ℕ} → a ≤ c → c ≤ d → d ≤ b → P (numbers c d) → Puts P (numbers a b) (numbers c d)
     putCompound : {a : ℕ} {ts gs : Terms} → Putss P ts gs → Puts P (compound a ts) (compound a gs)
 
   pub data Putss (P : Term → Type 0) : Terms → Terms → Type 0 where
     putNil : Putss P nil nil
     putCons : {t g : Term} {ts gs : Terms} → Puts P t g → Putss P ts gs → Putss P (cons t ts) (cons g gs)
 
--- "A filling puts a term without unknowns, .. in each unknown": of a term, and of a piece.
+-- "A filling puts a term without unknowns, .. in each unknown"; in a span it "puts a number of that span there". Of a term, and
+-- of a piece.
 abbrev pub Fills : Term → Term → Type 0
 Fills t g = Puts Ground t g
 
 abbrev pub Filling : Terms → Terms → Type 0
 Filling piece filled = Putss Ground piece filled
 
--- "Filling in more turns some unknowns into terms, which may hold unknowns, and gives a piece filled in further."
+-- "Filling in more turns some unknowns into terms, which may hold unknowns, and gives a piece filled in further." Of a span,
+-- "narrowing one is filling in more".
 abbrev pub FilledFurther : Terms → Terms → Type 0
 FilledFurther piece further = Putss WellFormed piece further

@@ -3,7 +3,7 @@ use Prim.Native.Nat.{ℕ, zero, suc, pred, _-_}
 use mathlib.Core.Bool.{cond}
 use lib.Dec.{ltb}
 use Rattle.places.specs.Numbering.{stride}
-use Rattle.terms.specs.Term.{Term, Terms, unknown, symbol, number, compound, nil, cons}
+use Rattle.terms.specs.Term.{Term, Terms, unknown, symbol, numbers, compound, nil, cons}
 
 -- A piece lacks a place, or has a term there.
 pub data Found : Type 0 where
@@ -17,8 +17,8 @@ abbrev mutual
   find unknown r n = found unknown
   find (symbol a) r zero = found (symbol a)
   find (symbol a) r (suc n) = lacking
-  find (number a) r zero = found (number a)
-  find (number a) r (suc n) = lacking
+  find (numbers a b) r zero = found (numbers a b)
+  find (numbers a b) r (suc n) = lacking
   find (compound a ts) r zero = found (compound a ts)
   find (compound a ts) r (suc n) = finds ts (pred r) n
 

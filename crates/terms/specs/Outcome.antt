@@ -1,9 +1,10 @@
--- The three values of a test in a piece, and of all tests of a rule (document 01, "Places and tests").
-use mathlib.Core.Bool.{Bool, true, false, _&&_}
+-- The three values of a test in a piece, and of all tests of a rule (document 01, "Places and tests"; document 02, request 4).
+use Prim.Native.Nat.{ℕ}
+use mathlib.Core.Bool.{Bool, true, false, _&&_, _||_, cond}
 use mathlib.Core.List.{List, [], _∷_}
-use lib.Dec.{leb, eqb}
+use lib.Dec.{leb, ltb, eqb}
 use Rattle.basics.specs.Lists.{All}
-use Rattle.terms.specs.Term.{Term, Terms, count, unknown, symbol, number, compound, nil, cons}
+use Rattle.terms.specs.Term.{Term, Terms, count, unknown, symbol, numbers, compound, nil, cons}
 use Rattle.terms.specs.Pattern.{Patterns}
 use Rattle.terms.specs.RuleTests.{Want, aSymbol, aNumber, aCompound, PlaceTest, PairTest, placeTests, pairTests}
 use Rattle.terms.specs.Lookup.{Found, lacking, found, termAt}
@@ -39,37 +40,46 @@ _and_ notKnown notKnown = notKnown
 _and_ notKnown contradicted = contradicted
 _and_ contradicted y = contradicted
 
+-- "A range's test holds at a span wholly inside it, is contradicted at one wholly outside, else is not known."
+abbrev pub inside : ℕ → ℕ → ℕ → ℕ → Outcome
+inside l h a b = cond (leb l a && leb b h) holds (cond (ltb b l || ltb h a) contradicted notKnown)
+
 -- "A place test holds at that symbol, at a compound of that id and arity, or at a number in that range; it is not known at an
--- unknown and contradicted at anything else."
+-- unknown and contradicted at anything else." "Any other place test is contradicted at a span."
 abbrev pub fits : Want → Term → Outcome
 fits w unknown = notKnown
 fits (aSymbol a) (symbol b) = known (eqb a b)
-fits (aSymbol a) (number b) = contradicted
+fits (aSymbol a) (numbers b c) = contradicted
 fits (aSymbol a) (compound b ts) = contradicted
 fits (aNumber l h) (symbol b) = contradicted
-fits (aNumber l h) (number b) = known (leb l b && leb b h)
+fits (aNumber l h) (numbers a b) = inside l h a b
 fits (aNumber l h) (compound b ts) = contradicted
 fits (aCompound a n) (symbol b) = contradicted
-fits (aCompound a n) (number b) = contradicted
+fits (aCompound a n) (numbers b c) = contradicted
 fits (aCompound a n) (compound b ts) = known (eqb a b && eqb n (count ts))
+
+-- "Spans with no common number differ, .. and a span of several numbers makes a comparison otherwise not known."
+abbrev pub compareSpans : ℕ → ℕ → ℕ → ℕ → Outcome
+compareSpans a b c d = cond (ltb b c || ltb d a) contradicted (cond (eqb a b && eqb c d) holds notKnown)
 
 -- "Two terms are equal when they are the same and hold no unknown; compounds differ when id or arity differ or when some pair
 -- of their arguments in turn differs; two symbols or two numbers differ when they are not the same; a symbol, a number and a
--- compound differ from one another. Anything else is not known." Equal terms hold, terms that differ are contradicted.
+-- compound differ from one another. Anything else is not known." "A span differs from every symbol and compound as a number
+-- does." Equal terms hold, terms that differ are contradicted.
 abbrev mutual
   pub compare : Term → Term → Outcome
   compare unknown u = notKnown
   compare (symbol a) unknown = notKnown
   compare (symbol a) (symbol b) = known (eqb a b)
-  compare (symbol a) (number b) = contradicted
+  compare (symbol a) (numbers b c) = contradicted
   compare (symbol a) (compound b us) = contradicted
-  compare (number a) unknown = notKnown
-  compare (number a) (symbol b) = contradicted
-  compare (number a) (number b) = known (eqb a b)
-  compare (number a) (compound b us) = contradicted
+  compare (numbers a b) unknown = notKnown
+  compare (numbers a b) (symbol c) = contradicted
+  compare (numbers a b) (numbers c d) = compareSpans a b c d
+  compare (numbers a b) (compound c us) = contradicted
   compare (compound a ts) unknown = notKnown
   compare (compound a ts) (symbol b) = contradicted
-  compare (compound a ts) (number b) = contradicted
+  compare (compound a ts) (numbers b c) = contradicted
   compare (compound a ts) (compound b us) = _and_ (known (eqb a b)) (compares ts us)
 
   pub compares : Terms → Terms → Outcome

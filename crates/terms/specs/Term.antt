@@ -1,18 +1,23 @@
--- Terms (document 01, "Records", "Piece").
+-- Terms (document 01, "Records", "Piece"; document 02, request 4).
 use Prim.Native.Nat.{ℕ, suc, _<_}
 
 -- "Terms: 30 unknown; 31 symbol (wide id); 32 number (wide); 33 compound (wide id, arity), then its arguments." The arity is
--- the number of arguments. A piece is the list of its argument terms.
+-- the number of arguments. A piece is the list of its argument terms. Numbers are a span, from its low to its high: "a number
+-- known to lie between them".
 mutual
   pub data Term : Type 0 where
     unknown : Term
     symbol : ℕ → Term
-    number : ℕ → Term
+    numbers : ℕ → ℕ → Term
     compound : ℕ → Terms → Term
 
   pub data Terms : Type 0 where
     nil : Terms
     cons : Term → Terms → Terms
+
+-- "A span with equal ends is that number."
+abbrev pub number : ℕ → Term
+number a = numbers a a
 
 abbrev pub count : Terms → ℕ
 count nil = 0

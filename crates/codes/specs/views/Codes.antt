@@ -1,7 +1,7 @@
 -- A number for each term, but for its arguments, and what a place test wants as a run of such numbers: the lowest and the highest
 -- code of a term that it holds at. The codes of symbols, compounds and numbers ascend in this order, as the cases of a switch do.
 use Prim.Native.Nat.{ℕ, _+_, _*_, _≤_}
-use Rattle.terms.specs.Term.{Term, count, unknown, symbol, number, compound, Wide}
+use Rattle.terms.specs.Term.{Term, count, unknown, symbol, numbers, compound, Wide}
 use Rattle.terms.specs.RuleTests.{Want, aSymbol, aNumber, aCompound}
 
 -- The sort of a term in the highest byte, below it its id or number, or a compound's id and arity. The sorts are in the order of a
@@ -18,10 +18,11 @@ numberCode a = 0x3000000 + a
 abbrev pub unknownCode : ℕ
 unknownCode = 0x4000000
 
+-- A number that is known exactly has the code of either end.
 abbrev pub termCode : Term → ℕ
 termCode unknown = unknownCode
 termCode (symbol a) = symbolCode a
-termCode (number a) = numberCode a
+termCode (numbers a b) = numberCode a
 termCode (compound a ts) = compoundCode a (count ts)
 
 abbrev pub wantLow : Want → ℕ

@@ -2,7 +2,7 @@
 -- numbers, from what the live rules want there. Each number that is wanted lies in one of them; a want accepts all of a
 -- run or none of it; some want accepts it; and just before and just after it another set of the wants accepts.
 use Prim.Native.Nat.{ℕ, suc, pred, _≤_, _<_}
-use mathlib.Core.Path.{_≡_, refl, ap}
+use mathlib.Core.Path.{_≡_, refl, ap, _∙_}
 use mathlib.Core.Bool.{_&&_}
 use mathlib.Core.Logic.{_↔_, Iff·trans, Iff·symm, _⊎_, inl, inr}
 use mathlib.Core.List.{List}
@@ -12,12 +12,11 @@ use Rattle.terms.specs.Term.{number}
 use Rattle.terms.specs.RuleTests.{Want, aSymbol, aNumber, aCompound, Range}
 use Rattle.terms.specs.Outcome.{Holds, known, fits}
 use Rattle.basics.proofs.ListLaws.{all-at, all-from}
-use Rattle.terms.proofs.Outcomes.{true-holds}
+use Rattle.terms.proofs.Spans.{range-holds-at, inside-number}
 pub use Rattle.codes.specs.views.Codes.{SoundWant}
 use Rattle.decision.specs.Runs.{cuts, between, covers, isCovered, runs}
 use Rattle.decision.specs.Cases.{Case, symbolCase, compoundCase, numbersCase, takes, isWanted, rangesOf, numbersIn}
 use Rattle.decision.specs.AcceptedGraph.{CaseBefore, LowAtMostHigh}
-use Rattle.terms.proofs.KnownTests.{holds-true}
 use Rattle.basics.proofs.Filters.{filter-mem, any-mem}
 use Rattle.basics.proofs.Ascent.{ascending-map}
 use Rattle.decision.proofs.cases.Intervals.{Contains, in-one-only}
@@ -35,8 +34,7 @@ Accepts w v = Holds (fits w (number v))
 
 -- A wanted range accepts the numbers in it.
 pub accepts-range : (r : Range) (v : ℕ) → Accepts (aNumber (r .low) (r .high)) v ↔ Contains r v
-accepts-range r v =
-    let b = leb (r .low) v && leb v (r .high) in Iff·trans (holds-true b, true-holds b) (both-le (r .low) v v (r .high))
+accepts-range r v = range-holds-at (r .low) (r .high) v v
 
 module _ (ws : List Want) where
   -- A number is a cut exactly when it is a wanted low or comes after a wanted high,
@@ -102,7 +100,7 @@ module _ (ws : List Want) where
       let b = run-between (rangesOf ws) r (case-run ws l h m) in
       let e = covers-contains (rangesOf ws) r w v b (wanted-range n) (both-le l v v h .0 k) in
       let same = Iff·trans (both-le x v v y) (Iff·symm e) in
-      ap known (same-truth (leb x v && leb v y) (leb x l && leb h y) (same .0) (same .1))
+      inside-number x y v v refl ∙ ap known (same-truth (leb x v && leb v y) (leb x l && leb h y) (same .0) (same .1))
   run-uncut l h v (aCompound a i) m n k = refl
 
   -- Some want accepts the run.

@@ -8,7 +8,7 @@ use mathlib.Core.Option.{some}
 use lib.Dec.{T}
 use Rattle.places.specs.Numbering.{atOrBelow}
 use Rattle.basics.specs.Lists.{Mem}
-use Rattle.terms.specs.Term.{Term, Terms, unknown, symbol, number, compound}
+use Rattle.terms.specs.Term.{Term, Terms, unknown, symbol, numbers, compound}
 use Rattle.terms.specs.Pattern.{Patterns}
 use Rattle.terms.specs.RuleTests.{Want, PlaceTest, at, both, placeTests}
 use Rattle.terms.specs.Lookup.{Found, lacking, found, termAt}
@@ -60,7 +60,7 @@ unknown-fits : (w : Want) (x : Found) → IsUnknown x → Contradicted (atPlace 
 unknown-fits w lacking u c = u
 unknown-fits w (found unknown) u c = c
 unknown-fits w (found (symbol a)) u c = u
-unknown-fits w (found (number a)) u c = u
+unknown-fits w (found (numbers a b)) u c = u
 unknown-fits w (found (compound a ts)) u c = u
 
 -- an unknown differs from nothing,
@@ -69,7 +69,7 @@ unknown-left lacking y u d = u
 unknown-left (found unknown) lacking u d = d
 unknown-left (found unknown) (found t) u d = d
 unknown-left (found (symbol a)) y u d = u
-unknown-left (found (number a)) y u d = u
+unknown-left (found (numbers a b)) y u d = u
 unknown-left (found (compound a ts)) y u d = u
 
 -- and nothing differs from it.
@@ -82,7 +82,7 @@ unknown-right lacking y u d = d
 unknown-right (found t) lacking u d = d
 unknown-right (found t) (found unknown) u d = not-contradicted t d
 unknown-right (found t) (found (symbol a)) u d = u
-unknown-right (found t) (found (number a)) u d = u
+unknown-right (found t) (found (numbers a b)) u d = u
 unknown-right (found t) (found (compound a ts)) u d = u
 
 -- The walk would be refused at the test.

@@ -52,7 +52,8 @@ module _ (arity : ℕ) (rules : List Patterns) (piece : Terms)
       : {Seen : ℕ → Type 0} (nodes : List (Node ℕ)) (walked : List ℕ) (l : Leaf) → RightVertex rules piece Seen (leaf l)
       → Right rules piece (atLeaf rules nodes piece walked l .answer)
   right-leaf nodes walked failNode v =
-      right-fail rules piece (rules-say arity rules piece accepted ok) (λ i isRule. dead (pred i) (omega arith))
+      right-fail rules piece (ok .wellFormed) (rules-say arity rules piece accepted ok)
+      (λ i isRule. dead (pred i) (omega arith))
     where
       dead : (i : ℕ) → IsRule rules piece i → DeadRule rules piece i
       dead =
@@ -60,8 +61,8 @@ module _ (arity : ℕ) (rules : List Patterns) (piece : Terms)
           (λ i m. v .means i (v .right .invariant .inside i m) m)
   right-leaf nodes walked suspendNode v =
       let two = v .means in
-      right-suspend rules piece (rules-say arity rules piece accepted ok) (suc (two .lower)) (suc (two .higher))
-      (omega arith, omega arith) (omega arith, omega arith) (λ e. omega arith)
+      right-suspend rules piece (ok .wellFormed) (rules-say arity rules piece accepted ok) (suc (two .lower))
+      (suc (two .higher)) (omega arith, omega arith) (omega arith, omega arith) (λ e. omega arith)
       (settled-open (v .key) (v .right) (two .lower) (two .atLower))
       (settled-open (v .key) (v .right) (two .higher) (two .atHigher))
   right-leaf nodes walked (executeNode zero) v = absurd (v .means)
@@ -70,6 +71,7 @@ module _ (arity : ℕ) (rules : List Patterns) (piece : Terms)
       let others =
       one-left (IsRule rules piece) (FirmTest rules piece) (DeadRule rules piece) (v .right .invariant) i
       (λ j m. only .2 j (v .right .invariant .inside j m) m) in
-      right-only rules piece (rules-say arity rules piece accepted ok) (suc i) (omega arith, omega (arith, only .0))
+      right-only rules piece (ok .wellFormed) (rules-say arity rules piece accepted ok) (suc i)
+      (omega arith, omega (arith, only .0))
       (λ j isRule differ.
       elim (others (pred j) (omega arith)) [ inl e ↦ absurd (differ (omega arith)) | inr d ↦ d ])

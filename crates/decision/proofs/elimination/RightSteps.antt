@@ -8,7 +8,7 @@ use mathlib.Core.Option.{Option, some}
 use lib.Dec.{T}
 use lib.ListN.{length}
 use Rattle.basics.specs.Lists.{All}
-use Rattle.terms.specs.Term.{Term, Terms, unknown, symbol, number, compound}
+use Rattle.terms.specs.Term.{Term, Terms, unknown, symbol, numbers, compound}
 use Rattle.terms.specs.Pattern.{Patterns}
 use Rattle.terms.specs.Lookup.{Found, lacking, found, termAt}
 use Rattle.terms.specs.Outcome.{Outcome, holds, notKnown, contradicted, Contradicted, compare}
@@ -67,8 +67,8 @@ module _ (arity : ℕ) (rules : List Patterns) (piece : Terms)
             (_, refl, unknown-right arity rules piece accepted ok key right t n at seen (rw e tt))
         go (found (symbol a)) e =
             (_, refl, known-right arity rules piece accepted ok key right t n at seen (symbol a) e (λ k. k))
-        go (found (number a)) e =
-            (_, refl, known-right arity rules piece accepted ok key right t n at seen (number a) e (λ k. k))
+        go (found (numbers a b)) e =
+            (_, refl, known-right arity rules piece accepted ok key right t n at seen (numbers a b) e (λ k. k))
         go (found (compound a ts)) e =
             (_, refl, known-right arity rules piece accepted ok key right t n at seen (compound a ts) e (λ k. k))
 

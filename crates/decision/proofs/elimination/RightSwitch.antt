@@ -15,9 +15,11 @@ use Rattle.terms.specs.Pattern.{Patterns}
 use Rattle.terms.specs.RuleTests.{Want}
 use Rattle.terms.specs.Lookup.{found, termAt}
 use Rattle.terms.specs.Outcome.{Outcome, holds, notKnown, contradicted, Contradicted, fits}
-use Rattle.terms.specs.Accepted.{AcceptedRule, AcceptedPiece}
+use Rattle.terms.specs.Accepted.{AcceptedRule, AcceptedPiece, Exact}
 use Rattle.terms.specs.Answer.{ruleAt, isOpen}
 use Rattle.terms.proofs.Unknown.{IsUnknown}
+use Rattle.terms.proofs.TermPlaces.{IfFound}
+use Rattle.terms.proofs.Exact.{finds-exact}
 use Rattle.basics.proofs.Booleans.{true-both}
 use Rattle.terms.proofs.Outcomes.{is-not-open}
 use Rattle.sheet_tests.specs.SheetTests.{place}
@@ -107,7 +109,8 @@ module _ (arity : ℕ) (rules : List Patterns) (piece : Terms)
         → RightVertex rules piece Seen
         (follow (edgesTo (byCase rules key t n) (casesOf (liveWants rules (key .live) n))) (byNone rules key t) u)
     known-right known =
-        elim (edge-keeps liveOptions u (byCase rules key t n) (byNone rules key t) known) [
+        let exact : Exact u = subst (IfFound Exact) there-is (finds-exact piece (ok .exact) 4 n) in
+        elim (edge-keeps liveOptions u (byCase rules key t n) (byNone rules key t) exact known) [
           | inl r ↦
               let same : (i : ℕ) → Live key i → caseKeeps (r .0) (wantAt rules i n) ≡ openAt u (wantAt rules i n) =
               λ i m. r .2 (wantAt rules i n) (option-there i m) in

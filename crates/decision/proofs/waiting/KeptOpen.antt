@@ -10,21 +10,21 @@ use lib.Dec.{T}
 use lib.ListN.{length}
 use Rattle.basics.specs.Lists.{All}
 use Rattle.basics.proofs.ListLaws.{all-at}
-use Rattle.terms.specs.Term.{Terms, unknown, symbol, number, compound}
+use Rattle.terms.specs.Term.{Terms, unknown, symbol, numbers, compound}
 use Rattle.terms.specs.Pattern.{Patterns}
 use Rattle.terms.specs.RuleTests.{PlaceTest, PairTest, at, both, placeTests}
 use Rattle.terms.specs.Lookup.{Found, lacking, found, termAt}
 use Rattle.terms.specs.Outcome.{Outcome, holds, notKnown, contradicted, NotKnown, Contradicted}
 use Rattle.terms.specs.Outcome.{fits, atPlace, placeOutcome, pairOutcome, ruleOutcome}
 use Rattle.terms.specs.Filling.{FilledFurther}
-use Rattle.terms.specs.Accepted.{AcceptedRule, AcceptedPiece}
+use Rattle.terms.specs.Accepted.{AcceptedRule, AcceptedPiece, Exacts}
 use Rattle.terms.specs.Answer.{ruleAt}
 use Rattle.terms.specs.Answer as answers
 use Rattle.terms.specs.Right.{Right}
 use Rattle.terms.proofs.Unknown.{IsUnknown}
 use Rattle.terms.proofs.Outcomes.{Open, open-or-contradicted, holds-contradicted, Stays}
 use Rattle.terms.proofs.RuleOutcomes.{NoneContradicted, outcome-open}
-use Rattle.terms.proofs.MissedFilling.{not-known-unknown}
+use Rattle.terms.proofs.Exact.{finds-exact, not-known-unknown}
 use Rattle.terms.proofs.Stays.{place-stays, pair-stays}
 use Rattle.terms.proofs.Plain.{rules-say}
 use Rattle.terms.proofs.Verdict.{right-suspend}
@@ -46,7 +46,7 @@ is-unknown : (x : Found) → IsUnknown x → T (isUnknown x)
 is-unknown lacking h = h
 is-unknown (found unknown) h = h
 is-unknown (found (symbol a)) h = h
-is-unknown (found (number a)) h = h
+is-unknown (found (numbers a b)) h = h
 is-unknown (found (compound a ts)) h = h
 
 -- and so does what is not known.
@@ -70,16 +70,17 @@ open-stays contradicted y s o unsure c = o
 module _ {piece further : Terms} (more : FilledFurther piece further) where
   -- A test of a rule that is open is not firm afterwards, if it is kept where it was not known.
   kept-not-firm
-      : (rule : Patterns) → NoneContradicted rule piece → (t : Test) → (T (testNotKnown piece t) → Kept piece further t)
-      → Firm rule further t → ⊥
-  kept-not-firm rule free (place n) kept (w, wants, against) =
+      : Exacts piece → (rule : Patterns) → NoneContradicted rule piece → (t : Test)
+      → (T (testNotKnown piece t) → Kept piece further t) → Firm rule further t → ⊥
+  kept-not-firm exact rule free (place n) kept (w, wants, against) =
       let x = at n w in
       open-stays (placeOutcome piece x) (placeOutcome further x) (place-stays more x)
       (all-at (λ (y : PlaceTest). Open (placeOutcome piece y)) (want-test (placeTests rule) n w wants) (free .0))
       (λ unsure c.
-      let same = kept (is-unknown (termAt piece n) (not-known-unknown w (termAt piece n) unsure)) in
+      let hides = not-known-unknown w (termAt piece n) (finds-exact piece exact 4 n) unsure in
+      let same = kept (is-unknown (termAt piece n) hides) in
       not-both (placeOutcome piece x) unsure (subst (λ (f : Found). Contradicted (atPlace (fits w) f)) same c)) against
-  kept-not-firm rule free (pair p q) kept (own, differ) =
+  kept-not-firm exact rule free (pair p q) kept (own, differ) =
       let x = both p q in
       open-stays (pairOutcome piece x) (pairOutcome further x) (pair-stays more x)
       (all-at (λ (y : PairTest). Open (pairOutcome piece y)) (has-pair rule p q own) (free .1))
@@ -103,7 +104,7 @@ module _ (arity : ℕ) (rules : List Patterns) (piece further : Terms) (accepted
   accounted-not-firm
       : (rule : Patterns) → NoneContradicted rule piece → (t : ℕ) → Accounted rules piece Met t
       → Firm rule further (testAt rules t) → ⊥
-  accounted-not-firm rule free t (inl met) firm = kept-not-firm more rule free (testAt rules t) (kept t met) firm
+  accounted-not-firm rule free t (inl met) firm = kept-not-firm more (ok .exact) rule free (testAt rules t) (kept t met) firm
   accounted-not-firm rule free t (inr h) firm =
       let hides =
       kept-unknown more (testAt rules (h .above)) (h .spot) (h .asks) (kept (h .above) (h .seen)) (h .unknown) in
@@ -132,6 +133,6 @@ module _ (arity : ℕ) (rules : List Patterns) (piece further : Terms) (accepted
   pub suspend-still : Right rules further answers.suspend
   suspend-still =
       let two = end .means in
-      right-suspend rules further (rules-say arity rules further accepted okFurther) (suc (two .lower)) (suc (two .higher))
-      (omega arith, omega arith) (omega arith, omega arith) (λ e. omega arith)
+      right-suspend rules further (okFurther .wellFormed) (rules-say arity rules further accepted okFurther)
+      (suc (two .lower)) (suc (two .higher)) (omega arith, omega arith) (omega arith, omega arith) (λ e. omega arith)
       (settled-still (two .lower) (omega arith) (two .atLower)) (settled-still (two .higher) (two .below) (two .atHigher))

@@ -1,10 +1,12 @@
--- A piece filled in further takes the same path while each test on it that was not known is still not known.
+-- A piece filled in further, of which each number was known exactly, takes the same path while each test on it that was not
+-- known is still not known.
 use Prim.Native.Nat.{ℕ, zero, suc}
 use mathlib.Core.Path.{_≡_, refl, ap, subst, _∙_}
 use mathlib.Core.List.{List, [], _∷_}
 use Rattle.terms.specs.Term.{Term, Terms}
 use Rattle.basics.specs.Lists.{Mem, here, there}
 use Rattle.terms.specs.Filling.{Putss}
+use Rattle.terms.specs.Accepted.{Exacts}
 use Rattle.decision.specs.Key.{Leaf}
 use Rattle.decision.specs.Node.{Node}
 use Rattle.decision.specs.Path.{Step, stop, goTo, noWay, stepAt, Path, ends, through, nodeAt, Way}
@@ -30,12 +32,13 @@ way-same {a} {w} {walked} {l} e =
     let way : _≡_ {A = Way} w (record { walked = walked; last = l }) = cc in
     ((cc), ap (λ (x : Way). x .walked) way, ap (λ (x : Way). x .last) way)
 
-module _ {P : Term → Type 0} (nodes : List (Node ℕ)) {piece further : Terms} (more : Putss P piece further) where
+module _ {P : Term → Type 0} (nodes : List (Node ℕ)) {piece further : Terms} (exact : Exacts piece)
+    (more : Putss P piece further) where
   -- The first step of a path that begins with n is the same.
   same-first
       : (n : ℕ) (rest walked : List ℕ) → n ∷ rest ≡ walked → StillNotKnownOn nodes piece further walked
       → stepAt further (nodeAt nodes n) ≡ stepAt piece (nodeAt nodes n)
-  same-first n rest walked e still = same-step more (nodeAt nodes n) (still n (subst (Mem n) e here))
+  same-first n rest walked e still = same-step exact more (nodeAt nodes n) (still n (subst (Mem n) e here))
 
   -- The path from a node on is the same, however many edges may still be walked.
   pub same-path

@@ -1,15 +1,20 @@
--- A piece filled in further takes the same step at a node whose test, if it was not known, is still not known.
+-- A piece filled in further, of which each number was known exactly, takes the same step at a node whose test, if it was not
+-- known, is still not known.
 use Prim.Native.Nat.{ℕ}
-use mathlib.Core.Path.{_≡_, refl, ap, sym, _∙_}
+use mathlib.Core.Path.{_≡_, refl, ap, ap₂, sym, _∙_}
 use mathlib.Core.Bool.{_&&_, cond}
 use mathlib.Core.List.{List, [], _∷_}
+use native.Mathlib.Omega.{arith}
 use lib.Dec.{T, eqb}
-use Rattle.terms.specs.Term.{Term, Terms, unknown, symbol, number, compound}
+use Rattle.terms.specs.Term.{Term, Terms, unknown, symbol, numbers, compound}
 use Rattle.terms.specs.RuleTests.{both}
 use Rattle.terms.specs.Lookup.{Found, lacking, found, termAt}
 use Rattle.terms.specs.Outcome.{Outcome, holds, notKnown, contradicted, compare, atPlaces}
-use Rattle.terms.specs.Filling.{Puts, Putss, putUnknown, putSymbol, putNumber, putCompound}
+use Rattle.terms.specs.Filling.{Puts, Putss, putUnknown, putSymbol, putNumbers, putCompound}
+use Rattle.terms.specs.Accepted.{Exact, Exacts}
 use Rattle.terms.proofs.Outcomes.{Stays}
+use Rattle.terms.proofs.TermPlaces.{IfFound}
+use Rattle.terms.proofs.Exact.{finds-exact}
 use Rattle.terms.proofs.Stays.{Becomes, staysLacking, filledIn, wasUnknown, puts-count, finds-becomes, compare-stays, pair-stays}
 use Rattle.sheet_tests.specs.SheetTests.{Test, place, pair}
 use Rattle.decision.specs.Cases.{Case, symbolCase, compoundCase, numbersCase, takes}
@@ -71,42 +76,46 @@ module _ {A : Type 0} (differ other : A) where
 
 module _ {P : Term → Type 0} where
   -- A term that is not unknown is taken by the same cases when it is filled in.
-  same-takes : {t g : Term} (c : Case) → Puts P t g → (T (isUnknown (found t)) → ⊥) → takes c g ≡ takes c t
-  same-takes c (putUnknown p) k = absurd (k tt)
-  same-takes c putSymbol k = refl
-  same-takes c putNumber k = refl
-  same-takes (symbolCase a) (putCompound fs) k = refl
-  same-takes (numbersCase l h) (putCompound fs) k = refl
-  same-takes (compoundCase a n) (putCompound {a = b} fs) k = ap (λ (m : ℕ). eqb a b && eqb n m) (sym (puts-count fs))
+  same-takes : {t g : Term} (c : Case) → Exact t → Puts P t g → (T (isUnknown (found t)) → ⊥) → takes c g ≡ takes c t
+  same-takes c exact (putUnknown p) k = absurd (k tt)
+  same-takes c exact putSymbol k = refl
+  same-takes c exact (putNumbers {a = a} {b = b} {c = x} {d = y} from ordered to p) k =
+      let low : x ≡ a = omega (arith, exact) in
+      let high : y ≡ b = omega (arith, exact) in
+      ap₂ (λ (u v : ℕ). takes c (numbers u v)) low high
+  same-takes (symbolCase a) exact (putCompound fs) k = refl
+  same-takes (numbersCase l h) exact (putCompound fs) k = refl
+  same-takes (compoundCase a n) exact (putCompound {a = b} fs) k = ap (λ (m : ℕ). eqb a b && eqb n m) (sym (puts-count fs))
 
   -- So it follows the same edge.
   same-follow
-      : {A : Type 0} (cs : List (CaseEdge A)) (x : A) {t g : Term} → Puts P t g → (T (isUnknown (found t)) → ⊥)
+      : {A : Type 0} (cs : List (CaseEdge A)) (x : A) {t g : Term} → Exact t → Puts P t g → (T (isUnknown (found t)) → ⊥)
       → follow cs x g ≡ follow cs x t
-  same-follow [] x f k = refl
-  same-follow {A} (c ∷ cs) x f k =
-      let e = same-takes (c .case) f k in
-      let d = same-follow cs x f k in
+  same-follow [] x exact f k = refl
+  same-follow {A} (c ∷ cs) x exact f k =
+      let e = same-takes (c .case) exact f k in
+      let d = same-follow cs x exact f k in
       λ i. cond (e i) (c .target) (d i)
 
   -- The step at a switch is the same,
   same-switch
-      : {A : Type 0} (cs : List (CaseEdge A)) (x y : A) {f g : Found} → Becomes P f g
+      : {A : Type 0} (cs : List (CaseEdge A)) (x y : A) {f g : Found} → IfFound Exact f → Becomes P f g
       → (T (isUnknown f) → T (isUnknown g)) → switchStep cs x y g ≡ switchStep cs x y f
-  same-switch cs x y staysLacking h = refl
-  same-switch cs x y (filledIn (putUnknown {g = unknown} p)) h = refl
-  same-switch cs x y (filledIn (putUnknown {g = symbol a} p)) h = absurd (h tt)
-  same-switch cs x y (filledIn (putUnknown {g = number a} p)) h = absurd (h tt)
-  same-switch cs x y (filledIn (putUnknown {g = compound a ts} p)) h = absurd (h tt)
-  same-switch cs x y (filledIn putSymbol) h = refl
-  same-switch cs x y (filledIn putNumber) h = refl
-  same-switch cs x y (filledIn (putCompound {a = a} fs)) h =
-      ap goTo (same-follow cs x (putCompound {a = a} fs) (λ z. z))
-  same-switch cs x y (wasUnknown {y = lacking}) h = absurd (h tt)
-  same-switch cs x y (wasUnknown {y = found unknown}) h = refl
-  same-switch cs x y (wasUnknown {y = found (symbol a)}) h = absurd (h tt)
-  same-switch cs x y (wasUnknown {y = found (number a)}) h = absurd (h tt)
-  same-switch cs x y (wasUnknown {y = found (compound a ts)}) h = absurd (h tt)
+  same-switch cs x y exact staysLacking h = refl
+  same-switch cs x y exact (filledIn (putUnknown {g = unknown} p)) h = refl
+  same-switch cs x y exact (filledIn (putUnknown {g = symbol a} p)) h = absurd (h tt)
+  same-switch cs x y exact (filledIn (putUnknown {g = numbers a b} p)) h = absurd (h tt)
+  same-switch cs x y exact (filledIn (putUnknown {g = compound a ts} p)) h = absurd (h tt)
+  same-switch cs x y exact (filledIn putSymbol) h = refl
+  same-switch cs x y exact (filledIn (putNumbers from ordered to p)) h =
+      ap goTo (same-follow cs x exact (putNumbers from ordered to p) (λ z. z))
+  same-switch cs x y exact (filledIn (putCompound {a = a} fs)) h =
+      ap goTo (same-follow cs x exact (putCompound {a = a} fs) (λ z. z))
+  same-switch cs x y exact (wasUnknown {y = lacking}) h = absurd (h tt)
+  same-switch cs x y exact (wasUnknown {y = found unknown}) h = refl
+  same-switch cs x y exact (wasUnknown {y = found (symbol a)}) h = absurd (h tt)
+  same-switch cs x y exact (wasUnknown {y = found (numbers a b)}) h = absurd (h tt)
+  same-switch cs x y exact (wasUnknown {y = found (compound a ts)}) h = absurd (h tt)
 
   -- so is the step at a pair,
   same-pair
@@ -134,7 +143,7 @@ module _ {P : Term → Type 0} where
       go staysLacking k = k
       go (filledIn (putUnknown p)) k = tt
       go (filledIn putSymbol) k = k
-      go (filledIn putNumber) k = k
+      go (filledIn (putNumbers from ordered to p)) k = k
       go (filledIn (putCompound fs)) k = k
       go wasUnknown k = tt
   not-known-earlier {piece} {further} more (pair p q) h =
@@ -143,9 +152,10 @@ module _ {P : Term → Type 0} where
 
   -- and so is the step at any node.
   pub same-step
-      : {A : Type 0} {piece further : Terms} → Putss P piece further
+      : {A : Type 0} {piece further : Terms} → Exacts piece → Putss P piece further
       → (node : Node A) → StillNotKnownAt piece further node
       → stepAt further node ≡ stepAt piece node
-  same-step more (end l) h = refl
-  same-step more (switch n cs x y) h = same-switch cs x y (finds-becomes more 4 n) h
-  same-step more (pairNode p q x y) h = same-pair x y (finds-becomes more 4 p) (finds-becomes more 4 q) h
+  same-step exact more (end l) h = refl
+  same-step {piece = piece} exact more (switch n cs x y) h =
+      same-switch cs x y (finds-exact piece exact 4 n) (finds-becomes more 4 n) h
+  same-step exact more (pairNode p q x y) h = same-pair x y (finds-becomes more 4 p) (finds-becomes more 4 q) h

@@ -1,6 +1,6 @@
 -- The wait sentence (document 01, "The walk"): "If every listed test is still not known in a piece filled in further,
--- suspend stays suspend." It holds for every graph that the graph check accepts, built or another maker's: the walk
--- takes the same path.
+-- suspend stays suspend." It holds for every graph that the graph check accepts, built or another maker's, and every piece of
+-- which each number is known exactly: the walk takes the same path.
 use Prim.Native.Nat.{ℕ}
 use mathlib.Core.Path.{_≡_, ap, subst, _∙_}
 use mathlib.Core.List.{List}
@@ -11,6 +11,7 @@ use Rattle.masks.specs.Mask.{has}
 use Rattle.terms.specs.Term.{Terms}
 use Rattle.terms.specs.Pattern.{Patterns}
 use Rattle.terms.specs.Filling.{FilledFurther}
+use Rattle.terms.specs.Accepted.{Exacts}
 use Rattle.terms.specs.Answer as answers
 use Rattle.sheet.specs.Sheet.{Sheet}
 use Rattle.sheet_tests.specs.CheckSheet.{AcceptedSheet}
@@ -32,12 +33,12 @@ use Rattle.records.specs.Reading.{took}
 -- walk of that piece suspends, with the same edges and the same wait list.
 pub wait-sentence-accepted
     : (rules : List Patterns) (nodes : List (Node ℕ)) → AcceptedGraph rules nodes
-    → (piece further : Terms) → FilledFurther piece further
+    → (piece further : Terms) → Exacts piece → FilledFurther piece further
     → (w : Walk) → walk rules nodes piece ≡ took 0 w → w .answer ≡ answers.suspend
     → ListedNotKnown rules (w .waits) further
     → walk rules nodes further ≡ took 0 w
-wait-sentence-accepted rules nodes accepted piece further more w e suspends listed =
-    ap (atEnd rules nodes further) (same-path nodes more (mostEdges) 0 walked suspendNode on-path (s .taken))
+wait-sentence-accepted rules nodes accepted piece further exact more w e suspends listed =
+    ap (atEnd rules nodes further) (same-path nodes exact more (mostEdges) 0 walked suspendNode on-path (s .taken))
     ∙ ap (took 0) (same-walk ∙ s .told)
   where
     s : Suspended rules nodes piece w
@@ -69,7 +70,7 @@ wait-sentence-accepted rules nodes accepted piece further more w e suspends list
 -- piece filled in further, the walk of that piece suspends, with the same edges and the same wait list.
 pub wait-sentence-built
     : (sheet : Sheet) → AcceptedSheet sheet → (order : List ℕ) (nodes : List (Node ℕ)) → graphIn (sheet .rules) order ≡ some nodes
-    → (piece further : Terms) → FilledFurther piece further
+    → (piece further : Terms) → Exacts piece → FilledFurther piece further
     → (w : Walk) → walk (sheet .rules) nodes piece ≡ took 0 w → w .answer ≡ answers.suspend
     → ListedNotKnown (sheet .rules) (w .waits) further
     → walk (sheet .rules) nodes further ≡ took 0 w

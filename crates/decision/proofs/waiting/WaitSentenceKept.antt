@@ -12,7 +12,7 @@ use lib.ListN.{length}
 use Rattle.masks.specs.Mask.{has}
 use Rattle.basics.proofs.Booleans.{both-true}
 use Rattle.records.specs.Reading.{took}
-use Rattle.terms.specs.Term.{Terms, unknown, symbol, number, compound}
+use Rattle.terms.specs.Term.{Terms, unknown, symbol, numbers, compound}
 use Rattle.terms.specs.Lookup.{Found, lacking, found, termAt}
 use Rattle.terms.specs.Outcome.{Outcome, holds, notKnown, contradicted, NotKnown, atPlaces}
 use Rattle.terms.specs.Filling.{FilledFurther}
@@ -44,7 +44,7 @@ found-unknown : (x : Found) → T (isUnknown x) → x ≡ found unknown
 found-unknown lacking h = absurd h
 found-unknown (found unknown) h = refl
 found-unknown (found (symbol a)) h = absurd h
-found-unknown (found (number a)) h = absurd h
+found-unknown (found (numbers a b)) h = absurd h
 found-unknown (found (compound a ts)) h = absurd h
 
 -- and what passes that for not known is not known.
@@ -89,7 +89,8 @@ module _ (sheet : Sheet) (accepted : AcceptedSheet sheet) (order : List ℕ) (as
       : ListedKept rules (w .waits) piece further
       → (v : Walk) × (walk rules nodes further ≡ took 0 v) × (v .answer ≡ answers.suspend)
   wait-sentence-kept listed =
-      (given after, walk-answers after, one-right rules further (given after .answer) answers.suspend (after .right) right)
+      let same = one-right rules further (okFurther .wellFormed) (given after .answer) answers.suspend (after .right) right in
+      (given after, walk-answers after, same)
     where
       -- A test met that was not known is listed, so it is kept.
       kept

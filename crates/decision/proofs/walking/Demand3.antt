@@ -45,7 +45,7 @@ module _ (sheet : Sheet) (accepted : AcceptedSheet sheet) where
   same-answer-in-every-order p q asksP asksQ first second builtP builtQ piece ok v w e d =
       let one = right-in-every-order p asksP first builtP piece ok in
       let other = right-in-every-order q asksQ second builtQ piece ok in
-      one-right (sheet .rules) piece (v .answer) (w .answer) (answer-right one e) (answer-right other d)
+      one-right (sheet .rules) piece (ok .wellFormed) (v .answer) (w .answer) (answer-right one e) (answer-right other d)
 
   module _ (order : List ℕ) (asks : AskingOrder (sheet .rules) order) (nodes : List (Node ℕ))
       (built : graphIn (sheet .rules) order ≡ some nodes) where
@@ -68,7 +68,7 @@ module _ (sheet : Sheet) (accepted : AcceptedSheet sheet) where
       -- The answer is the plain answer.
       pub walk-is-plain : w .answer ≡ plainAnswer (sheet .rules) piece
       walk-is-plain =
-          one-right (sheet .rules) piece (w .answer) (plainAnswer (sheet .rules) piece)
+          one-right (sheet .rules) piece (ok .wellFormed) (w .answer) (plainAnswer (sheet .rules) piece)
           (answer-right (walks piece ok) e)
           (plain-answer-right (sheet .arity) (sheet .rules) piece (accepted .sound .acceptedRules) ok)
 
@@ -82,5 +82,6 @@ module _ (sheet : Sheet) (accepted : AcceptedSheet sheet) where
           let acceptedRules = accepted .sound .acceptedRules in
           let say = rules-say (sheet .arity) rules piece acceptedRules ok in
           let sayFurther = rules-say (sheet .arity) rules further acceptedRules okFurther in
-          right-keeps rules piece further (λ i. rule-stays more (ruleAt rules i)) say sayFurther (w .answer) (v .answer)
+          right-keeps rules piece further (ok .wellFormed) (okFurther .wellFormed) (λ i. rule-stays more (ruleAt rules i))
+          say sayFurther (w .answer) (v .answer)
           (answer-right (walks piece ok) e) (answer-right (walks further okFurther) d)

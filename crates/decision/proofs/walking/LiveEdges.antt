@@ -1,5 +1,5 @@
 -- What an edge keeps: of the live rules of a key that asks a test, the step that a piece takes keeps exactly those for which
--- the test, if they have it, is not contradicted. For every piece.
+-- the test, if they have it, is not contradicted. For every piece of which each number is known exactly.
 use Prim.Native.Nat.{ℕ, suc, _<_}
 use mathlib.Core.Path.{_≡_, refl, sym, subst, _∙_}
 use mathlib.Core.Bool.{Bool, _&&_, not}
@@ -13,14 +13,16 @@ use Rattle.basics.specs.Lists.{Mem, All}
 use Rattle.basics.proofs.Booleans.{both-true, true-both}
 use Rattle.basics.proofs.Clash.{clash}
 use Rattle.basics.proofs.Filters.{mem-map}
-use Rattle.terms.specs.Term.{Term, Terms, unknown, symbol, number, compound}
+use Rattle.terms.specs.Term.{Term, Terms, unknown, symbol, numbers, compound}
 use Rattle.terms.specs.Pattern.{Patterns}
 use Rattle.terms.specs.RuleTests.{Want}
 use Rattle.terms.specs.Lookup.{Found, lacking, found, termAt}
 use Rattle.terms.specs.Outcome.{Outcome, holds, notKnown, contradicted, fits, compare}
-use Rattle.terms.specs.Accepted.{AcceptedRule}
+use Rattle.terms.specs.Accepted.{AcceptedRule, Exact, Exacts}
 use Rattle.terms.specs.Answer.{ruleAt, isOpen}
 use Rattle.terms.proofs.Unknown.{IsUnknown}
+use Rattle.terms.proofs.TermPlaces.{IfFound}
+use Rattle.terms.proofs.Exact.{finds-exact}
 use Rattle.sheet_tests.specs.SheetTests.{Test, place, pair, sheetTests}
 use Rattle.decision.specs.Rules.{testAt, hasTest, wantAt, rulesWhere}
 use Rattle.decision.specs.Key.{Key, Vertex, keyOf, vertexOf}
@@ -132,11 +134,11 @@ module _ (arity : ℕ) (rules : List Patterns) (accepted : All (AcceptedRule ari
 
         -- So it is by the case that takes the term, or by neither.
         known-kept
-            : (u : Term) → termAt piece n ≡ found u → (IsUnknown (found u) → ⊥)
+            : (u : Term) → termAt piece n ≡ found u → Exact u → (IsUnknown (found u) → ⊥)
             → KeptRules key t
             (follow (edgesTo (byCase rules key t n) (casesOf (liveWants rules (key .live) n))) (byNone rules key t) u)
-        known-kept u there-is known =
-            elim (edge-keeps liveOptions u (byCase rules key t n) (byNone rules key t) known) [
+        known-kept u there-is exact known =
+            elim (edge-keeps liveOptions u (byCase rules key t n) (byNone rules key t) exact known) [
               | inl r ↦
                   subst (KeptRules key t) (sym (r .1))
                   (open-kept u there-is (butTest key t) (λ i. caseKeeps (r .0) (wantAt rules i n)) (λ i l m.
@@ -159,24 +161,25 @@ module _ (arity : ℕ) (rules : List Patterns) (accepted : All (AcceptedRule ari
             go (some w) e = rw (there-is, e) (λ c. c)
 
         -- and so the step at a switch keeps what it should,
-        place-kept : (w : Vertex) → stepAt piece (askNode rules key t (place n)) ≡ goTo w → KeptRules key t w
-        place-kept w = go (termAt piece n) refl
+        place-kept
+            : Exacts piece → (w : Vertex) → stepAt piece (askNode rules key t (place n)) ≡ goTo w → KeptRules key t w
+        place-kept known w = go (termAt piece n) refl (finds-exact piece known 4 n)
           where
             cases : List Case
             cases = casesOf (liveWants rules (key .live) n)
 
             go
-                : (x : Found) → termAt piece n ≡ x
+                : (x : Found) → termAt piece n ≡ x → IfFound Exact x
                 → switchStep (edgesTo (byCase rules key t n) cases) (byNone rules key t) (byUnknown rules key n) x ≡ goTo w
                 → KeptRules key t w
-            go lacking e s = clash (cc)
-            go (found unknown) e s =
+            go lacking e exact s = clash (cc)
+            go (found unknown) e exact s =
                 let same : byUnknown rules key n ≡ w = cc in
                 let isLeft : ℕ → Bool = λ u. has (key .pending) u && not (settledByUnknown n (testAt rules u)) in
                 subst (KeptRules key t) same (drops-none (place n) at isLeft (λ i l. unknown-free e i))
-            go (found (symbol a)) e s = subst (KeptRules key t) (cc) (known-kept (symbol a) e (λ k. k))
-            go (found (number a)) e s = subst (KeptRules key t) (cc) (known-kept (number a) e (λ k. k))
-            go (found (compound a ts)) e s = subst (KeptRules key t) (cc) (known-kept (compound a ts) e (λ k. k))
+            go (found (symbol a)) e exact s = subst (KeptRules key t) (cc) (known-kept (symbol a) e exact (λ k. k))
+            go (found (numbers a b)) e exact s = subst (KeptRules key t) (cc) (known-kept (numbers a b) e exact (λ k. k))
+            go (found (compound a ts)) e exact s = subst (KeptRules key t) (cc) (known-kept (compound a ts) e exact (λ k. k))
 
       -- and so does the step at a pair.
       pair-kept
@@ -215,9 +218,10 @@ module _ (arity : ℕ) (rules : List Patterns) (accepted : All (AcceptedRule ari
           go (found x) (found y) d e s = compared x y d e (compare x y) refl s
 
       -- Hence the step at the node that asks the test.
-      pub asked-kept : (w : Vertex) → stepAt piece (askNode rules key t (testAt rules t)) ≡ goTo w → KeptRules key t w
-      asked-kept w = go (testAt rules t) refl
+      pub asked-kept
+          : Exacts piece → (w : Vertex) → stepAt piece (askNode rules key t (testAt rules t)) ≡ goTo w → KeptRules key t w
+      asked-kept exact w = go (testAt rules t) refl
         where
           go : (x : Test) → testAt rules t ≡ x → stepAt piece (askNode rules key t x) ≡ goTo w → KeptRules key t w
-          go (place n) e s = place-kept n e w s
+          go (place n) e s = place-kept n e exact w s
           go (pair p q) e s = pair-kept p q e w s

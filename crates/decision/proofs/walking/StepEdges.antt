@@ -3,7 +3,7 @@ use mathlib.Core.Path.{_≡_, refl, ap, subst}
 use mathlib.Core.Bool.{Bool, true, false, cond}
 use mathlib.Core.List.{List, [], _∷_, _++_, map}
 use Rattle.basics.specs.Lists.{Mem, here, there}
-use Rattle.terms.specs.Term.{Term, Terms, unknown, symbol, number, compound}
+use Rattle.terms.specs.Term.{Term, Terms, unknown, symbol, numbers, compound}
 use Rattle.terms.specs.Lookup.{Found, lacking, found, termAt}
 use Rattle.terms.specs.Outcome.{Outcome, holds, notKnown, contradicted, compare}
 use Rattle.decision.specs.Cases.{takes}
@@ -36,7 +36,7 @@ module _ {A B : Type 0} (f : A → B) where
   switch-map cs x y lacking = refl
   switch-map cs x y (found unknown) = refl
   switch-map cs x y (found (symbol a)) = ap goTo (follow-map cs x (symbol a))
-  switch-map cs x y (found (number a)) = ap goTo (follow-map cs x (number a))
+  switch-map cs x y (found (numbers a b)) = ap goTo (follow-map cs x (numbers a b))
   switch-map cs x y (found (compound a ts)) = ap goTo (follow-map cs x (compound a ts))
 
   -- by a comparison,
@@ -84,7 +84,7 @@ module _ {A : Type 0} where
   switch-edge cs x y lacking = tt
   switch-edge cs x y (found unknown) = mem-right (map (λ (c : CaseEdge A). c .target) cs) (there here)
   switch-edge cs x y (found (symbol a)) = follow-edge cs x y (symbol a)
-  switch-edge cs x y (found (number a)) = follow-edge cs x y (number a)
+  switch-edge cs x y (found (numbers a b)) = follow-edge cs x y (numbers a b)
   switch-edge cs x y (found (compound a ts)) = follow-edge cs x y (compound a ts)
 
   -- by a comparison,

@@ -3,7 +3,7 @@ use Prim.Native.Nat.{ℕ, suc, pred, _+_}
 use mathlib.Core.List.{List}
 use lib.ListN.{set}
 use Rattle.places.specs.Numbering.{stride}
-use Rattle.terms.specs.Term.{Term, Terms, count, unknown, symbol, number, compound, nil, cons}
+use Rattle.terms.specs.Term.{Term, Terms, count, unknown, symbol, numbers, compound, nil, cons}
 use Rattle.terms.specs.Lookup.{Found, lacking, found}
 use Rattle.codes.specs.views.Codes.{symbolCode, compoundCode, numberCode, unknownCode, termCode}
 
@@ -18,7 +18,7 @@ abbrev mutual
   pub storeTerm : Term → ℕ → ℕ → List ℕ → List ℕ
   storeTerm unknown below p cells = set cells p unknownCode
   storeTerm (symbol a) below p cells = set cells p (symbolCode a)
-  storeTerm (number a) below p cells = set cells p (numberCode a)
+  storeTerm (numbers a b) below p cells = set cells p (numberCode a)
   storeTerm (compound a ts) below p cells = storeTerms ts (pred below) (p + 1) (set cells p (compoundCode a (count ts)))
 
   pub storeTerms : Terms → ℕ → ℕ → List ℕ → List ℕ
