@@ -1,5 +1,5 @@
--- Pieces of which every number is known exactly: what stands in them is so too, and their place tests are not known at an
--- unknown only.
+-- Pieces of which every number is known exactly: what stands in them is so too, and a place test is not known only where an
+-- unknown stands.
 use Prim.Native.Nat.{ℕ}
 use mathlib.Core.Path.{subst}
 use mathlib.Core.Bool.{_&&_}
@@ -18,7 +18,7 @@ use Rattle.terms.proofs.TermPlaces.{IfFound, finds-each}
 pub finds-exact : (ts : Terms) → Exacts ts → (r n : ℕ) → IfFound Exact (finds ts r n)
 finds-exact = finds-each Exact Exacts (λ a ts ok. ok) (λ t ts ok. ok)
 
--- A place test is not known at an unknown only.
+-- A place test is not known only where an unknown stands.
 pub not-known-unknown : (w : Want) (x : Found) → IfFound Exact x → NotKnown (atPlace (fits w) x) → IsUnknown x
 not-known-unknown w lacking exact h = absurd h
 not-known-unknown w (found unknown) exact h = tt

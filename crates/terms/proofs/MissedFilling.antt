@@ -12,15 +12,13 @@ use Rattle.terms.specs.Pattern.{Patterns}
 use Rattle.terms.specs.RuleTests.{Want, aSymbol, aNumber, aCompound, PlaceTest, PairTest, placeTests, pairTests}
 use Rattle.terms.specs.Lookup.{Found, lacking, found, find, termAt}
 use Rattle.terms.specs.Outcome.{Holds, NotKnown, fits, atPlace, placeOutcome, pairOutcome, together, ruleOutcome, Meets}
-use Rattle.terms.specs.Filling.{Ground, WellFormed, WellFormeds, Filling}
+use Rattle.terms.specs.Filling.{Ground, WellFormeds, Filling}
 use Rattle.terms.specs.Accepted.{AcceptedRule, AcceptedPiece}
 use Rattle.terms.proofs.Unknown.{IsUnknown}
 use Rattle.basics.proofs.ListLaws.{all-at}
 use Rattle.terms.proofs.Outcomes.{known-decided, not-known-open, and-not-known, together-not-known}
 use Rattle.terms.proofs.RuleOutcomes.{outcome-open}
 use Rattle.terms.proofs.Spans.{Within, range-holds-at, range-not-known-at}
-use Rattle.terms.proofs.WellFormed.{finds-well-formed}
-use Rattle.terms.proofs.TermPlaces.{IfFound}
 use Rattle.terms.proofs.ConstantFilling.{fillAllBy, OfSpan, fill-all-by, lowest, highest, of-lowest, of-highest}
 use Rattle.terms.proofs.ConstantFilling.{fillAllWith, fill-all-with, zero-ground, unknowns-with, SpanFilled, spans-by}
 use Rattle.terms.proofs.MissedPair.{missed-pair}
@@ -74,30 +72,29 @@ module _ (piece : Terms) (ok : WellFormeds piece) (n : ℕ) where
       )
 
   -- Where a place test is not known there is such a filling.
-  missed-at : (w : Want) (y : Found) → termAt piece n ≡ y → IfFound WellFormed y → NotKnown (atPlace (fits w) y) → Missed w
-  missed-at w lacking e formed k = absurd k
-  missed-at w (found unknown) e formed k = unknown-missed w (subst IsUnknown (sym e) tt)
-  missed-at (aSymbol a) (found (symbol b)) e formed k = absurd (known-decided (eqb a b) k)
-  missed-at (aSymbol a) (found (numbers b c)) e formed k = absurd k
-  missed-at (aSymbol a) (found (compound b ts)) e formed k = absurd k
-  missed-at (aNumber l h) (found (symbol b)) e formed k = absurd k
-  missed-at (aNumber l h) (found (numbers a b)) e formed k =
-      elim (range-not-known-at l h a b (formed .0) k) [
+  missed-at : (w : Want) (y : Found) → termAt piece n ≡ y → NotKnown (atPlace (fits w) y) → Missed w
+  missed-at w lacking e k = absurd k
+  missed-at w (found unknown) e k = unknown-missed w (subst IsUnknown (sym e) tt)
+  missed-at (aSymbol a) (found (symbol b)) e k = absurd (known-decided (eqb a b) k)
+  missed-at (aSymbol a) (found (numbers b c)) e k = absurd k
+  missed-at (aSymbol a) (found (compound b ts)) e k = absurd k
+  missed-at (aNumber l h) (found (symbol b)) e k = absurd k
+  missed-at (aNumber l h) (found (numbers a b)) e k =
+      elim (range-not-known-at l h a b k) [
         | inl p ↦ end-missed lowest of-lowest l h a b e (λ s. omega (arith, s .0))
         | inr p ↦ end-missed highest of-highest l h a b e (λ s. omega (arith, s .1))
       ]
-  missed-at (aNumber l h) (found (compound b ts)) e formed k = absurd k
-  missed-at (aCompound a m) (found (symbol b)) e formed k = absurd k
-  missed-at (aCompound a m) (found (numbers b c)) e formed k = absurd k
-  missed-at (aCompound a m) (found (compound b ts)) e formed k = absurd (known-decided (eqb a b && eqb m (count ts)) k)
+  missed-at (aNumber l h) (found (compound b ts)) e k = absurd k
+  missed-at (aCompound a m) (found (symbol b)) e k = absurd k
+  missed-at (aCompound a m) (found (numbers b c)) e k = absurd k
+  missed-at (aCompound a m) (found (compound b ts)) e k = absurd (known-decided (eqb a b && eqb m (count ts)) k)
 
 -- A place test that is not known does not hold in some filling.
 missed-place
     : (piece : Terms) → WellFormeds piece → (x : PlaceTest) → NotKnown (placeOutcome piece x)
     → (filled : Terms) × Filling piece filled × (Holds (placeOutcome filled x) → ⊥)
 missed-place piece ok x unsure =
-    let n = x .place in
-    missed-at piece ok n (x .want) (termAt piece n) refl (finds-well-formed piece ok 4 n) unsure
+    missed-at piece ok (x .place) (x .want) (termAt piece (x .place)) refl unsure
 
 -- Where the outcome is not known, some filling does not meet the rule.
 pub missed-filling

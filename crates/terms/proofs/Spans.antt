@@ -64,8 +64,16 @@ module _ (l h a b : ℕ) where
     λ s. by-two NotKnown within outside (λ t. s .0 (both-le l a b h .0 t)) (λ n t. s .1 (one-lt b l h a .0 t)) (λ n m. tt),
   )
 
+  -- and then an end of the span lies outside the range.
+  pub range-not-known-at : NotKnown (inside l h a b) → (a < l) ⊎ (h < b)
+  range-not-known-at n =
+      elim (le-or-lt l a) [
+        | inr p ↦ inl p
+        | inl p ↦ elim (le-or-lt b h) [ inr q ↦ inr q | inl q ↦ absurd (range-not-known .0 n .0 (p, q)) ]
+      ]
+
   module _ (o : a ≤ b) where
-    -- "is contradicted at one wholly outside",
+    -- It "is contradicted at one wholly outside",
     pub range-contradicted-at : Contradicted (inside l h a b) ↔ ((b < l) ⊎ (h < a))
     range-contradicted-at = (
       by-two (λ x. Contradicted x → (b < l) ⊎ (h < a)) within outside (λ t k. absurd k) (λ n t k. one-lt b l h a .0 t)
@@ -75,7 +83,7 @@ module _ (l h a b : ℕ) where
           (λ n t. tt) (λ n m. m (one-lt b l h a .1 s)),
     )
 
-    -- and is open at one with which it has a number in common:
+    -- and is open at one with which it has a number in common.
     pub range-open-at : Open (inside l h a b) ↔ ((l ≤ b) × (a ≤ h))
     range-open-at = (
       by-two (λ x. Open x → (l ≤ b) × (a ≤ h)) within outside
@@ -85,15 +93,6 @@ module _ (l h a b : ℕ) where
           (λ n t. elim (one-lt b l h a .0 t) [ inl p ↦ omega (arith, s .0) | inr p ↦ omega (arith, s .1) ])
           (λ n m. tt),
     )
-
-    -- where it is not known, an end of the span lies outside the range.
-    pub range-not-known-at : NotKnown (inside l h a b) → (a < l) ⊎ (h < b)
-    range-not-known-at n =
-        let no-holds = neither (inside l h a b) .0 n .0 in
-        elim (le-or-lt l a) [
-          | inr p ↦ inl p
-          | inl p ↦ elim (le-or-lt b h) [ inr q ↦ inr q | inl q ↦ absurd (no-holds (range-holds-at .1 (p, q))) ]
-        ]
 
     -- So a test holds where every number of the span is in the range,
     pub holds-for-all : Holds (inside l h a b) ↔ ((v : ℕ) → Within a b v → Within l h v)

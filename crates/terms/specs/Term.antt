@@ -2,8 +2,8 @@
 use Prim.Native.Nat.{ℕ, suc, _<_}
 
 -- "Terms: 30 unknown; 31 symbol (wide id); 32 number (wide); 33 compound (wide id, arity), then its arguments." The arity is
--- the number of arguments. A piece is the list of its argument terms. Numbers are a span, from its low to its high: "a number
--- known to lie between them".
+-- the number of arguments. A piece is the list of its argument terms. A number may be known as a span only, by its low and its
+-- high: "a number known to lie between them".
 mutual
   pub data Term : Type 0 where
     unknown : Term
