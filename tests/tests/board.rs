@@ -214,8 +214,8 @@ fn the_code_is_as_large_as_the_readme_says() {
 }
 
 #[test]
-fn nothing_is_needed_from_outside_but_memset_and_memcpy() {
+fn nothing_is_needed_from_outside_but_memset() {
     let table = output("nm", "-u");
     let needed: Vec<&str> = table.lines().filter_map(|line| line.trim().strip_prefix("U ")).collect();
-    assert_eq!(needed, ["memcpy", "memset"]);
+    assert_eq!(needed, ["memset"]);
 }

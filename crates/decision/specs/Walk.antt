@@ -53,11 +53,29 @@ asksTest t (pairNode p q x y) = sameTest t (pair p q)
 abbrev pub isMet : List Patterns → List (Node ℕ) → List ℕ → ℕ → Bool
 isMet rules nodes walked t = anyOf (λ (n : ℕ). asksTest (testAt rules t) (nodeAt nodes n)) walked
 
+-- The outcome for rule i of a test that it has.
+abbrev pub wantOutcome : Option Want → Found → Outcome
+wantOutcome none x = holds
+wantOutcome (some w) x = atPlace (fits w) x
+
+abbrev pub testOutcome : List Patterns → Terms → ℕ → Test → Outcome
+testOutcome rules piece i (place n) = wantOutcome (wantAt rules i n) (termAt piece n)
+testOutcome rules piece i (pair p q) = atPlaces (termAt piece p) (termAt piece q)
+
+abbrev pub isContradicted : Outcome → Bool
+isContradicted holds = false
+isContradicted notKnown = false
+isContradicted contradicted = true
+
+-- The tests of rule i, from 0, whose outcome for it is one of those.
+abbrev pub ruleTestsWhere : List Patterns → Terms → ℕ → (Outcome → Bool) → ℕ
+ruleTestsWhere rules piece i is =
+    testsWhere rules (λ t. hasTest rules i t && is (testOutcome rules piece i (testAt rules t)))
+
 -- "For suspend it holds the tests met not known on the walk, for execute those of rule i not known, else none."
 abbrev pub executeWaits : List Patterns → Terms → ℕ → Outcome → ℕ
 executeWaits rules piece i holds = 0
-executeWaits rules piece i notKnown =
-    testsWhere rules (λ t. hasTest rules (pred i) t && testNotKnown piece (testAt rules t))
+executeWaits rules piece i notKnown = ruleTestsWhere rules piece (pred i) isNotKnown
 executeWaits rules piece i contradicted = 0
 
 module _ (rules : List Patterns) (nodes : List (Node ℕ)) (piece : Terms) where
@@ -81,20 +99,6 @@ module _ (rules : List Patterns) (nodes : List (Node ℕ)) (piece : Terms) where
   -- What the walk answers, or the number of the question that got a no.
   abbrev pub walk : Reading Walk
   walk = atEnd (path nodes piece)
-
--- The outcome for rule i of a test that it has.
-abbrev pub wantOutcome : Option Want → Found → Outcome
-wantOutcome none x = holds
-wantOutcome (some w) x = atPlace (fits w) x
-
-abbrev pub testOutcome : List Patterns → Terms → ℕ → Test → Outcome
-testOutcome rules piece i (place n) = wantOutcome (wantAt rules i n) (termAt piece n)
-testOutcome rules piece i (pair p q) = atPlaces (termAt piece p) (termAt piece q)
-
-abbrev pub isContradicted : Outcome → Bool
-isContradicted holds = false
-isContradicted notKnown = false
-isContradicted contradicted = true
 
 -- "On it a rule is live until a test of it met there is contradicted."
 abbrev pub liveOn : List Patterns → List (Node ℕ) → Terms → List ℕ → ℕ → Bool

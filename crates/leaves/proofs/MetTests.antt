@@ -19,13 +19,13 @@ use Rattle.masks.proofs.Extensionality.{ext, maskOf-lt, has-maskOf, maskOf-same
 use Rattle.basics.specs.Lists.{Mem, All}
 use Rattle.basics.proofs.ListLaws.{all-at}
 use Rattle.basics.proofs.Positions.{mem-at}
-use Rattle.sheet_tests.specs.views.TestsRead.{keptTests}
 use Rattle.sheet_tests.specs.SheetTests.{Test, place}
 use Rattle.decision.specs.Rules.{sameTest}
 use Rattle.decision.proofs.rules.TestsOfRules.{same-test}
 use Rattle.leaves.specs.views.OpenTests.{openCells, isMet, metWaits}
-use Rattle.leaves.specs.views.TestNumbers.{testNumber, codeTest, Once, withIf, KeptCode, Listed}
-use Rattle.leaves.proofs.KeptNumbers.{code-mem}
+use Rattle.leaves.specs.views.TestNumbers.{testNumber, codeTest, Once, withIf, KeptCode}
+use Rattle.leaves.specs.views.Kept.{listedTests, Listed}
+use Rattle.leaves.proofs.CodeNumbers.{listed-few}
 use Rattle.leaves.proofs.Numbers.{number-there, number-at}
 use Rattle.basics.proofs.Filters.{any-join}
 
@@ -107,22 +107,22 @@ module _ (tests : List Test) (cells : List ℕ) where
       (sym (any-join (λ (k : ℕ). sameTest (test t) (codeTest k)) met (c ∷ []))))
 
 -- The tests met, one after another.
-module _ {words codes : List ℕ} {pairs : ℕ} (listed : Listed words codes pairs) (cells met : List ℕ) (edges i : ℕ)
-    (kept : All (KeptCode words codes pairs) (take edges met)) (more : i < edges) (room : edges ≤ length met) where
-  pub met-at : KeptCode words codes pairs (getD met i 0)
+module _ (kept : List ℕ) (listed : Listed kept) (cells met : List ℕ) (edges i : ℕ)
+    (all : All (KeptCode (listedTests kept)) (take edges met)) (more : i < edges) (room : edges ≤ length met) where
+  pub met-at : KeptCode (listedTests kept) (getD met i 0)
   met-at =
-      subst (KeptCode words codes pairs) (getD-take edges met i 0 more)
-      (all-at (KeptCode words codes pairs) (mem-at 0 (take edges met) i (omega (arith, length-take-le edges met room))) kept)
+      subst (KeptCode (listedTests kept)) (getD-take edges met i 0 more)
+      (all-at (KeptCode (listedTests kept)) (mem-at 0 (take edges met) i (omega (arith, length-take-le edges met room))) all)
 
   pub met-turn
-      : {set : ℕ} → set ≡ metWaits (keptTests words codes pairs) cells (take i met)
-      → withIf (openCells cells (codeTest (getD met i 0))) set (testNumber (keptTests words codes pairs) (codeTest (getD met i 0)))
-      ≡ metWaits (keptTests words codes pairs) cells (take (i + 1) met)
+      : {set : ℕ} → set ≡ metWaits (listedTests kept) cells (take i met)
+      → withIf (openCells cells (codeTest (getD met i 0))) set (testNumber (listedTests kept) (codeTest (getD met i 0)))
+      ≡ metWaits (listedTests kept) cells (take (i + 1) met)
   met-turn e =
-      let tests = keptTests words codes pairs in
+      let tests = listedTests kept in
       let code = getD met i 0 in
       let next : take i met ++ code ∷ [] ≡ take (i + 1) met =
       sym (ap (λ (n : ℕ). take n met) (add-one i) ∙ take-suc met i 0 (omega arith)) in
       ap (λ (w : ℕ). withIf (openCells cells (codeTest code)) w (testNumber tests (codeTest code))) e
-      ∙ met-more tests cells (listed .few) (listed .once) (take i met) code (code-mem listed code met-at)
+      ∙ met-more tests cells (listed-few kept (listed .counted)) (listed .once) (take i met) code (met-at .1)
       ∙ ap (metWaits tests cells) next

@@ -1,9 +1,9 @@
 -- The number of a test in a list.
-use Prim.Native.Nat.{ℕ, zero, suc, _+_, _-_, _<_}
+use Prim.Native.Nat.{ℕ, zero, suc, _<_}
 use mathlib.Core.Path.{_≡_, refl, sym, ap, subst, _∙_}
 use mathlib.Core.Bool.{Bool, true, false, cond}
 use mathlib.Core.Logic.{inl, inr}
-use mathlib.Core.List.{List, [], _∷_, _++_}
+use mathlib.Core.List.{List, [], _∷_}
 use native.Mathlib.Omega.{arith}
 use borrow.Author.Tests.{eq-eqb, ne-eqb}
 use lib.Dec.{T, eqb, eqb·suc-suc}
@@ -25,19 +25,6 @@ by-choice Q true f g = f refl
 by-choice Q false f g = g refl
 
 module _ (t : Test) where
-  -- Behind tests that are not the same.
-  pub number-behind
-      : (xs ys : List Test) → All (λ (u : Test). sameTest u t ≡ false) xs → testNumber (xs ++ ys) t ≡ length xs + testNumber ys t
-  number-behind [] ys h = let none : testNumber ys t ≡ 0 + testNumber ys t = omega arith in none
-  number-behind (x ∷ xs) ys h =
-      ap (λ (b : Bool). cond b 0 (suc (testNumber (xs ++ ys) t))) (h .0)
-      ∙ ap suc (number-behind xs ys (h .1))
-      ∙ (let more : suc (length xs + testNumber ys t) ≡ suc (length xs) + testNumber ys t = omega arith in more)
-
-  -- At the first that is the same.
-  pub number-first : (u : Test) (us : List Test) → sameTest u t ≡ true → testNumber (u ∷ us) t ≡ 0
-  number-first u us e = ap (λ (b : Bool). cond b 0 (suc (testNumber us t))) e
-
   same-mem : (u : Test) (us : List Test) → Mem t (u ∷ us) → sameTest u t ≡ false → Mem t us
   same-mem u us m f =
       elim (mem-cases m) [

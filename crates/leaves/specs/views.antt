@@ -4,4 +4,5 @@ pub mod OpenTests
 pub mod TakenNotes
 pub mod Seeking
 pub mod Kept
+pub mod RuleMasks
 pub mod LeafAnswers

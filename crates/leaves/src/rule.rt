@@ -1,11 +1,10 @@
 // The answer at an execute of a rule.
 use crate::Executed;
 use crate::begins::passed;
-use crate::own::own_waits;
-use outcomes::TestOutcome;
+use crate::made::rule_masks;
 use plain::Answer;
-use plain::rule::rule_outcome;
 use sheet::Took;
+use tables::Tables;
 ghost use Prim.Native.Nat.{_≤_};
 ghost use mathlib.Core.Path.{_≡_};
 ghost use mathlib.Core.List.{[]};
@@ -18,11 +17,12 @@ ghost use Rattle.sheet.specs.views.NoteArray.{notesIn};
 ghost use Rattle.sheet.specs.ReadSheet.{readRules};
 ghost use Rattle.sheet_tests.specs.views.NoteTests.{Placed};
 ghost use Rattle.outcomes.specs.views.CompareCells.{Narrow};
-ghost use Rattle.plain.specs.views.NotesOutcome.{notesOutcome};
+ghost use Rattle.test_list.specs.views.Tests.{Counted};
 ghost use Rattle.graph.specs.views.Rewriting.{readOr};
-ghost use Rattle.leaves.specs.views.LeafAnswers.{executed, executedOf, ownWaits};
+ghost use Rattle.leaves.specs.views.RuleMasks.{notesMasks};
+ghost use Rattle.leaves.specs.views.LeafAnswers.{executedBy, executedOf};
 ghost use Rattle.leaves.specs.views.TakenNotes.{takenNotes, countOf};
-ghost use Rattle.leaves.specs.views.Kept.{KeptNear, RuleRead};
+ghost use Rattle.leaves.specs.views.Kept.{RuleRead, listedTests};
 ghost use Rattle.leaves.specs.views.Seeking.{BeginAt};
 
 // The notes of a rule, from 1, of the rules, so many, that the input begins with: its bytes, and how many notes there are. The
@@ -65,31 +65,30 @@ pub fn at_rule(
     notes: &[u64; 680],
     n: usize,
     rule: u8,
-    words: &[u64; 11],
-    codes: &[u32; 65],
-    pairs: usize,
+    kept: &Tables,
     cells: &[u32; 680],
 ) -> Executed
-    requires { ⌜ (n ≤ 680) × (length (now notes) ≡ 680) × All Placed (notesIn (now notes) n) × Narrow (now cells) ⌝ }
-    requires { ⌜ KeptNear (now words) (now codes) pairs ⌝ }
+    requires { ⌜ (n ≤ 680) × (length (now notes) ≡ 680) × All Placed (notesIn (now notes) n) × Counted (now kept)
+        × Narrow (now cells) ⌝ }
     ensures { λ r. ⌜ executedOf r
-        ≡ executed rule (notesOutcome (now (cells .entry)) (notesIn (now (notes .entry)) n))
-        (ownWaits (now (words .entry)) (now (codes .entry)) pairs (now (cells .entry))
-        (notesIn (now (notes .entry)) n)) ⌝ }
+        ≡ executedBy rule
+        (notesMasks (listedTests (now (kept .entry))) (now (cells .entry)) (notesIn (now (notes .entry)) n)) ⌝ }
 {
-    let outcome = rule_outcome(notes, n, cells);
-    match outcome {
-        TestOutcome::Holds => Executed {
-            answer: Answer::Commit(rule),
-            waits: 0,
-        },
-        TestOutcome::NotKnown => Executed {
-            answer: Answer::Execute(rule),
-            waits: own_waits(notes, n, words, codes, pairs, cells),
-        },
-        TestOutcome::Contradicted => Executed {
+    let masks = rule_masks(notes, n, kept, cells);
+    if masks.contradicted != 0 {
+        return Executed {
             answer: Answer::Fail,
             waits: 0,
-        },
+        };
+    }
+    if masks.unknown == 0 {
+        return Executed {
+            answer: Answer::Commit(rule),
+            waits: 0,
+        };
+    }
+    Executed {
+        answer: Answer::Execute(rule),
+        waits: masks.unknown,
     }
 }

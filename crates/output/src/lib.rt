@@ -1,12 +1,10 @@
 // The whole output of the listing for given bytes of sheet and input: the sheet and its graph are read and checked once, then each
 // piece is.
 use build::Built;
-use sheet_tests::tested::count_places;
 use walk_all::First;
 use walk_all::Opened;
 use walk_all::first_piece::walk_first;
 use walk_all::open::open_graph;
-use walk_all::open::with_begins;
 ghost use Prim.Native.Nat.{ℕ, _+_, _≤_, min};
 ghost use mathlib.Core.Path.{_≡_};
 ghost use lib.ListN.{length};
@@ -51,22 +49,20 @@ fn put_built(sheet: &[u8], graph: &[u8], nodes: u16, input: &[u8], out: &mut [u8
         × (now (out .exit)
         ≡ splice (now (out .entry)) 0 (builtLines (now (sheet .entry)) (now (graph .entry)) nodes (now (input .entry)))) ⌝ }
 {
-    let mut words = [0u64; 11];
-    let mut codes = [0u32; 65];
     let mut starts = [0u32; 1024];
-    let opened = open_graph(sheet, graph, &mut words, &mut codes, &mut starts);
+    let mut notes = [0u64; 680];
+    let mut kept = [0u64; 324];
+    let opened = open_graph(sheet, graph, &mut starts, &mut notes, &mut kept);
     match opened {
         Opened::Refused(q) => lines::put_refused(out, 0, q),
-        Opened::Ready(arity, rules, pairs, nodes_read) => {
-            let sizes = with_begins(sheet, arity, rules, pairs, nodes_read);
-            let places = count_places(&words);
-            let tests = (places + pairs) as u8;
-            let mut end = lines::put_sheet_line(out, 0, arity, rules, tests, nodes);
+        Opened::Ready(sizes) => {
+            let tests = tables::tests(&kept) as u8;
+            let mut end = lines::put_sheet_line(out, 0, sizes.arity, sizes.rules, tests, nodes);
             let mut from: usize = 0;
             let mut n: u32 = 1;
             while from < input.len() {
                 let rest = &input[from..];
-                let first = walk_first(sheet, graph, &starts, &words, &codes, sizes, rest);
+                let first = walk_first(sheet, graph, &starts, &kept, sizes, &mut notes, rest);
                 let turn = put_first(first, n, out, end);
                 match turn {
                     Turn::Last(last) => return last,

@@ -10,10 +10,9 @@ use lib.ListN.{length, getD, drop}
 use borrow.Author.Tests.{ne-eqb}
 use Rattle.masks.specs.Mask.{has}
 use Rattle.masks.proofs.Extensionality.{maskOf-unique}
-use Rattle.terms.specs.RuleTests.{Want, PlaceTest, PairTest, Occurrence, both, pairsWith, pairsOf}
+use Rattle.terms.specs.RuleTests.{Want, PlaceTest, Occurrence, both, pairsWith, pairsOf}
 use Rattle.sheet.specs.declared.PatternRecord.{PatternRecord}
 use Rattle.sheet.specs.declared.PatternRecord.the-variants.{Anything, Symbol, Range, Compound, Variable, Ranged}
-use Rattle.sheet.specs.views.Noted.{Note}
 use Rattle.sheet.specs.views.NoteCode.{codePlace, codeRecord}
 use Rattle.sheet.specs.views.NoteArray.{notesIn}
 use Rattle.sheet_tests.specs.declared.Name.{Name}
@@ -88,76 +87,92 @@ codes-more p v q (Of u) os = go (eqb v u)
     go true = refl
     go false = refl
 
+-- The pairs of the notes from one on, with a note more.
+module _ (codes : List ℕ) (n : ℕ) (within : n ≤ length codes) (i : ℕ) where
+  -- A place of v makes a pair with a place of v, and any other note none.
+  pub codes-turn
+      : (p v : ℕ) (b : Bool) → i < n → isNamed v (codeRecord (getD codes i 0)) ≡ b
+      → codesWith p v (drop i (notesIn codes n))
+      ≡ consIf b (pairCode p (codePlace (getD codes i 0))) (codesWith p v (drop (i + 1) (notesIn codes n)))
+  codes-turn p v b h e =
+      let c = getD codes i 0 in
+      let rest = drop (i + 1) (notesIn codes n) in
+      ap (codesWith p v) (notes-next codes n within i h)
+      ∙ codes-more p v (codePlace c) (nameOf (codeRecord c)) (notesVariables rest)
+      ∙ ap (λ (x : Bool). consIf x (pairCode p (codePlace c)) (codesWith p v rest)) (sym (named-is v (codeRecord c)) ∙ e)
+
+  pub codes-end : (p v : ℕ) → n ≤ i → codesWith p v (drop i (notesIn codes n)) ≡ []
+  codes-end p v h = ap (codesWith p v) (notes-end codes n within i h)
+
+  all-turn
+      : (name : Name) → i < n → nameOf (codeRecord (getD codes i 0)) ≡ name
+      → notesCodes (drop i (notesIn codes n))
+      ≡ pairCodes (pairsOf (occurrence (codePlace (getD codes i 0)) name (notesVariables (drop (i + 1) (notesIn codes n)))))
+  all-turn name h e =
+      let os = notesVariables (drop (i + 1) (notesIn codes n)) in
+      ap notesCodes (notes-next codes n within i h)
+      ∙ ap (λ (x : Name). pairCodes (pairsOf (occurrence (codePlace (getD codes i 0)) x os))) e
+
+  -- A variable makes pairs with its later places,
+  pub all-named
+      : (v : ℕ) → i < n → nameOf (codeRecord (getD codes i 0)) ≡ Of v
+      → notesCodes (drop i (notesIn codes n))
+      ≡ codesWith (codePlace (getD codes i 0)) v (drop (i + 1) (notesIn codes n)) ++ notesCodes (drop (i + 1) (notesIn codes n))
+  all-named v h e =
+      let os = notesVariables (drop (i + 1) (notesIn codes n)) in
+      all-turn (Of v) h e ∙ map-append _ (pairsWith (codePlace (getD codes i 0)) v os) (pairsOf os)
+
+  -- and any other record none.
+  pub all-nameless
+      : i < n → nameOf (codeRecord (getD codes i 0)) ≡ Nameless
+      → notesCodes (drop i (notesIn codes n)) ≡ notesCodes (drop (i + 1) (notesIn codes n))
+  all-nameless h e = all-turn Nameless h e
+
+  pub all-end : n ≤ i → notesCodes (drop i (notesIn codes n)) ≡ []
+  all-end h = ap notesCodes (notes-end codes n within i h)
+
 module _ (codes : List ℕ) (n : ℕ) (within : n ≤ length codes) (i count : ℕ) (kept : List ℕ) where
   -- The pairs of a place of variable v with the notes from one on.
   module _ (p v : ℕ) where
     abbrev pub withFrom : ℕ → ℕ → ℕ
     withFrom j row = withTests (pairNumbers count kept (codesWith p v (drop j (notesIn codes n)))) row
 
-    with-step
-        : (b : Bool) → i < n → isNamed v (codeRecord (getD codes i 0)) ≡ b → (row : ℕ)
-        → withFrom i row
-        ≡ withTests
-        (pairNumbers count kept
-        (consIf b (pairCode p (codePlace (getD codes i 0))) (codesWith p v (drop (i + 1) (notesIn codes n)))))
-        row
-    with-step b h e row =
-        let c = getD codes i 0 in
-        let rest = drop (i + 1) (notesIn codes n) in
-        let put : List ℕ → ℕ = λ cs. withTests (pairNumbers count kept cs) row in
-        ap (λ (ns : List Note). put (codesWith p v ns)) (notes-next codes n within i h)
-        ∙ ap put (codes-more p v (codePlace c) (nameOf (codeRecord c)) (notesVariables rest))
-        ∙ ap (λ (x : Bool). put (consIf x (pairCode p (codePlace c)) (codesWith p v rest))) (sym (named-is v (codeRecord c)) ∙ e)
-
     -- A place of v makes a pair,
     pub with-yes
         : i < n → isNamed v (codeRecord (getD codes i 0)) ≡ true → (row : ℕ)
         → withFrom (i + 1) (withTest row (pairNumber count kept (pairCode p (codePlace (getD codes i 0))))) ≡ withFrom i row
-    with-yes h e row = sym (with-step true h e row)
+    with-yes h e row =
+        sym (ap (λ (cs : List ℕ). withTests (pairNumbers count kept cs) row) (codes-turn codes n within i p v true h e))
 
     -- and any other note none.
     pub with-no : i < n → isNamed v (codeRecord (getD codes i 0)) ≡ false → (row : ℕ) → withFrom (i + 1) row ≡ withFrom i row
-    with-no h e row = sym (with-step false h e row)
+    with-no h e row =
+        sym (ap (λ (cs : List ℕ). withTests (pairNumbers count kept cs) row) (codes-turn codes n within i p v false h e))
 
     pub with-end : n ≤ i → (row : ℕ) → withFrom i row ≡ row
-    with-end h row =
-        ap (λ (ns : List Note). withTests (pairNumbers count kept (codesWith p v ns)) row) (notes-end codes n within i h)
+    with-end h row = ap (λ (cs : List ℕ). withTests (pairNumbers count kept cs) row) (codes-end codes n within i p v h)
 
   -- All pairs of the notes from one on.
   abbrev pub pairsFrom : ℕ → ℕ → ℕ
   pairsFrom j row = withTests (pairNumbers count kept (notesCodes (drop j (notesIn codes n)))) row
-
-  pairs-step
-      : (name : Name) → i < n → nameOf (codeRecord (getD codes i 0)) ≡ name → (row : ℕ)
-      → pairsFrom i row
-      ≡ withTests
-      (pairNumbers count kept
-      (pairCodes
-      (pairsOf (occurrence (codePlace (getD codes i 0)) name (notesVariables (drop (i + 1) (notesIn codes n)))))))
-      row
-  pairs-step name h e row =
-      let os = notesVariables (drop (i + 1) (notesIn codes n)) in
-      let put : List PairTest → ℕ = λ ps. withTests (pairNumbers count kept (pairCodes ps)) row in
-      ap (λ (ns : List Note). put (pairsOf (notesVariables ns))) (notes-next codes n within i h)
-      ∙ ap (λ (x : Name). put (pairsOf (occurrence (codePlace (getD codes i 0)) x os))) e
 
   -- A variable makes pairs with its later places,
   pub pairs-named
       : (v : ℕ) → i < n → nameOf (codeRecord (getD codes i 0)) ≡ Of v → (row : ℕ)
       → pairsFrom (i + 1) (withFrom (codePlace (getD codes i 0)) v (i + 1) row) ≡ pairsFrom i row
   pairs-named v h e row =
-      let p = codePlace (getD codes i 0) in
-      let os = notesVariables (drop (i + 1) (notesIn codes n)) in
+      let own = codesWith (codePlace (getD codes i 0)) v (drop (i + 1) (notesIn codes n)) in
+      let rest = notesCodes (drop (i + 1) (notesIn codes n)) in
       sym
-      (pairs-step (Of v) h e row
-      ∙ ap (λ (cs : List ℕ). withTests (pairNumbers count kept cs) row) (map-append _ (pairsWith p v os) (pairsOf os))
-      ∙ ap (λ (ts : List ℕ). withTests ts row) (map-append _ (pairCodes (pairsWith p v os)) (pairCodes (pairsOf os)))
-      ∙ with-append (pairNumbers count kept (pairCodes (pairsWith p v os))) (pairNumbers count kept (pairCodes (pairsOf os))) row)
+      (ap (λ (cs : List ℕ). withTests (pairNumbers count kept cs) row) (all-named codes n within i v h e)
+      ∙ ap (λ (ts : List ℕ). withTests ts row) (map-append _ own rest)
+      ∙ with-append (pairNumbers count kept own) (pairNumbers count kept rest) row)
 
   -- and any other record none.
   pub pairs-nameless
       : i < n → nameOf (codeRecord (getD codes i 0)) ≡ Nameless → (row : ℕ) → pairsFrom (i + 1) row ≡ pairsFrom i row
-  pairs-nameless h e row = sym (pairs-step Nameless h e row)
+  pairs-nameless h e row =
+      sym (ap (λ (cs : List ℕ). withTests (pairNumbers count kept cs) row) (all-nameless codes n within i h e))
 
   pub pairs-end : n ≤ i → (row : ℕ) → pairsFrom i row ≡ row
-  pairs-end h row = ap (λ (ns : List Note). withTests (pairNumbers count kept (notesCodes ns)) row) (notes-end codes n within i h)
+  pairs-end h row = ap (λ (cs : List ℕ). withTests (pairNumbers count kept cs) row) (all-end codes n within i h)

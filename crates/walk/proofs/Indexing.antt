@@ -1,76 +1,41 @@
 -- The nodes of an accepted graph, with where their records begin, are an index of it.
-use Prim.Native.Nat.{ℕ, suc, _+_, _*_, _/_, _%_, _<_, _≤_}
+use Prim.Native.Nat.{ℕ, suc, _+_, _<_, _≤_}
 use mathlib.Core.Path.{_≡_, refl, sym, ap, subst, _∙_}
-use mathlib.Core.Logic.{inl, inr, by-cases}
+use mathlib.Core.Logic.{by-cases}
 use mathlib.Core.List.{List, [], _∷_, map}
 use native.Mathlib.Decide.{decLt}
 use native.Mathlib.Omega.{arith}
-use lib.Dec.{T, eqb, eqb-refl}
 use lib.ListN.{length, getD, take, drop, drop-of-length-le}
 use lib.Seq.{getD-take}
 use Rattle.records.specs.Fields.{IsByte}
 use Rattle.records.specs.Reading.{took}
 use Rattle.basics.specs.Lists.{All, Mem, countFrom}
-use Rattle.basics.proofs.Booleans.{true-both, is-true}
-use Rattle.basics.proofs.ListLaws.{all-map, all-at, all-join, mem-join}
+use Rattle.basics.proofs.ListLaws.{all-map, all-at, all-join}
 use Rattle.sheet_tests.specs.SheetTests.{Test, place, pair, sheetTests}
-use Rattle.sheet_tests.specs.views.TestedPlaces.{hasPlace, placesIn}
-use Rattle.sheet_tests.specs.views.KeptPairs.{codePair}
-use Rattle.sheet_tests.proofs.NumberLists.{filter-mem}
 use Rattle.sheet.specs.Sheet.{Sheet, SoundSheet}
 use Rattle.decision.specs.Key.{failNode, suspendNode, executeNode}
 use Rattle.decision.specs.Node.{Node, CaseEdge, end, switch, pairNode}
 use Rattle.decision.specs.GraphBytes.{nodeBytes, nodesBytes}
 use Rattle.decision.specs.AcceptedGraph.{AcceptedNode, AcceptedGraph}
-use Rattle.basics.proofs.Filters.{map-mem, mem-any, all-mapped}
+use Rattle.basics.proofs.Filters.{all-mapped}
 use Rattle.graph.specs.ReadGraph.{readGraph, readRecord}
 use Rattle.graph.specs.views.Rewriting.{IsTook, readOr}
 use Rattle.graph.proofs.TestedPlaces.{tests-near}
 use Rattle.graph.proofs.SpelledNodes.{NodeFields}
 use Rattle.graph.proofs.AcceptedNodes.{accepted-asked}
 use Rattle.graph.proofs.Spelled.{graph-read}
-use Rattle.node_check.specs.views.CheckNode.{isPair, keptTest, startsFrom}
+use Rattle.node_check.specs.views.CheckNode.{startsFrom}
 use Rattle.node_check.proofs.Starts.{start-reads}
 use Rattle.steps.specs.views.CodeSteps.{NearNode}
-use Rattle.sheet_tests.specs.views.TestsRead.{keptTests}
 use Rattle.leaves.specs.views.TestNumbers.{NearTest}
-use Rattle.leaves.proofs.KeptNumbers.{code-place, code-pair}
+use Rattle.leaves.proofs.ListedTests.{spot-test, pair-test}
 use Rattle.path.specs.views.Following.{nodeFrom, nodesAt, GoodNode, Index}
 use Rattle.walk.specs.views.Ready.{LeafNode, AsksKept}
 use Rattle.walk.proofs.MetAsked.{Coded}
-use Rattle.walk.proofs.PairsApart.{pairs-apart}
+use Rattle.leaves.proofs.PairsApart.{pairs-apart}
 use Rattle.steps.proofs.StepsAgree.{FieldsFit}
 use Rattle.basics.proofs.Positions.{mem-at}
 use Rattle.decision.proofs.rules.NearTests.{Near}
-
--- A test that stands among the kept tests is kept.
-pub mem-kept
-    : (words codes : List ℕ) (count : ℕ) (t : Test) → Mem t (keptTests words codes count) → T (keptTest words codes count t)
-unfolding placesIn
-mem-kept words codes count (place n) m =
-    elim (mem-join (map place (placesIn words)) (map codePair (take count codes)) m) [
-      | inl k ↦
-          let r = map-mem place (placesIn words) k in
-          let same : n ≡ r .0 = cc (r .2) in
-          subst (λ (p : ℕ). T (hasPlace words p)) (sym same) (is-true (filter-mem (hasPlace words) (countFrom 0 (64 * length words)) (r .1) .1))
-      | inr k ↦
-          let r = map-mem codePair (take count codes) k in
-          absurd (let z : _≡_ {A = ℕ} 0 1 = cc (r .2) in let y : ⊥ = omega arith in y)
-    ]
-mem-kept words codes count (pair p q) m =
-    elim (mem-join (map place (placesIn words)) (map codePair (take count codes)) m) [
-      | inl k ↦
-          let r = map-mem place (placesIn words) k in
-          absurd (let z : _≡_ {A = ℕ} 0 1 = cc (r .2) in let y : ⊥ = omega arith in y)
-      | inr k ↦
-          let r = map-mem codePair (take count codes) k in
-          let c = r .0 in
-          let first : p ≡ c / 0x1_0000 = cc (r .2) in
-          let second : q ≡ c % 0x1_0000 = cc (r .2) in
-          mem-any (isPair p q) (r .1)
-          (true-both (eqb p (c / 0x1_0000)) (eqb q (c % 0x1_0000)) (subst (λ (x : ℕ). T (eqb p x)) first (eqb-refl p))
-          (subst (λ (x : ℕ). T (eqb q x)) second (eqb-refl q)))
-    ]
 
 -- Its places are among the 680.
 pub near-test : (t : Test) → Near t → NearTest t
@@ -138,39 +103,30 @@ module _ (sheet : Sheet) (sound : SoundSheet sheet) (s : List ℕ) (bytes : All 
   node-coded (end l) a = tt
   node-coded (switch p cs x y) a =
       let small : p < 680 = near (place p) (a .tested) in
-      let code = p * 0x1_0000 + p in
-      let half : code / 0x1_0000 ≡ p = omega arith in
-      let same : code / 0x1_0000 ≡ code % 0x1_0000 = omega arith in
-      code-place code same ∙ ap place half
+      spot-test p (omega (arith, small))
   node-coded (pairNode p q x y) a =
       let small = near (pair p q) (a .0) in
-      let apart : p < q = pairs-apart (sheet .arity) (sheet .rules) (sound .acceptedRules) p q (a .0) in
-      let code = p * 0x1_0000 + q in
-      let first : code / 0x1_0000 ≡ p = omega (arith, small .1) in
-      let second : code % 0x1_0000 ≡ q = omega (arith, small .1) in
-      let two : code / 0x1_0000 ≡ code % 0x1_0000 → ⊥ = λ e. omega (arith, e, first, second, apart) in
-      code-pair code two ∙ (λ i. pair (first i) (second i))
+      pair-test p q (pairs-apart (sheet .arity) (sheet .rules) (sound .acceptedRules) p q (a .0)) (omega (arith, small .1))
 
   -- The codes of its nodes are those of their tests.
   pub nodes-coded : All Coded nodes
   nodes-coded = all-map (AcceptedNode (sheet .rules) (length nodes)) Coded node-coded nodes (accepted .acceptedNodes)
 
-  module _ (words codes : List ℕ) (count : ℕ) (kept : sheetTests (sheet .rules) ≡ keptTests words codes count) where
-    mem-test : (t : Test) → Mem t (sheetTests (sheet .rules)) → NearTest t × T (keptTest words codes count t)
-    mem-test t m = (near-test t (near t m), mem-kept words codes count t (subst (Mem t) kept m))
-
+  module _ (tests : List Test) (are : tests ≡ sheetTests (sheet .rules)) where
     abbrev Kept : Test → Type 0
-    Kept t = NearTest t × T (keptTest words codes count t)
+    Kept t = NearTest t × Mem t tests
 
-    node-asks : (n : Node ℕ) → AcceptedNode (sheet .rules) (length nodes) n → AsksKept words codes count n
+    mem-test : (t : Test) → Mem t (sheetTests (sheet .rules)) → Kept t
+    mem-test t m = (near-test t (near t m), subst (Mem t) (sym are) m)
+
+    node-asks : (n : Node ℕ) → AcceptedNode (sheet .rules) (length nodes) n → AsksKept tests n
     node-asks (end l) a = tt
     node-asks (switch p cs x y) a = (subst Kept (sym (node-coded (switch p cs x y) a)) (mem-test (place p) (a .tested)), tt)
     node-asks (pairNode p q x y) a = (subst Kept (sym (node-coded (pairNode p q x y) a)) (mem-test (pair p q) (a .0)), tt)
 
-    -- The tests that they ask are kept.
-    pub nodes-asked : All (AsksKept words codes count) nodes
-    nodes-asked =
-        all-map (AcceptedNode (sheet .rules) (length nodes)) (AsksKept words codes count) node-asks nodes (accepted .acceptedNodes)
+    -- The tests that they ask are among these.
+    pub nodes-asked : All (AsksKept tests) nodes
+    nodes-asked = all-map (AcceptedNode (sheet .rules) (length nodes)) (AsksKept tests) node-asks nodes (accepted .acceptedNodes)
 
   module _ (starts : List ℕ) (are : take (length nodes) starts ≡ startsFrom 5 nodes) where
     reads : (k : ℕ) → k < length nodes

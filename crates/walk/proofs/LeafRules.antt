@@ -7,6 +7,7 @@ use lib.Dec.{eqb}
 use lib.ListN.{getD}
 use Rattle.basics.specs.Lists.{All}
 use Rattle.terms.specs.Outcome.{Outcome, holds, notKnown, contradicted}
+use Rattle.sheet_tests.specs.SheetTests.{Test}
 use Rattle.outcomes.specs.views.Look.{look}
 use Rattle.outcomes.specs.views.CellOutcome.{pairCells}
 use Rattle.decision.specs.Key.{Leaf, failNode}
@@ -82,17 +83,17 @@ module _ (count : ℕ) where
     pub reached-leaf : {l : Leaf} {edges : ℕ} {met : List ℕ} → reached l edges met ≡ cellsEnd nodes cells → LeafIn count l
     reached-leaf e = subst LeafEnd (sym e) (end-leaf (cellsPath nodes cells) cells-leaf)
 
--- The tests that nodes ask are kept, so those met are.
-module _ (words codes : List ℕ) (pairs : ℕ) (nodes : List (Node ℕ)) (asked : All (AsksKept words codes pairs) nodes) where
+-- The tests that nodes ask are among these, so those met are.
+module _ (tests : List Test) (nodes : List (Node ℕ)) (asked : All (AsksKept tests) nodes) where
   abbrev KeptEnd : Ended → Type 0
-  KeptEnd (reached l edges met) = All (KeptCode words codes pairs) met
+  KeptEnd (reached l edges met) = All (KeptCode tests) met
   KeptEnd (stopped q) = Unit
 
-  met-kept : (walked : List ℕ) → All (KeptCode words codes pairs) (metCodes nodes walked)
+  met-kept : (walked : List ℕ) → All (KeptCode tests) (metCodes nodes walked)
   met-kept [] = tt
   met-kept (n ∷ walked) =
-      all-join (KeptCode words codes pairs) (askedCodes (nodeAt nodes n)) (metCodes nodes walked)
-      (nodes-each (AsksKept words codes pairs) nodes tt asked n) (met-kept walked)
+      all-join (KeptCode tests) (askedCodes (nodeAt nodes n)) (metCodes nodes walked)
+      (nodes-each (AsksKept tests) nodes tt asked n) (met-kept walked)
 
   end-kept : (p : Path) → KeptEnd (endOf nodes p)
   end-kept (took a w) = met-kept (w .walked)
@@ -100,5 +101,5 @@ module _ (words codes : List ℕ) (pairs : ℕ) (nodes : List (Node ℕ)) (asked
 
   pub reached-kept
       : (cells : List ℕ) {l : Leaf} {edges : ℕ} {met : List ℕ} → reached l edges met ≡ cellsEnd nodes cells
-      → All (KeptCode words codes pairs) met
+      → All (KeptCode tests) met
   reached-kept cells e = subst KeptEnd (sym e) (end-kept (cellsPath nodes cells))

@@ -4,7 +4,7 @@ use mathlib.Core.Path.{_≡_, refl, sym, ap, subst, _∙_}
 use mathlib.Core.Bool.{Bool}
 use mathlib.Core.List.{List, []}
 use lib.Dec.{eqb}
-use lib.ListN.{length, drop, take}
+use lib.ListN.{length, getD, drop, take}
 use borrow.Author.Tests.{eq-eqb, ne-eqb}
 use Rattle.records.specs.Fields.{IsByte}
 use Rattle.records.specs.Reading.{Reading, took, refused, ask, andThen}
@@ -16,7 +16,7 @@ use Rattle.sheet.proofs.ReadsSound.{sheet-sound}
 use Rattle.sheet_tests.specs.views.TestedPlaces.{placesIn}
 use Rattle.sheet_tests.specs.CheckSheet.{acceptSheet}
 use Rattle.accepted.proofs.CheckedSheets.{accepted-read}
-use Rattle.accepted.specs.views.AcceptedAs.{AcceptedTests}
+use Rattle.accepted.specs.views.AcceptedAs.{AcceptedAs, AcceptedTests}
 use Rattle.piece.specs.Piece.{Piece}
 use Rattle.piece.specs.ReadPiece.{readPiece}
 use Rattle.decision.specs.Walk.{Walk, walk}
@@ -26,14 +26,18 @@ use Rattle.node_check.specs.views.CheckNode.{startsFrom}
 use Rattle.graph_check.specs.views.GraphIndex.{AcceptedGraphAs}
 use Rattle.walk.specs.declared.Walked.{Walked}
 use Rattle.walk.specs.declared.Walked.the-variants.{Answered, Refused}
+use Rattle.test_list.specs.views.Tests.{testsPut, Counted}
 use Rattle.leaves.specs.views.TestNumbers.{Once}
+use Rattle.leaves.specs.views.Kept.{Arrays, listedTests, SameTests}
 use Rattle.path.specs.views.Following.{Index, cellsEnd, nodesAt}
 use Rattle.walk.specs.views.LeafWalks.{endWalk}
-use Rattle.walk.specs.views.Ready.{LeafNode, AsksKept, Ready, Checked}
+use Rattle.walk.specs.views.Ready.{LeafNode, AsksKept, Ready, AcceptedKept, Checked}
 use Rattle.walk.specs.Walking.{graphReply, pieceReply, walkReply, replyValues, walkedValues, walkedReading}
 use Rattle.leaves.proofs.Numbers.{sheet-once}
+use Rattle.leaves.proofs.CodeNumbers.{listed-few}
+use Rattle.leaves.proofs.ListedTests.{kept-counted, kept-are, stay-counted, stay-listed}
 use Rattle.walk.proofs.Indexing.{nodes-are, nodes-leaves, nodes-asked, index-made}
-use Rattle.walk.proofs.WalksAgree.{tests-all-near, walk-agrees}
+use Rattle.walk.proofs.WalksAgree.{walk-agrees}
 use Rattle.plain.specs.views.ReadAs.{ReadAs}
 
 -- The values of what is handed back are those of its reading.
@@ -75,60 +79,91 @@ module _ (sheet : Sheet) (g p : List ℕ) where
         (ap (λ x. andThen x forPiece) read
         ∙ ap (λ (b : Bool). ask 20 b (graphReply sheet g (piece .terms))) (eq-eqb (sheet .arity) (piece .arity) (sym same)))
 
-module _ (s g words codes : List ℕ) {arity count pairs : ℕ} (t : AcceptedTests s words codes arity count pairs) where
+-- The bytes are one sheet.
+pub same-sheet : {s : List ℕ} {arity count : ℕ} (t u : AcceptedAs s arity count) → t .sheet ≡ u .sheet
+same-sheet t u =
+    let read : took (t .bytes) (t .sheet) ≡ took (u .bytes) (u .sheet) = sym (t .accepted) ∙ u .accepted in
+    (cc)
+
+-- The graph is refused,
+pub graph-refuses
+    : (sheet : Sheet) (g : List ℕ) (piece : Piece) {q : ℕ} → readGraph sheet g ≡ refused q
+    → refused q ≡ graphReply sheet g (piece .terms)
+graph-refuses sheet g piece e = sym (ap (λ r. andThen r (λ _ ns. walk (sheet .rules) ns (piece .terms))) e)
+
+-- or accepted for a sheet whose tests are listed,
+module _ (s g kept : List ℕ) {arity count : ℕ} (t : AcceptedKept s kept arity count) (s-bytes : All IsByte s)
+    (g-bytes : All IsByte g) (starts : List ℕ) {nodes : ℕ} (f : AcceptedGraphAs (t .read .sheet) g starts nodes) where
   abbrev sheet : Sheet
   sheet = t .read .sheet
 
-  -- The graph is refused,
-  pub graph-refuses : (piece : Piece) {q : ℕ} → readGraph sheet g ≡ refused q → refused q ≡ graphReply sheet g (piece .terms)
-  graph-refuses piece e = sym (ap (λ r. andThen r (λ _ ns. walk (sheet .rules) ns (piece .terms))) e)
+  sound : SoundSheet sheet
+  sound = sheet-sound s s-bytes (accepted-read s (t .read .accepted))
 
-  -- or accepted for the one sheet that the bytes are,
-  pub checked-graph
-      : (starts : List ℕ) {nodes : ℕ} → Checked s g starts words codes arity count pairs nodes → AcceptedGraphAs sheet g starts nodes
-  checked-graph starts {nodes} checked =
-      let first = checked .sheet .read in
-      let read : took (first .bytes) (first .sheet) ≡ took (t .read .bytes) sheet = sym (first .accepted) ∙ t .read .accepted in
-      let same : first .sheet ≡ sheet = cc in
-      subst (λ (x : Sheet). AcceptedGraphAs x g starts nodes) same (checked .graph)
+  begin : take (length (f .nodes)) starts ≡ startsFrom 5 (f .nodes)
+  begin = ap (λ (n : ℕ). take n starts) (f .countIs) ∙ sym (f .begin)
 
-  module _ (s-bytes : All IsByte s) (g-bytes : All IsByte g) (room : pairs ≤ length codes)
-      (fewTests : length (placesIn words) + pairs ≤ 64) (starts : List ℕ) {nodes : ℕ} (f : AcceptedGraphAs sheet g starts nodes) where
-    sound : SoundSheet sheet
-    sound = sheet-sound s s-bytes (accepted-read s (t .read .accepted))
+  -- and walked over,
+  pub ready-made : Ready (drop 3 s) g starts kept arity count nodes
+  ready-made = record {
+    fewArguments = t .read .few;
+    rulesRead = subst IsTook (sym (t .read .rulesRead)) tt;
+    listed = record { counted = t .counted; once = subst Once (sym (t .tests)) (sheet-once (sheet .rules)) };
+    index = subst (Index g starts) (f .countIs) (index-made sheet sound g g-bytes (f .read) starts begin);
+    leaves =
+        subst (λ (n : ℕ). All (LeafNode count) (nodesAt g starts n)) (f .countIs)
+        (subst (All (LeafNode count)) (sym (nodes-are sheet sound g g-bytes (f .read) starts begin))
+        (subst (λ (n : ℕ). All (LeafNode n) (f .nodes)) (t .countIs) (nodes-leaves sheet sound g g-bytes (f .read))));
+    asked =
+        subst (λ (n : ℕ). All (AsksKept (listedTests kept)) (nodesAt g starts n)) (f .countIs)
+        (subst (All (AsksKept (listedTests kept))) (sym (nodes-are sheet sound g g-bytes (f .read) starts begin))
+        (nodes-asked sheet sound g g-bytes (f .read) (listedTests kept) (t .tests)));
+  }
 
-    begin : take (length (f .nodes)) starts ≡ startsFrom 5 (f .nodes)
-    begin = ap (λ (n : ℕ). take n starts) (f .countIs) ∙ sym (f .begin)
+  -- which gives the reply.
+  pub graph-walked
+      : (p cells : List ℕ) (k : ReadAs p cells arity)
+      → endWalk (readOr [] (readRules arity count (drop 3 s))) (listedTests kept) cells (cellsEnd (nodesAt g starts nodes) cells)
+      ≡ graphReply sheet g (k .piece .terms)
+  graph-walked p cells k =
+      (λ i.
+      endWalk (readOr [] (t .read .rulesRead i)) (listedTests kept) (k .laid i)
+      (cellsEnd (nodesAt g starts (sym (f .countIs) i)) (k .laid i)))
+      ∙ walk-agrees sheet sound (listedTests kept) (t .tests) (listed-few kept (t .counted)) (k .piece .terms)
+      (subst (λ (n : ℕ). AcceptedPiece n (k .piece .terms)) (sym (t .read .arityIs)) (k .accepted)) (f .nodes) g g-bytes (f .read)
+      starts begin
 
-    -- and walked over,
-    pub ready-made : Ready (drop 3 s) g starts words codes arity count pairs nodes
-    ready-made = record {
-      fewArguments = t .read .few;
-      rulesRead = subst IsTook (sym (t .read .rulesRead)) tt;
-      fewTests = fewTests;
-      near = tests-all-near sheet sound (t .tests);
-      once = subst Once (t .tests) (sheet-once (sheet .rules));
-      index = subst (Index g starts) (f .countIs) (index-made sheet sound g g-bytes (f .read) starts begin);
-      leaves =
-          subst (λ (n : ℕ). All (LeafNode count) (nodesAt g starts n)) (f .countIs)
-          (subst (All (LeafNode count)) (sym (nodes-are sheet sound g g-bytes (f .read) starts begin))
-          (subst (λ (n : ℕ). All (LeafNode n) (f .nodes)) (t .countIs) (nodes-leaves sheet sound g g-bytes (f .read))));
-      asked =
-          subst (λ (n : ℕ). All (AsksKept words codes pairs) (nodesAt g starts n)) (f .countIs)
-          (subst (All (AsksKept words codes pairs)) (sym (nodes-are sheet sound g g-bytes (f .read) starts begin))
-          (nodes-asked sheet sound g g-bytes (f .read) words codes pairs (t .tests)));
-    }
+-- The tests of an accepted sheet that the arrays hold are listed.
+module _ (s words codes : List ℕ) {arity count pairs : ℕ} (t : AcceptedTests s words codes arity count pairs)
+    (s-bytes : All IsByte s) (arrays : Arrays words codes pairs) (blank : List ℕ) (entries : length blank ≡ 324) where
+  abbrev listed : List ℕ
+  listed = testsPut (placesIn words) (take pairs codes) blank
 
-    -- which gives the reply.
-    pub graph-walked
-        : (p cells : List ℕ) (k : ReadAs p cells arity)
-        → endWalk (readOr [] (readRules arity count (drop 3 s))) words codes pairs cells
-        (cellsEnd (nodesAt g starts nodes) cells)
-        ≡ graphReply sheet g (k .piece .terms)
-    graph-walked p cells k =
-        (λ i.
-        endWalk (readOr [] (t .read .rulesRead i)) words codes pairs (k .laid i)
-        (cellsEnd (nodesAt g starts (sym (f .countIs) i)) (k .laid i)))
-        ∙ walk-agrees sheet sound words codes pairs room (t .tests) fewTests (k .piece .terms)
-        (subst (λ (n : ℕ). AcceptedPiece n (k .piece .terms)) (sym (t .read .arityIs)) (k .accepted)) (f .nodes) g g-bytes (f .read)
-        starts begin
+  read-sound : SoundSheet (t .read .sheet)
+  read-sound = sheet-sound s s-bytes (accepted-read s (t .read .accepted))
+
+  listed-counted : Counted listed
+  listed-counted =
+      kept-counted (t .read .sheet .arity) (t .read .sheet .rules) (read-sound .fewArguments) (read-sound .acceptedRules) words codes
+      pairs (t .tests) arrays blank entries
+
+  pub kept-stays : {kept : List ℕ} → kept ≡ listed → SameTests listed kept
+  kept-stays e =
+      record { entries = ap length e ∙ listed-counted .entries; same = λ k h. ap (λ (l : List ℕ). getD l k 0) e }
+
+  -- So a graph that is accepted for it can be walked over.
+  pub checked-kept
+      : (g starts : List ℕ) {nodes : ℕ} {kept : List ℕ} → SameTests listed kept
+      → AcceptedGraphAs (t .read .sheet) g starts nodes → Checked s g starts kept arity count nodes
+  checked-kept g starts {nodes} {kept} stay f = record {
+    sheet = record {
+      read = t .read;
+      countIs = t .countIs;
+      counted = stay-counted listed kept listed-counted stay;
+      tests =
+          stay-listed listed kept listed-counted stay
+          ∙ kept-are (t .read .sheet .arity) (t .read .sheet .rules) (read-sound .fewArguments) (read-sound .acceptedRules) words codes
+          pairs (t .tests) arrays blank entries;
+    };
+    graph = f;
+  }

@@ -6,23 +6,25 @@ use crate::leaf::at_execute;
 use graph::Leaf;
 use graph_check::GraphCheck;
 use graph_check::index_graph;
+use leaves::kept::keep_tests;
 use leaves::waits::suspend_waits;
 use path::Followed;
 use path::follow_path;
 use piece::PieceCheck;
 use plain::Answer;
 use sheet_tests::TestsRead;
+use tables::Tables;
 ghost use Prim.Native.Nat.{ℕ};
 ghost use mathlib.Core.Path.{_≡_};
 ghost use mathlib.Core.List.{List, []};
 ghost use lib.ListN.{length, drop};
 ghost use Rattle.sheet.specs.ReadSheet.{readRules};
-ghost use Rattle.accepted.specs.views.AcceptedAs.{AcceptedTests};
+ghost use Rattle.accepted.specs.views.AcceptedAs.{AcceptedAs, AcceptedTests};
 ghost use Rattle.outcomes.specs.views.CompareCells.{Narrow};
 ghost use Rattle.plain.specs.views.ReadAs.{ReadAs};
 ghost use Rattle.graph.specs.views.Rewriting.{readOr};
 ghost use Rattle.path.specs.views.Following.{cellsEnd, nodesAt};
-ghost use Rattle.leaves.specs.views.Kept.{Arrays};
+ghost use Rattle.leaves.specs.views.Kept.{Arrays, listedTests};
 ghost use Rattle.leaves.specs.views.Seeking.{Begins};
 ghost use Rattle.walk.specs.views.LeafWalks.{endWalk};
 ghost use Rattle.walk.specs.views.Ready.{Ready, SomePiece, Checked};
@@ -34,19 +36,19 @@ fn walk_nodes(
     s: &[u8],
     graph: &[u8],
     starts: &[u32; 1024],
-    words: &[u64; 11],
-    codes: &[u32; 65],
+    kept: &Tables,
     sizes: Sizes,
+    notes: &mut [u64; 680],
     cells: &[u32; 680],
 ) -> Walked
-    requires { ⌜ Arrays (now words) (now codes) (sizes .pairs) × (length (now starts) ≡ 1024) × Narrow (now cells)
-        × Begins (now s) (sizes .arity) (sizes .rules) (sizes .begins) ⌝ }
-    requires { ⌜ Ready (now s) (now graph) (now starts) (now words) (now codes) (sizes .arity) (sizes .rules)
-        (sizes .pairs) (sizes .nodes) ⌝ }
+    requires { ⌜ (length (now starts) ≡ 1024) × Narrow (now cells) × Begins (now s) (sizes .arity) (sizes .rules) (now kept)
+        × (length (now notes) ≡ 680) ⌝ }
+    requires { ⌜ Ready (now s) (now graph) (now starts) (now kept) (sizes .arity) (sizes .rules) (sizes .nodes) ⌝ }
     ensures { λ r. ⌜ walkedReading r
-        ≡ endWalk (readOr [] (readRules (sizes .arity) (sizes .rules) (now (s .entry)))) (now (words .entry))
-        (now (codes .entry)) (sizes .pairs) (now (cells .entry))
+        ≡ endWalk (readOr [] (readRules (sizes .arity) (sizes .rules) (now (s .entry)))) (listedTests (now (kept .entry)))
+        (now (cells .entry))
         (cellsEnd (nodesAt (now (graph .entry)) (now (starts .entry)) (sizes .nodes)) (now (cells .entry))) ⌝ }
+    ensures { λ _. ⌜ length (now (notes .exit)) ≡ 680 ⌝ }
 {
     let mut met = [0u32; 64];
     let followed = follow_path(graph, starts, sizes.nodes, cells, &mut met);
@@ -61,9 +63,9 @@ fn walk_nodes(
             Leaf::Suspend => Walked::Answered(Walk {
                 answer: Answer::Suspend,
                 edges: edges,
-                waits: suspend_waits(&met, edges, words, codes, sizes.pairs, cells),
+                waits: suspend_waits(&met, edges, kept, cells),
             }),
-            Leaf::Execute(rule) => at_execute(s, rule, edges, words, codes, sizes, cells),
+            Leaf::Execute(rule) => at_execute(s, rule, edges, kept, sizes, notes, cells),
         },
     }
 }
@@ -74,20 +76,20 @@ pub fn walk_checked(
     sheet: &[u8],
     graph: &[u8],
     starts: &[u32; 1024],
-    words: &[u64; 11],
-    codes: &[u32; 65],
+    kept: &Tables,
     sizes: Sizes,
+    notes: &mut [u64; 680],
     cells: &[u32; 680],
 ) -> Walked
-    requires { ⌜ Arrays (now words) (now codes) (sizes .pairs) × (length (now starts) ≡ 1024)
-        × SomePiece (now cells) (sizes .arity) × Begins (drop 3 (now sheet)) (sizes .arity) (sizes .rules) (sizes .begins) ⌝ }
-    requires { ⌜ Checked (now sheet) (now graph) (now starts) (now words) (now codes) (sizes .arity) (sizes .rules)
-        (sizes .pairs) (sizes .nodes) ⌝ }
-    ensures { λ r. ⌜ ((t : AcceptedTests (now (sheet .entry)) (now (words .entry)) (now (codes .entry)) (sizes .arity)
-        (sizes .rules) (sizes .pairs)) (p : List ℕ) (k : ReadAs p (now (cells .entry)) (sizes .arity))
-        → walkedReading r ≡ graphReply (t .read .sheet) (now (graph .entry)) (k .piece .terms)) ⌝ }
+    requires { ⌜ (length (now starts) ≡ 1024) × SomePiece (now cells) (sizes .arity)
+        × Begins (drop 3 (now sheet)) (sizes .arity) (sizes .rules) (now kept) × (length (now notes) ≡ 680) ⌝ }
+    requires { ⌜ Checked (now sheet) (now graph) (now starts) (now kept) (sizes .arity) (sizes .rules) (sizes .nodes) ⌝ }
+    ensures { λ r. ⌜ ((t : AcceptedAs (now (sheet .entry)) (sizes .arity) (sizes .rules)) (p : List ℕ)
+        (k : ReadAs p (now (cells .entry)) (sizes .arity))
+        → walkedReading r ≡ graphReply (t .sheet) (now (graph .entry)) (k .piece .terms)) ⌝ }
+    ensures { λ _. ⌜ length (now (notes .exit)) ≡ 680 ⌝ }
 {
-    walk_nodes(&sheet[3..], graph, starts, words, codes, sizes, cells)
+    walk_nodes(&sheet[3..], graph, starts, kept, sizes, notes, cells)
 }
 
 // The walk of a piece that was read over a graph, for an accepted sheet: questions 21 to 25, then 26 and 27 on the way.
@@ -123,9 +125,11 @@ fn walk_graph(
                 rules: sizes.rules,
                 pairs: sizes.pairs,
                 nodes,
-                begins: [0; 32],
             };
-            walk_checked(sheet, graph, &starts, words, codes, all, cells)
+            let mut kept = [0u64; 324];
+            keep_tests(words, codes, sizes.pairs, &mut kept);
+            let mut notes = [0u64; 680];
+            walk_checked(sheet, graph, &starts, &kept, all, &mut notes, cells)
         }
     }
 }
@@ -174,7 +178,6 @@ pub fn walk(sheet: &[u8], graph: &[u8], piece: &[u8]) -> Walked
                 rules,
                 pairs,
                 nodes: 0,
-                begins: [0; 32],
             };
             walk_piece(sheet, graph, piece, &words, &codes, sizes)
         }

@@ -17,12 +17,10 @@ pub enum Walked {
     Refused(u8),
 }
 
-// What was read once of a sheet and a graph: arity, rules, pairs among the tests, nodes, 0 while no graph was read, and where the
-// rules begin, 0 where that is not noted.
+// What was read once of a sheet and a graph: arity, rules, pairs among the tests, and nodes, 0 while no graph was read.
 pub struct Sizes {
     pub arity: u8,
     pub rules: u8,
     pub pairs: usize,
     pub nodes: u16,
-    pub begins: [u32; 32],
 }

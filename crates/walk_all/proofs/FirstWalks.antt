@@ -53,8 +53,8 @@ module _ (s cells : List ℕ) (r : Prefix) (told : prefixRead cells r ≡ mapRea
       )
 
 -- The sheet and its graph are accepted.
-module _ {s g starts words codes : List ℕ} {arity rules pairs nodes : ℕ}
-    (known : Checked s g starts words codes arity rules pairs nodes) {p cells : List ℕ} {n : ℕ} (a : ReadAs p cells n) where
+module _ {s g starts kept : List ℕ} {arity rules nodes : ℕ}
+    (known : Checked s g starts kept arity rules nodes) {p cells : List ℕ} {n : ℕ} (a : ReadAs p cells n) where
   abbrev sheet : Sheet
   sheet = known .sheet .read .sheet
 

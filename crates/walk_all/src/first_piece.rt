@@ -2,6 +2,7 @@
 use crate::First;
 use piece::Prefix;
 use piece::read_prefix;
+use tables::Tables;
 use walk::Sizes;
 use walk::Walked;
 use walk::call::walk_checked;
@@ -17,14 +18,14 @@ pub fn walk_first(
     sheet: &[u8],
     graph: &[u8],
     starts: &[u32; 1024],
-    words: &[u64; 11],
-    codes: &[u32; 65],
+    kept: &Tables,
     sizes: Sizes,
+    notes: &mut [u64; 680],
     input: &[u8],
 ) -> First
-    requires { ⌜ Known (now sheet) (now graph) (now starts) (now words) (now codes) sizes ⌝ }
+    requires { ⌜ Known (now sheet) (now graph) (now starts) (now kept) sizes × (length (now notes) ≡ 680) ⌝ }
     ensures { λ r. ⌜ firstOf r ≡ firstReply (walkReply (now (sheet .entry)) (now (graph .entry))) (now (input .entry)) ⌝ }
-    ensures { λ r. ⌜ PieceWithin (length (now (input .entry))) r ⌝ }
+    ensures { λ r. ⌜ PieceWithin (length (now (input .entry))) r × (length (now (notes .exit)) ≡ 680) ⌝ }
 {
     let mut cells = [0u32; 680];
     let prefix = read_prefix(input, &mut cells);
@@ -34,7 +35,7 @@ pub fn walk_first(
             if arity != sizes.arity {
                 return First::Refused(bytes, 20);
             }
-            let walked = walk_checked(sheet, graph, starts, words, codes, sizes, &cells);
+            let walked = walk_checked(sheet, graph, starts, kept, sizes, notes, &cells);
             match walked {
                 Walked::Refused(q) => First::Refused(bytes, q),
                 Walked::Answered(w) => First::Answered(bytes, w),

@@ -5,10 +5,10 @@ pub mod result; // the bytes of a result
 
 use first_piece::walk_first;
 use open::open_graph;
-use open::with_begins;
 use result::put_result;
 use result::rule;
 use result::word;
+use walk::Sizes;
 use walk::Walk;
 ghost use Prim.Native.Nat.{_+_, _/_, _≤_, min};
 ghost use mathlib.Core.Path.{_≡_};
@@ -17,9 +17,9 @@ ghost use Rattle.walk_all.specs.WalkAll.{walkAll, mostResults, resultLen
 ghost use Rattle.walk_all.specs.views.FirstPiece.{firstOf};
 ghost use Rattle.walk_all.specs.views.Turns.{turned, leftBy};
 
-// What was read of a sheet and a graph: arity, rules, pairs among the tests, nodes; or the number of the question that got a no.
+// What was read of a sheet and a graph, or the number of the question that got a no.
 pub enum Opened {
-    Ready(u8, u8, usize, u16),
+    Ready(Sizes),
     Refused(u8),
 }
 
@@ -92,14 +92,13 @@ pub fn walk_all(sheet: &[u8], graph: &[u8], pieces: &[u8], results: &mut [u8]) -
     ensures { λ r. ⌜ leftBy r (now (results .exit))
         ≡ walkAll (now (sheet .entry)) (now (graph .entry)) (now (pieces .entry)) (now (results .entry)) ⌝ }
 {
-    let mut words = [0u64; 11];
-    let mut codes = [0u32; 65];
     let mut starts = [0u32; 1024];
-    let opened = open_graph(sheet, graph, &mut words, &mut codes, &mut starts);
+    let mut notes = [0u64; 680];
+    let mut kept = [0u64; 324];
+    let opened = open_graph(sheet, graph, &mut starts, &mut notes, &mut kept);
     match opened {
         Opened::Refused(q) => WalkedAll::Refused(q),
-        Opened::Ready(arity, rules, pairs, nodes) => {
-            let sizes = with_begins(sheet, arity, rules, pairs, nodes);
+        Opened::Ready(sizes) => {
             let room = room_for(results.len());
             let mut n: usize = 0;
             let mut from: usize = 0;
@@ -108,7 +107,7 @@ pub fn walk_all(sheet: &[u8], graph: &[u8], pieces: &[u8], results: &mut [u8]) -
                     return WalkedAll::Walked(n as u32, from as u32);
                 }
                 let rest = &pieces[from..];
-                let first = walk_first(sheet, graph, &starts, &words, &codes, sizes, rest);
+                let first = walk_first(sheet, graph, &starts, &kept, sizes, &mut notes, rest);
                 let turn = put_first(results, 16 * n, 0xFFFF_FFFF - from, first);
                 match turn {
                     Turn::Full => return WalkedAll::Walked(n as u32, from as u32),

@@ -3,55 +3,48 @@ use crate::Opened;
 use graph_check::GraphCheck;
 use graph_check::index_graph;
 use leaves::begins::rule_begins;
+use leaves::kept::keep_tests;
 use sheet_tests::TestsRead;
 use sheet_tests::read_tests;
+use tables::Tables;
 use walk::Sizes;
-ghost use Prim.Native.Nat.{_≤_};
 ghost use mathlib.Core.Path.{_≡_};
-ghost use lib.ListN.{length, drop, replicate};
-ghost use Rattle.sheet.specs.ReadSheet.{readRules};
-ghost use Rattle.graph.specs.views.Rewriting.{IsTook};
-ghost use Rattle.leaves.specs.views.Seeking.{Begins};
+ghost use lib.ListN.{length, replicate};
 ghost use Rattle.walk_all.specs.views.Known.{OpenedAs};
 
-// The sheet's questions, then 21 to 25: the sheet's tests in the words and codes, and where each node begins. Not a graph accepted
-// for another sheet, nor 21 where the sheet is refused.
+// The sheet's questions, then 21 to 25: where each node begins, and the tables with the sheet's tests and where its rules begin.
+// Not a graph accepted for another sheet, nor 21 where the sheet is refused.
 pub fn open_graph(
     sheet: &[u8],
     graph: &[u8],
-    words: &mut [u64; 11],
-    codes: &mut [u32; 65],
     starts: &mut [u32; 1024],
+    notes: &mut [u64; 680],
+    kept: &mut Tables,
 ) -> Opened
-    requires { ⌜ (now words ≡ replicate 11 0) × (now codes ≡ replicate 65 0) × (length (now starts) ≡ 1024) ⌝ }
-    ensures { λ r. ⌜ OpenedAs (now (sheet .entry)) (now (graph .entry)) (now (starts .exit)) (now (words .exit))
-        (now (codes .exit)) r ⌝ }
+    requires { ⌜ (length (now starts) ≡ 1024) × (length (now notes) ≡ 680) × (now kept ≡ replicate 324 0) ⌝ }
+    ensures { λ r. ⌜ OpenedAs (now (sheet .entry)) (now (graph .entry)) (now (starts .exit)) (now (kept .exit)) r
+        × (length (now (notes .exit)) ≡ 680) ⌝ }
 {
-    let read = read_tests(sheet, words, codes);
+    let mut words = [0u64; 11];
+    let mut codes = [0u32; 65];
+    let read = read_tests(sheet, &mut words, &mut codes);
     match read {
         TestsRead::Refused(q) => Opened::Refused(q),
         TestsRead::Accepted(arity, rules, _, pairs) => {
-            let index = index_graph(graph, words, codes, pairs, arity, rules, starts);
+            let index = index_graph(graph, &words, &codes, pairs, arity, rules, starts);
             match index {
                 GraphCheck::Refused(q) => Opened::Refused(q),
-                GraphCheck::Accepted(nodes) => Opened::Ready(arity, rules, pairs, nodes),
+                GraphCheck::Accepted(nodes) => {
+                    keep_tests(&words, &codes, pairs, kept);
+                    rule_begins(&sheet[3..], arity as usize, rules, notes, kept);
+                    Opened::Ready(Sizes {
+                        arity,
+                        rules,
+                        pairs,
+                        nodes,
+                    })
+                }
             }
         }
-    }
-}
-
-// What was read, with where the rules of the sheet begin. Not the begins of another sheet's rules, nor the nodes for the pairs.
-pub fn with_begins(sheet: &[u8], arity: u8, rules: u8, pairs: usize, nodes: u16) -> Sizes
-    requires { ⌜ (3 ≤ length (now sheet)) × (arity ≤ 8) × IsTook (readRules arity rules (drop 3 (now sheet))) ⌝ }
-    ensures { λ r. ⌜ (r ≡ record { arity = arity; rules = rules; pairs = pairs; nodes = nodes; begins = r .begins })
-        × Begins (drop 3 (now (sheet .entry))) arity rules (r .begins) ⌝ }
-{
-    let begins = rule_begins(&sheet[3..], arity as usize, rules);
-    Sizes {
-        arity,
-        rules,
-        pairs,
-        nodes,
-        begins,
     }
 }

@@ -1,7 +1,7 @@
 -- A walk goes by the tests of a sheet's rules alone: two sheets whose rules have, one after another, the same place tests and
 -- the same equality tests get from any nodes the same answer, edges and wait list.
 use Prim.Native.Nat.{ℕ, pred}
-use mathlib.Core.Path.{_≡_, refl, ap, _∙_}
+use mathlib.Core.Path.{_≡_, refl, ap, _∙_, fun-ext}
 use mathlib.Core.Bool.{_&&_}
 use mathlib.Core.List.{List, map}
 use lib.ListN.{length}
@@ -13,12 +13,16 @@ use Rattle.terms.specs.RuleTests.{placeTests, pairTests}
 use Rattle.terms.specs.Outcome.{Outcome, holds, notKnown, contradicted, ruleOutcome}
 use Rattle.terms.specs.Answer.{ruleAt, onlyRule}
 use Rattle.terms.specs.Answer as answers
+use Rattle.terms.specs.Lookup.{termAt}
+use Rattle.sheet_tests.specs.SheetTests.{Test, place, pair}
 use Rattle.decision.specs.Rules.{testAt, testsWhere}
 use Rattle.decision.specs.Key.{Leaf, failNode, suspendNode, executeNode}
 use Rattle.decision.specs.Node.{Node}
 use Rattle.decision.specs.Path.{Path, nodeAt, path}
-use Rattle.decision.specs.Walk.{asksTest, testNotKnown, suspendWaits, executeWaits, atLeaf, atEnd, walk}
-use Rattle.decision.proofs.rules.SameTests.{same-test-at, same-has-test, same-tests-where, same-tests-same-outcome}
+use Rattle.decision.specs.Walk.{isNotKnown, asksTest, testNotKnown, suspendWaits, wantOutcome, testOutcome, executeWaits}
+use Rattle.decision.specs.Walk.{atLeaf, atEnd, walk}
+use Rattle.decision.proofs.rules.SameTests.{same-test-at, same-has-test, same-want-at, same-tests-where}
+use Rattle.decision.proofs.rules.SameTests.{same-tests-same-outcome}
 
 module _
     (rules others : List Patterns) (places : map placeTests rules ≡ map placeTests others)
@@ -36,11 +40,18 @@ module _
         λ i. tests-where i
         (λ t. anyOf (λ (n : ℕ). asksTest (test-at i t) (nodeAt nodes n)) walked && testNotKnown piece (test-at i t))
 
+    outcome-same : (n : ℕ) → testOutcome rules piece n ≡ testOutcome others piece n
+    outcome-same n = fun-ext go
+      where
+        go : (t : Test) → testOutcome rules piece n t ≡ testOutcome others piece n t
+        go (place p) = λ i. wantOutcome (same-want-at rules others places pairs i n p) (termAt piece p)
+        go (pair p q) = refl
+
     execute-waits : (n : ℕ) (x : Outcome) → executeWaits rules piece n x ≡ executeWaits others piece n x
     execute-waits n holds = refl
     execute-waits n notKnown =
         λ i. tests-where i
-        (λ t. same-has-test rules others places pairs i (pred n) t && testNotKnown piece (test-at i t))
+        (λ t. same-has-test rules others places pairs i (pred n) t && isNotKnown (outcome-same (pred n) i (test-at i t)))
     execute-waits n contradicted = refl
 
     -- what a leaf answers is the same,

@@ -1,14 +1,15 @@
--- What the answer at an execute begins with: a rule that was read, and the tests that are kept.
-use Prim.Native.Nat.{ℕ, _+_, _≤_}
+-- What the answer at a leaf begins with: a rule that was read, and the tables that a walk is lent.
+use Prim.Native.Nat.{ℕ, _+_, _≤_, _<_}
 use mathlib.Core.Path.{_≡_}
-use mathlib.Core.List.{List}
-use lib.ListN.{length}
-use Rattle.basics.specs.Lists.{All}
+use mathlib.Core.List.{List, map}
+use lib.ListN.{length, getD, take, drop}
 use Rattle.sheet.specs.ReadSheet.{readRules}
+use Rattle.sheet_tests.specs.SheetTests.{Test}
 use Rattle.sheet_tests.specs.views.TestedPlaces.{placesIn}
-use Rattle.sheet_tests.specs.views.TestsRead.{keptTests}
 use Rattle.graph.specs.views.Rewriting.{IsTook}
-use Rattle.leaves.specs.views.TestNumbers.{NearTest}
+use Rattle.tables.specs.views.Planes.{testsIn}
+use Rattle.test_list.specs.views.Tests.{Counted}
+use Rattle.leaves.specs.views.TestNumbers.{Once, codeTest}
 
 -- The arrays of a sheet's tests have their sizes, and hold 64 tests at most.
 pub record Arrays (words codes : List ℕ) (pairs : ℕ) : Type 0 where
@@ -16,10 +17,22 @@ pub record Arrays (words codes : List ℕ) (pairs : ℕ) : Type 0 where
   pub allCodes : length codes ≡ 65
   pub fewTests : length (placesIn words) + pairs ≤ 64
 
--- The same, with tests of places among the 680.
-pub record KeptNear (words codes : List ℕ) (pairs : ℕ) : Type 0 where
-  pub arrays : Arrays words codes pairs
-  pub near : All NearTest (keptTests words codes pairs)
+-- The codes of the tests that are listed in tables, and the tests.
+abbrev pub listedCodes : List ℕ → List ℕ
+listedCodes kept = take (testsIn kept) (drop 4 kept)
+
+abbrev pub listedTests : List ℕ → List Test
+listedTests kept = map codeTest (listedCodes kept)
+
+-- At most 64 are listed, each once.
+pub record Listed (kept : List ℕ) : Type 0 where
+  pub counted : Counted kept
+  pub once : Once (listedTests kept)
+
+-- The counts and the tests of other tables are the same.
+pub record SameTests (kept others : List ℕ) : Type 0 where
+  pub entries : length others ≡ 324
+  pub same : (k : ℕ) → k < 68 → getD others k 0 ≡ getD kept k 0
 
 -- A rule, from 1, of the rules, so many, that s begins with.
 pub record RuleRead (s : List ℕ) (arity count rule : ℕ) : Type 0 where

@@ -1,5 +1,5 @@
 -- Things that are read one after another up to one that is sought; and where the rules of a sheet begin.
-use Prim.Native.Nat.{ℕ, pred, _-_, _≤_, _<_}
+use Prim.Native.Nat.{ℕ, pred, _+_, _-_, _≤_, _<_}
 use mathlib.Core.Path.{_≡_}
 use mathlib.Core.Bool.{cond}
 use mathlib.Core.List.{List, [], _∷_}
@@ -32,14 +32,14 @@ BeginAt s arity count rule begin =
 abbrev pub passedBy : ℕ → ℕ → ℕ
 passedBy begin rule = cond (eqb begin 0) 0 (rule - 1)
 
--- Where a rule begins, among the begins of 32 rules,
+-- Where a rule begins, as tables have it: in a plane of 64,
 abbrev pub beginOf : List ℕ → ℕ → ℕ
-beginOf begins rule = cond (ltb rule 33) (getD begins (rule - 1) 0) 0
+beginOf kept rule = cond (ltb rule 65) (getD kept (67 + rule) 0) 0
 
 -- each of which is that of its rule.
 abbrev pub Begins : List ℕ → ℕ → ℕ → List ℕ → Type 0
-Begins s arity count begins = (rule : ℕ) → 1 ≤ rule → rule ≤ count → BeginAt s arity count rule (beginOf begins rule)
+Begins s arity count kept = (rule : ℕ) → 1 ≤ rule → rule ≤ count → BeginAt s arity count rule (beginOf kept rule)
 
--- The begins with that of one more thing, where there is a place for it and 32 bits are enough.
+-- The tables with the begin of one more rule, from 0, where there is a place for it.
 abbrev pub notedIn : List ℕ → ℕ → ℕ → List ℕ
-notedIn begins i at = cond (ltb i 32) (cond (ltb at 0x1_0000_0000) (set begins i at) begins) begins
+notedIn kept i at = cond (ltb i 64) (set kept (68 + i) at) kept

@@ -14,7 +14,6 @@ use Rattle.lines.proofs.Wrote.{Wrote, wrote-as, wrote-behind}
 use Rattle.decision.specs.Walk.{Walk}
 use Rattle.walk.specs.Walking.{walkReply}
 use Rattle.walk_all.specs.views.Known.{OpenedAs, ReadyAs}
-use Rattle.walk_all.proofs.Opening.{rules-there, known-with}
 use Rattle.output.specs.Listing.{firstWalk, pieceLines, builtLines}
 use Rattle.output.specs.declared.Turn.{Turn}
 use Rattle.output.specs.views.Turned.{Turned, turned, Within, walkLine, answered}
@@ -26,54 +25,55 @@ use Rattle.output.proofs.put_built.Statement.{statement}
 use Rattle.output.proofs.put_built.Tie as tie
 
 abbrev Inv-loop : tie.InvT-loop
-Inv-loop sheet graph nodes input out₀ words codes starts arity rules pairs nodes-read sizes places tests end₀ from₀ n₀ out end from n =
+Inv-loop sheet graph nodes input out₀ starts notes₀ kept sizes tests end₀ from₀ n₀ out notes end from n =
     (from ≤ length input) × (1 ≤ n) × (3 * n ≤ from + 3) × (end + 44 ≤ end₀ + 44 * n) × (length out ≡ length out₀)
-    × Progress (walkReply sheet graph) input out₀ end₀ from n end out
+    × Progress (walkReply sheet graph) input out₀ end₀ from n end out × (length notes ≡ 680)
 
 abbrev μ-loop : tie.MeasureT-loop
-μ-loop sheet graph nodes input out₀ words codes starts arity rules pairs nodes-read sizes places tests end₀ from₀ n₀ out end from n = length input - from
+μ-loop sheet graph nodes input out₀ starts notes₀ kept sizes tests end₀ from₀ n₀ out notes end from n = length input - from
 
 -- Where the graph is accepted for the sheet.
 ready
     : (c : tie.After-opened2 Inv-loop μ-loop)
-    → ReadyAs (now (c .before .before .before .before .before .before .before .before .before .before .args .sheet)) (now (c .before .before .before .before .before .before .before .before .before .before .args .graph)) (c .before .before .open-graph .last .1 .1 .1 .1 .0)
-    (c .before .before .open-graph .last .1 .1 .0) (c .before .before .open-graph .last .1 .1 .1 .0) (c .opened2 .given .0 .0) (c .opened2 .given .0 .1 .0)
-    (c .opened2 .given .0 .1 .1 .0) (c .opened2 .given .0 .1 .1 .1 .0)
-ready c = subst (OpenedAs _ _ _ _ _) (c .opened2 .given .1) (c .before .before .open-graph .ensures)
+    → ReadyAs (now (c .before .before .before .before .before .before .before .before .before .before .args .sheet)) (now (c .before .before .before .before .before .before .before .before .before .before .args .graph)) (c .before .before .open-graph .last .1 .1 .0)
+    (c .before .before .open-graph .last .1 .1 .1 .1 .0) (c .opened2 .given .0 .0)
+ready c = subst (OpenedAs _ _ _ _) (c .opened2 .given .1) (c .before .before .open-graph .ensures .0)
 
 -- Where the line of the sheet stands at the front: the lines of the pieces behind it are all that is to be printed.
 module _ (c : tie.After-slice-known3 Inv-loop μ-loop) where
   abbrev input : List ℕ
-  input = now (c .before .before .before .before .before .before .before .before .before .before .before .before .before .before .before .before .before .before .args .input)
+  input = now (c .before .before .before .before .before .before .before .before .before .before .before .before .before .before .before .before .before .args .input)
 
   abbrev buffer : List ℕ
-  buffer = now (c .before .before .before .before .before .before .before .before .before .before .before .before .before .before .before .before .before .before .args .out)
+  buffer = now (c .before .before .before .before .before .before .before .before .before .before .before .before .before .before .before .before .before .args .out)
 
   abbrev reply : List ℕ → Reading Walk
-  reply = walkReply (now (c .before .before .before .before .before .before .before .before .before .before .before .before .before .before .before .before .before .before .args .sheet)) (now (c .before .before .before .before .before .before .before .before .before .before .before .before .before .before .before .before .before .before .args .graph))
+  reply = walkReply (now (c .before .before .before .before .before .before .before .before .before .before .before .before .before .before .before .before .before .args .sheet)) (now (c .before .before .before .before .before .before .before .before .before .before .before .before .before .before .before .before .before .args .graph))
 
   abbrev all : List ℕ
-  all = builtLines (now (c .before .before .before .before .before .before .before .before .before .before .before .before .before .before .before .before .before .before .args .sheet)) (now (c .before .before .before .before .before .before .before .before .before .before .before .before .before .before .before .before .before .before .args .graph)) (c .before .before .before .before .before .before .before .before .before .before .before .before .before .before .before .before .before .before .args .nodes) input
+  all = builtLines (now (c .before .before .before .before .before .before .before .before .before .before .before .before .before .before .before .before .before .args .sheet)) (now (c .before .before .before .before .before .before .before .before .before .before .before .before .before .before .before .before .before .args .graph)) (c .before .before .before .before .before .before .before .before .before .before .before .before .before .before .before .before .before .args .nodes) input
 
   room : (c .before .before .put-sheet-line .result ≤ 24) × (961248 ≤ length (c .before .before .put-sheet-line .last .0)) × (length input ≤ 65536)
   room =
       let kept : length (c .before .before .put-sheet-line .last .0) ≡ length buffer = search needs in
-      (omega (arith, c .before .before .put-sheet-line .ensures .0 .0, c .before .before .put-sheet-line .ensures .1), omega (arith, kept, c .before .before .before .before .before .before .before .before .before .before .before .before .before .before .before .before .before .before .pre .1 .1), c .before .before .before .before .before .before .before .before .before .before .before .before .before .before .before .before .before .before .pre .1 .0)
+      (omega (arith, c .before .before .put-sheet-line .ensures .0 .0, c .before .before .put-sheet-line .ensures .1), omega (arith, kept, c .before .before .before .before .before .before .before .before .before .before .before .before .before .before .before .before .before .pre .1 .1), c .before .before .before .before .before .before .before .before .before .before .before .before .before .before .before .before .before .pre .1 .0)
 
   all-printed
       : {end : ℕ} {ys : List ℕ}
       → Wrote (c .before .before .put-sheet-line .last .0) (c .before .before .put-sheet-line .result) (pieceLines reply (length input) 1 input) end ys
       → (end ≡ length all) × (ys ≡ splice buffer 0 all)
   all-printed w =
-      let known = ready (c .before .before .before .before .before .before .before .before) in
-      let values = known-values (known .checked .sheet) (c .before .before .before .before .count-places .ensures) (omega (arith, known .allCodes, known .fewTests)) in
+      let known = ready (c .before .before .before .before .before .before .before) .known in
+      let sizes = c .before .before .before .before .before .before .before .opened2 .given .0 .0 in
+      let tests = c .before .before .before .before .tests in
+      let values = known-values (known .checked .sheet) (tests .ensures) in
       let lines = pieceLines reply (length input) 1 input in
-      let is = ap (λ (x : SheetValues). sheetLine (x .arity) (x .rules) (x .tests) (c .before .before .before .before .before .before .before .before .before .before .before .before .before .before .before .before .before .before .args .nodes) ++ lines) values in
+      let is = ap (λ (x : SheetValues). sheetLine (x .arity) (x .rules) (x .tests) (c .before .before .before .before .before .before .before .before .before .before .before .before .before .before .before .before .before .args .nodes) ++ lines) values in
       let first = c .before .before .put-sheet-line in
       from-start buffer all
       (wrote-as buffer 0 is
-      (wrote-behind buffer 0 (sheetLine (c .before .before .before .before .before .before .before .before .opened2 .given .0 .0) (c .before .before .before .before .before .before .before .before .opened2 .given .0 .1 .0) (c .before .before .before .before .count-places .result + c .before .before .before .before .before .before .before .before .opened2 .given .0 .1 .1 .0) (c .before .before .before .before .before .before .before .before .before .before .before .before .before .before .before .before .before .before .args .nodes)) lines
-      (omega (arith, first .ensures .0 .0, first .ensures .1, c .before .before .before .before .before .before .before .before .before .before .before .before .before .before .before .before .before .before .pre .1 .1)) (first .ensures .0) w))
+      (wrote-behind buffer 0 (sheetLine (sizes .arity) (sizes .rules) (tests .result) (c .before .before .before .before .before .before .before .before .before .before .before .before .before .before .before .before .before .args .nodes)) lines
+      (omega (arith, first .ensures .0 .0, first .ensures .1, c .before .before .before .before .before .before .before .before .before .before .before .before .before .before .before .before .before .pre .1 .1)) (first .ensures .0) w))
 
 -- The turn of the piece that comes next.
 module _ (c : tie.After-slice-known4 Inv-loop μ-loop) where
@@ -95,10 +95,10 @@ module _ (c : tie.After-slice-known4 Inv-loop μ-loop) where
       : {t : Turn} → c .before .before .put-first .result ≡ t → Within (length (input state) - c .before .before .before .before .before .before .before .before .before .before .loop .from) (c .before .before .before .before .before .before .before .before .before .before .loop .end) t
   turn-within {t = t} e =
       subst (λ (k : ℕ). Within k (c .before .before .before .before .before .before .before .before .before .before .loop .end) t) (rest-length (input state) (c .before .before .before .before .before .before .before .before .before .before .loop .from))
-      (subst (Within _ (c .before .before .before .before .before .before .before .before .before .before .loop .end)) e (c .before .before .put-first .ensures .1 _ (c .before .before .before .before .walk-first .ensures .1)))
+      (subst (Within _ (c .before .before .before .before .before .before .before .before .before .before .loop .end)) e (c .before .before .put-first .ensures .1 _ (c .before .before .before .before .walk-first .ensures .1 .0)))
 
 open-graph-requires : tie.Need-open-graph-requires Inv-loop μ-loop
-open-graph-requires c κs = (refl, refl, length-replicate {A = ℕ} 1024 0)
+open-graph-requires c κs = (length-replicate {A = ℕ} 1024 0, length-replicate {A = ℕ} 680 0, refl)
 
 enum-known-opened : tie.Need-enum-known-opened Inv-loop μ-loop
 enum-known-opened c = search needs
@@ -109,20 +109,14 @@ put-refused-requires c κs = omega (arith, c .before .before .before .before .be
 enum-known-opened-2 : tie.Need-enum-known-opened-2 Inv-loop μ-loop
 enum-known-opened-2 c = search needs
 
-with-begins-requires : tie.Need-with-begins-requires Inv-loop μ-loop
-with-begins-requires c κs = rules-there (ready (c .before))
-
-count-places-requires : tie.Need-count-places-requires Inv-loop μ-loop
-count-places-requires c κs = ready (c .before .before .before) .allWords
-
-add-tests : tie.Need-add-tests Inv-loop μ-loop
-add-tests c = omega (arith, c .count-places .ensures, ready (c .before .before .before .before) .fewTests)
+tests-requires : tie.Need-tests-requires Inv-loop μ-loop
+tests-requires c κs = search needs
 
 cast-tests : tie.Need-cast-tests Inv-loop μ-loop
-cast-tests c = omega (arith, c .count-places .ensures, ready (c .before .before .before .before) .fewTests)
+cast-tests c = omega (arith, c .tests .ensures, ready (c .before .before .before) .known .checked .sheet .counted .few)
 
 put-sheet-line-requires : tie.Need-put-sheet-line-requires Inv-loop μ-loop
-put-sheet-line-requires c κs = omega (arith, c .before .before .before .before .before .before .before .before .before .before .before .before .before .before .before .pre .1 .1)
+put-sheet-line-requires c κs = omega (arith, c .before .before .before .before .before .before .before .before .before .before .before .before .before .before .pre .1 .1)
 
 loop-holds : tie.Need-loop-holds Inv-loop μ-loop
 loop-holds c =
@@ -134,6 +128,7 @@ loop-holds c =
       omega arith,
       refl,
       at-start (reply state) (input state) (print .last .0) (print .result),
+      c .before .before .before .before .before .before .before .before .before .open-graph .ensures .1,
     )
 
 sub-rest : tie.Need-sub-rest Inv-loop μ-loop
@@ -146,7 +141,7 @@ part-rest-end : tie.Need-part-rest-end Inv-loop μ-loop
 part-rest-end c = search needs
 
 walk-first-requires : tie.Need-walk-first-requires Inv-loop μ-loop
-walk-first-requires c κs = known-with (ready (c .before .before .before .before .before .before .before .before .before .before .before .before .before .before)) (c .before .before .before .before .before .before .before .before .before .before .before .before .with-begins .ensures)
+walk-first-requires c κs = (ready (c .before .before .before .before .before .before .before .before .before .before .before .before .before) .known, c .before .before .before .before .before .loop .inv .6)
 
 put-first-requires : tie.Need-put-first-requires Inv-loop μ-loop
 put-first-requires c κs =
@@ -203,6 +198,7 @@ loop-again c =
       search needs,
       at-piece (reply state) (input state) (print .last .0) (print .result) (loop .inv .5) (omega arith) (c .before .before .before .before .before .before .before .before .before .before .before .before .loop-test .taken) (walkLine (loop .n) w)
           (omega (arith, few .0, few .1, few .2, inside .2)) wrote is refl,
+      c .before .before .before .before .before .before .before .walk-first .ensures .1 .1,
     )
 
 same-length-2 : tie.Need-same-length-2 Inv-loop μ-loop
@@ -211,7 +207,7 @@ same-length-2 c = search needs
 returns-2 : tie.Need-returns-2 Inv-loop μ-loop
 returns-2 c =
     absurd
-    (graph-opened (c .before .before .before .before .before .before .before .before .before .before .before .before .before .before .before .pre .0) (subst (OpenedAs _ _ _ _ _) (c .before .before .before .before .before .opened .given .1) (c .before .before .before .before .before .before .before .open-graph .ensures)))
+    (graph-opened (c .before .before .before .before .before .before .before .before .before .before .before .before .before .before .before .pre .0) (subst (OpenedAs _ _ _ _) (c .before .before .before .before .before .opened .given .1) (c .before .before .before .before .before .before .before .open-graph .ensures .0)))
 
 same-length-3 : tie.Need-same-length-3 Inv-loop μ-loop
 same-length-3 c = search needs
@@ -232,9 +228,7 @@ put-built-spec =
     enum-known-opened
     put-refused-requires
     enum-known-opened-2
-    with-begins-requires
-    count-places-requires
-    add-tests
+    tests-requires
     cast-tests
     put-sheet-line-requires
     loop-holds

@@ -6,28 +6,27 @@ use Rattle.terms.specs.Pattern.{Patterns}
 use Rattle.terms.specs.Answer.{ruleAt}
 use Rattle.terms.specs.Answer as answers
 use Rattle.sheet.specs.views.Noted.{ruleNotes}
-use Rattle.sheet_tests.specs.views.TestsRead.{keptTests}
-use Rattle.plain.specs.views.NotesOutcome.{cellsOutcome}
+use Rattle.sheet_tests.specs.SheetTests.{Test}
 use Rattle.decision.specs.Key.{Leaf, failNode, suspendNode, executeNode}
 use Rattle.decision.specs.Walk.{Walk}
 use Rattle.path.specs.views.Following.{Ended, reached, stopped}
 use Rattle.leaves.specs.views.OpenTests.{metWaits}
-use Rattle.leaves.specs.views.LeafAnswers.{RuleEnd, executed, ownWaits}
+use Rattle.leaves.specs.views.RuleMasks.{notesMasks}
+use Rattle.leaves.specs.views.LeafAnswers.{RuleEnd, executedBy}
 
 -- What an execute of a rule comes to, where so many edges lead to it.
 abbrev pub walkAfter : ℕ → RuleEnd → Walk
 walkAfter edges e = record { answer = e .answer; edges = edges; waits = e .waits }
 
-module _ (rules : List Patterns) (words codes : List ℕ) (pairs : ℕ) (cells : List ℕ) where
+module _ (rules : List Patterns) (tests : List Test) (cells : List ℕ) where
   -- The answer at a leaf that so many edges lead to, where the tests with these codes were met: "for suspend it holds the tests met
   -- not known on the walk".
   abbrev pub leafWalk : Leaf → ℕ → List ℕ → Walk
   leafWalk failNode edges met = record { answer = answers.fail; edges = edges; waits = 0 }
   leafWalk suspendNode edges met =
-      record { answer = answers.suspend; edges = edges; waits = metWaits (keptTests words codes pairs) cells met }
+      record { answer = answers.suspend; edges = edges; waits = metWaits tests cells met }
   leafWalk (executeNode i) edges met =
-      walkAfter edges
-      (executed i (cellsOutcome cells (ruleAt rules i)) (ownWaits words codes pairs cells (ruleNotes (ruleAt rules i))))
+      walkAfter edges (executedBy i (notesMasks tests cells (ruleNotes (ruleAt rules i))))
 
   abbrev pub endWalk : Ended → Reading Walk
   endWalk (reached l edges met) = took 0 (leafWalk l edges met)

@@ -11,7 +11,6 @@ use Rattle.walk_all.specs.WalkAll.{mostTaken}
 use Rattle.walk_all.specs.declared.WalkedAll.the-variants.{Walked}
 use Rattle.walk_all.specs.views.Known.{OpenedAs}
 use Rattle.walk_all.specs.views.Turns.{leftBy}
-use Rattle.walk_all.proofs.Opening.{rules-there, known-with}
 use Rattle.walk_all.proofs.Pieces.{pieces-roomless, pieces-none}
 use Rattle.walk_all.proofs.Progress.{at-start, at-last, at-piece, all-refused}
 use Rattle.walk_all.proofs.Turns.{told-full, told-last, told-more}
@@ -29,27 +28,25 @@ enum-known-opened c = search needs
 enum-known-opened-2 : tie.Need-enum-known-opened-2 Inv-loop μ-loop
 enum-known-opened-2 c = search needs
 
-with-begins-requires : tie.Need-with-begins-requires Inv-loop μ-loop
-with-begins-requires c κs = rules-there (ready (c .before))
-
 room-for-requires : tie.Need-room-for-requires Inv-loop μ-loop
 room-for-requires c κs = search needs
 
 loop-holds : tie.Need-loop-holds Inv-loop μ-loop
 loop-holds c =
-    let a = c .before .before .before .before .before .before .before .before .before .before .before .before .before .args in (
+    let a = c .before .before .before .before .before .before .before .before .before .before .before .before .args in (
       omega arith,
       omega arith,
       omega arith,
       refl,
       at-start (walkReply (now (a .sheet)) (now (a .graph))) (now (a .pieces)) (now (a .results)) (c .room-for .result),
+      c .before .before .before .before .open-graph .ensures .1,
     )
 
-cast-t29 : tie.Need-cast-t29 Inv-loop μ-loop
-cast-t29 c = omega (arith, c .before .before .loop .inv .0, c .before .before .loop .inv .2, few (c .before .before) .0)
+cast-t25 : tie.Need-cast-t25 Inv-loop μ-loop
+cast-t25 c = omega (arith, c .before .before .loop .inv .0, c .before .before .loop .inv .2, few (c .before .before) .0)
 
-cast-t30 : tie.Need-cast-t30 Inv-loop μ-loop
-cast-t30 c = omega (arith, c .before .before .loop .inv .0, c .before .before .loop .inv .2, few (c .before .before) .0)
+cast-t26 : tie.Need-cast-t26 Inv-loop μ-loop
+cast-t26 c = omega (arith, c .before .before .loop .inv .0, c .before .before .loop .inv .2, few (c .before .before) .0)
 
 same-length : tie.Need-same-length Inv-loop μ-loop
 same-length c = search needs
@@ -71,7 +68,7 @@ part-rest-end : tie.Need-part-rest-end Inv-loop μ-loop
 part-rest-end c = search needs
 
 walk-first-requires : tie.Need-walk-first-requires Inv-loop μ-loop
-walk-first-requires c κs = known-with (ready (c .before .before .before .before .before .before .before .before .before .before)) (c .before .before .before .before .before .before .before .before .with-begins .ensures)
+walk-first-requires c κs = (ready (c .before .before .before .before .before .before .before .before .before) .known, c .before .before .before .before .before .before .loop .inv .5)
 
 mul-put-first : tie.Need-mul-put-first Inv-loop μ-loop
 mul-put-first c = search needs
@@ -85,11 +82,11 @@ put-first-requires c κs = omega (arith, c .before .before .before .before .befo
 enum-told : tie.Need-enum-told Inv-loop μ-loop
 enum-told c = search needs
 
-cast-t39 : tie.Need-cast-t39 Inv-loop μ-loop
-cast-t39 c = omega (arith, c .before .before .before .before .before .before .before .before .before .before .before .before .before .loop .inv .0, c .before .before .before .before .before .before .before .before .before .before .before .before .before .loop .inv .2, few (c .before .before .before .before .before .before .before .before .before .before .before .before .before) .0)
+cast-t35 : tie.Need-cast-t35 Inv-loop μ-loop
+cast-t35 c = omega (arith, c .before .before .before .before .before .before .before .before .before .before .before .before .before .loop .inv .0, c .before .before .before .before .before .before .before .before .before .before .before .before .before .loop .inv .2, few (c .before .before .before .before .before .before .before .before .before .before .before .before .before) .0)
 
-cast-t40 : tie.Need-cast-t40 Inv-loop μ-loop
-cast-t40 c = omega (arith, c .before .before .before .before .before .before .before .before .before .before .before .before .before .loop .inv .0, c .before .before .before .before .before .before .before .before .before .before .before .before .before .loop .inv .2, few (c .before .before .before .before .before .before .before .before .before .before .before .before .before) .0)
+cast-t36 : tie.Need-cast-t36 Inv-loop μ-loop
+cast-t36 c = omega (arith, c .before .before .before .before .before .before .before .before .before .before .before .before .before .loop .inv .0, c .before .before .before .before .before .before .before .before .before .before .before .before .before .loop .inv .2, few (c .before .before .before .before .before .before .before .before .before .before .before .before .before) .0)
 
 same-length-2 : tie.Need-same-length-2 Inv-loop μ-loop
 same-length-2 c = search needs
@@ -105,14 +102,14 @@ returns-2 c =
 enum-told-2 : tie.Need-enum-told-2 Inv-loop μ-loop
 enum-told-2 c = search needs
 
-add-t41 : tie.Need-add-t41 Inv-loop μ-loop
-add-t41 c = omega (arith, c .before .before .before .before .before .before .before .before .before .before .before .before .before .loop .inv .0, c .before .before .before .before .before .before .before .before .before .before .before .before .before .loop .inv .2, few (c .before .before .before .before .before .before .before .before .before .before .before .before .before) .0)
+add-t37 : tie.Need-add-t37 Inv-loop μ-loop
+add-t37 c = omega (arith, c .before .before .before .before .before .before .before .before .before .before .before .before .before .loop .inv .0, c .before .before .before .before .before .before .before .before .before .before .before .before .before .loop .inv .2, few (c .before .before .before .before .before .before .before .before .before .before .before .before .before) .0)
 
-cast-t42 : tie.Need-cast-t42 Inv-loop μ-loop
-cast-t42 c = omega (arith, c .before .before .before .before .before .before .before .before .before .before .before .before .before .loop .inv .0, c .before .before .before .before .before .before .before .before .before .before .before .before .before .loop .inv .2, few (c .before .before .before .before .before .before .before .before .before .before .before .before .before) .0)
+cast-t38 : tie.Need-cast-t38 Inv-loop μ-loop
+cast-t38 c = omega (arith, c .before .before .before .before .before .before .before .before .before .before .before .before .before .loop .inv .0, c .before .before .before .before .before .before .before .before .before .before .before .before .before .loop .inv .2, few (c .before .before .before .before .before .before .before .before .before .before .before .before .before) .0)
 
-cast-t43 : tie.Need-cast-t43 Inv-loop μ-loop
-cast-t43 c = omega (arith, c .before .before .before .before .before .before .before .before .before .before .before .before .before .loop .inv .0, c .before .before .before .before .before .before .before .before .before .before .before .before .before .loop .inv .2, few (c .before .before .before .before .before .before .before .before .before .before .before .before .before) .0)
+cast-t39 : tie.Need-cast-t39 Inv-loop μ-loop
+cast-t39 c = omega (arith, c .before .before .before .before .before .before .before .before .before .before .before .before .before .loop .inv .0, c .before .before .before .before .before .before .before .before .before .before .before .before .before .loop .inv .2, few (c .before .before .before .before .before .before .before .before .before .before .before .before .before) .0)
 
 same-length-3 : tie.Need-same-length-3 Inv-loop μ-loop
 same-length-3 c = search needs
@@ -148,19 +145,20 @@ loop-again c =
       inside (c .before) .1,
       search needs,
       at-piece (reply now) (pieces now) (buffer now) (room now) (loop .inv .4) (fits step) (first step ∙ next) wrote,
+      c .before .before .before .before .before .before .before .walk-first .ensures .1 .1,
     )
 
-cast-t44 : tie.Need-cast-t44 Inv-loop μ-loop
-cast-t44 c = omega (arith, c .before .loop .inv .0, c .before .loop .inv .2, few (c .before) .0)
+cast-t40 : tie.Need-cast-t40 Inv-loop μ-loop
+cast-t40 c = omega (arith, c .before .loop .inv .0, c .before .loop .inv .2, few (c .before) .0)
 
-cast-t45 : tie.Need-cast-t45 Inv-loop μ-loop
-cast-t45 c = omega (arith, c .before .loop .inv .0, c .before .loop .inv .2, few (c .before) .0)
+cast-t41 : tie.Need-cast-t41 Inv-loop μ-loop
+cast-t41 c = omega (arith, c .before .loop .inv .0, c .before .loop .inv .2, few (c .before) .0)
 
 returns-4 : tie.Need-returns-4 Inv-loop μ-loop
 returns-4 c =
     let a = c .before .before .before .before .before .before .before .before .before .before .before .args in
     all-refused (now (a .sheet)) (now (a .graph)) (now (a .pieces)) (now (a .results))
-    (subst (OpenedAs _ _ _ _ _) (c .before .opened .given .1) (c .before .before .before .open-graph .ensures))
+    (subst (OpenedAs _ _ _ _) (c .before .opened .given .1) (c .before .before .before .open-graph .ensures .0))
 
 same-length-4 : tie.Need-same-length-4 Inv-loop μ-loop
 same-length-4 c = search needs
@@ -181,11 +179,10 @@ walk-all-spec =
     open-graph-requires
     enum-known-opened
     enum-known-opened-2
-    with-begins-requires
     room-for-requires
     loop-holds
-    cast-t29
-    cast-t30
+    cast-t25
+    cast-t26
     same-length
     returns
     sub-rest
@@ -196,14 +193,14 @@ walk-all-spec =
     sub-put-first
     put-first-requires
     enum-told
-    cast-t39
-    cast-t40
+    cast-t35
+    cast-t36
     same-length-2
     returns-2
     enum-told-2
-    add-t41
-    cast-t42
-    cast-t43
+    add-t37
+    cast-t38
+    cast-t39
     same-length-3
     returns-3
     enum-known-turn
@@ -211,8 +208,8 @@ walk-all-spec =
     add-n
     loop-less
     loop-again
-    cast-t44
-    cast-t45
+    cast-t40
+    cast-t41
     returns-4
     same-length-4
     returns-5)

@@ -5,24 +5,20 @@ use borrow.Author.Needs.{needs}
 use Rattle.leaves.proofs.begins.note.Statement.{statement}
 use Rattle.leaves.proofs.begins.note.Tie as tie
 
-cast-begins : tie.Need-cast-begins
-cast-begins c = search needs
+add-kept : tie.Need-add-kept
+add-kept c = search needs
 
-mul-begins : tie.Need-mul-begins
-mul-begins c = search needs
+mul-kept : tie.Need-mul-kept
+mul-kept c = search needs
 
-element-write-begins : tie.Need-element-write-begins
-element-write-begins c = search needs
+element-write-kept : tie.Need-element-write-kept
+element-write-kept c = search needs
 
 returns : tie.Need-returns
-returns c = (simp (lt-ltb _ _ (c .before .if1 .taken), lt-ltb _ _ (c .if2 .taken)), simp length-set (c .before .before .pre))
+returns c = (simp (lt-ltb _ _ (c .if1 .taken)), simp length-set (c .before .pre))
 
 returns-2 : tie.Need-returns-2
-returns-2 c = (simp (lt-ltb _ _ (c .before .if1 .taken), le-ltb _ _ (c .if2 .left)), c .before .before .pre)
-
-returns-3 : tie.Need-returns-3
-returns-3 c = (simp (le-ltb _ _ (c .if1 .left)), c .before .pre)
+returns-2 c = (simp (le-ltb _ _ (c .if1 .left)), c .before .pre)
 
 pub note-spec : {M : Type 1} → statement M
-note-spec =
-    tie.close (tie.spec cast-begins mul-begins element-write-begins returns returns-2 returns-3)
+note-spec = tie.close (tie.spec add-kept mul-kept element-write-kept returns returns-2)

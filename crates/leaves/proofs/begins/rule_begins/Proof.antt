@@ -2,35 +2,38 @@
 use Prim.Native.Nat.{ℕ, _-_, _≤_, _<_}
 use mathlib.Core.Path.{_≡_, sym, subst}
 use native.Mathlib.Omega.{arith}
-use lib.ListN.{length, length-replicate}
+use lib.ListN.{length}
 use denote.Ref.{now}
 use Rattle.terms.specs.Pattern.{pnil}
 use Rattle.sheet.specs.ReadSheet.{readRule}
 use Rattle.sheet_tests.proofs.Scanning.{bytes-known, rule-read}
+use Rattle.leaves.specs.views.Kept.{SameTests}
 use Rattle.leaves.specs.views.Seeking.{Seeking, Begins}
 use Rattle.leaves.proofs.RulesLeft.{seeking-starts, seeking-next}
-use Rattle.leaves.proofs.RuleBegins.{begins-noted, none-noted}
+use Rattle.leaves.proofs.RuleBegins.{begins-noted, tests-start, tests-stay}
 use borrow.Author.Needs.{needs}
 use Rattle.leaves.proofs.begins.rule_begins.Statement.{statement}
 use Rattle.leaves.proofs.begins.rule_begins.Tie as tie
 
 abbrev Inv-loop : tie.InvT-loop
-Inv-loop s arity count notes₀ begins₀ at₀ i₀ notes begins at i =
-    (length notes ≡ 680) × (length begins ≡ 32) × (at ≤ length s) × Begins s arity count begins
-    × ((k : ℕ) → i ≤ k → k < count → Seeking (readRule arity) pnil s count k at i)
+Inv-loop s arity count notes₀ kept₀ at₀ i₀ notes kept at i =
+    (length notes ≡ 680) × (length kept ≡ 324) × (at ≤ length s) × Begins s arity count kept
+    × ((k : ℕ) → i ≤ k → k < count → Seeking (readRule arity) pnil s count k at i) × SameTests kept₀ kept
 
 abbrev μ-loop : tie.MeasureT-loop
-μ-loop s arity count notes₀ begins₀ at₀ i₀ notes begins at i = count - i
+μ-loop s arity count notes₀ kept₀ at₀ i₀ notes kept at i = count - i
 
 loop-holds : tie.Need-loop-holds Inv-loop μ-loop
 loop-holds c =
     let a = c .before .args in
+    let pre = c .before .pre in
     let s = now (a .s) in (
-      length-replicate {A = ℕ} 680 0,
-      length-replicate {A = ℕ} 32 0,
+      pre .2,
+      pre .3,
       omega arith,
-      none-noted s (a .arity) (a .count),
-      λ k from among. seeking-starts (readRule (a .arity)) pnil s (a .count) k among (c .before .pre .1),
+      pre .4,
+      λ k from among. seeking-starts (readRule (a .arity)) pnil s (a .count) k among (pre .1),
+      tests-start (now (a .kept)) (pre .3),
     )
 
 cast-note : tie.Need-cast-note Inv-loop μ-loop
@@ -65,9 +68,13 @@ returns c =
     let inv = loop .inv in
     let begins =
     subst (Begins s (a .arity) (a .count)) (sym (c .before .before .before .before .before .note .ensures .0))
-    (begins-noted s (a .arity) (a .count) (loop .begins) (loop .i) (loop .at) (inv .1) (inv .3)
+    (begins-noted s (a .arity) (a .count) (loop .kept) (loop .i) (loop .at) (inv .1) (inv .3)
     (inv .4 (loop .i) (omega arith) (c .before .before .before .before .before .before .before .loop-test .taken))) in
-    begins
+    let note = c .before .before .before .before .before .note in (
+      begins,
+      tests-stay (now (a .kept)) (loop .kept) (loop .i) (loop .at) (inv .5) (note .ensures .0) (note .ensures .1),
+      c .before .before .read-rule .ensures .1 .entries,
+    )
 
 add-at : tie.Need-add-at Inv-loop μ-loop
 add-at c =
@@ -94,7 +101,7 @@ loop-again c =
     let inv = loop .inv in
     let begins =
     subst (Begins s (a .arity) (a .count)) (sym (c .before .before .before .before .before .before .note .ensures .0))
-    (begins-noted s (a .arity) (a .count) (loop .begins) (loop .i) (loop .at) (inv .1) (inv .3)
+    (begins-noted s (a .arity) (a .count) (loop .kept) (loop .i) (loop .at) (inv .1) (inv .3)
     (inv .4 (loop .i) (omega arith) (c .before .before .before .before .before .before .before .before .loop-test .taken))) in
     let codes = c .before .before .before .read-rule .last .1 .1 .0 in
     let read = c .before .before .before .read-rule .ensures in
@@ -107,10 +114,12 @@ loop-again c =
       λ k from among.
           seeking-next (readRule (a .arity)) pnil s (inv .4 k (omega arith) among) (rule .read) (λ e. omega (arith, e))
           (omega (arith, rule .used)),
+      tests-stay (now (a .kept)) (loop .kept) (loop .i) (loop .at) (inv .5) (c .before .before .before .before .before .before .note .ensures .0)
+          (c .before .before .before .before .before .before .note .ensures .1),
     )
 
 returns-2 : tie.Need-returns-2 Inv-loop μ-loop
-returns-2 c = c .before .loop .inv .3
+returns-2 c = let inv = c .before .loop .inv in (inv .3, inv .5, inv .0)
 
 pub rule-begins-spec : {M : Type 1} → statement M
 rule-begins-spec =

@@ -1,39 +1,88 @@
--- `leaves::number::test_number` meets its contract: a place, or a pair.
+-- `leaves::number::test_number` meets its contract: what is left to search gives the same number.
+use Prim.Native.Nat.{_+_, _-_, _≤_, _<_}
+use mathlib.Core.Path.{_≡_, refl, sym, _∙_}
 use native.Mathlib.Omega.{arith}
-use Rattle.leaves.proofs.KeptNumbers.{place-near, place-coded, pair-coded}
+use lib.ListN.{length}
+use denote.Ref.{now}
+use Rattle.tables.specs.views.Planes.{testsIn}
+use Rattle.leaves.specs.views.TestNumbers.{testNumber, codeTest}
+use Rattle.leaves.specs.views.Kept.{listedCodes, listedTests}
+use Rattle.leaves.proofs.CodeNumbers.{numberFrom, search-here, search-next, search-ends, listed-length, listed-at}
 use borrow.Author.Needs.{needs}
 use Rattle.leaves.proofs.number.test_number.Statement.{statement}
 use Rattle.leaves.proofs.number.test_number.Tie as tie
 
-cast-places-under : tie.Need-cast-places-under
-cast-places-under c = search needs
+abbrev Inv-loop : tie.InvT-loop
+Inv-loop kept code tests t₀ t =
+    (t ≤ testsIn kept) × (testNumber (listedTests kept) (codeTest code) ≡ t + numberFrom (listedCodes kept) code t)
 
-places-under-requires : tie.Need-places-under-requires
-places-under-requires c κs = (c .before .pre .0 .allWords, omega (arith, place-near (c .before .pre .0) (c .before .args .code) (c .before .pre .1) (c .if1 .taken)))
+abbrev μ-loop : tie.MeasureT-loop
+μ-loop kept code tests t₀ t = testsIn kept - t
 
-returns : tie.Need-returns
-returns c = place-coded (c .before .before .pre .0) (c .before .before .args .code) (c .before .before .pre .1) (c .before .if1 .taken) (c .places-under .ensures)
+tests-requires : tie.Need-tests-requires Inv-loop μ-loop
+tests-requires c κs = search needs
 
-count-places-requires : tie.Need-count-places-requires
-count-places-requires c κs = c .before .pre .0 .allWords
+loop-holds : tie.Need-loop-holds Inv-loop μ-loop
+loop-holds c = (omega arith, omega arith)
 
-pair-number-requires : tie.Need-pair-number-requires
-pair-number-requires c κs = (c .before .before .pre .0 .fewPairs, c .before .before .pre .0 .allCodes)
+test-requires : tie.Need-test-requires Inv-loop μ-loop
+test-requires c κs =
+    omega (arith, c .before .before .tests .ensures, c .before .before .before .pre .few, c .loop-test .taken)
 
-add-result : tie.Need-add-result
-add-result c = omega (arith, pair-coded (c .before .before .before .pre .0) (c .before .before .before .args .code) (c .before .before .before .pre .1) (c .before .before .if1 .left) (c .before .count-places .ensures) (c .pair-number .ensures) .1)
+returns : tie.Need-returns Inv-loop μ-loop
+returns c =
+    let start = c .before .before .before .before .before in
+    let kept = now (start .args .kept) in
+    let turn = c .before .before .before .loop in
+    let more : turn .t < testsIn kept = omega (arith, c .before .before .before .before .tests .ensures, c .before .before .loop-test .taken) in
+    let there = listed-at kept (start .pre) (turn .t) more ∙ sym (c .before .test .ensures) ∙ c .if1 .taken in
+    sym
+    (turn .inv .1
+    ∙ sym
+    (search-here (listedCodes kept) (start .args .code) (turn .t) (omega (arith, listed-length kept (start .pre), more)) there))
 
-returns-2 : tie.Need-returns-2
-returns-2 c = pair-coded (c .before .before .before .pre .0) (c .before .before .before .args .code) (c .before .before .before .pre .1) (c .before .before .if1 .left) (c .before .count-places .ensures) (c .pair-number .ensures)
+add-t : tie.Need-add-t Inv-loop μ-loop
+add-t c = search needs
+
+loop-less : tie.Need-loop-less Inv-loop μ-loop
+loop-less c = omega (arith, c .before .before .before .before .tests .ensures, c .before .before .loop-test .taken)
+
+loop-again : tie.Need-loop-again Inv-loop μ-loop
+loop-again c =
+    let start = c .before .before .before .before .before in
+    let kept = now (start .args .kept) in
+    let turn = c .before .before .before .loop in
+    let more : turn .t < testsIn kept = omega (arith, c .before .before .before .before .tests .ensures, c .before .before .loop-test .taken) in
+    let there = listed-at kept (start .pre) (turn .t) more ∙ sym (c .before .test .ensures) in (
+      omega (arith, more),
+      turn .inv .1
+          ∙ search-next (listedCodes kept) (start .args .code) (turn .t) (omega (arith, listed-length kept (start .pre), more))
+          (λ e. c .if1 .left (sym there ∙ e)),
+    )
+
+returns-2 : tie.Need-returns-2 Inv-loop μ-loop
+returns-2 c =
+    let start = c .before .before .before in
+    let kept = now (start .args .kept) in
+    let turn = c .before .loop in
+    let size = listed-length kept (start .pre) in
+    let done : length (listedCodes kept) ≡ turn .t = omega (arith, size, turn .inv .0, c .before .before .tests .ensures, c .loop-test .left) in
+    c .before .before .tests .ensures
+    ∙ sym size
+    ∙ search-ends (listedCodes kept) (start .args .code) (turn .t) done
+    ∙ sym (turn .inv .1)
 
 pub test-number-spec : {M : Type 1} → statement M
 test-number-spec =
     tie.close
     (tie.spec
-    cast-places-under
-    places-under-requires
+    Inv-loop
+    μ-loop
+    tests-requires
+    loop-holds
+    test-requires
     returns
-    count-places-requires
-    pair-number-requires
-    add-result
+    add-t
+    loop-less
+    loop-again
     returns-2)

@@ -4,7 +4,7 @@ use mathlib.Core.Path.{_≡_, ap, _∙_}
 use native.Mathlib.Omega.{arith}
 use lib.ListN.{take}
 use denote.Ref.{now}
-use Rattle.sheet_tests.specs.views.TestsRead.{keptTests}
+use Rattle.leaves.specs.views.Kept.{listedTests}
 use Rattle.leaves.specs.views.OpenTests.{metWaits}
 use Rattle.leaves.proofs.MetTests.{met-none, met-at, met-turn}
 use borrow.Author.Needs.{needs}
@@ -12,11 +12,11 @@ use Rattle.leaves.proofs.waits.suspend_waits.Statement.{statement}
 use Rattle.leaves.proofs.waits.suspend_waits.Tie as tie
 
 abbrev Inv-loop : tie.InvT-loop
-Inv-loop met edges words codes pairs cells set₀ i₀ set i =
-    (i ≤ edges) × (set ≡ metWaits (keptTests words codes pairs) cells (take i met))
+Inv-loop met edges kept cells set₀ i₀ set i =
+    (i ≤ edges) × (set ≡ metWaits (listedTests kept) cells (take i met))
 
 abbrev μ-loop : tie.MeasureT-loop
-μ-loop met edges words codes pairs cells set₀ i₀ set i = edges - i
+μ-loop met edges kept cells set₀ i₀ set i = edges - i
 
 loop-holds : tie.Need-loop-holds Inv-loop μ-loop
 loop-holds c =
@@ -24,7 +24,7 @@ loop-holds c =
     let pre = c .pre in
     let cells = now (a .cells) in
     let met = now (a .met) in
-    (omega arith, met-none (keptTests (now (a .words)) (now (a .codes)) (a .pairs)) cells)
+    (omega arith, met-none (listedTests (now (a .kept))) cells)
 
 mul-with-open : tie.Need-mul-with-open Inv-loop μ-loop
 mul-with-open c = search needs
@@ -38,7 +38,7 @@ with-open-requires c κs =
     let pre = c .before .before .before .pre in
     let cells = now (a .cells) in
     let met = now (a .met) in
-    (pre .0 .0, met-at (pre .0 .0) cells met (a .edges) (c .before .before .loop .i) (pre .1) (c .before .loop-test .taken) (omega (arith, pre .0 .1, pre .0 .2)), pre .0 .3)
+    (pre .0 .0, met-at (now (a .kept)) (pre .0 .0) cells met (a .edges) (c .before .before .loop .i) (pre .1) (c .before .loop-test .taken) (omega (arith, pre .0 .1, pre .0 .2)), pre .0 .3)
 
 add-i : tie.Need-add-i Inv-loop μ-loop
 add-i c = search needs
@@ -52,7 +52,7 @@ loop-again c =
     let pre = c .before .before .before .before .pre in
     let cells = now (a .cells) in
     let met = now (a .met) in
-    (omega arith, c .with-open .ensures ∙ met-turn (pre .0 .0) cells met (a .edges) (c .before .before .before .loop .i) (pre .1) (c .before .before .loop-test .taken) (omega (arith, pre .0 .1, pre .0 .2)) (c .before .before .before .loop .inv .1))
+    (omega arith, c .with-open .ensures ∙ met-turn (now (a .kept)) (pre .0 .0) cells met (a .edges) (c .before .before .before .loop .i) (pre .1) (c .before .before .loop-test .taken) (omega (arith, pre .0 .1, pre .0 .2)) (c .before .before .before .loop .inv .1))
 
 returns : tie.Need-returns Inv-loop μ-loop
 returns c =
@@ -61,7 +61,7 @@ returns c =
     let cells = now (a .cells) in
     let met = now (a .met) in
     let done : c .before .loop .i ≡ a .edges = omega arith in
-    c .before .loop .inv .1 ∙ ap (λ (n : ℕ). metWaits (keptTests (now (a .words)) (now (a .codes)) (a .pairs)) cells (take n met)) done
+    c .before .loop .inv .1 ∙ ap (λ (n : ℕ). metWaits (listedTests (now (a .kept))) cells (take n met)) done
 
 pub suspend-waits-spec : {M : Type 1} → statement M
 suspend-waits-spec =

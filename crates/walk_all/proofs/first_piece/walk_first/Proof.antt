@@ -50,11 +50,12 @@ module _ (c : tie.Else1) where
       (read (c .before .before) .0)
 
 module _ (c : tie.After-walk-checked) where
-  replied : walkedReading (c .walk-checked .result) ≡ reply (c .before .before .before .before) (take (bytes (c .before .before .before .before)) (input (c .before .before .before .before)))
+  replied : walkedReading (c .walk-checked .result) ≡ reply (c .before .before .before .before .before) (take (bytes (c .before .before .before .before .before)) (input (c .before .before .before .before .before)))
   unfolding readAs
   replied =
-      c .walk-checked .ensures (c .before .before .before .before .before .before .before .before .before .before .before .before .pre .checked .sheet) (take (bytes (c .before .before .before .before)) (input (c .before .before .before .before))) (readAs (c .before .before))
-      ∙ same-arity (c .before .before .before .before .before .before .before .before .before .before .before .before .pre .checked) (read (c .before .before .before .before) .0) (c .before .before .if1 .left)
+      let checked = c .before .before .before .before .before .before .before .before .before .before .before .before .before .pre .0 .checked in
+      c .walk-checked .ensures .0 (checked .sheet .read) (take (bytes (c .before .before .before .before .before)) (input (c .before .before .before .before .before))) (readAs (c .before .before .before))
+      ∙ same-arity checked (read (c .before .before .before .before .before) .0) (c .before .before .before .if1 .left)
 
 read-prefix-requires : tie.Need-read-prefix-requires
 read-prefix-requires c κs = search needs
@@ -68,18 +69,19 @@ enum-known-prefix-2 c = search needs
 returns : tie.Need-returns
 returns c =
     let known = c .before .before in (
-      first-read (reply known) (input known) (read known .1) (other-arity (c .before .before .before .before .before .before .before .before .before .before .pre .checked) (read known .0) (c .if1 .taken)),
-      (least-piece (input known) (read known .1), there known),
+      first-read (reply known) (input known) (read known .1) (other-arity (c .before .before .before .before .before .before .before .before .before .before .pre .0 .checked) (read known .0) (c .if1 .taken)),
+      ((least-piece (input known) (read known .1), there known), c .before .before .before .before .before .before .before .before .before .before .pre .1),
     )
 
 walk-checked-requires : tie.Need-walk-checked-requires
 walk-checked-requires c κs =
-    let known = c .before .before .before .before .before .before .before .before .before .before .before .pre in (
+    let pre = c .before .before .before .before .before .before .before .before .before .before .before .before .pre in
+    let known = pre .0 in (
       (
-        record { allWords = known .allWords; allCodes = known .allCodes; fewTests = known .fewTests },
         known .allStarts,
-        record { bytes = take (bytes (c .before .before .before)) (input (c .before .before .before)); readAs = readAs (c .before) },
+        record { bytes = take (bytes (c .before .before .before .before)) (input (c .before .before .before .before)); readAs = readAs (c .before .before) },
         known .begins,
+        pre .1,
       ),
       known .checked,
     )
@@ -94,19 +96,19 @@ returns-2 : tie.Need-returns-2
 returns-2 c =
     let input = now (c .before .before .before .before .before .before .before .before .args .input) in
     let unread = prefix-refused input (c .before .before .before .read-prefix .last .1 .0) (c .before .before .before .read-prefix .result) (c .before .before .before .read-prefix .ensures .0) (c .before .prefix .given .1) in
-    (first-unread (walkReply (now (c .before .before .before .before .before .before .before .before .args .sheet)) (now (c .before .before .before .before .before .before .before .before .args .graph))) input unread, tt)
+    (first-unread (walkReply (now (c .before .before .before .before .before .before .before .before .args .sheet)) (now (c .before .before .before .before .before .before .before .before .args .graph))) input unread, (tt, c .before .before .before .before .before .before .before .before .pre .1))
 
 returns-3 : tie.Need-returns-3
 returns-3 c =
-    let known = c .before .before .before .before .before .before .before in
+    let known = c .before .before .before .before .before .before .before .before in
     let told = sym (ap walkedReading (c .before .walked .given .1)) ∙ replied (c .before .before .before) in
-    (first-read (reply known) (input known) (read known .1) told, (least-piece (input known) (read known .1), there known))
+    (first-read (reply known) (input known) (read known .1) told, ((least-piece (input known) (read known .1), there known), c .before .before .before .walk-checked .ensures .1))
 
 returns-4 : tie.Need-returns-4
 returns-4 c =
-    let known = c .before .before .before .before .before .before .before in
+    let known = c .before .before .before .before .before .before .before .before in
     let told = sym (ap walkedReading (c .before .walked2 .given .1)) ∙ replied (c .before .before .before) in
-    (first-read (reply known) (input known) (read known .1) told, (least-piece (input known) (read known .1), there known))
+    (first-read (reply known) (input known) (read known .1) told, ((least-piece (input known) (read known .1), there known), c .before .before .before .walk-checked .ensures .1))
 
 pub walk-first-spec : {M : Type 1} → statement M
 walk-first-spec =

@@ -23,31 +23,31 @@ use Rattle.walk_all.proofs.Turns.{told, told-more, within-more}
 use Rattle.walk_all.proofs.walk_all.Tie as tie
 
 abbrev pub Inv-loop : tie.InvT-loop
-Inv-loop sheet graph pieces results₀ words codes starts arity rules pairs nodes sizes room n₀ from₀ results n from =
+Inv-loop sheet graph pieces results₀ starts notes₀ kept sizes room n₀ from₀ results notes n from =
     (n ≤ room) × (from ≤ length pieces) × (from ≤ mostTaken) × (length results ≡ length results₀)
-    × Progress (walkReply sheet graph) pieces results₀ room n from results
+    × Progress (walkReply sheet graph) pieces results₀ room n from results × (length notes ≡ 680)
 
 abbrev pub μ-loop : tie.MeasureT-loop
-μ-loop sheet graph pieces results₀ words codes starts arity rules pairs nodes sizes room n₀ from₀ results n from = room - n
+μ-loop sheet graph pieces results₀ starts notes₀ kept sizes room n₀ from₀ results notes n from = room - n
 
 -- Where the graph is accepted for the sheet.
 pub ready
     : (c : tie.After-opened2 Inv-loop μ-loop)
-    → ReadyAs (now (c .before .before .before .before .before .before .before .before .before .before .args .sheet)) (now (c .before .before .before .before .before .before .before .before .before .before .args .graph)) (c .before .before .open-graph .last .1 .1 .1 .1 .0)
-    (c .before .before .open-graph .last .1 .1 .0) (c .before .before .open-graph .last .1 .1 .1 .0) (c .opened2 .given .0 .0) (c .opened2 .given .0 .1 .0)
-    (c .opened2 .given .0 .1 .1 .0) (c .opened2 .given .0 .1 .1 .1 .0)
-ready c = subst (OpenedAs _ _ _ _ _) (c .opened2 .given .1) (c .before .before .open-graph .ensures)
+    → ReadyAs (now (c .before .before .before .before .before .before .before .before .before .before .args .sheet)) (now (c .before .before .before .before .before .before .before .before .before .before .args .graph)) (c .before .before .open-graph .last .1 .1 .0)
+    (c .before .before .open-graph .last .1 .1 .1 .1 .0)
+    (c .opened2 .given .0 .0)
+ready c = subst (OpenedAs _ _ _ _) (c .opened2 .given .1) (c .before .before .open-graph .ensures .0)
 
 -- At the start of a turn: n results are written, and there is room for so many.
 module _ (c : tie.At-loop Inv-loop μ-loop) where
   abbrev pub pieces : List ℕ
-  pieces = now (c .before .before .before .before .before .before .before .before .before .before .before .before .before .before .args .pieces)
+  pieces = now (c .before .before .before .before .before .before .before .before .before .before .before .before .before .args .pieces)
 
   abbrev pub buffer : List ℕ
-  buffer = now (c .before .before .before .before .before .before .before .before .before .before .before .before .before .before .args .results)
+  buffer = now (c .before .before .before .before .before .before .before .before .before .before .before .before .before .args .results)
 
   abbrev pub reply : List ℕ → Reading Walk
-  reply = walkReply (now (c .before .before .before .before .before .before .before .before .before .before .before .before .before .before .args .sheet)) (now (c .before .before .before .before .before .before .before .before .before .before .before .before .before .before .args .graph))
+  reply = walkReply (now (c .before .before .before .before .before .before .before .before .before .before .before .before .before .args .sheet)) (now (c .before .before .before .before .before .before .before .before .before .before .before .before .before .args .graph))
 
   abbrev pub room : ℕ
   room = c .before .room-for .result
@@ -59,7 +59,7 @@ module _ (c : tie.At-loop Inv-loop μ-loop) where
   from = c .loop .from
 
   abbrev pub due : WalkAll
-  due = walkAll (now (c .before .before .before .before .before .before .before .before .before .before .before .before .before .before .args .sheet)) (now (c .before .before .before .before .before .before .before .before .before .before .before .before .before .before .args .graph)) pieces buffer
+  due = walkAll (now (c .before .before .before .before .before .before .before .before .before .before .before .before .before .args .sheet)) (now (c .before .before .before .before .before .before .before .before .before .before .before .before .before .args .graph)) pieces buffer
 
   pub few : (room ≤ mostResults) × (16 * room ≤ length buffer)
   few =
@@ -69,8 +69,8 @@ module _ (c : tie.At-loop Inv-loop μ-loop) where
 
   pub all-done : whole reply pieces buffer room ≡ due
   all-done =
-      all-walked (now (c .before .before .before .before .before .before .before .before .before .before .before .before .before .before .args .sheet)) (now (c .before .before .before .before .before .before .before .before .before .before .before .before .before .before .args .graph)) pieces buffer (c .before .room-for .ensures)
-      (ready (c .before .before .before .before) .read)
+      all-walked (now (c .before .before .before .before .before .before .before .before .before .before .before .before .before .args .sheet)) (now (c .before .before .before .before .before .before .before .before .before .before .before .before .before .args .graph)) pieces buffer (c .before .room-for .ensures)
+      (ready (c .before .before .before) .read)
 
   pub ended : restFrom reply pieces buffer room n from ≡ [] → leftBy (Walked n from) (c .loop .results) ≡ due
   ended none = at-end reply pieces buffer room (c .loop .inv .4) none ∙ all-done
@@ -123,5 +123,5 @@ module _ (c : tie.After-turn Inv-loop μ-loop) where
       told-more (reply (state step)) (input step) (loop .results) (16 * loop .n) (left step) (more step)
       (turn-told step (c .turn .given .1)) in
       let there =
-      within-more (loop .results) (16 * loop .n) (left step) (c .before .before .before .before .before .before .walk-first .result) (c .before .before .before .before .before .before .walk-first .ensures .1) told in
+      within-more (loop .results) (16 * loop .n) (left step) (c .before .before .before .before .before .before .walk-first .result) (c .before .before .before .before .before .before .walk-first .ensures .1 .0) told in
       (omega (arith, there, rest-length (pieces (state step)) (loop .from), loop .inv .1), omega (arith, may, loop .inv .2))
