@@ -23,10 +23,10 @@ use Rattle.sheet_tests.specs.SheetTests.{Test, place}
 use Rattle.decision.specs.Rules.{sameTest}
 use Rattle.decision.proofs.rules.TestsOfRules.{same-test}
 use Rattle.leaves.specs.views.OpenTests.{openCells, isMet, metWaits}
-use Rattle.leaves.specs.views.TestNumbers.{testNumber, codeTest, Once, withIf, KeptCode}
-use Rattle.leaves.specs.views.Kept.{listedTests, Listed}
-use Rattle.leaves.proofs.CodeNumbers.{listed-few}
-use Rattle.leaves.proofs.Numbers.{number-there, number-at}
+use Rattle.made.specs.views.TestNumbers.{testNumber, codeTest, Once, withIf, KeptCode}
+use Rattle.made.specs.views.Kept.{listedTests, Listed}
+use Rattle.made.proofs.CodeNumbers.{listed-few}
+use Rattle.made.proofs.Numbers.{number-there, number-at}
 use Rattle.basics.proofs.Filters.{any-join}
 
 -- One more truth value that is true only where the test is known adds nothing,

@@ -5,13 +5,18 @@ use mathlib.Core.Bool.{Bool, true, false, cond}
 use mathlib.Core.List.{List}
 use native.Mathlib.Omega.{arith}
 use lib.Dec.{eqb, ltb}
-use lib.ListN.{length, getD, set}
+use lib.ListN.{length, getD, set, take, replicate, length-replicate}
 use lib.Seq.{getD-set-same, getD-set-other}
 use borrow.Author.Tests.{eqb-true, eqb-false, ltb-true, lt-ltb}
 use Rattle.terms.specs.Pattern.{pnil}
 use Rattle.sheet.specs.ReadSheet.{readRule, readRules}
 use Rattle.graph.specs.views.Rewriting.{IsTook}
-use Rattle.leaves.specs.views.Kept.{SameTests}
+use Rattle.sheet_tests.specs.views.TestedPlaces.{placesIn}
+use Rattle.test_list.specs.views.Tests.{testsPut}
+use Rattle.test_list.proofs.TestsListed.{listed-other}
+use Rattle.rows.proofs.SheetRows.{zeros}
+use Rattle.made.specs.views.Kept.{Arrays, SameTests}
+use Rattle.made.proofs.ListedTests.{arrays-fit}
 use Rattle.leaves.specs.views.Seeking.{Seeking, BeginAt, Begins, beginOf, notedIn, passedBy}
 use Rattle.leaves.proofs.RulesLeft.{seeking-starts}
 
@@ -94,3 +99,14 @@ tests-stay kept others i at {next} stay e long = record {
     go : (b : Bool) (k : ℕ) → k < 68 → getD (cond b (set others (68 + i) at) others) k 0 ≡ getD others k 0
     go true k h = getD-set-other others (68 + i) k at 0 (λ d. let z : ⊥ = omega (arith, d, h) in z)
     go false k h = refl
+
+-- In new tables with the tests of arrays none is noted.
+pub none-noted
+    : (words codes : List ℕ) (pairs : ℕ) → Arrays words codes pairs → (s : List ℕ) (arity count : ℕ)
+    → Begins s arity count (testsPut (placesIn words) (take pairs codes) (replicate 324 0))
+none-noted words codes pairs arrays s arity count =
+    let ps = placesIn words in
+    let cs = take pairs codes in
+    begins-none s arity count (testsPut ps cs (replicate 324 0))
+    (λ k h.
+    listed-other ps cs (replicate 324 0) (length-replicate {A = ℕ} 324 0) (arrays-fit words codes pairs arrays) k h ∙ zeros 324 k)

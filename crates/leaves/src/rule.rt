@@ -1,7 +1,7 @@
 // The answer at an execute of a rule.
 use crate::Executed;
 use crate::begins::passed;
-use crate::made::rule_masks;
+use made::rule::rule_masks;
 use plain::Answer;
 use sheet::Took;
 use tables::Tables;
@@ -19,10 +19,11 @@ ghost use Rattle.sheet_tests.specs.views.NoteTests.{Placed};
 ghost use Rattle.outcomes.specs.views.CompareCells.{Narrow};
 ghost use Rattle.test_list.specs.views.Tests.{Counted};
 ghost use Rattle.graph.specs.views.Rewriting.{readOr};
-ghost use Rattle.leaves.specs.views.RuleMasks.{notesMasks};
+ghost use Rattle.made.specs.views.RuleMasks.{notesMasks};
 ghost use Rattle.leaves.specs.views.LeafAnswers.{executedBy, executedOf};
 ghost use Rattle.leaves.specs.views.TakenNotes.{takenNotes, countOf};
-ghost use Rattle.leaves.specs.views.Kept.{RuleRead, listedTests};
+ghost use Rattle.made.specs.views.Kept.{listedTests};
+ghost use Rattle.leaves.specs.views.RuleRead.{RuleRead};
 ghost use Rattle.leaves.specs.views.Seeking.{BeginAt};
 
 // The notes of a rule, from 1, of the rules, so many, that the input begins with: its bytes, and how many notes there are. The

@@ -9,9 +9,9 @@ use Rattle.sheet_tests.specs.CheckSheet.{SheetValues, acceptSheet, sheetValues}
 use Rattle.graph_check.specs.CheckGraph.{graphReading}
 use Rattle.output.specs.views.GraphFor.{GraphFor}
 use Rattle.tables.specs.views.Planes.{testsIn}
-use Rattle.leaves.specs.views.TestNumbers.{codeTest}
-use Rattle.leaves.specs.views.Kept.{listedCodes}
-use Rattle.leaves.proofs.CodeNumbers.{listed-length}
+use Rattle.made.specs.views.TestNumbers.{codeTest}
+use Rattle.made.specs.views.Kept.{listedCodes}
+use Rattle.made.proofs.CodeNumbers.{listed-length}
 use Rattle.walk.specs.views.Ready.{AcceptedKept}
 
 -- Arity, rules and tests of a sheet that was accepted and whose tests are listed.

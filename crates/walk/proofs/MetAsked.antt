@@ -20,7 +20,7 @@ use Rattle.decision.specs.Path.{nodeAt}
 use Rattle.decision.specs.Walk.{asksTest, suspendWaits}
 use Rattle.path.specs.views.Following.{askedCodes, metCodes}
 use Rattle.path.proofs.PathsAgree.{nodes-each}
-use Rattle.leaves.specs.views.TestNumbers.{codeTest, NearTest}
+use Rattle.made.specs.views.TestNumbers.{codeTest, NearTest}
 use Rattle.leaves.specs.views.OpenTests.{isMet, metWaits}
 use Rattle.leaves.proofs.OpenAgree.{open-agrees}
 

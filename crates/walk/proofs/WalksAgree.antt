@@ -26,11 +26,11 @@ use Rattle.graph.proofs.TestedPlaces.{tests-near}
 use Rattle.node_check.specs.views.CheckNode.{startsFrom}
 use Rattle.leaves.specs.views.OpenTests.{metWaits}
 use Rattle.path.specs.views.Following.{metCodes, endOf, cellsEnd, nodesAt}
-use Rattle.leaves.specs.views.RuleMasks.{notesMasks}
+use Rattle.made.specs.views.RuleMasks.{notesMasks}
 use Rattle.leaves.specs.views.LeafAnswers.{RuleEnd, executedBy}
 use Rattle.walk.specs.views.LeafWalks.{walkAfter, endWalk, LeafIn, leafWalk}
 use Rattle.walk.specs.Walking.{graphReply}
-use Rattle.leaves.proofs.MasksRight.{executed-right}
+use Rattle.leaves.proofs.ExecutedRight.{executed-right}
 use Rattle.path.proofs.PathsAgree.{paths-same}
 use Rattle.walk.proofs.MetAsked.{Coded, met-same}
 use Rattle.walk.proofs.Indexing.{near-test, nodes-near, nodes-fit, nodes-coded, nodes-are, nodes-leaves}

@@ -8,7 +8,7 @@ use denote.Ref.{now}
 use Rattle.records.proofs.ByteLists.{bytes-all}
 use Rattle.graph_check.proofs.FoundGraph.{index-accepts, index-refuses}
 use Rattle.leaves.specs.views.Seeking.{Begins}
-use Rattle.leaves.proofs.ListedTests.{none-noted}
+use Rattle.leaves.proofs.RuleBegins.{none-noted}
 use Rattle.walk.proofs.Replies.{graph-refuses, checked-kept, kept-stays}
 use borrow.Author.Needs.{needs}
 use Rattle.walk.proofs.call.walk_graph.Statement.{statement}

@@ -10,10 +10,10 @@ use Rattle.sheet.specs.views.Noted.{Note}
 use Rattle.sheet.specs.views.NoteArray.{notesIn}
 use Rattle.sheet_tests.specs.views.NoteTests.{Placed}
 use Rattle.steps.proofs.HandedBack.{same-thing, something}
-use Rattle.leaves.specs.views.Kept.{listedTests}
+use Rattle.made.specs.views.Kept.{listedTests}
 use Rattle.leaves.specs.views.Seeking.{BeginAt}
 use Rattle.leaves.specs.views.TakenNotes.{takenNotes, countOf}
-use Rattle.leaves.specs.views.RuleMasks.{notesMasks}
+use Rattle.made.specs.views.RuleMasks.{notesMasks}
 use Rattle.leaves.specs.views.LeafAnswers.{RuleEnd, executedBy}
 use Rattle.walk.specs.views.LeafWalks.{walkAfter}
 use borrow.Author.Needs.{needs}

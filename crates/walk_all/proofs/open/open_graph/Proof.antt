@@ -20,9 +20,9 @@ use Rattle.accepted.proofs.FoundTests.{found-accepts}
 use Rattle.graph.specs.views.Rewriting.{IsTook}
 use Rattle.graph_check.proofs.FoundGraph.{index-accepts, index-refuses}
 use Rattle.test_list.specs.views.Tests.{testsPut}
-use Rattle.leaves.specs.views.Kept.{Arrays, SameTests}
+use Rattle.made.specs.views.Kept.{Arrays, SameTests}
 use Rattle.leaves.specs.views.Seeking.{Begins}
-use Rattle.leaves.proofs.ListedTests.{none-noted}
+use Rattle.leaves.proofs.RuleBegins.{none-noted}
 use Rattle.walk.proofs.Replies.{kept-stays, checked-kept}
 use Rattle.walk_all.proofs.Opening.{sheet-unread, sheet-read}
 use borrow.Author.Needs.{needs}

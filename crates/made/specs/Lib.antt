@@ -1,0 +1,2 @@
+-- The tests of a rule, made in a piece.
+pub mod views
