@@ -1,4 +1,2 @@
--- Laws of what the library hands back.
-pub mod Unpacked
-pub mod UnpackedWalks
-pub mod BuiltPacked
+-- Laws of what the calls hand back.
+mod LeftBuffers

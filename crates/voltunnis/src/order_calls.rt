@@ -1,11 +1,10 @@
 // The calls of a reading order (document 02, request 1).
-use crate::pack_two;
-use build::Built;
-use order::TableCheck;
+use packing::checks::table_refusal;
+use packing::writers::pack_built;
 ghost use mathlib.Core.Path.{_≡_};
 ghost use Rattle.order.specs.Table.{readTable, tableRefusal};
 ghost use Rattle.build.specs.BuildOutcome.{orderedOutcome};
-ghost use Rattle.voltunnis.specs.Packed.{Packs, builtFields};
+ghost use Rattle.packing.specs.Packed.{Packs, builtFields};
 
 // Checks a reading order: the number of the question that got a no, 0 where it is accepted. Not 30 for a table that also has a
 // place twice, nor 0 for one of 1,362 bytes.
@@ -13,11 +12,7 @@ ghost use Rattle.voltunnis.specs.Packed.{Packs, builtFields};
 pub extern "C" fn vt_check_order(table: &[u8]) -> u64
     ensures { λ r. ⌜ r ≡ tableRefusal (readTable (now (table .entry))) ⌝ }
 {
-    let checked = order::check_order(table);
-    match checked {
-        TableCheck::Accepted => 0,
-        TableCheck::Refused(q) => q as u64,
-    }
+    table_refusal(order::check_order(table))
 }
 
 // Builds a sheet's graph in a reading order: its nodes and the bytes written. Not document 01's graph under every table, nor a byte
@@ -29,9 +24,5 @@ pub extern "C" fn vt_build_ordered(sheet: &[u8], table: &[u8], buffer: &mut [u8]
     ensures { λ _. ⌜ now (buffer .exit)
         ≡ orderedOutcome (now (sheet .entry)) (now (table .entry)) (now (buffer .entry)) .buffer ⌝ }
 {
-    let built = build::build_ordered(sheet, table, buffer);
-    match built {
-        Built::Written(nodes, bytes) => pack_two(0, nodes, bytes),
-        Built::Refused(q) => pack_two(q, 0, 0),
-    }
+    pack_built(build::build_ordered(sheet, table, buffer))
 }

@@ -1,9 +1,9 @@
 // The call that walks many pieces for one check of sheet and graph.
-use walk_all::WalkedAll;
+use packing::answers::pack_walked_all;
 ghost use mathlib.Core.Path.{_≡_};
 ghost use Rattle.walk_all.specs.WalkAll.{walkAll};
-ghost use Rattle.voltunnis.specs.Packed.{Packs};
-ghost use Rattle.voltunnis.specs.PackedWalks.{walkAllFields};
+ghost use Rattle.packing.specs.Packed.{Packs};
+ghost use Rattle.packing.specs.PackedWalks.{walkAllFields};
 
 // Walks the pieces that the input holds, one after another, and writes a result of 16 bytes for each at the front of a buffer: the
 // results written, and the bytes of the input taken by pieces that were read. Not the results of pieces that the buffer has no room
@@ -16,9 +16,5 @@ pub extern "C" fn vt_walk_all(sheet: &[u8], graph: &[u8], pieces: &[u8], results
     ensures { λ _. ⌜ now (results .exit)
         ≡ walkAll (now (sheet .entry)) (now (graph .entry)) (now (pieces .entry)) (now (results .entry)) .buffer ⌝ }
 {
-    let walked = walk_all::walk_all(sheet, graph, pieces, results);
-    match walked {
-        WalkedAll::Walked(count, bytes) => 0x100 * (count as u64) + 0x1_0000_0000 * (bytes as u64),
-        WalkedAll::Refused(q) => q as u64,
-    }
+    pack_walked_all(walk_all::walk_all(sheet, graph, pieces, results))
 }

@@ -1,23 +1,13 @@
 // The calls of a window: the counts of the last 1,000 answers, in memory that the caller lends. A window is an array of fixed
 // length and crosses as one plain pointer.
-use window::Fed;
+use packing::windows::fed_refusal;
+use packing::windows::pack_words;
 use window::Window;
-use window::WordCounts;
 ghost use mathlib.Core.Path.{_≡_};
 ghost use Rattle.window.specs.LastThousand.{given, refusalOf};
 ghost use Rattle.window.specs.Cells.{freshCells, fedCells, commitsIn};
 ghost use Rattle.window.specs.Handed.{wordsIn};
-ghost use Rattle.voltunnis.specs.PackedWords.{packedWords};
-
-// The counts of the four words as one number, 16 bits each. Not suspend before execute.
-fn pack_words(counts: WordCounts) -> u64
-    ensures { λ r. ⌜ r ≡ packedWords counts ⌝ }
-{
-    counts.commit as u64
-        + 0x1_0000 * (counts.execute as u64)
-        + 0x1_0000_0000 * (counts.suspend as u64)
-        + 0x1_0000_0000_0000 * (counts.fail as u64)
-}
+ghost use Rattle.packing.specs.PackedWords.{packedWords};
 
 // Makes a window fresh: every cell is 0.
 #[no_mangle]
@@ -35,11 +25,7 @@ pub extern "C" fn vt_window_feed(window: &mut Window, word: u8, rule: u8) -> u64
     ensures { λ r. ⌜ r ≡ refusalOf (given word rule) ⌝ }
     ensures { λ _. ⌜ now (window .exit) ≡ fedCells (given word rule) (now (window .entry)) ⌝ }
 {
-    let fed = window::feed(window, word, rule);
-    match fed {
-        Fed::Taken => 0,
-        Fed::Refused(q) => q as u64,
-    }
+    fed_refusal(window::feed(window, word, rule))
 }
 
 // The counts of the four words: commit in the lowest 16 bits, then execute, suspend and fail.
