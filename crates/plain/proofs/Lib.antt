@@ -1,11 +1,6 @@
--- The laws of the plain answer, rule by rule.
-pub mod RuleByRule
+-- The laws of a rule's outcome, and of pieces that were read.
 pub mod Gathering
 pub mod NoteTurns
-pub mod RuleTurns
 pub mod SoundNotes
 pub mod NotesRight
 pub mod PiecesRead
-pub mod PieceAnswers
-pub mod RulesBehind
-pub mod FlatArguments

@@ -1,5 +1,3 @@
 -- How the code keeps things.
-pub mod RuleByRule
 pub mod NotesOutcome
 pub mod ReadAs
-pub mod SheetRules

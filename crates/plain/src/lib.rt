@@ -1,8 +1,5 @@
-// The plain answer.
-pub mod call; // the plain answer of a sheet and a piece
-pub mod flat; // the arguments of a rule up to its first compound, tested as they are read
+// What is answered, and the outcome of a rule's tests.
 pub mod rule; // the outcome of a rule's tests
-pub mod rules; // the answer, rule by rule
 
 // What is answered, with the rule.
 pub enum Answer {

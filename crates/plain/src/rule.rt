@@ -1,5 +1,4 @@
 // The outcome of all tests of a rule in a piece, from the rule's notes and the piece's cells.
-use crate::flat::fixed_outcome;
 use outcomes::TestOutcome;
 use outcomes::both;
 use outcomes::pair_outcome;
@@ -18,8 +17,37 @@ ghost use Rattle.sheet.specs.views.NoteArray.{notesIn};
 ghost use Rattle.sheet_tests.specs.views.NoteTests.{notesVariables, Placed};
 ghost use Rattle.outcomes.specs.views.CompareCells.{Narrow};
 ghost use Rattle.outcomes.specs.views.CellOutcome.{outcomeOf};
-ghost use Rattle.plain.specs.views.NotesOutcome.{rangeOutcome, recordOutcome, placesOutcome};
+ghost use Rattle.plain.specs.views.NotesOutcome.{fixedOutcome, rangeOutcome, recordOutcome, placesOutcome};
 ghost use Rattle.plain.specs.views.NotesOutcome.{pairTestCells, pairsOutcome, notesOutcome};
+
+// The outcome of the test of a symbol, a range or a compound at a place; any other record has none. Not that of a range's low end
+// alone, nor a symbol's where a compound stands.
+pub fn fixed_outcome(cells: &[u32; 680], place: usize, what: PatternRecord) -> TestOutcome
+    requires { ⌜ place < 680 ⌝ }
+    ensures { λ r. ⌜ outcomeOf r ≡ fixedOutcome (now (cells .entry)) place what ⌝ }
+{
+    match what {
+        PatternRecord::Symbol(id) => {
+            let code = codes::symbol_code(id);
+            place_outcome(cells, place, code, code)
+        }
+        PatternRecord::Range(low, high) => {
+            place_outcome(
+                cells,
+                place,
+                codes::number_code(low),
+                codes::number_code(high),
+            )
+        }
+        PatternRecord::Compound(id, arity) => {
+            let code = codes::compound_code(id, arity);
+            place_outcome(cells, place, code, code)
+        }
+        PatternRecord::Anything => TestOutcome::Holds,
+        PatternRecord::Variable(_) => TestOutcome::Holds,
+        PatternRecord::Ranged(_, _, _) => TestOutcome::Holds,
+    }
+}
 
 // The outcome of the test of a variable's common range at a place. A high above every number stands for no range, so no test.
 fn range_outcome(cells: &[u32; 680], place: usize, low: u16, high: u32) -> TestOutcome

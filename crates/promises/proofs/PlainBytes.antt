@@ -14,7 +14,7 @@ use Rattle.piece.proofs.Spelled.{piece-spelled}
 use Rattle.promises.specs.AcceptedBytes.{AcceptedBytes}
 use Rattle.plain.specs.Plain.{plainReading, answerValues, readingValues}
 use Rattle.accepted.proofs.CheckedSheets.{accepted-rules}
-use Rattle.plain.proofs.PieceAnswers.{piece-answered, sheet-answers}
+use Rattle.answering.proofs.PieceAnswers.{piece-answered, sheet-answers}
 
 module _ {s p : List ℕ} {sheet : Sheet} {piece : Piece} (accepted : AcceptedBytes s p sheet piece) where
   -- The values of accepted bytes are the word and the rule of the plain answer.

@@ -46,7 +46,7 @@ pub extern "C" fn vt_check_piece(piece: &[u8]) -> u64
 pub extern "C" fn vt_plain(sheet: &[u8], piece: &[u8]) -> u64
     ensures { λ r. ⌜ Packs r (plainFields (readingValues (plainReading (now (sheet .entry)) (now (piece .entry))))) ⌝ }
 {
-    pack_plain(plain::call::plain(sheet, piece))
+    pack_plain(answering::plain(sheet, piece))
 }
 
 // Checks a graph for a sheet: its nodes. Not the nodes of a graph that is refused, nor a graph accepted by itself where the sheet

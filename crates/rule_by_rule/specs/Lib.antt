@@ -1,0 +1,2 @@
+-- How the plain answer is found.
+pub mod views
