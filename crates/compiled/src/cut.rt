@@ -8,7 +8,7 @@ ghost use Prim.Native.Nat.{suc, _+_, _*_, _^_, _≤_, _<_};
 ghost use lib.ListN.{length};
 ghost use Rattle.basics.specs.Lists.{All};
 ghost use Rattle.sheet.specs.views.NoteArray.{notesIn};
-ghost use Rattle.sheet_tests.specs.views.NoteTests.{Placed};
+ghost use Rattle.pairs.specs.views.NoteVariables.{Placed};
 ghost use Rattle.cuts.specs.views.Cuts.{countAt};
 ghost use Rattle.test_list.specs.views.Numbers.{Small};
 ghost use Rattle.rows.specs.views.Wants.{notesTests};

@@ -9,7 +9,7 @@ ghost use lib.ListN.{length, set};
 ghost use Rattle.basics.specs.Lists.{All};
 ghost use Rattle.terms.specs.Pattern.{Patterns};
 ghost use Rattle.sheet.specs.views.NoteArray.{notesIn};
-ghost use Rattle.sheet_tests.specs.views.NoteTests.{Placed};
+ghost use Rattle.pairs.specs.views.NoteVariables.{Placed};
 ghost use Rattle.tables.specs.views.Planes.{rulesIn, placeTestsIn};
 ghost use Rattle.test_list.specs.views.Numbers.{Small};
 ghost use Rattle.test_list.specs.views.Tests.{Counted, pairsListed};

@@ -12,10 +12,10 @@ use Rattle.sheet.specs.declared.PatternRecord.the-variants.{Anything, Symbol, R
 use Rattle.sheet.specs.views.Noted.{Note, note}
 use Rattle.sheet.specs.views.NoteCode.{noteOf, codePlace, codeRecord}
 use Rattle.sheet.specs.views.NoteArray.{notesIn}
-use Rattle.sheet_tests.specs.declared.Name.{Name}
-use Rattle.sheet_tests.specs.declared.Name.the-variants.{Nameless, Of}
-use Rattle.sheet_tests.specs.views.NoteTests.{nameOf, isNamed, occurrence, notesVariables}
-use Rattle.sheet_tests.proofs.NoteRows.{notes-next, notes-end}
+use Rattle.pairs.specs.declared.Name.{Name}
+use Rattle.pairs.specs.declared.Name.the-variants.{Nameless, Of}
+use Rattle.pairs.specs.views.NoteVariables.{nameOf, isNamed, occurrence, notesVariables}
+use Rattle.pairs.proofs.NoteRows.{notes-next, notes-end}
 use Rattle.plain.proofs.Gathering.{together-append}
 
 -- The list, with a pair in front where b is true.

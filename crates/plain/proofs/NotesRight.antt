@@ -26,9 +26,9 @@ use Rattle.sheet.specs.views.NoteRanges.{rangeIn, lowEnd, highEnd, lowsOf, high
 use Rattle.sheet.proofs.CommonRanges.{rule-range}
 use Rattle.sheet.proofs.RangeArrays.{variable-at}
 use Rattle.sheet.proofs.NoteTests.{recordTests, testsIn, rule-tests}
-use Rattle.sheet_tests.specs.declared.Name.{Name}
-use Rattle.sheet_tests.specs.declared.Name.the-variants.{Nameless, Of}
-use Rattle.sheet_tests.specs.views.NoteTests.{nameOf, occurrence, notesVariables, Placed}
+use Rattle.pairs.specs.declared.Name.{Name}
+use Rattle.pairs.specs.declared.Name.the-variants.{Nameless, Of}
+use Rattle.pairs.specs.views.NoteVariables.{nameOf, occurrence, notesVariables, Placed}
 use Rattle.sheet_tests.proofs.NotedTests.{rule-varied}
 use Rattle.piece.specs.views.LaidOut.{pieceCells}
 use Rattle.codes.specs.views.Codes.{wantLow, wantHigh}

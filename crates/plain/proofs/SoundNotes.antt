@@ -8,7 +8,7 @@ use Rattle.terms.specs.Accepted.{Sound, Sounds, AcceptedRule}
 use Rattle.basics.proofs.ListLaws.{all-join}
 use Rattle.sheet.specs.views.Noted.{Note, patternNotes, patternsNotes, ruleNotes}
 use Rattle.sheet.specs.views.NoteCode.{Fitting}
-use Rattle.sheet_tests.specs.views.NoteTests.{Placed}
+use Rattle.pairs.specs.views.NoteVariables.{Placed}
 use Rattle.sheet_tests.proofs.NotedTests.{rule-placed}
 
 -- The fields of a note fit.

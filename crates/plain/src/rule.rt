@@ -3,9 +3,9 @@ use outcomes::TestOutcome;
 use outcomes::both;
 use outcomes::pair_outcome;
 use outcomes::place_outcome;
+use pairs::Name;
 use sheet::PatternRecord;
 use sheet::Ranges;
-use sheet_tests::Name;
 ghost use mathlib.Core.Path.{_≡_};
 ghost use Prim.Native.Nat.{_≤_, _<_};
 ghost use lib.ListN.{length, drop};
@@ -14,7 +14,7 @@ ghost use Rattle.terms.specs.RuleTests.{pairsWith};
 ghost use Rattle.terms.specs.Outcome.{together};
 ghost use Rattle.sheet.specs.views.NoteCode.{Fitting};
 ghost use Rattle.sheet.specs.views.NoteArray.{notesIn};
-ghost use Rattle.sheet_tests.specs.views.NoteTests.{notesVariables, Placed};
+ghost use Rattle.pairs.specs.views.NoteVariables.{notesVariables, Placed};
 ghost use Rattle.outcomes.specs.views.CompareCells.{Narrow};
 ghost use Rattle.outcomes.specs.views.CellOutcome.{outcomeOf};
 ghost use Rattle.plain.specs.views.NotesOutcome.{fixedOutcome, rangeOutcome, recordOutcome, placesOutcome};
@@ -132,7 +132,7 @@ fn pairs_with(
     let mut j = from;
     while j < n {
         let code = notes[j];
-        if sheet_tests::rule::is_named(v, sheet::note_record(code)) {
+        if pairs::rule::is_named(v, sheet::note_record(code)) {
             outcome = both(outcome, pair_outcome(cells, place, sheet::note_place(code)));
         }
         j += 1;
@@ -149,7 +149,7 @@ fn pairs_outcome(notes: &[u64; 680], n: usize, cells: &[u32; 680]) -> TestOutcom
     let mut i: usize = 0;
     while i < n {
         let code = notes[i];
-        let name = sheet_tests::rule::name_of(sheet::note_record(code));
+        let name = pairs::rule::name_of(sheet::note_record(code));
         if let Name::Of(v) = name {
             outcome = both(
                 outcome,

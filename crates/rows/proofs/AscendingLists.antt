@@ -12,7 +12,7 @@ use borrow.Author.Tests.{lt-ltb, le-ltb}
 use Rattle.basics.specs.Lists.{All}
 use Rattle.basics.proofs.ListLaws.{all-split, all-at}
 use Rattle.basics.proofs.Sorted.{StrictOrder, AscendingBy, Ascending}
-use Rattle.sheet_tests.specs.views.Slot.{slot}
+use Rattle.pairs.specs.views.Slot.{slot}
 use Rattle.basics.proofs.Positions.{mem-at}
 
 -- Both parts of an ascending list ascend.

@@ -21,7 +21,7 @@ use Rattle.sheet.specs.views.NoteRanges.{rangeIn, lowEnd, highEnd, lowsOf, high
 use Rattle.sheet.proofs.CommonRanges.{rule-range}
 use Rattle.sheet.proofs.RangeArrays.{variable-at}
 use Rattle.sheet.proofs.NoteTests.{recordTests, testsIn, rule-tests}
-use Rattle.sheet_tests.specs.views.NoteTests.{pairCodes, notesCodes}
+use Rattle.pairs.specs.views.NoteVariables.{pairCodes, notesCodes}
 use Rattle.sheet_tests.specs.views.Gathered.{ruleCodes}
 use Rattle.sheet_tests.proofs.NotedTests.{rule-varied}
 use Rattle.rows.specs.views.Wants.{numberIf, rangeWant, recordWant, testIf, notesTests}

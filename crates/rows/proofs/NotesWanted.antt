@@ -9,7 +9,7 @@ use borrow.Author.Tests.{lt-ltb, le-ltb}
 use Rattle.terms.specs.RuleTests.{Want, PlaceTest}
 use Rattle.sheet.specs.views.NoteCode.{codePlace, codeRecord}
 use Rattle.sheet.specs.views.NoteArray.{notesIn}
-use Rattle.sheet_tests.proofs.NoteRows.{notes-next, notes-end}
+use Rattle.pairs.proofs.NoteRows.{notes-next, notes-end}
 use Rattle.basics.proofs.Clash.{clash}
 use Rattle.codes.specs.views.Codes.{wantLow, wantHigh}
 use Rattle.rows.specs.declared.Wanted.the-variants.{Nothing, Codes}

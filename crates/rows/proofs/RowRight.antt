@@ -22,9 +22,10 @@ use Rattle.terms.specs.Accepted.{AcceptedRule}
 use Rattle.basics.proofs.ListLaws.{all-from}
 use Rattle.sheet.specs.views.Noted.{ruleNotes}
 use Rattle.sheet_tests.specs.SheetTests.{Test, place, pair, ruleTests, sheetTests}
-use Rattle.sheet_tests.specs.views.Slot.{slot}
-use Rattle.sheet_tests.specs.views.KeptPairs.{codePair, pairCode}
-use Rattle.sheet_tests.specs.views.NoteTests.{pairCodes}
+use Rattle.pairs.specs.views.Slot.{slot}
+use Rattle.pairs.specs.views.KeptPairs.{pairCode}
+use Rattle.sheet_tests.specs.views.KeptPairs.{codePair}
+use Rattle.pairs.specs.views.NoteVariables.{pairCodes}
 use Rattle.decision.specs.Rules.{sameTest, testAt, hasTest, testsWhere}
 use Rattle.basics.proofs.Filters.{mem-left, mem-right, mem-map}
 use Rattle.decision.proofs.rules.TestsOfRules.{same-test, test-same, mem-has}

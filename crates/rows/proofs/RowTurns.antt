@@ -15,11 +15,11 @@ use Rattle.sheet.specs.declared.PatternRecord.{PatternRecord}
 use Rattle.sheet.specs.declared.PatternRecord.the-variants.{Anything, Symbol, Range, Compound, Variable, Ranged}
 use Rattle.sheet.specs.views.NoteCode.{codePlace, codeRecord}
 use Rattle.sheet.specs.views.NoteArray.{notesIn}
-use Rattle.sheet_tests.specs.declared.Name.{Name}
-use Rattle.sheet_tests.specs.declared.Name.the-variants.{Nameless, Of}
-use Rattle.sheet_tests.specs.views.KeptPairs.{pairCode}
-use Rattle.sheet_tests.specs.views.NoteTests.{nameOf, isNamed, occurrence, notesVariables, pairCodes, codesWith, notesCodes}
-use Rattle.sheet_tests.proofs.NoteRows.{notes-next, notes-end}
+use Rattle.pairs.specs.declared.Name.{Name}
+use Rattle.pairs.specs.declared.Name.the-variants.{Nameless, Of}
+use Rattle.pairs.specs.views.KeptPairs.{pairCode}
+use Rattle.pairs.specs.views.NoteVariables.{nameOf, isNamed, occurrence, notesVariables, pairCodes, codesWith, notesCodes}
+use Rattle.pairs.proofs.NoteRows.{notes-next, notes-end}
 use Rattle.rows.specs.views.Row.{withTest, withTests, pairNumber, placeNumbers, pairNumbers}
 use Rattle.rows.proofs.NotesWanted.{wantHere, testsFrom, tests-turn, tests-end}
 use Rattle.masks.proofs.Listed.{consIf}

@@ -3,7 +3,7 @@ use tables::Tables;
 ghost use mathlib.Core.Path.{_≡_};
 ghost use Prim.Native.Nat.{_<_};
 ghost use lib.ListN.{getD};
-ghost use Rattle.sheet_tests.specs.views.KeptPairs.{pairCode};
+ghost use Rattle.pairs.specs.views.KeptPairs.{pairCode};
 ghost use Rattle.tables.specs.views.Planes.{placeTestsIn};
 ghost use Rattle.test_list.specs.views.Numbers.{Small};
 ghost use Rattle.rows.specs.views.Row.{pairNumber};

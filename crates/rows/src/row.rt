@@ -3,15 +3,15 @@ use crate::Wanted;
 use crate::numbers::pair_number;
 use crate::numbers::place_number;
 use crate::wants::record_wanted;
+use pairs::Name;
 use sheet::Ranges;
-use sheet_tests::Name;
 use tables::Tables;
 ghost use mathlib.Core.Path.{_≡_};
 ghost use Prim.Native.Nat.{_≤_, _<_};
 ghost use lib.ListN.{length, drop};
 ghost use Rattle.basics.specs.Lists.{All};
 ghost use Rattle.sheet.specs.views.NoteArray.{notesIn};
-ghost use Rattle.sheet_tests.specs.views.NoteTests.{codesWith, notesCodes, Placed};
+ghost use Rattle.pairs.specs.views.NoteVariables.{codesWith, notesCodes, Placed};
 ghost use Rattle.tables.specs.views.Planes.{placeTestsIn};
 ghost use Rattle.test_list.specs.views.Numbers.{Small};
 ghost use Rattle.test_list.specs.views.Tests.{Counted, pairsListed};
@@ -66,7 +66,7 @@ fn pairs_with(
     let mut j = from;
     while j < n {
         let code = notes[j];
-        if sheet_tests::rule::is_named(v, sheet::note_record(code)) {
+        if pairs::rule::is_named(v, sheet::note_record(code)) {
             let q = sheet::note_place(code);
             all = with_test(all, pair_number(s, place, q));
         }
@@ -85,7 +85,7 @@ fn pairs_row(notes: &[u64; 680], n: usize, s: &Tables, row: u64) -> u64
     let mut i: usize = 0;
     while i < n {
         let code = notes[i];
-        let name = sheet_tests::rule::name_of(sheet::note_record(code));
+        let name = pairs::rule::name_of(sheet::note_record(code));
         if let Name::Of(v) = name {
             let p = sheet::note_place(code);
             all = pairs_with(notes, n, i + 1, p, v, s, all);

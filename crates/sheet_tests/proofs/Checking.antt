@@ -22,8 +22,8 @@ use Rattle.sheet.specs.Sheet.{Sheet}
 use Rattle.sheet.specs.ReadSheet.{readRule, readRules, endSheet, readHeader, readSheet}
 use Rattle.sheet.proofs.ReadsSound.{rule-sound}
 use Rattle.sheet.proofs.SheetReads.{header-is}
-use Rattle.sheet_tests.specs.declared.Name.{Name}
-use Rattle.sheet_tests.specs.declared.Name.the-variants.{Nameless, Of}
+use Rattle.pairs.specs.declared.Name.{Name}
+use Rattle.pairs.specs.declared.Name.the-variants.{Nameless, Of}
 use Rattle.sheet_tests.specs.declared.SheetCheck.the-variants as check
 use Rattle.sheet_tests.specs.declared.TestsRead.{TestsRead}
 use Rattle.sheet_tests.specs.declared.TestsRead.the-variants.{Accepted, Refused}
@@ -32,14 +32,16 @@ use Rattle.sheet_tests.specs.declared.Scan.the-variants.{Done}
 use Rattle.sheet_tests.specs.declared.Scan.the-variants as scans
 use Rattle.sheet_tests.specs.SheetTests.{place, sheetTests}
 use Rattle.sheet_tests.specs.views.TestedPlaces.{hasPlace, placesIn, insertAll}
-use Rattle.sheet_tests.specs.views.KeptPairs.{these, many, keptIf, keptOf, pairsIn, codePair}
-use Rattle.sheet_tests.specs.views.NoteTests.{nameOf, occurrence, notesVariables, Placed}
+use Rattle.pairs.specs.views.KeptPairs.{these, many, keptIf, keptOf, pairsIn}
+use Rattle.sheet_tests.specs.views.KeptPairs.{codePair}
+use Rattle.pairs.specs.views.NoteVariables.{nameOf, occurrence, notesVariables, Placed}
 use Rattle.sheet_tests.specs.views.Gathered.{Gathered, gather, held, gatheredIn, sheetPlaces, sheetCodes}
 use Rattle.sheet_tests.specs.CheckSheet.{mostTests, askTests, acceptSheet, sheetCheckValues, sheetValues}
 use Rattle.sheet_tests.specs.views.TestsRead.{keptTests, testsFound, sheetFound, foundValues, Counted, Held}
 use Rattle.sheet_tests.proofs.NotedTests.{rule-placed, rule-varied}
 use Rattle.sheet_tests.proofs.PlaceSets.{places-none}
-use Rattle.sheet_tests.proofs.KeptLists.{pairs-many, pairs-these, keep-all}
+use Rattle.pairs.proofs.KeptLists.{pairs-many, pairs-these}
+use Rattle.sheet_tests.proofs.KeptAll.{keep-all}
 use Rattle.sheet_tests.proofs.TestsSplit.{Small, SmallRule, tests-split, tests-count}
 use Rattle.basics.proofs.Counting.{filter-count}
 use Rattle.records.proofs.ByteLists.{bytes-drop}

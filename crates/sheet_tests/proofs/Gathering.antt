@@ -22,14 +22,15 @@ use Rattle.sheet.proofs.NoteCodes.{code-fits}
 use Rattle.sheet.proofs.RangeArrays.{variable-at}
 use Rattle.basics.proofs.Sorted.{Ascending}
 use Rattle.sheet_tests.specs.views.TestedPlaces.{insertAll}
-use Rattle.sheet_tests.specs.views.KeptPairs.{keepAll}
-use Rattle.sheet_tests.specs.views.NoteTests.{isTested, testedPlaces, hasRange, notesCodes, pairCodes}
+use Rattle.pairs.specs.views.KeptPairs.{keepAll}
+use Rattle.pairs.specs.views.NoteVariables.{notesCodes, pairCodes}
+use Rattle.sheet_tests.specs.views.NoteTests.{isTested, testedPlaces, hasRange}
 use Rattle.sheet_tests.specs.views.Gathered.{Gathered, gathered, gather, gatherNotes}
 use Rattle.sheet_tests.specs.views.Gathered.{rulePlaces, ruleCodes, sheetPlaces, sheetCodes}
 use Rattle.sheet_tests.proofs.NotedTests.{isSome, rule-tested, rule-varied}
 use Rattle.sheet_tests.proofs.Marking.{namesOf, fixedPlaces, names-ranges, names-variables, names-places}
 use Rattle.sheet_tests.proofs.NumberLists.{all-insert-append}
-use Rattle.sheet_tests.proofs.KeptLists.{keep-append}
+use Rattle.pairs.proofs.KeptLists.{keep-append}
 use Rattle.masks.proofs.Listed.{consIf}
 
 -- The fields of a note fit.

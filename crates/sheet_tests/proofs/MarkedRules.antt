@@ -26,7 +26,7 @@ use Rattle.sheet.proofs.RuleReads.{rule-ends-meet}
 use Rattle.sheet.proofs.Compounds.{row-count}
 use Rattle.sheet.proofs.ReadsSound.{patterns-sound, rule-sound}
 use Rattle.sheet_tests.specs.views.TestedPlaces.{placesIn, insertAll}
-use Rattle.sheet_tests.specs.views.NoteTests.{Placed}
+use Rattle.pairs.specs.views.NoteVariables.{Placed}
 use Rattle.marks.specs.views.Marks.{Marks, marked, marksIn}
 use Rattle.sheet_tests.specs.views.Gathered.{Gathered, gatherNotes, held}
 use Rattle.sheet_tests.proofs.NotedTests.{sounds-placed}

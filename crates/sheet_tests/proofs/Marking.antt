@@ -16,7 +16,8 @@ use Rattle.sheet.specs.views.Noted.{Note}
 use Rattle.sheet.specs.views.NotesBehind.{heldWith}
 use Rattle.sheet.specs.views.NoteRanges.{recordRange, rangeIn, lowEnd, highEnd, forVariables, endsMeet, notesMeet}
 use Rattle.sheet_tests.specs.views.TestedPlaces.{placesIn, insertAll}
-use Rattle.sheet_tests.specs.views.NoteTests.{isTested, testedPlaces, nameOf, occurrence, notesVariables, Placed}
+use Rattle.pairs.specs.views.NoteVariables.{nameOf, occurrence, notesVariables, Placed}
+use Rattle.sheet_tests.specs.views.NoteTests.{isTested, testedPlaces}
 use Rattle.marks.specs.views.Marks.{Marks, withPlace, placed, named, markOf, marked}
 use Rattle.marks.proofs.Marking.{beside}
 use Rattle.sheet_tests.proofs.NumberLists.{all-insert-late}

@@ -15,7 +15,8 @@ use Rattle.sheet.specs.views.Noted.{Note, ruleNotes}
 use Rattle.sheet.specs.views.NoteRanges.{rangeIn}
 use Rattle.sheet.proofs.NotePlaces.{Ascending, ascending-wider, patterns-places}
 use Rattle.sheet.proofs.NoteTests.{recordTests, testsIn, recordVariables, variablesIn, rule-tests, rule-variables}
-use Rattle.sheet_tests.specs.views.NoteTests.{testedPlaces, isTested, nameOf, occurrence, notesVariables, Placed}
+use Rattle.pairs.specs.views.NoteVariables.{nameOf, occurrence, notesVariables, Placed}
+use Rattle.sheet_tests.specs.views.NoteTests.{testedPlaces, isTested}
 use Rattle.masks.proofs.Listed.{consIf}
 
 -- There is a range.

@@ -18,7 +18,7 @@ use Rattle.sheet.specs.views.Noted.{ruleNotes}
 use Rattle.sheet.specs.views.NoteArray.{notesIn, tookNotes, bytesUsed, notesMade, TookWithin}
 use Rattle.sheet.specs.ReadSheet.{readRule, readRules}
 use Rattle.sheet.proofs.ReadsSound.{rule-sound}
-use Rattle.sheet_tests.specs.views.NoteTests.{Placed}
+use Rattle.pairs.specs.views.NoteVariables.{Placed}
 use Rattle.sheet_tests.specs.views.Gathered.{Gathered, gathered, gather, rulePlaces, ruleCodes}
 use Rattle.sheet_tests.proofs.NotedTests.{rule-placed}
 use Rattle.sheet_tests.proofs.Gathering.{gather-more}

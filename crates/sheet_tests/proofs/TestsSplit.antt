@@ -15,8 +15,9 @@ use Rattle.basics.proofs.ListLaws.{mem-cases, mem-none, all-join, all-map, all-
 use Rattle.basics.proofs.Sorted.{Ascending, same-members, before-pair}
 use Rattle.sheet_tests.specs.SheetTests.{Test, place, pair, before, ruleTests, allTests, sheetTests}
 use Rattle.sheet_tests.specs.views.TestedPlaces.{insertAll}
-use Rattle.sheet_tests.specs.views.KeptPairs.{codePair, pairCode}
-use Rattle.sheet_tests.specs.views.NoteTests.{pairCodes}
+use Rattle.pairs.specs.views.KeptPairs.{pairCode}
+use Rattle.sheet_tests.specs.views.KeptPairs.{codePair}
+use Rattle.pairs.specs.views.NoteVariables.{pairCodes}
 use Rattle.sheet_tests.specs.views.Gathered.{rulePlaces, ruleCodes, sheetPlaces, sheetCodes}
 use Rattle.sheet_tests.proofs.TestOrder.{before-order, ascending-ascends, ascending-has, ascending-mem}
 use Rattle.sheet_tests.proofs.NumberLists.{all-insert-has, all-insert-mem, all-insert-ascends}

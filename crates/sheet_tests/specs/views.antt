@@ -1,8 +1,6 @@
 -- How the code keeps things.
 pub mod TestedPlaces
 pub mod KeptPairs
-pub mod Slot
-pub mod PutAt
 pub mod NoteTests
 pub mod Gathered
 pub mod TestsRead

@@ -1,6 +1,5 @@
 // The tests of a sheet.
-pub mod pairs; // pairs of places, kept ascending
-pub mod rule; // the tests of a rule
+pub mod rule; // the place tests of a rule
 pub mod sheets; // the tests of a sheet, and its check
 pub mod tested; // the set of tested places
 
@@ -21,21 +20,8 @@ pub enum TestsRead {
     Refused(u8),
 }
 
-// The variable of a record, if it is one.
-pub enum Name {
-    Nameless,
-    Of(u8),
-}
-
 // How reading the rules went: so many bytes were used and there are so many pairs, or the number of the question that got a no.
 pub enum Scan {
     Done(usize, usize),
     Refused(u8),
-}
-
-// How many pairs are kept; the last one that was put, and how many of those kept are not above it.
-pub struct Put {
-    pub count: usize,
-    pub next: usize,
-    pub last: u32,
 }

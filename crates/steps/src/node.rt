@@ -14,7 +14,7 @@ ghost use Prim.Native.Nat.{_≤_, _<_};
 ghost use mathlib.Core.Path.{_≡_};
 ghost use mathlib.Core.List.{[]};
 ghost use lib.ListN.{length, drop};
-ghost use Rattle.sheet_tests.specs.views.KeptPairs.{pairCode};
+ghost use Rattle.pairs.specs.views.KeptPairs.{pairCode};
 ghost use Rattle.outcomes.specs.views.Look.{look};
 ghost use Rattle.outcomes.specs.views.CompareCells.{Narrow};
 ghost use Rattle.outcomes.specs.views.CellOutcome.{pairCells};

@@ -4,7 +4,7 @@ use Prim.Native.Nat.{ℕ, pred, _<_, _≤_}
 use mathlib.Core.List.{List, [], _∷_, _++_, map}
 use lib.ListN.{length, getD, take, drop}
 use Rattle.basics.specs.Lists.{All, countFrom}
-use Rattle.sheet_tests.specs.views.KeptPairs.{pairCode}
+use Rattle.pairs.specs.views.KeptPairs.{pairCode}
 use Rattle.decision.specs.Key.{Leaf, failNode}
 use Rattle.decision.specs.Node.{Node, end, switch, pairNode, edges}
 use Rattle.decision.specs.Path.{Path, nodeAt, pathBy, mostEdges}

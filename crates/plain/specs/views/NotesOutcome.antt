@@ -11,7 +11,7 @@ use Rattle.sheet.specs.declared.PatternRecord.{PatternRecord}
 use Rattle.sheet.specs.declared.PatternRecord.the-variants.{Anything, Symbol, Range, Compound, Variable, Ranged}
 use Rattle.sheet.specs.views.Noted.{Note, ruleNotes}
 use Rattle.sheet.specs.views.NoteRanges.{lowsOf, highsOf}
-use Rattle.sheet_tests.specs.views.NoteTests.{notesVariables}
+use Rattle.pairs.specs.views.NoteVariables.{notesVariables}
 use Rattle.codes.specs.views.Codes.{symbolCode, compoundCode, numberCode}
 use Rattle.outcomes.specs.views.CellOutcome.{placeCells, pairCells}
 

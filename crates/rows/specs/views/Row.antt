@@ -8,8 +8,8 @@ use Rattle.masks.specs.Mask.{has, maskOf}
 use Rattle.terms.specs.RuleTests.{PlaceTest}
 use Rattle.sheet.specs.views.Noted.{Note}
 use Rattle.sheet.specs.views.NoteRanges.{lowsOf, highsOf}
-use Rattle.sheet_tests.specs.views.Slot.{slot}
-use Rattle.sheet_tests.specs.views.NoteTests.{notesCodes}
+use Rattle.pairs.specs.views.Slot.{slot}
+use Rattle.pairs.specs.views.NoteVariables.{notesCodes}
 use Rattle.rows.specs.views.Wants.{notesTests}
 
 -- A set of numbers below 64 with one number more, and with those of a list. A number from 64 on is in no set.

@@ -9,8 +9,9 @@ use Rattle.terms.specs.RuleTests.{PlaceTest, placeTests, pairTests}
 use Rattle.sheet.specs.views.Noted.{Note}
 use Rattle.sheet.specs.views.NoteRanges.{highsOf}
 use Rattle.sheet_tests.specs.views.TestedPlaces.{placesIn, insertAll}
-use Rattle.sheet_tests.specs.views.KeptPairs.{Kept, keepAll, pairsIn}
-use Rattle.sheet_tests.specs.views.NoteTests.{testedPlaces, hasRange, pairCodes, notesCodes}
+use Rattle.pairs.specs.views.KeptPairs.{Kept, keepAll, pairsIn}
+use Rattle.pairs.specs.views.NoteVariables.{pairCodes, notesCodes}
+use Rattle.sheet_tests.specs.views.NoteTests.{testedPlaces, hasRange}
 use Rattle.sheet_tests.specs.declared.Scan.{Scan}
 use Rattle.sheet_tests.specs.declared.Scan.the-variants.{Done, Refused}
 

@@ -9,7 +9,7 @@ use lib.ListN.{length, take, drop, set}
 use Rattle.masks.specs.Mask.{maskOf}
 use Rattle.basics.specs.Lists.{countFrom}
 use Rattle.places.specs.Numbering.{stride, levelsAt}
-use Rattle.sheet_tests.specs.views.KeptPairs.{pairCode}
+use Rattle.pairs.specs.views.KeptPairs.{pairCode}
 use Rattle.tables.specs.views.Planes.{testsIn, placeTestsIn, testIn}
 
 -- Numbers one after another, from an entry on; all other entries stay.

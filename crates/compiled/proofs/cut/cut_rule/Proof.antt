@@ -8,8 +8,8 @@ use Rattle.sheet.specs.declared.PatternRecord.{PatternRecord}
 use Rattle.sheet.specs.views.NoteCode.{Fitting, noteOf}
 use Rattle.sheet.specs.views.NoteArray.{notesIn}
 use Rattle.sheet.proofs.NoteCodes.{code-fits}
-use Rattle.sheet_tests.specs.views.NoteTests.{Placed}
-use Rattle.sheet_tests.proofs.NoteRows.{notes-next, notes-end, notes-each}
+use Rattle.pairs.specs.views.NoteVariables.{Placed}
+use Rattle.pairs.proofs.NoteRows.{notes-next, notes-end, notes-each}
 use Rattle.cuts.specs.views.Cuts.{partAt, countAt}
 use Rattle.rows.specs.views.Wants.{recordWant, wantedCodes}
 use Rattle.rows.proofs.NotesWanted.{wanted-some, wanted-none}

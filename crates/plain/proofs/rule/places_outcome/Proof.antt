@@ -8,8 +8,8 @@ use Rattle.terms.specs.Outcome.{Outcome, _and_, together}
 use Rattle.sheet.specs.views.NoteCode.{noteOf, Fitting}
 use Rattle.sheet.specs.views.NoteArray.{notesIn}
 use Rattle.sheet.proofs.NoteCodes.{code-fits}
-use Rattle.sheet_tests.specs.views.NoteTests.{Placed}
-use Rattle.sheet_tests.proofs.NoteRows.{notes-each}
+use Rattle.pairs.specs.views.NoteVariables.{Placed}
+use Rattle.pairs.proofs.NoteRows.{notes-each}
 use Rattle.outcomes.specs.views.CellOutcome.{outcomeOf}
 use Rattle.plain.specs.views.NotesOutcome.{recordOutcome, noteOutcome, placesOutcome}
 use Rattle.plain.proofs.Gathering.{gathered-more, gathered-stops, gathered-all}

@@ -4,9 +4,9 @@ use mathlib.Core.Path.{_≡_, sym, ap, _∙_}
 use native.Mathlib.Omega.{arith}
 use lib.ListN.{length, getD, drop, length-drop}
 use lib.Seq.{getD-drop}
-use Rattle.sheet_tests.specs.views.Slot.{slot}
-use Rattle.sheet_tests.specs.views.KeptPairs.{pairCode}
-use Rattle.sheet_tests.proofs.Slots.{slot-end, slot-found, slot-further}
+use Rattle.pairs.specs.views.Slot.{slot}
+use Rattle.pairs.specs.views.KeptPairs.{pairCode}
+use Rattle.pairs.proofs.Slots.{slot-end, slot-found, slot-further}
 use Rattle.tables.specs.views.Planes.{testsIn, placeTestsIn}
 use Rattle.test_list.specs.views.Tests.{pairsListed}
 use borrow.Author.Needs.{needs}

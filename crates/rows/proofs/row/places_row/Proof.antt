@@ -8,8 +8,8 @@ use Rattle.sheet.specs.declared.PatternRecord.{PatternRecord}
 use Rattle.sheet.specs.views.NoteCode.{Fitting}
 use Rattle.sheet.specs.views.NoteArray.{notesIn}
 use Rattle.sheet.proofs.NoteCodes.{code-fits}
-use Rattle.sheet_tests.specs.views.NoteTests.{Placed}
-use Rattle.sheet_tests.proofs.NoteRows.{notes-each}
+use Rattle.pairs.specs.views.NoteVariables.{Placed}
+use Rattle.pairs.proofs.NoteRows.{notes-each}
 use Rattle.rows.specs.views.Wants.{recordWant, notesTests, wantedCodes}
 use Rattle.rows.specs.views.Row.{withTest, withTests, placeNumbers}
 use Rattle.rows.proofs.NotesWanted.{wantHere, wanted-some, wanted-none}

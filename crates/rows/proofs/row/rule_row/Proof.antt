@@ -1,7 +1,7 @@
 -- The place tests, then the pairs.
 use mathlib.Core.Path.{ap, _∙_}
 use Rattle.sheet.specs.views.NoteArray.{notesIn}
-use Rattle.sheet_tests.specs.views.NoteTests.{notesCodes}
+use Rattle.pairs.specs.views.NoteVariables.{notesCodes}
 use Rattle.tables.specs.views.Planes.{placeTestsIn}
 use Rattle.test_list.specs.views.Tests.{pairsListed}
 use Rattle.rows.specs.views.Row.{withTests, pairNumbers, rowOf}

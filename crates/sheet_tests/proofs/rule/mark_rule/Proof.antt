@@ -8,8 +8,10 @@ use lib.Dec.{ltb}
 use lib.ListN.{length}
 use Rattle.basics.specs.Order.{insertBy}
 use Rattle.sheet_tests.specs.views.TestedPlaces.{placesIn}
-use Rattle.sheet_tests.specs.views.NoteTests.{isTested, hasRange, Placed}
-use Rattle.sheet_tests.proofs.NoteRows.{placesFrom, places-yes, places-no, places-end, notes-each}
+use Rattle.pairs.specs.views.NoteVariables.{Placed}
+use Rattle.sheet_tests.specs.views.NoteTests.{isTested, hasRange}
+use Rattle.pairs.proofs.NoteRows.{notes-each}
+use Rattle.sheet_tests.proofs.PlaceRows.{placesFrom, places-yes, places-no, places-end}
 use borrow.Author.Needs.{needs}
 use Rattle.sheet_tests.proofs.rule.mark_rule.Statement.{statement}
 use Rattle.sheet_tests.proofs.rule.mark_rule.Tie as tie

@@ -12,7 +12,7 @@ use Rattle.graph.specs.views.Rewriting.{readOr}
 use Rattle.graph.specs.ReadGraph.{readCases}
 use Rattle.graph.specs.views.NodeRecord.{nodeHead}
 use Rattle.node_check.proofs.CopiedNodes.{node-there}
-use Rattle.sheet_tests.specs.views.KeptPairs.{pairCode}
+use Rattle.pairs.specs.views.KeptPairs.{pairCode}
 use Rattle.steps.specs.declared.Step.the-variants.{Stop}
 use Rattle.steps.specs.views.CodeSteps.{stepMade, nodeStep, NearNode, codeStep}
 use Rattle.steps.proofs.StepsMade.{leaf-back}

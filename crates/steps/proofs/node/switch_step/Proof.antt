@@ -6,7 +6,7 @@ use denote.Ref.{now}
 use lib.ListN.{drop}
 use borrow.Author.Tests.{eq-eqb, ne-eqb}
 use Rattle.codes.specs.views.Codes.{unknownCode}
-use Rattle.sheet_tests.specs.views.KeptPairs.{pairCode}
+use Rattle.pairs.specs.views.KeptPairs.{pairCode}
 use Rattle.graph.specs.views.Rewriting.{readOr}
 use Rattle.graph.specs.ReadGraph.{readCases}
 use Rattle.steps.specs.declared.Step.the-variants.{GoTo}

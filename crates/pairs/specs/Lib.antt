@@ -1,0 +1,2 @@
+-- How the pairs of a sheet are kept.
+pub mod views
