@@ -1,6 +1,3 @@
--- The laws of the whole output: the line of the sheet, those of the pieces one after another, one turn, and what follows a build.
-pub mod PieceLines
-pub mod Progress
-pub mod Turns
-pub mod SheetLine
+-- The laws of the whole output: inputs that are cut, and what follows a build.
+pub mod Cuts
 pub mod Outcomes

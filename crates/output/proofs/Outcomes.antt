@@ -19,14 +19,15 @@ use Rattle.order.specs.Asking.{lowest}
 use Rattle.graph_check.specs.CheckGraph.{graphReading}
 use Rattle.graph_check.proofs.GraphBytes.{written-brought}
 use Rattle.lines.specs.Lines.{refusedLine}
-use Rattle.output.specs.Listing.{mostBytes, builtLines, linesAfter, listed, listingBytes}
+use Rattle.piece_lines.specs.BuiltLines.{builtLines}
+use Rattle.output.specs.Listing.{mostBytes, linesAfter, listed, listingBytes}
 use Rattle.build.specs.declared.Built.{Built}
 use Rattle.build.specs.declared.Built.the-variants.{Written, Refused}
 use Rattle.build.specs.BuildOutcome.{BuildOutcome, builtValues, writtenIf, buildOutcome}
 use Rattle.build.specs.Building.{Building, bytesOf}
 use Rattle.build.proofs.BuiltBytes.{built-outcome, outcome-built}
-use Rattle.output.specs.views.GraphFor.{GraphFor}
-use Rattle.output.proofs.Turns.{cut-take}
+use Rattle.piece_lines.specs.views.GraphFor.{GraphFor}
+use Rattle.output.proofs.Cuts.{cut-take}
 
 -- What a build hands back and leaves in its buffer.
 abbrev pub outcome : Built → List ℕ → BuildOutcome

@@ -1,3 +1,2 @@
 -- What the listing prints.
 pub mod Listing
-pub mod views

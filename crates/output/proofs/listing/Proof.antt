@@ -10,13 +10,15 @@ use borrow.Author.Needs.{needs}
 use Rattle.records.specs.Fields.{IsByte}
 use Rattle.records.specs.Writing.{splice}
 use Rattle.basics.specs.Lists.{All}
-use Rattle.output.specs.Listing.{mostBytes, builtLines, listed, listingBytes}
+use Rattle.piece_lines.specs.BuiltLines.{builtLines}
+use Rattle.output.specs.Listing.{mostBytes, listed, listingBytes}
 use Rattle.lines.proofs.Wrote.{wrote-as}
 use Rattle.records.proofs.ByteLists.{bytes-all}
 use Rattle.build.specs.declared.Built.the-variants.{Written}
 use Rattle.build.specs.BuildOutcome.{buildOutcome}
-use Rattle.output.specs.views.GraphFor.{GraphFor}
-use Rattle.output.proofs.Turns.{from-start, counted, cut-length, cut-most}
+use Rattle.piece_lines.specs.views.GraphFor.{GraphFor}
+use Rattle.piece_lines.proofs.Turns.{from-start}
+use Rattle.output.proofs.Cuts.{counted, cut-length, cut-most}
 use Rattle.output.proofs.Outcomes.{outcome, emptyGraph, built-refused, built-written, built-fits, built-accepted, bytes-take, cut-both}
 use Rattle.output.proofs.listing.Statement.{statement}
 use Rattle.output.proofs.listing.Tie as tie

@@ -10,9 +10,9 @@ use Rattle.records.proofs.Writing.{splice-none}
 use Rattle.decision.specs.Walk.{Walk}
 use Rattle.lines.specs.Lines.{refusedLine}
 use Rattle.lines.proofs.Wrote.{Wrote, wrote-as, wrote-more}
-use Rattle.output.specs.Listing.{linesOr, firstWalk, pieceLines}
-use Rattle.output.specs.views.Turned.{walkLine}
-use Rattle.output.proofs.PieceLines.{pieces-none, pieces-turn}
+use Rattle.piece_lines.specs.BuiltLines.{linesOr, firstWalk, pieceLines}
+use Rattle.piece_lines.specs.views.Turned.{walkLine}
+use Rattle.piece_lines.proofs.PieceLines.{pieces-none, pieces-turn}
 
 module _ (reply : List ℕ → Reading Walk) (input xs : List ℕ) (at : ℕ) where
   -- All lines, and those from the piece with this number on, which begins at from.

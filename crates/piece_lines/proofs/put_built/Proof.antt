@@ -14,15 +14,15 @@ use Rattle.lines.proofs.Wrote.{Wrote, wrote-as, wrote-behind}
 use Rattle.decision.specs.Walk.{Walk}
 use Rattle.walk.specs.Walking.{walkReply}
 use Rattle.walk_all.specs.views.Known.{OpenedAs, ReadyAs}
-use Rattle.output.specs.Listing.{firstWalk, pieceLines, builtLines}
-use Rattle.output.specs.declared.Turn.{Turn}
-use Rattle.output.specs.views.Turned.{Turned, turned, Within, walkLine, answered}
-use Rattle.output.proofs.Progress.{Progress, at-start, at-end, at-refusal, at-piece}
-use Rattle.output.proofs.SheetLine.{known-values, graph-opened}
-use Rattle.output.proofs.Turns.{first-answered, told-as, told-last, told-more, from-start}
+use Rattle.piece_lines.specs.BuiltLines.{firstWalk, pieceLines, builtLines}
+use Rattle.piece_lines.specs.declared.Turn.{Turn}
+use Rattle.piece_lines.specs.views.Turned.{Turned, turned, Within, walkLine, answered}
+use Rattle.piece_lines.proofs.Progress.{Progress, at-start, at-end, at-refusal, at-piece}
+use Rattle.piece_lines.proofs.SheetLine.{known-values, graph-opened}
+use Rattle.piece_lines.proofs.Turns.{first-answered, told-as, told-last, told-more, from-start}
 use borrow.Author.Needs.{needs}
-use Rattle.output.proofs.put_built.Statement.{statement}
-use Rattle.output.proofs.put_built.Tie as tie
+use Rattle.piece_lines.proofs.put_built.Statement.{statement}
+use Rattle.piece_lines.proofs.put_built.Tie as tie
 
 abbrev Inv-loop : tie.InvT-loop
 Inv-loop sheet graph nodes input out₀ starts notes₀ kept sizes tests end₀ from₀ n₀ out notes end from n =

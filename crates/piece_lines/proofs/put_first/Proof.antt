@@ -4,11 +4,11 @@ use native.Mathlib.Omega.{arith}
 use denote.Ref.{now}
 use Rattle.walk_all.specs.declared.First.{First}
 use Rattle.walk_all.specs.views.FirstPiece.{firstOf, PieceWithin}
-use Rattle.output.specs.views.Turned.{answered}
-use Rattle.output.proofs.Turns.{turned-last, turned-more}
+use Rattle.piece_lines.specs.views.Turned.{answered}
+use Rattle.piece_lines.proofs.Turns.{turned-last, turned-more}
 use borrow.Author.Needs.{needs}
-use Rattle.output.proofs.put_first.Statement.{statement}
-use Rattle.output.proofs.put_first.Tie as tie
+use Rattle.piece_lines.proofs.put_first.Statement.{statement}
+use Rattle.piece_lines.proofs.put_first.Tie as tie
 
 enum-known-first : tie.Need-enum-known-first
 enum-known-first c = search needs

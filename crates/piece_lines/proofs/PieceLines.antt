@@ -6,8 +6,8 @@ use native.Mathlib.Omega.{arith}
 use lib.ListN.{length, drop}
 use Rattle.records.specs.Reading.{Reading}
 use Rattle.decision.specs.Walk.{Walk}
-use Rattle.output.specs.Listing.{linesOr, firstWalk, pieceLines}
-use Rattle.output.specs.views.Turned.{walkLine}
+use Rattle.piece_lines.specs.BuiltLines.{linesOr, firstWalk, pieceLines}
+use Rattle.piece_lines.specs.views.Turned.{walkLine}
 
 module _ (reply : List ℕ → Reading Walk) where
   -- Where no bytes are left nothing is printed.

@@ -7,7 +7,7 @@ use lib.ListN.{length, length-map}
 use Rattle.records.specs.Reading.{refused}
 use Rattle.sheet_tests.specs.CheckSheet.{SheetValues, acceptSheet, sheetValues}
 use Rattle.graph_check.specs.CheckGraph.{graphReading}
-use Rattle.output.specs.views.GraphFor.{GraphFor}
+use Rattle.piece_lines.specs.views.GraphFor.{GraphFor}
 use Rattle.tables.specs.views.Planes.{testsIn}
 use Rattle.made.specs.views.TestNumbers.{codeTest}
 use Rattle.made.specs.views.Kept.{listedCodes}

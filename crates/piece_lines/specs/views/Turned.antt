@@ -6,8 +6,8 @@ use Rattle.records.specs.Reading.{Reading, took, refused, andThen}
 use Rattle.records.specs.Writing.{splice}
 use Rattle.decision.specs.Walk.{Walk}
 use Rattle.lines.specs.Lines.{pieceLine, refusedLine}
-use Rattle.output.specs.declared.Turn.{Turn}
-use Rattle.output.specs.declared.Turn.the-variants.{More, Last}
+use Rattle.piece_lines.specs.declared.Turn.{Turn}
+use Rattle.piece_lines.specs.declared.Turn.the-variants.{More, Last}
 
 -- The turn, and every byte of the lent buffer.
 pub record Turned : Type 0 where

@@ -1,0 +1,3 @@
+-- The lines of a sheet and its pieces.
+pub mod BuiltLines
+pub mod views
