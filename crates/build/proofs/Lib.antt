@@ -1,5 +1,4 @@
 -- From keys to the graph's bytes:
-pub mod SheetTables
 pub mod ListedTables
 pub mod GrownBytes
 -- What a build that is not refused wrote:

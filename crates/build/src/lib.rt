@@ -1,8 +1,5 @@
-// Builds the graph of a sheet in a lent buffer.
-pub mod graph_of; // from bytes to the graph's bytes
-
-pub use graph_of::build;
-pub use graph_of::build_ordered;
+// Builds the graph of rules whose tests are listed, in a lent buffer.
+pub mod graph_of; // from rules to the graph's bytes
 
 // What building answers: the nodes of the graph and its bytes, or the number of the question that got a no.
 pub enum Built {

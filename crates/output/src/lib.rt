@@ -32,7 +32,7 @@ pub fn listing(sheet: &[u8], input: &[u8], out: &mut [u8]) -> usize
     let sheet_end = cut(sheet.len());
     let input_end = cut(input.len());
     let mut graph = [0u8; 65536];
-    let built = build::build(&sheet[..sheet_end], &mut graph);
+    let built = building::build(&sheet[..sheet_end], &mut graph);
     match built {
         Built::Refused(q) => lines::put_refused(out, 0, q),
         Built::Written(nodes, bytes) => {

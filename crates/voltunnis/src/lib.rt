@@ -85,7 +85,7 @@ pub extern "C" fn vt_build(sheet: &[u8], buffer: &mut [u8]) -> u64
     ensures { λ r. ⌜ Packs r (builtFields (buildOutcome (now (sheet .entry)) (now (buffer .entry)) .values)) ⌝ }
     ensures { λ _. ⌜ now (buffer .exit) ≡ buildOutcome (now (sheet .entry)) (now (buffer .entry)) .buffer ⌝ }
 {
-    pack_built(build::build(sheet, buffer))
+    pack_built(building::build(sheet, buffer))
 }
 
 // Walks a piece over a graph: the answer's word, its rule and the edges walked. Not suspend for every piece with an unknown, nor an

@@ -24,5 +24,5 @@ pub extern "C" fn vt_build_ordered(sheet: &[u8], table: &[u8], buffer: &mut [u8]
     ensures { λ _. ⌜ now (buffer .exit)
         ≡ orderedOutcome (now (sheet .entry)) (now (table .entry)) (now (buffer .entry)) .buffer ⌝ }
 {
-    pack_built(build::build_ordered(sheet, table, buffer))
+    pack_built(building::build_ordered(sheet, table, buffer))
 }

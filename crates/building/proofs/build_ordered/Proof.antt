@@ -15,12 +15,12 @@ use Rattle.order.specs.views.TableRead.{tableRead}
 use Rattle.order.specs.Asking.{byTable}
 use Rattle.order.proofs.EveryPlace.{once-below}
 use Rattle.order.proofs.TableAsks.{Ordering, table-ordering}
 use Rattle.build.proofs.ListedTables.{listed-sizes}
-use Rattle.build.proofs.SheetTables.{few-tests, lowest-listed, ordered-listed, outcome-refused, table-refused}
-use Rattle.build.proofs.SheetTables.{sheet-kept, ordered-kept}
+use Rattle.building.proofs.SheetTables.{few-tests, lowest-listed, ordered-listed, outcome-refused, table-refused}
+use Rattle.building.proofs.SheetTables.{sheet-kept, ordered-kept}
 use borrow.Author.Needs.{needs}
-use Rattle.build.proofs.graph_of.build_ordered.Statement.{statement}
-use Rattle.build.proofs.graph_of.build_ordered.Tie as tie
+use Rattle.building.proofs.build_ordered.Statement.{statement}
+use Rattle.building.proofs.build_ordered.Tie as tie
 
 -- What is read of an accepted table, and of a refused one.
 table-taken

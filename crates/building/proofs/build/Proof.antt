@@ -7,10 +7,10 @@ use Rattle.sheet_tests.proofs.Scanning.{bytes-known}
 use Rattle.accepted.proofs.FoundTests.{found-accepts, found-refuses}
 use Rattle.decision.specs.Graph.{lowestFirst}
 use Rattle.order.specs.Asking.{lowest}
-use Rattle.build.proofs.SheetTables.{few-tests, lowest-listed, outcome-refused, sheet-kept, outcome-kept}
+use Rattle.building.proofs.SheetTables.{few-tests, lowest-listed, outcome-refused, sheet-kept, outcome-kept}
 use borrow.Author.Needs.{needs}
-use Rattle.build.proofs.graph_of.build.Statement.{statement}
-use Rattle.build.proofs.graph_of.build.Tie as tie
+use Rattle.building.proofs.build.Statement.{statement}
+use Rattle.building.proofs.build.Tie as tie
 
 read-tests-requires : tie.Need-read-tests-requires
 read-tests-requires c κs = search needs

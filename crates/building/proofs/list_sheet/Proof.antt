@@ -11,11 +11,11 @@ use Rattle.tables.specs.views.Planes.{testsIn}
 use Rattle.test_list.specs.views.Numbers.{numberAll}
 use Rattle.test_list.specs.views.Tests.{putAll, testsPut, Counted, underPut}
 use Rattle.turns.specs.views.Turned.{lowerTests}
 use Rattle.build.specs.views.Tabled.{testsFor}
-use Rattle.build.proofs.SheetTables.{under-counted}
+use Rattle.building.proofs.SheetTables.{under-counted}
 use borrow.Author.Needs.{needs}
-use Rattle.build.proofs.graph_of.list_sheet.Statement.{statement}
-use Rattle.build.proofs.graph_of.list_sheet.Tie as tie
+use Rattle.building.proofs.list_sheet.Statement.{statement}
+use Rattle.building.proofs.list_sheet.Tie as tie
 
 -- The tables have room for all tests from the start.
 long : (s : List ℕ) (x : ℕ) → s ≡ replicate 324 0 → length (set s 0 x) ≡ 324
