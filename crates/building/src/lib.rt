@@ -1,5 +1,5 @@
-// Builds the graph of a sheet in a lent buffer: its tests are read and listed, in document 01's order or in that of a table, and the
-// graph of its rules is written.
+// Builds the graph of a sheet in a lent buffer: its tests are read and listed, in document 01's order or in that of a table, and
+// the graph of its rules is written.
 use build::Built;
 use build::graph_of::build_listed;
 use order::TableCheck;
