@@ -1,13 +1,10 @@
-// Reads and writes the records of nodes and of their cases.
+// Reads the records of nodes and of their cases.
 pub mod record; // the record that the input begins with
-pub mod write; // records into a lent buffer
 
 pub use record::case_head;
 pub use record::case_refusal;
 pub use record::node_head;
 pub use record::node_refusal;
-pub use write::put_case;
-pub use write::put_node;
 
 // A node at which a walk ends.
 pub enum Leaf {

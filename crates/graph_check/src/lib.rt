@@ -1,11 +1,9 @@
-// The calls over a sheet and a graph: the check of a graph, and read nodes written again.
+// The check of a graph for a sheet, and the index of its nodes.
 pub mod check; // the check of a graph
 pub mod index; // a graph's header, and where its nodes begin
-pub mod rewriting; // read nodes written again
 
 pub use check::check_graph;
 pub use index::index_graph;
-pub use rewriting::rewrite;
 
 // The check of a graph: it has so many nodes, or the number of the question that got a no.
 pub enum GraphCheck {

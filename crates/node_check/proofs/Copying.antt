@@ -12,20 +12,9 @@ use Rattle.records.proofs.Rows.{row-none}
 use Rattle.records.proofs.Writing.{splice-none, splice-more, splice-length}
 use Rattle.basics.specs.Lists.{All}
 use Rattle.graph.specs.views.Rewriting.{IsTook, readOr}
-use Rattle.node_check.specs.declared.Copied.{Copied}
-use Rattle.node_check.specs.declared.Copied.the-variants.{To, Refused}
 use Rattle.graph.proofs.Spelling.{Spelled, begins-read, begins-length}
 use Rattle.graph.proofs.RowsLeft.{row-there, others-left, first-others}
 use Rattle.records.proofs.ByteLists.{bytes-drop}
-
--- Where a copy ends,
-abbrev pub endOf : Copied → ℕ
-endOf (To n) = n
-endOf (Refused q) = 0
-
--- and one that ends somewhere is not refused.
-pub not-refused : {n q : ℕ} → To n ≡ Refused q → ⊥
-not-refused e = let z : _≡_ {A = ℕ} 0 1 = cc in absurd (omega arith)
 
 -- How many bytes a reading took, and what was read where something was.
 abbrev pub bytesOf : {A : Type 0} → Reading A → ℕ

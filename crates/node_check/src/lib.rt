@@ -1,12 +1,10 @@
-// Checks the nodes of graphs, and writes read nodes again.
+// Checks the nodes of graphs.
 pub mod cases; // the cases of a switch
 pub mod check; // the nodes of a graph
 pub mod kept; // the sheet's tests as they are kept
-pub mod rewrite; // read records written again
 
 pub use cases::check_cases;
 pub use check::check_nodes;
-pub use rewrite::copy_nodes;
 
 // A case as a range of codes, with the node that it leads to and the bytes of its record.
 pub struct CaseRange {
@@ -20,12 +18,6 @@ pub struct CaseRange {
 // question that got a no.
 pub enum CasesCheck {
     Used(usize, bool, bool),
-    Refused(u8),
-}
-
-// The copy of records: it ends at this byte, or the number of the question that got a no.
-pub enum Copied {
-    To(usize),
     Refused(u8),
 }
 

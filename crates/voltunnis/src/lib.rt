@@ -65,7 +65,7 @@ pub extern "C" fn vt_rewrite(sheet: &[u8], graph: &[u8], buffer: &mut [u8]) -> u
     ensures { λ r. ⌜ Packs r (writtenFields (rewritten (now (sheet .entry)) (now (graph .entry)) (now (buffer .entry)))) ⌝ }
     ensures { λ _. ⌜ now (buffer .exit) ≡ rewritten (now (sheet .entry)) (now (graph .entry)) (now (buffer .entry)) .buffer ⌝ }
 {
-    pack_rewrote(graph_check::rewrite(sheet, graph, buffer))
+    pack_rewrote(rewriting::rewrite(sheet, graph, buffer))
 }
 
 // Writes the tidy form of a sheet, at the front of a buffer: the bytes written. Not the buffer's length for them, nor a byte
