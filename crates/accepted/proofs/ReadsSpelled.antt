@@ -8,11 +8,11 @@ use Rattle.records.specs.Fields.{AreBytes}
 use Rattle.records.specs.Reading.{took}
 use Rattle.records.proofs.Spelling.{Spelled, spelled-join, row-spelled}
 use Rattle.terms.specs.Pattern.{Pattern, Patterns, pnil, pcons}
-use Rattle.sheet.specs.declared.PatternRecord.the-variants.{Compound}
+use Rattle.patterns.specs.declared.PatternRecord.the-variants.{Compound}
 use Rattle.sheet.specs.ReadSheet.{readPattern, readPatterns, readRule, readRules}
 use Rattle.sheet.specs.WriteSheet.{patternBytes, patternsBytes, rulesBytes}
-use Rattle.sheet.proofs.HeadBytes.{head-spelled}
-use Rattle.sheet.specs.views.PatternRecord.{recordSpelling}
+use Rattle.patterns.proofs.HeadBytes.{head-spelled}
+use Rattle.patterns.specs.views.PatternRecord.{recordSpelling}
 use Rattle.sheet.proofs.Compounds.{row-count}
 use Rattle.sheet.proofs.PatternReads.{PatternIs, isAnything, isSymbol, isRange, isCompound, isVariable, isRanged, pattern-is}
 use Rattle.sheet.proofs.SheetReads.{rule-is}

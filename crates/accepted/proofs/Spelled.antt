@@ -13,7 +13,7 @@ use Rattle.records.proofs.Rows.{row-size}
 use Rattle.sheet.specs.Sheet.{Sheet, SoundSheet, mostRules}
 use Rattle.sheet.specs.ReadSheet.{readRule, readRules, readHeader, endSheet, readSheet}
 use Rattle.sheet.specs.WriteSheet.{rulesBytes, sheetBytes}
-use Rattle.sheet.proofs.HeadBytes.{first-bytes}
+use Rattle.patterns.proofs.HeadBytes.{first-bytes}
 use Rattle.sheet.proofs.SheetReads.{sheet-is}
 use Rattle.sheet.proofs.ReadsSound.{sheet-sound}
 use Rattle.accepted.proofs.ReadsSpelled.{rules-spelled}

@@ -21,7 +21,8 @@ use Rattle.masks.proofs.Operations.{insert-is}
 use Rattle.terms.specs.Pattern.{Patterns}
 use Rattle.terms.specs.RuleTests.{PlaceTest, placeTests}
 use Rattle.terms.specs.Answer.{ruleAt}
-use Rattle.sheet.specs.views.Noted.{Note, ruleNotes}
+use Rattle.patterns.specs.views.Note.{Note}
+use Rattle.sheet.specs.views.Noted.{ruleNotes}
 use Rattle.sheet.specs.views.NoteRanges.{lowsOf, highsOf}
 use Rattle.sheet_tests.specs.SheetTests.{place, sheetTests}
 use Rattle.decision.specs.Rules.{testAt, hasTest, testsWhere}

@@ -5,7 +5,7 @@ use mathlib.Core.List.{List, [], _∷_}
 use mathlib.Core.Option.{Option, some, none}
 use lib.ListN.{length, getD}
 use Rattle.terms.specs.RuleTests.{Want, PlaceTest}
-use Rattle.sheet.specs.views.Noted.{Note}
+use Rattle.patterns.specs.views.Note.{Note}
 use Rattle.cuts.specs.views.Cuts.{partAt, countAt}
 use Rattle.rows.specs.views.Wants.{recordWant, testIf, notesTests}
 use Rattle.compiled.specs.views.CutRules.{turnWant, turnAll, TurnsFit}

@@ -46,9 +46,9 @@ pub fn cut_rule(
     let mut k: usize = 0;
     while k < n {
         let code = notes[k];
-        let wanted = record_wanted(sheet::note_record(code), ranges);
+        let wanted = record_wanted(patterns::note_record(code), ranges);
         if let Wanted::Codes(least, most) = wanted {
-            let from = cuts::part(rules, place_number(numbers, sheet::note_place(code)));
+            let from = cuts::part(rules, place_number(numbers, patterns::note_place(code)));
             turn_rule(c, from, least, most, i);
         }
         k += 1;

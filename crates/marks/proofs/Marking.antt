@@ -5,7 +5,7 @@ use mathlib.Core.List.{List}
 use Rattle.records.specs.Reading.{Reading, mapReading}
 use Rattle.sheet.specs.declared.Took.{Took}
 use Rattle.sheet.specs.declared.Took.the-variants.{Used, Refused}
-use Rattle.sheet.specs.views.Noted.{Note}
+use Rattle.patterns.specs.views.Note.{Note}
 use Rattle.sheet.specs.views.NoteArray.{tookAs, tookNotes}
 use Rattle.marks.specs.views.Marks.{Marks, marksIn}
 

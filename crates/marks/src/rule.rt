@@ -1,9 +1,9 @@
 // A rule read in prefix order: the places of its symbols, ranges and compounds are marked, its variables noted. Questions 4 to 8.
 use crate::set::mark;
-use sheet::PatternHead;
-use sheet::PatternRecord;
+use patterns::PatternHead;
+use patterns::PatternRecord;
+use patterns::record::head_refusal;
 use sheet::Took;
-use sheet::record::head_refusal;
 use sheet::rule::after;
 use sheet::rule::noted;
 ghost use mathlib.Core.Path.{_≡_};
@@ -11,7 +11,7 @@ ghost use mathlib.Core.List.{[]};
 ghost use Prim.Native.Nat.{suc, _+_, _*_, _≤_, _<_};
 ghost use lib.ListN.{length};
 ghost use Rattle.places.specs.Numbering.{stride};
-ghost use Rattle.sheet.specs.views.PatternRecord.{recordBytes};
+ghost use Rattle.patterns.specs.views.PatternRecord.{recordBytes};
 ghost use Rattle.sheet.specs.views.NoteArray.{tookAs, TookWithin};
 ghost use Rattle.sheet.specs.views.NotesBehind.{leafHeld, patternHeld, rowHeld};
 ghost use Rattle.marks.specs.views.Marks.{marked, marksIn};
@@ -77,7 +77,7 @@ fn pattern(
     ensures { λ r. ⌜ TookWithin (length (now (s .entry))) (place + stride (suc below)) (now (notes .exit)) r
         × (length (now (words .exit)) ≡ 11) ⌝ }
 {
-    let head = sheet::pattern_head(s);
+    let head = patterns::pattern_head(s);
     let PatternHead::Whole(what) = head else {
         return Took::Refused(head_refusal(head));
     };

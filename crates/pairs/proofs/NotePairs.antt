@@ -6,11 +6,11 @@ use mathlib.Core.List.{List, _∷_, map-append}
 use lib.Dec.{T, eqb}
 use lib.ListN.{length, getD, drop}
 use Rattle.terms.specs.RuleTests.{both, pairsWith, pairsOf}
-use Rattle.sheet.specs.views.Noted.{Note, note}
-use Rattle.sheet.specs.views.NoteCode.{codePlace, codeRecord}
+use Rattle.patterns.specs.views.Note.{Note, note}
+use Rattle.patterns.specs.views.NoteCode.{codePlace, codeRecord}
 use Rattle.sheet.specs.views.NoteArray.{notesIn}
-use Rattle.sheet.specs.declared.PatternRecord.{PatternRecord}
-use Rattle.sheet.specs.declared.PatternRecord.the-variants.{Anything, Symbol, Range, Compound, Variable, Ranged}
+use Rattle.patterns.specs.declared.PatternRecord.{PatternRecord}
+use Rattle.patterns.specs.declared.PatternRecord.the-variants.{Anything, Symbol, Range, Compound, Variable, Ranged}
 use Rattle.pairs.specs.declared.Name.{Name}
 use Rattle.pairs.specs.declared.Name.the-variants.{Nameless, Of}
 use Rattle.pairs.specs.views.KeptPairs.{Kept, pairCode, keep, keepAll, pairsIn}

@@ -7,8 +7,8 @@ use native.Mathlib.Omega.{arith}
 use lib.ListN.{length, getD, take, drop, length-map, drop-of-length-le, List·getD-map}
 use lib.Seq.{length-take-le, drop-cons, getD-take}
 use Rattle.basics.specs.Lists.{All}
-use Rattle.sheet.specs.views.Noted.{Note}
-use Rattle.sheet.specs.views.NoteCode.{noteOf}
+use Rattle.patterns.specs.views.Note.{Note}
+use Rattle.patterns.specs.views.NoteCode.{noteOf}
 use Rattle.sheet.specs.views.NoteArray.{notesIn}
 
 module _ (codes : List ℕ) (n : ℕ) (within : n ≤ length codes) where

@@ -2,7 +2,7 @@
 use crate::Name;
 use crate::Put;
 use crate::kept::put_pair;
-use sheet::PatternRecord;
+use patterns::PatternRecord;
 ghost use mathlib.Core.Path.{_≡_};
 ghost use Prim.Native.Nat.{_≤_, _<_};
 ghost use lib.ListN.{length, drop};
@@ -74,8 +74,8 @@ fn pairs_with(
             return put.count;
         }
         let code = notes[i];
-        if is_named(v, sheet::note_record(code)) {
-            put = put_pair(codes, put, pair_code(place, sheet::note_place(code)));
+        if is_named(v, patterns::note_record(code)) {
+            put = put_pair(codes, put, pair_code(place, patterns::note_place(code)));
         }
         i += 1;
     }
@@ -97,9 +97,9 @@ pub fn pair_rule(notes: &[u64; 680], n: usize, codes: &mut [u32; 65], count: usi
             return pairs;
         }
         let code = notes[i];
-        let name = name_of(sheet::note_record(code));
+        let name = name_of(patterns::note_record(code));
         if let Name::Of(v) = name {
-            pairs = pairs_with(notes, n, i + 1, sheet::note_place(code), v, codes, pairs);
+            pairs = pairs_with(notes, n, i + 1, patterns::note_place(code), v, codes, pairs);
         }
         i += 1;
     }

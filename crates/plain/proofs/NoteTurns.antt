@@ -7,10 +7,10 @@ use lib.Dec.{T, eqb}
 use lib.ListN.{length, getD, drop}
 use Rattle.terms.specs.RuleTests.{Occurrence, PairTest, both, pairsWith, pairsOf}
 use Rattle.terms.specs.Outcome.{Outcome, holds, _and_, together}
-use Rattle.sheet.specs.declared.PatternRecord.{PatternRecord}
-use Rattle.sheet.specs.declared.PatternRecord.the-variants.{Anything, Symbol, Range, Compound, Variable, Ranged}
-use Rattle.sheet.specs.views.Noted.{Note, note}
-use Rattle.sheet.specs.views.NoteCode.{noteOf, codePlace, codeRecord}
+use Rattle.patterns.specs.declared.PatternRecord.{PatternRecord}
+use Rattle.patterns.specs.declared.PatternRecord.the-variants.{Anything, Symbol, Range, Compound, Variable, Ranged}
+use Rattle.patterns.specs.views.Note.{Note, note}
+use Rattle.patterns.specs.views.NoteCode.{noteOf, codePlace, codeRecord}
 use Rattle.sheet.specs.views.NoteArray.{notesIn}
 use Rattle.pairs.specs.declared.Name.{Name}
 use Rattle.pairs.specs.declared.Name.the-variants.{Nameless, Of}

@@ -18,10 +18,11 @@ use Rattle.terms.specs.Accepted.{InCommon, AcceptedRule, AcceptedPiece}
 use Rattle.basics.proofs.Booleans.{cond-holds}
 use Rattle.basics.proofs.ListLaws.{all-join, all-map}
 use Rattle.terms.proofs.Ranges.{WideRange, ranges-wide}
-use Rattle.sheet.specs.declared.PatternRecord.{PatternRecord}
-use Rattle.sheet.specs.declared.PatternRecord.the-variants.{Anything, Symbol, Range as RangeOf, Compound, Variable, Ranged}
-use Rattle.sheet.specs.views.Noted.{Note, ruleNotes}
-use Rattle.sheet.specs.views.NoteCode.{Fitting}
+use Rattle.patterns.specs.declared.PatternRecord.{PatternRecord}
+use Rattle.patterns.specs.declared.PatternRecord.the-variants.{Anything, Symbol, Range as RangeOf, Compound, Variable, Ranged}
+use Rattle.patterns.specs.views.Note.{Note}
+use Rattle.sheet.specs.views.Noted.{ruleNotes}
+use Rattle.patterns.specs.views.NoteCode.{Fitting}
 use Rattle.sheet.specs.views.NoteRanges.{rangeIn, lowEnd, highEnd, lowsOf, highsOf}
 use Rattle.sheet.proofs.CommonRanges.{rule-range}
 use Rattle.sheet.proofs.RangeArrays.{variable-at}

@@ -6,8 +6,9 @@ use Rattle.basics.specs.Lists.{All}
 use Rattle.terms.specs.Pattern.{Pattern, Patterns, anything, theSymbol, theRange, theCompound, variable, rangedVariable, pnil, pcons}
 use Rattle.terms.specs.Accepted.{Sound, Sounds, AcceptedRule}
 use Rattle.basics.proofs.ListLaws.{all-join}
-use Rattle.sheet.specs.views.Noted.{Note, patternNotes, patternsNotes, ruleNotes}
-use Rattle.sheet.specs.views.NoteCode.{Fitting}
+use Rattle.patterns.specs.views.Note.{Note}
+use Rattle.sheet.specs.views.Noted.{patternNotes, patternsNotes, ruleNotes}
+use Rattle.patterns.specs.views.NoteCode.{Fitting}
 use Rattle.pairs.specs.views.NoteVariables.{Placed}
 use Rattle.sheet_tests.proofs.NotedTests.{rule-placed}
 

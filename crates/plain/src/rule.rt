@@ -4,7 +4,7 @@ use outcomes::both;
 use outcomes::pair_outcome;
 use outcomes::place_outcome;
 use pairs::Name;
-use sheet::PatternRecord;
+use patterns::PatternRecord;
 use sheet::Ranges;
 ghost use mathlib.Core.Path.{_≡_};
 ghost use Prim.Native.Nat.{_≤_, _<_};
@@ -12,7 +12,7 @@ ghost use lib.ListN.{length, drop};
 ghost use Rattle.basics.specs.Lists.{All};
 ghost use Rattle.terms.specs.RuleTests.{pairsWith};
 ghost use Rattle.terms.specs.Outcome.{together};
-ghost use Rattle.sheet.specs.views.NoteCode.{Fitting};
+ghost use Rattle.patterns.specs.views.NoteCode.{Fitting};
 ghost use Rattle.sheet.specs.views.NoteArray.{notesIn};
 ghost use Rattle.pairs.specs.views.NoteVariables.{notesVariables, Placed};
 ghost use Rattle.outcomes.specs.views.CompareCells.{Narrow};
@@ -101,8 +101,8 @@ fn places_outcome(notes: &[u64; 680], n: usize, ranges: Ranges, cells: &[u32; 68
         let one = record_outcome(
             cells,
             ranges,
-            sheet::note_place(code),
-            sheet::note_record(code),
+            patterns::note_place(code),
+            patterns::note_record(code),
         );
         if let TestOutcome::Contradicted = one {
             return one;
@@ -132,8 +132,11 @@ fn pairs_with(
     let mut j = from;
     while j < n {
         let code = notes[j];
-        if pairs::rule::is_named(v, sheet::note_record(code)) {
-            outcome = both(outcome, pair_outcome(cells, place, sheet::note_place(code)));
+        if pairs::rule::is_named(v, patterns::note_record(code)) {
+            outcome = both(
+                outcome,
+                pair_outcome(cells, place, patterns::note_place(code)),
+            );
         }
         j += 1;
     }
@@ -149,11 +152,11 @@ fn pairs_outcome(notes: &[u64; 680], n: usize, cells: &[u32; 680]) -> TestOutcom
     let mut i: usize = 0;
     while i < n {
         let code = notes[i];
-        let name = pairs::rule::name_of(sheet::note_record(code));
+        let name = pairs::rule::name_of(patterns::note_record(code));
         if let Name::Of(v) = name {
             outcome = both(
                 outcome,
-                pairs_with(notes, n, i + 1, sheet::note_place(code), v, cells),
+                pairs_with(notes, n, i + 1, patterns::note_place(code), v, cells),
             );
         }
         i += 1;

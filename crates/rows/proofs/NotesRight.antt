@@ -14,9 +14,10 @@ use Rattle.terms.specs.RuleTests.{Range, PlaceTest, Occurrence, rangeTest, pair
 use Rattle.terms.specs.Accepted.{Sound, Sounds, AcceptedRule}
 use Rattle.basics.proofs.ListLaws.{all-join}
 use Rattle.terms.proofs.Ranges.{WideRange, ranges-wide}
-use Rattle.sheet.specs.declared.PatternRecord.{PatternRecord}
-use Rattle.sheet.specs.declared.PatternRecord.the-variants.{Anything, Symbol, Range as RangeOf, Compound, Variable, Ranged}
-use Rattle.sheet.specs.views.Noted.{Note, patternNotes, patternsNotes, ruleNotes}
+use Rattle.patterns.specs.declared.PatternRecord.{PatternRecord}
+use Rattle.patterns.specs.declared.PatternRecord.the-variants.{Anything, Symbol, Range as RangeOf, Compound, Variable, Ranged}
+use Rattle.patterns.specs.views.Note.{Note}
+use Rattle.sheet.specs.views.Noted.{patternNotes, patternsNotes, ruleNotes}
 use Rattle.sheet.specs.views.NoteRanges.{rangeIn, lowEnd, highEnd, lowsOf, highsOf}
 use Rattle.sheet.proofs.CommonRanges.{rule-range}
 use Rattle.sheet.proofs.RangeArrays.{variable-at}

@@ -7,7 +7,7 @@ use mathlib.Core.Option.{Option, some, none}
 use lib.ListN.{length, getD, drop}
 use borrow.Author.Tests.{lt-ltb, le-ltb}
 use Rattle.terms.specs.RuleTests.{Want, PlaceTest}
-use Rattle.sheet.specs.views.NoteCode.{codePlace, codeRecord}
+use Rattle.patterns.specs.views.NoteCode.{codePlace, codeRecord}
 use Rattle.sheet.specs.views.NoteArray.{notesIn}
 use Rattle.pairs.proofs.NoteRows.{notes-next, notes-end}
 use Rattle.basics.proofs.Clash.{clash}

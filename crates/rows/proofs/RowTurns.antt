@@ -11,9 +11,9 @@ use borrow.Author.Tests.{ne-eqb}
 use Rattle.masks.specs.Mask.{has}
 use Rattle.masks.proofs.Extensionality.{maskOf-unique}
 use Rattle.terms.specs.RuleTests.{Want, PlaceTest, Occurrence, both, pairsWith, pairsOf}
-use Rattle.sheet.specs.declared.PatternRecord.{PatternRecord}
-use Rattle.sheet.specs.declared.PatternRecord.the-variants.{Anything, Symbol, Range, Compound, Variable, Ranged}
-use Rattle.sheet.specs.views.NoteCode.{codePlace, codeRecord}
+use Rattle.patterns.specs.declared.PatternRecord.{PatternRecord}
+use Rattle.patterns.specs.declared.PatternRecord.the-variants.{Anything, Symbol, Range, Compound, Variable, Ranged}
+use Rattle.patterns.specs.views.NoteCode.{codePlace, codeRecord}
 use Rattle.sheet.specs.views.NoteArray.{notesIn}
 use Rattle.pairs.specs.declared.Name.{Name}
 use Rattle.pairs.specs.declared.Name.the-variants.{Nameless, Of}

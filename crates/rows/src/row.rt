@@ -38,9 +38,9 @@ fn places_row(notes: &[u64; 680], n: usize, ranges: Ranges, numbers: &[u8; 680])
     let mut i: usize = 0;
     while i < n {
         let code = notes[i];
-        let wanted = record_wanted(sheet::note_record(code), ranges);
+        let wanted = record_wanted(patterns::note_record(code), ranges);
         if let Wanted::Codes(_, _) = wanted {
-            row = with_test(row, place_number(numbers, sheet::note_place(code)));
+            row = with_test(row, place_number(numbers, patterns::note_place(code)));
         }
         i += 1;
     }
@@ -66,8 +66,8 @@ fn pairs_with(
     let mut j = from;
     while j < n {
         let code = notes[j];
-        if pairs::rule::is_named(v, sheet::note_record(code)) {
-            let q = sheet::note_place(code);
+        if pairs::rule::is_named(v, patterns::note_record(code)) {
+            let q = patterns::note_place(code);
             all = with_test(all, pair_number(s, place, q));
         }
         j += 1;
@@ -85,9 +85,9 @@ fn pairs_row(notes: &[u64; 680], n: usize, s: &Tables, row: u64) -> u64
     let mut i: usize = 0;
     while i < n {
         let code = notes[i];
-        let name = pairs::rule::name_of(sheet::note_record(code));
+        let name = pairs::rule::name_of(patterns::note_record(code));
         if let Name::Of(v) = name {
-            let p = sheet::note_place(code);
+            let p = patterns::note_place(code);
             all = pairs_with(notes, n, i + 1, p, v, s, all);
         }
         i += 1;

@@ -1,9 +1,9 @@
 // What a record wants at its place, as codes.
 use crate::Wanted;
-use sheet::PatternRecord;
+use patterns::PatternRecord;
 use sheet::Ranges;
 ghost use mathlib.Core.Path.{_≡_};
-ghost use Rattle.sheet.specs.views.NoteCode.{Fitting};
+ghost use Rattle.patterns.specs.views.NoteCode.{Fitting};
 ghost use Rattle.rows.specs.views.Wants.{rangeWant, recordWant, wantedCodes};
 
 // What a variable's common range wants: nothing where there is none.

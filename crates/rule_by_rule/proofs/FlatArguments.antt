@@ -12,13 +12,14 @@ use Rattle.records.proofs.Rows.{RowRead, row-split}
 use Rattle.terms.specs.Pattern.{Pattern, Patterns, countPatterns, pnil, pcons}
 use Rattle.terms.specs.Outcome.{Outcome, holds, notKnown, contradicted, Holds, Contradicted}
 use Rattle.terms.proofs.Outcomes.{contradicted-left, contradicted-together}
-use Rattle.sheet.specs.declared.PatternRecord.{PatternRecord}
-use Rattle.sheet.specs.declared.PatternRecord.the-variants.{Anything, Symbol, Range, Compound, Variable, Ranged}
-use Rattle.sheet.specs.declared.PatternHead.{PatternHead}
-use Rattle.sheet.specs.declared.PatternHead.the-variants.{Whole, Refused}
+use Rattle.patterns.specs.declared.PatternRecord.{PatternRecord}
+use Rattle.patterns.specs.declared.PatternRecord.the-variants.{Anything, Symbol, Range, Compound, Variable, Ranged}
+use Rattle.patterns.specs.declared.PatternHead.{PatternHead}
+use Rattle.patterns.specs.declared.PatternHead.the-variants.{Whole, Refused}
 use Rattle.sheet.specs.ReadSheet.{readPattern, readPatterns}
-use Rattle.sheet.specs.views.PatternRecord.{patternHead, recordBytes}
-use Rattle.sheet.specs.views.Noted.{Note, note, patternNotes, patternsNotes, ruleNotes}
+use Rattle.patterns.specs.views.PatternRecord.{patternHead, recordBytes}
+use Rattle.patterns.specs.views.Note.{Note, note}
+use Rattle.sheet.specs.views.Noted.{patternNotes, patternsNotes, ruleNotes}
 use Rattle.sheet.specs.views.NoteRanges.{lowsOf, highsOf}
 use Rattle.sheet.proofs.Compounds.{row-count}
 use Rattle.sheet.proofs.PatternReads.{PatternIs, isAnything, isSymbol, isRange, isCompound, isVariable, isRanged, pattern-is}

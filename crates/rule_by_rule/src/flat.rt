@@ -1,8 +1,8 @@
 // The arguments of a rule up to its first compound, tested as they are read: most rules are contradicted there.
 use outcomes::TestOutcome;
+use patterns::PatternHead;
+use patterns::PatternRecord;
 use plain::rule::fixed_outcome;
-use sheet::PatternHead;
-use sheet::PatternRecord;
 ghost use mathlib.Core.Path.{_≡_};
 ghost use mathlib.Core.Bool.{true};
 ghost use Prim.Native.Nat.{ℕ, _≤_};
@@ -36,7 +36,7 @@ pub fn is_out(s: &[u8], arity: usize, cells: &[u32; 680]) -> bool
     let mut at: usize = 0;
     let mut i: usize = 0;
     while i < arity {
-        let head = sheet::pattern_head(&s[at..]);
+        let head = patterns::pattern_head(&s[at..]);
         let PatternHead::Whole(what) = head else {
             return false;
         };

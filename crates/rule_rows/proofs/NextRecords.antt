@@ -6,11 +6,11 @@ use native.Mathlib.Omega.{arith}
 use lib.ListN.{length, take, drop, length-drop}
 use lib.Seq.{drop-drop}
 use Rattle.records.proofs.Parts.{rest}
-use Rattle.sheet.specs.declared.PatternRecord.{PatternRecord}
-use Rattle.sheet.specs.declared.PatternHead.{PatternHead}
-use Rattle.sheet.specs.declared.PatternHead.the-variants.{Whole, Refused}
-use Rattle.sheet.specs.views.PatternRecord.{recordBytes, patternHead}
-use Rattle.sheet.proofs.Heads.{head-whole}
+use Rattle.patterns.specs.declared.PatternRecord.{PatternRecord}
+use Rattle.patterns.specs.declared.PatternHead.{PatternHead}
+use Rattle.patterns.specs.declared.PatternHead.the-variants.{Whole, Refused}
+use Rattle.patterns.specs.views.PatternRecord.{recordBytes, patternHead}
+use Rattle.patterns.proofs.Heads.{head-whole}
 use Rattle.rule_rows.specs.declared.Row.{Row}
 use Rattle.rule_rows.specs.declared.Next.{Next}
 use Rattle.rule_rows.specs.declared.Next.the-variants.{Record, Done}

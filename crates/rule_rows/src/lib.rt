@@ -17,6 +17,6 @@ pub struct Row {
 
 // The next record of a row and where the row goes on behind it, or its end.
 pub enum Next {
-    Record(sheet::PatternRecord, Row),
+    Record(patterns::PatternRecord, Row),
     Done,
 }

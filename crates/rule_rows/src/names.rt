@@ -2,7 +2,7 @@
 use crate::Next;
 use crate::Row;
 use crate::rows::next_record;
-use sheet::PatternRecord;
+use patterns::PatternRecord;
 ghost use mathlib.Core.Path.{_≡_};
 ghost use Prim.Native.Nat.{_+_, _≤_, min, max};
 ghost use lib.ListN.{length};

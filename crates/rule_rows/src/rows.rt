@@ -1,11 +1,11 @@
 // The records of a rule, one after another.
 use crate::Next;
 use crate::Row;
-use sheet::PatternHead;
-use sheet::PatternRecord;
+use patterns::PatternHead;
+use patterns::PatternRecord;
 ghost use mathlib.Core.Path.{_≡_};
 ghost use Prim.Native.Nat.{_≤_};
-ghost use Rattle.sheet.specs.views.PatternRecord.{recordBytes};
+ghost use Rattle.patterns.specs.views.PatternRecord.{recordBytes};
 ghost use Rattle.rule_rows.specs.views.Row.{argumentsOf, recordsFrom, recordsWith, Going, GoesOn};
 
 // How many bytes a record has: its kind byte counts.
@@ -49,7 +49,7 @@ pub fn next_record(s: &[u8], row: Row) -> Next
     if row.patterns == 0 {
         return Next::Done;
     }
-    let head = sheet::pattern_head(&s[at..]);
+    let head = patterns::pattern_head(&s[at..]);
     let PatternHead::Whole(what) = head else {
         return Next::Done;
     };

@@ -13,14 +13,15 @@ use borrow.Author.Tests.{le-leb, lt-leb}
 use Rattle.records.specs.Reading.{Reading, took, refused, ask, mapReading, after}
 use Rattle.records.proofs.Rows.{map-ask, took-view, refused-view, row-size}
 use Rattle.terms.specs.Pattern.{Pattern, Patterns, countPatterns, theCompound, pnil, pcons}
-use Rattle.sheet.specs.declared.PatternRecord.{PatternRecord}
-use Rattle.sheet.specs.declared.PatternRecord.the-variants.{Anything, Symbol, Range, Compound, Variable, Ranged}
-use Rattle.sheet.specs.declared.PatternHead.the-variants.{Whole, Refused}
-use Rattle.sheet.specs.views.PatternRecord.{patternHead, onRecord, onHead}
+use Rattle.patterns.specs.declared.PatternRecord.{PatternRecord}
+use Rattle.patterns.specs.declared.PatternRecord.the-variants.{Anything, Symbol, Range, Compound, Variable, Ranged}
+use Rattle.patterns.specs.declared.PatternHead.the-variants.{Whole, Refused}
+use Rattle.patterns.specs.views.PatternRecord.{patternHead, onRecord, onHead}
 use Rattle.sheet.specs.ReadSheet.{readPattern, readPatterns}
-use Rattle.sheet.specs.views.Noted.{Note, note, patternNotes, patternsNotes}
+use Rattle.patterns.specs.views.Note.{Note, note}
+use Rattle.sheet.specs.views.Noted.{patternNotes, patternsNotes}
 use Rattle.sheet.specs.views.NotesBehind.{heldWith, leafHeld, patternHeld, rowHeld}
-use Rattle.sheet.proofs.PatternRecord.{the-type}
+use Rattle.patterns.proofs.PatternRecord.{the-type}
 use Rattle.sheet.proofs.RecordKinds.{by-table}
 
 -- What a compound goes on with: question 5, or question 6 and its arguments.

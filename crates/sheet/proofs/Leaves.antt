@@ -3,8 +3,8 @@ use Prim.Native.Nat.{ℕ, _≤_, _<_}
 use mathlib.Core.Path.{_≡_, refl}
 use borrow.Author.Tests.{le-leb, lt-leb}
 use Rattle.records.specs.Reading.{took, refused}
-use Rattle.sheet.specs.declared.PatternRecord.the-variants.{Anything, Range, Variable, Ranged}
-use Rattle.sheet.specs.views.Noted.{Note, note}
+use Rattle.patterns.specs.declared.PatternRecord.the-variants.{Anything, Range, Variable, Ranged}
+use Rattle.patterns.specs.views.Note.{Note, note}
 use Rattle.sheet.specs.views.NotesBehind.{leafHeld}
 
 module _ {A : Type 0} (put : A → Note → A) (place : ℕ) (held : A) where

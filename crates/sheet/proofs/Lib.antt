@@ -1,8 +1,6 @@
 -- The laws of this crate. Of notes in an array:
-pub mod NoteCodes
 pub mod NoteArrays
 -- Of reading patterns:
-pub mod Heads
 pub mod RecordKinds
 pub mod Leaves
 pub mod Compounds
@@ -12,7 +10,6 @@ pub mod CommonRanges
 pub mod RangeArrays
 pub mod RuleReads
 -- That bytes are accepted exactly when they spell a sound sheet:
-pub mod HeadBytes
 pub mod PatternReads
 pub mod SheetReads
 pub mod RangesMeet

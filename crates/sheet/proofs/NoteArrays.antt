@@ -9,11 +9,11 @@ use lib.Seq.{take-suc, take-suc-set}
 use Rattle.records.specs.Reading.{Reading, took, refused}
 use Rattle.sheet.specs.declared.Took.{Took}
 use Rattle.sheet.specs.declared.Took.the-variants.{Used, Refused}
-use Rattle.sheet.specs.declared.PatternRecord.{PatternRecord}
-use Rattle.sheet.specs.views.Noted.{Note, note}
-use Rattle.sheet.specs.views.NoteCode.{noteCode, noteOf, Fitting}
+use Rattle.patterns.specs.declared.PatternRecord.{PatternRecord}
+use Rattle.patterns.specs.views.Note.{Note, note}
+use Rattle.patterns.specs.views.NoteCode.{noteCode, noteOf, Fitting}
 use Rattle.sheet.specs.views.NoteArray.{notesIn, tookAs, usedAfter, bytesUsed, notesMade}
-use Rattle.sheet.proofs.NoteCodes.{note-kept}
+use Rattle.patterns.proofs.NoteCodes.{note-kept}
 
 -- A note put behind the first n notes comes after them.
 pub notes-put

@@ -7,7 +7,8 @@ use native.Mathlib.Omega.{arith}
 use Rattle.places.specs.Numbering.{stride}
 use Rattle.terms.specs.Pattern.{Pattern, Patterns, countPatterns, anything, theSymbol, theRange, theCompound, variable, rangedVariable, pnil, pcons}
 use Rattle.terms.specs.Accepted.{Sound, Sounds, AcceptedRule}
-use Rattle.sheet.specs.views.Noted.{Note, patternNotes, patternsNotes, ruleNotes}
+use Rattle.patterns.specs.views.Note.{Note}
+use Rattle.sheet.specs.views.Noted.{patternNotes, patternsNotes, ruleNotes}
 use Rattle.sheet.proofs.SpelledReads.{sounds-level}
 
 -- The places of the notes are at least low, ascend strictly, and are below high.

@@ -8,9 +8,10 @@ use Rattle.places.specs.Numbering.{stride}
 use Rattle.terms.specs.Pattern.{Pattern, Patterns, countPatterns, anything, theSymbol, theRange, theCompound, variable, rangedVariable, pnil, pcons}
 use Rattle.terms.specs.RuleTests.{Range, aSymbol, aNumber, aCompound, PlaceTest, at, Occurrence, rangeTest, patternTests, patternsTests, placeTests, patternVariables, patternsVariables, ruleVariables, patternsRange}
 use Rattle.terms.specs.Accepted.{Sound, Sounds, AcceptedRule}
-use Rattle.sheet.specs.declared.PatternRecord.{PatternRecord}
-use Rattle.sheet.specs.declared.PatternRecord.the-variants.{Anything, Symbol, Range as RangeOf, Compound, Variable, Ranged}
-use Rattle.sheet.specs.views.Noted.{Note, patternNotes, patternsNotes, ruleNotes}
+use Rattle.patterns.specs.declared.PatternRecord.{PatternRecord}
+use Rattle.patterns.specs.declared.PatternRecord.the-variants.{Anything, Symbol, Range as RangeOf, Compound, Variable, Ranged}
+use Rattle.patterns.specs.views.Note.{Note}
+use Rattle.sheet.specs.views.Noted.{patternNotes, patternsNotes, ruleNotes}
 use Rattle.sheet.specs.views.NoteRanges.{rangeIn}
 use Rattle.sheet.proofs.CommonRanges.{rule-range}
 use Rattle.sheet.proofs.SpelledReads.{sounds-level}

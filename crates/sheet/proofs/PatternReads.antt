@@ -10,10 +10,10 @@ use borrow.Author.Tests.{leb-true}
 use Rattle.records.specs.Reading.{Reading, took, refused, after}
 use Rattle.records.proofs.Rows.{ask-holds}
 use Rattle.terms.specs.Pattern.{Pattern, Patterns, anything, theSymbol, theRange, theCompound, variable, rangedVariable}
-use Rattle.sheet.specs.declared.PatternRecord.the-variants.{Anything, Symbol, Range, Compound, Variable, Ranged}
-use Rattle.sheet.specs.declared.PatternHead.{PatternHead}
-use Rattle.sheet.specs.declared.PatternHead.the-variants.{Whole, Refused}
-use Rattle.sheet.specs.views.PatternRecord.{patternHead, onHead}
+use Rattle.patterns.specs.declared.PatternRecord.the-variants.{Anything, Symbol, Range, Compound, Variable, Ranged}
+use Rattle.patterns.specs.declared.PatternHead.{PatternHead}
+use Rattle.patterns.specs.declared.PatternHead.the-variants.{Whole, Refused}
+use Rattle.patterns.specs.views.PatternRecord.{patternHead, onHead}
 use Rattle.sheet.specs.ReadSheet.{readPattern, readPatterns}
 use Rattle.sheet.proofs.Compounds.{compoundOf, pattern-by-head}
 use Rattle.basics.proofs.Booleans.{and-both}

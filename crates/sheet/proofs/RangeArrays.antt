@@ -14,14 +14,14 @@ use lib.Seq.{ext-getD, getD-set-same, getD-set-other}
 use Rattle.basics.specs.Lists.{countFrom}
 use Rattle.terms.specs.Term.{Wide}
 use Rattle.terms.specs.RuleTests.{Range, commonPart}
-use Rattle.sheet.specs.declared.PatternRecord.{PatternRecord}
-use Rattle.sheet.specs.declared.PatternRecord.the-variants.{Anything, Symbol, Range as RangeOf, Compound, Variable, Ranged}
-use Rattle.sheet.specs.views.Noted.{Note}
-use Rattle.sheet.specs.views.NoteCode.{noteOf, codeRecord, Fitting}
+use Rattle.patterns.specs.declared.PatternRecord.{PatternRecord}
+use Rattle.patterns.specs.declared.PatternRecord.the-variants.{Anything, Symbol, Range as RangeOf, Compound, Variable, Ranged}
+use Rattle.patterns.specs.views.Note.{Note}
+use Rattle.patterns.specs.views.NoteCode.{noteOf, codeRecord, Fitting}
 use Rattle.sheet.specs.views.NoteArray.{notesIn}
 use Rattle.sheet.specs.views.NoteRanges.{recordRange, rangeIn, lowEnd, highEnd, forVariables, lowsOf, highsOf}
-use Rattle.sheet.proofs.PatternRecord.{the-type}
-use Rattle.sheet.proofs.NoteCodes.{code-fits}
+use Rattle.patterns.proofs.PatternRecord.{the-type}
+use Rattle.patterns.proofs.NoteCodes.{code-fits}
 use Rattle.sheet.proofs.NoteArrays.{notes-next}
 use Rattle.sheet.proofs.CommonRanges.{common-none, range-append}
 

@@ -13,7 +13,7 @@ use Rattle.terms.specs.Pattern.{Pattern, Patterns, pnil, pcons}
 use Rattle.terms.specs.Accepted.{Sound, Sounds, AcceptedRule}
 use Rattle.sheet.specs.Sheet.{Sheet, SoundSheet}
 use Rattle.sheet.specs.ReadSheet.{readPattern, readPatterns, readRule, readRules, readSheet}
-use Rattle.sheet.proofs.HeadBytes.{head-wide}
+use Rattle.patterns.proofs.HeadBytes.{head-wide}
 use Rattle.sheet.proofs.Compounds.{row-count}
 use Rattle.sheet.proofs.RangesMeet.{meet-common}
 use Rattle.sheet.proofs.SheetReads.{rule-is, sheet-is}

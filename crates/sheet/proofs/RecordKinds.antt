@@ -12,10 +12,10 @@ use Rattle.records.specs.Fields.{byteAt, wideAt}
 use Rattle.records.specs.Reading.{Reading, ask}
 use Rattle.records.proofs.Questions.{kinds-agree, ask-refused}
 use Rattle.terms.specs.Pattern.{Pattern}
-use Rattle.sheet.specs.declared.PatternRecord.{PatternRecord}
-use Rattle.sheet.specs.declared.PatternRecord.the-variants.{Anything, Symbol, Range, Compound, Variable, Ranged}
+use Rattle.patterns.specs.declared.PatternRecord.{PatternRecord}
+use Rattle.patterns.specs.declared.PatternRecord.the-variants.{Anything, Symbol, Range, Compound, Variable, Ranged}
 use Rattle.sheet.specs.ReadSheet.{patternOf}
-use Rattle.sheet.specs.views.PatternRecord.{wholeIf, patternHead, onRecord, onHead}
+use Rattle.patterns.specs.views.PatternRecord.{wholeIf, patternHead, onRecord, onHead}
 
 module _ (compoundOf : ℕ → ℕ → Reading Pattern) where
   -- A record that is whole where its bytes are there, and what is read of it.

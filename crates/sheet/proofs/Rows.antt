@@ -11,7 +11,8 @@ use Rattle.records.proofs.Parts.{rest}
 use Rattle.records.proofs.RowSoFar.{RowOf}
 use Rattle.terms.specs.Pattern.{Pattern, Patterns, pnil, pcons}
 use Rattle.sheet.specs.ReadSheet.{readPattern}
-use Rattle.sheet.specs.views.Noted.{Note, patternNotes, patternsNotes}
+use Rattle.patterns.specs.views.Note.{Note}
+use Rattle.sheet.specs.views.Noted.{patternNotes, patternsNotes}
 use Rattle.sheet.specs.views.NotesBehind.{heldWith, rowHeld}
 
 -- Four arguments or fewer have room below their compound.

@@ -11,7 +11,8 @@ use Rattle.records.proofs.Rows.{took-view, refused-view}
 use Rattle.terms.specs.Pattern.{Patterns}
 use Rattle.terms.specs.RuleTests.{Range}
 use Rattle.sheet.specs.ReadSheet.{readPatterns, readRule, inCommon, rangesMeet}
-use Rattle.sheet.specs.views.Noted.{Note, ruleNotes}
+use Rattle.patterns.specs.views.Note.{Note}
+use Rattle.sheet.specs.views.Noted.{ruleNotes}
 use Rattle.sheet.specs.views.NoteArray.{notesIn}
 use Rattle.sheet.specs.views.NotesBehind.{heldWith, rowHeld, behind}
 use Rattle.sheet.specs.views.NoteRanges.{rangeIn, lowEnd, highEnd, endsMeet, notesMeet}

@@ -1,8 +1,6 @@
 -- How the code keeps things.
 pub mod HeaderRead
 pub mod Noted
-pub mod NoteCode
 pub mod NoteArray
 pub mod NotesBehind
 pub mod NoteRanges
-pub mod PatternRecord

@@ -1,21 +1,22 @@
 // The patterns of a rule, read in prefix order into an array of notes: questions 4 to 9.
-use crate::PatternHead;
-use crate::PatternRecord;
 use crate::Took;
-use crate::note::note_code;
-use crate::record::head_refusal;
-use crate::record::pattern_head;
 use crate::variable::common;
+use patterns::PatternHead;
+use patterns::PatternRecord;
+use patterns::note::note_code;
+use patterns::record::head_refusal;
+use patterns::record::pattern_head;
 ghost use mathlib.Core.Path.{_≡_};
 ghost use mathlib.Core.List.{[], _∷_, _++_};
 ghost use Prim.Native.Nat.{suc, _+_, _*_, _^_, _≤_, _<_};
 ghost use lib.ListN.{length};
 ghost use Rattle.places.specs.Numbering.{stride};
 ghost use Rattle.records.specs.Reading.{took, mapReading};
-ghost use Rattle.sheet.specs.views.PatternRecord.{recordBytes};
+ghost use Rattle.patterns.specs.views.PatternRecord.{recordBytes};
 ghost use Rattle.sheet.specs.ReadSheet.{readRule};
-ghost use Rattle.sheet.specs.views.Noted.{note, ruleNotes};
-ghost use Rattle.sheet.specs.views.NoteCode.{Fitting};
+ghost use Rattle.patterns.specs.views.Note.{note};
+ghost use Rattle.sheet.specs.views.Noted.{ruleNotes};
+ghost use Rattle.patterns.specs.views.NoteCode.{Fitting};
 ghost use Rattle.sheet.specs.views.NoteArray.{notesIn, tookNotes, usedAfter, bytesUsed, TookWithin};
 ghost use Rattle.sheet.specs.views.NotesBehind.{leafHeld, patternHeld, rowHeld, behind};
 

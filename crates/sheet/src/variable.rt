@@ -1,7 +1,7 @@
 // The common range of each variable of a rule, off its notes, and question 9.
-use crate::PatternRecord;
 use crate::Ranges;
-use crate::note::note_record;
+use patterns::PatternRecord;
+use patterns::note::note_record;
 ghost use mathlib.Core.Path.{_≡_};
 ghost use Prim.Native.Nat.{_≤_, min, max};
 ghost use lib.ListN.{length};

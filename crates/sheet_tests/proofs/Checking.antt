@@ -17,7 +17,8 @@ use Rattle.terms.specs.Pattern.{Patterns}
 use Rattle.terms.specs.RuleTests.{Occurrence, pairsWith, pairsOf, ruleVariables}
 use Rattle.basics.proofs.ListLaws.{all-join}
 use Rattle.terms.specs.Accepted.{AcceptedRule}
-use Rattle.sheet.specs.views.Noted.{Note, ruleNotes}
+use Rattle.patterns.specs.views.Note.{Note}
+use Rattle.sheet.specs.views.Noted.{ruleNotes}
 use Rattle.sheet.specs.Sheet.{Sheet}
 use Rattle.sheet.specs.ReadSheet.{readRule, readRules, endSheet, readHeader, readSheet}
 use Rattle.sheet.proofs.ReadsSound.{rule-sound}

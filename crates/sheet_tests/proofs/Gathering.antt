@@ -12,13 +12,14 @@ use Rattle.basics.specs.Lists.{All}
 use Rattle.terms.specs.Pattern.{Patterns}
 use Rattle.terms.specs.RuleTests.{Range, commonPart, pairsOf}
 use Rattle.terms.specs.Accepted.{AcceptedRule}
-use Rattle.sheet.specs.views.Noted.{Note, ruleNotes}
-use Rattle.sheet.specs.views.NoteCode.{Fitting, noteOf}
+use Rattle.patterns.specs.views.Note.{Note}
+use Rattle.sheet.specs.views.Noted.{ruleNotes}
+use Rattle.patterns.specs.views.NoteCode.{Fitting, noteOf}
 use Rattle.sheet.specs.views.NoteArray.{notesIn}
 use Rattle.sheet.specs.views.NoteRanges.{recordRange, rangeIn, highEnd, highsOf}
-use Rattle.sheet.specs.declared.PatternRecord.{PatternRecord}
-use Rattle.sheet.specs.declared.PatternRecord.the-variants.{Anything, Symbol, Range as RangeOf, Compound, Variable, Ranged}
-use Rattle.sheet.proofs.NoteCodes.{code-fits}
+use Rattle.patterns.specs.declared.PatternRecord.{PatternRecord}
+use Rattle.patterns.specs.declared.PatternRecord.the-variants.{Anything, Symbol, Range as RangeOf, Compound, Variable, Ranged}
+use Rattle.patterns.proofs.NoteCodes.{code-fits}
 use Rattle.sheet.proofs.RangeArrays.{variable-at}
 use Rattle.basics.proofs.Sorted.{Ascending}
 use Rattle.sheet_tests.specs.views.TestedPlaces.{insertAll}

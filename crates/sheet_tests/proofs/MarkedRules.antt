@@ -16,7 +16,8 @@ use Rattle.terms.specs.Accepted.{AcceptedRule}
 use Rattle.sheet.specs.declared.Took.{Took}
 use Rattle.sheet.specs.declared.Took.the-variants.{Used, Refused}
 use Rattle.sheet.specs.ReadSheet.{readPatterns, readRule, rangesMeet}
-use Rattle.sheet.specs.views.Noted.{Note, ruleNotes}
+use Rattle.patterns.specs.views.Note.{Note}
+use Rattle.sheet.specs.views.Noted.{ruleNotes}
 use Rattle.sheet.specs.views.NoteArray.{notesIn, tookAs, bytesUsed, notesMade, TookWithin}
 use Rattle.sheet.specs.views.NotesBehind.{rowHeld}
 use Rattle.sheet.specs.views.NoteRanges.{notesMeet}

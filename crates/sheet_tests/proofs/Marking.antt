@@ -10,9 +10,9 @@ use Rattle.basics.specs.Lists.{All}
 use Rattle.basics.specs.Order.{insertBy}
 use Rattle.basics.proofs.Sorted.{Ascending, insert-ascends, number-order}
 use Rattle.terms.specs.RuleTests.{commonPart}
-use Rattle.sheet.specs.declared.PatternRecord.{PatternRecord}
-use Rattle.sheet.specs.declared.PatternRecord.the-variants.{Anything, Symbol, Range, Compound, Variable, Ranged}
-use Rattle.sheet.specs.views.Noted.{Note}
+use Rattle.patterns.specs.declared.PatternRecord.{PatternRecord}
+use Rattle.patterns.specs.declared.PatternRecord.the-variants.{Anything, Symbol, Range, Compound, Variable, Ranged}
+use Rattle.patterns.specs.views.Note.{Note}
 use Rattle.sheet.specs.views.NotesBehind.{heldWith}
 use Rattle.sheet.specs.views.NoteRanges.{recordRange, rangeIn, lowEnd, highEnd, forVariables, endsMeet, notesMeet}
 use Rattle.sheet_tests.specs.views.TestedPlaces.{placesIn, insertAll}

@@ -9,9 +9,10 @@ use Rattle.basics.specs.Lists.{All}
 use Rattle.terms.specs.Pattern.{Patterns, countPatterns}
 use Rattle.terms.specs.RuleTests.{Range, PlaceTest, Occurrence, rangeTest, placeTests, ruleVariables}
 use Rattle.terms.specs.Accepted.{Sounds, AcceptedRule}
-use Rattle.sheet.specs.declared.PatternRecord.{PatternRecord}
-use Rattle.sheet.specs.declared.PatternRecord.the-variants.{Anything, Symbol, Range as RangeOf, Compound, Variable, Ranged}
-use Rattle.sheet.specs.views.Noted.{Note, ruleNotes}
+use Rattle.patterns.specs.declared.PatternRecord.{PatternRecord}
+use Rattle.patterns.specs.declared.PatternRecord.the-variants.{Anything, Symbol, Range as RangeOf, Compound, Variable, Ranged}
+use Rattle.patterns.specs.views.Note.{Note}
+use Rattle.sheet.specs.views.Noted.{ruleNotes}
 use Rattle.sheet.specs.views.NoteRanges.{rangeIn}
 use Rattle.sheet.proofs.NotePlaces.{Ascending, ascending-wider, patterns-places}
 use Rattle.sheet.proofs.NoteTests.{recordTests, testsIn, recordVariables, variablesIn, rule-tests, rule-variables}

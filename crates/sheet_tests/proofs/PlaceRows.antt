@@ -6,8 +6,8 @@ use mathlib.Core.List.{List}
 use lib.Dec.{ltb}
 use lib.ListN.{length, getD, drop}
 use Rattle.basics.specs.Order.{insertBy}
-use Rattle.sheet.specs.views.Noted.{Note}
-use Rattle.sheet.specs.views.NoteCode.{codePlace, codeRecord}
+use Rattle.patterns.specs.views.Note.{Note}
+use Rattle.patterns.specs.views.NoteCode.{codePlace, codeRecord}
 use Rattle.sheet.specs.views.NoteArray.{notesIn}
 use Rattle.pairs.proofs.NoteRows.{notes-next, notes-end}
 use Rattle.sheet_tests.specs.views.TestedPlaces.{insertAll}

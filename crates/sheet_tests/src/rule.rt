@@ -1,6 +1,6 @@
 // The place tests of a rule, from its notes.
 use crate::tested::mark;
-use sheet::PatternRecord;
+use patterns::PatternRecord;
 ghost use mathlib.Core.Path.{_≡_};
 ghost use Prim.Native.Nat.{_≤_};
 ghost use lib.ListN.{length};
@@ -50,8 +50,8 @@ pub fn mark_rule(notes: &[u64; 680], n: usize, high: &[u32; 16], words: &mut [u6
     let mut i: usize = 0;
     while i < n {
         let code = notes[i];
-        if is_tested(sheet::note_record(code), high) {
-            mark(words, sheet::note_place(code));
+        if is_tested(patterns::note_record(code), high) {
+            mark(words, patterns::note_place(code));
         }
         i += 1;
     }

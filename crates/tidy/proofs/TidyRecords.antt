@@ -11,9 +11,9 @@ use Rattle.terms.specs.Pattern.{anything, theSymbol, theRange, theCompound, var
 use Rattle.terms.specs.RuleTests.{Occurrence}
 use Rattle.terms.specs.RuleTests as tests
 use Rattle.sheet.specs.WriteSheet.{patternBytes, patternsBytes}
-use Rattle.sheet.specs.declared.PatternRecord.{PatternRecord}
-use Rattle.sheet.specs.declared.PatternRecord.the-variants.{Anything, Symbol, Range, Compound, Variable, Ranged}
-use Rattle.sheet.specs.views.PatternRecord.{recordSpelling, recordsSpelling}
+use Rattle.patterns.specs.declared.PatternRecord.{PatternRecord}
+use Rattle.patterns.specs.declared.PatternRecord.the-variants.{Anything, Symbol, Range, Compound, Variable, Ranged}
+use Rattle.patterns.specs.views.PatternRecord.{recordSpelling, recordsSpelling}
 use Rattle.tidy.specs.TidyRule.{isRepeated, newNumber, single, repeated, tidyPattern, tidyPatterns}
 use Rattle.tidy.proofs.TidyTests.{tidy-count}
 

@@ -6,9 +6,9 @@ use native.Mathlib.Omega.{arith}
 use lib.ListN.{length, length-append}
 use Rattle.records.specs.Writing.{splice}
 use Rattle.records.proofs.Writing.{splice-more}
-use Rattle.sheet.specs.declared.PatternRecord.{PatternRecord}
-use Rattle.sheet.specs.declared.PatternRecord.the-variants.{Anything, Symbol, Range, Compound, Variable, Ranged}
-use Rattle.sheet.specs.views.PatternRecord.{recordBytes, recordSpelling, recordsSpelling}
+use Rattle.patterns.specs.declared.PatternRecord.{PatternRecord}
+use Rattle.patterns.specs.declared.PatternRecord.the-variants.{Anything, Symbol, Range, Compound, Variable, Ranged}
+use Rattle.patterns.specs.views.PatternRecord.{recordBytes, recordSpelling, recordsSpelling}
 use Rattle.rule_rows.specs.declared.Row.{Row}
 use Rattle.rule_rows.specs.views.Row.{recordsFrom}
 use Rattle.rule_rows.specs.views.Words.{Numbering, numberRecord}

@@ -3,7 +3,7 @@ use Prim.Native.Nat.{ℕ, _/_, _%_}
 use mathlib.Core.Path.{_≡_, sym}
 use mathlib.Core.Bool.{Bool, cond}
 use lib.Dec.{eqb, ltb}
-use Rattle.sheet.specs.declared.PatternRecord.the-variants.{Anything, Range, Variable, Ranged}
+use Rattle.patterns.specs.declared.PatternRecord.the-variants.{Anything, Range, Variable, Ranged}
 use Rattle.rule_rows.specs.views.Words.{wordLow, wordHigh, wordUses}
 use Rattle.tidy_rows.specs.views.TidyRow.{tidyWord}
 

@@ -1,17 +1,17 @@
 // The tidy form of a rule, record by record.
 use crate::Moved;
+use patterns::PatternRecord;
 use rule_rows::Next;
 use rule_rows::Row;
 use rule_rows::names::Words;
 use rule_rows::next_record;
 use rule_rows::number_record;
 use rule_rows::record_length;
-use sheet::PatternRecord;
 ghost use mathlib.Core.Path.{_≡_};
 ghost use Prim.Native.Nat.{_+_, _≤_};
 ghost use lib.ListN.{length};
 ghost use Rattle.records.specs.Writing.{splice};
-ghost use Rattle.sheet.specs.views.PatternRecord.{recordSpelling, recordsSpelling};
+ghost use Rattle.patterns.specs.views.PatternRecord.{recordSpelling, recordsSpelling};
 ghost use Rattle.rule_rows.specs.views.Row.{recordsFrom, Going};
 ghost use Rattle.tidy_rows.specs.views.TidyRow.{tidyWord, tidyIn, tidySpelling, tidyOnward};
 

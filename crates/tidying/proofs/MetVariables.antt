@@ -16,9 +16,9 @@ use Rattle.terms.specs.Pattern.{Pattern, Patterns, pnil, pcons}
 use Rattle.terms.specs.Pattern.{anything, theSymbol, theRange, theCompound, variable, rangedVariable}
 use Rattle.terms.specs.RuleTests.{Occurrence, commonPart, patternRange, patternsRange, patternVariables, patternsVariables}
 use Rattle.terms.specs.RuleTests as tests
-use Rattle.sheet.specs.declared.PatternRecord.{PatternRecord}
-use Rattle.sheet.specs.declared.PatternRecord.the-variants.{Anything, Symbol, Range, Compound, Variable, Ranged}
-use Rattle.sheet.specs.views.NoteCode.{Fitting}
+use Rattle.patterns.specs.declared.PatternRecord.{PatternRecord}
+use Rattle.patterns.specs.declared.PatternRecord.the-variants.{Anything, Symbol, Range, Compound, Variable, Ranged}
+use Rattle.patterns.specs.views.NoteCode.{Fitting}
 use Rattle.sheet.specs.views.NoteRanges.{recordRange, lowEnd, highEnd, forVariables}
 use Rattle.sheet.proofs.CommonRanges.{common-none, common-assoc}
 use Rattle.sheet.proofs.RangeArrays.{variable-at, variables-same, variable-set}

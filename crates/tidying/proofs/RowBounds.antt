@@ -4,12 +4,12 @@ use mathlib.Core.Path.{_≡_, refl, ap, _∙_}
 use mathlib.Core.List.{List, [], _∷_}
 use native.Mathlib.Omega.{arith}
 use lib.ListN.{length, drop, length-drop, length-append}
-use Rattle.sheet.specs.declared.PatternRecord.{PatternRecord}
-use Rattle.sheet.specs.declared.PatternRecord.the-variants.{Anything, Symbol, Range, Compound, Variable, Ranged}
-use Rattle.sheet.specs.declared.PatternHead.{PatternHead}
-use Rattle.sheet.specs.declared.PatternHead.the-variants.{Whole, Refused}
-use Rattle.sheet.specs.views.PatternRecord.{recordBytes, recordSpelling, recordsSpelling, patternHead}
-use Rattle.sheet.proofs.Heads.{head-whole}
+use Rattle.patterns.specs.declared.PatternRecord.{PatternRecord}
+use Rattle.patterns.specs.declared.PatternRecord.the-variants.{Anything, Symbol, Range, Compound, Variable, Ranged}
+use Rattle.patterns.specs.declared.PatternHead.{PatternHead}
+use Rattle.patterns.specs.declared.PatternHead.the-variants.{Whole, Refused}
+use Rattle.patterns.specs.views.PatternRecord.{recordBytes, recordSpelling, recordsSpelling, patternHead}
+use Rattle.patterns.proofs.Heads.{head-whole}
 use Rattle.rule_rows.specs.views.Row.{argumentsOf, headThen, rowRecords, ruleRecords}
 use Rattle.rule_rows.specs.views.Words.{Numbering, numberRecord}
 use Rattle.tidy_rows.specs.views.TidyRow.{tidyIn, tidyOnward, metIn, tidyRow}

@@ -11,12 +11,12 @@ use Rattle.places.specs.Numbering.{stride}
 use Rattle.terms.specs.Pattern.{Pattern, Patterns, countPatterns, pnil, pcons}
 use Rattle.terms.specs.Pattern.{anything, theSymbol, theRange, theCompound, variable, rangedVariable}
 use Rattle.terms.specs.Accepted.{Sound, Sounds, AcceptedRule}
-use Rattle.sheet.specs.declared.PatternRecord.{PatternRecord}
-use Rattle.sheet.specs.declared.PatternRecord.the-variants.{Anything, Symbol, Range, Compound, Variable, Ranged}
+use Rattle.patterns.specs.declared.PatternRecord.{PatternRecord}
+use Rattle.patterns.specs.declared.PatternRecord.the-variants.{Anything, Symbol, Range, Compound, Variable, Ranged}
 use Rattle.sheet.specs.WriteSheet.{patternBytes, patternsBytes}
-use Rattle.sheet.specs.views.NoteCode.{Fitting}
-use Rattle.sheet.specs.views.PatternRecord.{recordBytes, recordSpelling}
-use Rattle.sheet.proofs.HeadBytes.{WideFields, spelled-head}
+use Rattle.patterns.specs.views.NoteCode.{Fitting}
+use Rattle.patterns.specs.views.PatternRecord.{recordBytes, recordSpelling}
+use Rattle.patterns.proofs.HeadBytes.{WideFields, spelled-head}
 use Rattle.sheet.proofs.SpelledReads.{sounds-level}
 use Rattle.tidy.proofs.TidyRecords.{patternRecords, patternsRecords}
 use Rattle.rule_rows.specs.views.Row.{argumentsOf, rowRecords, ruleRecords}

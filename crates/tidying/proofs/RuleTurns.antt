@@ -6,8 +6,8 @@ use native.Mathlib.Omega.{arith}
 use lib.ListN.{length, drop, length-append}
 use lib.Seq.{drop-drop}
 use Rattle.records.specs.Writing.{splice}
-use Rattle.sheet.specs.declared.PatternRecord.{PatternRecord}
-use Rattle.sheet.specs.views.PatternRecord.{recordsSpelling}
+use Rattle.patterns.specs.declared.PatternRecord.{PatternRecord}
+use Rattle.patterns.specs.views.PatternRecord.{recordsSpelling}
 use Rattle.rule_rows.specs.views.Row.{ruleRecords}
 use Rattle.tidy_rows.specs.views.TidyRow.{tidySpelling, tidyOnward, metIn, tidyRow}
 use Rattle.tidying.specs.views.TidyRows.{tidyRows}

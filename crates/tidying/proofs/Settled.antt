@@ -9,9 +9,9 @@ use lib.Dec.{eqb}
 use lib.ListN.{length, getD, set, length-set}
 use lib.Seq.{getD-set-same, getD-set-other}
 use borrow.Author.Tests.{eqb-true, eqb-false}
-use Rattle.sheet.specs.declared.PatternRecord.{PatternRecord}
-use Rattle.sheet.specs.declared.PatternRecord.the-variants.{Anything, Symbol, Range, Compound, Variable, Ranged}
-use Rattle.sheet.specs.views.PatternRecord.{recordSpelling}
+use Rattle.patterns.specs.declared.PatternRecord.{PatternRecord}
+use Rattle.patterns.specs.declared.PatternRecord.the-variants.{Anything, Symbol, Range, Compound, Variable, Ranged}
+use Rattle.patterns.specs.views.PatternRecord.{recordSpelling}
 use Rattle.rule_rows.specs.views.Words.{freshWords, slot, metRecord, metRecords, Numbering, numberedAt, numberRecord}
 use Rattle.tidy_rows.specs.views.TidyRow.{tidyWord, tidyIn, tidySpelling, tidyOnward, metIn, tidyRow}
 

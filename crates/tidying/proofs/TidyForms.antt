@@ -20,12 +20,12 @@ use Rattle.terms.proofs.Ascending.{Ascends}
 use Rattle.terms.proofs.PairTests.{variablePlace, all-variables-ascend}
 use Rattle.terms.proofs.Ranges.{WideRange, ranges-wide}
 use Rattle.terms.proofs.TermPlaces.{extent}
-use Rattle.sheet.specs.declared.PatternRecord.{PatternRecord}
-use Rattle.sheet.specs.declared.PatternRecord.the-variants.{Anything, Symbol, Range, Compound, Variable, Ranged}
+use Rattle.patterns.specs.declared.PatternRecord.{PatternRecord}
+use Rattle.patterns.specs.declared.PatternRecord.the-variants.{Anything, Symbol, Range, Compound, Variable, Ranged}
 use Rattle.sheet.specs.WriteSheet.{patternsBytes, rulesBytes}
-use Rattle.sheet.specs.views.NoteCode.{Fitting}
+use Rattle.patterns.specs.views.NoteCode.{Fitting}
 use Rattle.sheet.specs.views.NoteRanges.{lowEnd, highEnd}
-use Rattle.sheet.specs.views.PatternRecord.{recordsSpelling}
+use Rattle.patterns.specs.views.PatternRecord.{recordsSpelling}
 use Rattle.sheet.proofs.RangeArrays.{variable-at, variables-same}
 use Rattle.tidy.specs.TidyRule.{isNamed, standsAgain, isAgain, isRepeated, newNumber, tidyRule}
 use Rattle.tidy.proofs.NewNumbers.{number-lt}

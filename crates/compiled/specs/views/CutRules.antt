@@ -4,7 +4,7 @@ use mathlib.Core.List.{List, [], _∷_}
 use lib.ListN.{length, getD}
 use Rattle.records.specs.Writing.{splice}
 use Rattle.terms.specs.RuleTests.{Want, PlaceTest}
-use Rattle.sheet.specs.views.Noted.{Note}
+use Rattle.patterns.specs.views.Note.{Note}
 use Rattle.sheet.specs.views.NoteRanges.{lowsOf, highsOf}
 use Rattle.codes.specs.views.Codes.{wantLow, wantHigh}
 use Rattle.cuts.specs.views.Cuts.{partAt, countAt, cutsIn, partWords, toggle}

@@ -7,9 +7,10 @@ use lib.ListN.{getD}
 use Rattle.terms.specs.Pattern.{Patterns}
 use Rattle.terms.specs.RuleTests.{PairTest, pairsOf}
 use Rattle.terms.specs.Outcome.{Outcome, holds, _and_, together}
-use Rattle.sheet.specs.declared.PatternRecord.{PatternRecord}
-use Rattle.sheet.specs.declared.PatternRecord.the-variants.{Anything, Symbol, Range, Compound, Variable, Ranged}
-use Rattle.sheet.specs.views.Noted.{Note, ruleNotes}
+use Rattle.patterns.specs.declared.PatternRecord.{PatternRecord}
+use Rattle.patterns.specs.declared.PatternRecord.the-variants.{Anything, Symbol, Range, Compound, Variable, Ranged}
+use Rattle.patterns.specs.views.Note.{Note}
+use Rattle.sheet.specs.views.Noted.{ruleNotes}
 use Rattle.sheet.specs.views.NoteRanges.{lowsOf, highsOf}
 use Rattle.pairs.specs.views.NoteVariables.{notesVariables}
 use Rattle.codes.specs.views.Codes.{symbolCode, compoundCode, numberCode}

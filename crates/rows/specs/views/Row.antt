@@ -6,7 +6,7 @@ use lib.Dec.{eqb}
 use lib.ListN.{getD}
 use Rattle.masks.specs.Mask.{has, maskOf}
 use Rattle.terms.specs.RuleTests.{PlaceTest}
-use Rattle.sheet.specs.views.Noted.{Note}
+use Rattle.patterns.specs.views.Note.{Note}
 use Rattle.sheet.specs.views.NoteRanges.{lowsOf, highsOf}
 use Rattle.pairs.specs.views.Slot.{slot}
 use Rattle.pairs.specs.views.NoteVariables.{notesCodes}

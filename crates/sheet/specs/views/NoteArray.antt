@@ -6,8 +6,8 @@ use lib.ListN.{length, take}
 use Rattle.records.specs.Reading.{Reading, took, refused}
 use Rattle.sheet.specs.declared.Took.{Took}
 use Rattle.sheet.specs.declared.Took.the-variants.{Used, Refused}
-use Rattle.sheet.specs.views.Noted.{Note}
-use Rattle.sheet.specs.views.NoteCode.{noteOf}
+use Rattle.patterns.specs.views.Note.{Note}
+use Rattle.patterns.specs.views.NoteCode.{noteOf}
 
 -- The first n notes of an array.
 unfoldable pub notesIn : List ℕ → ℕ → List Note

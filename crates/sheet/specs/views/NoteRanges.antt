@@ -7,10 +7,10 @@ use lib.Dec.{eqb, leb}
 use lib.ListN.{getD}
 use Rattle.basics.specs.Lists.{countFrom, allBelow}
 use Rattle.terms.specs.RuleTests.{Range, commonPart}
-use Rattle.sheet.specs.declared.PatternRecord.{PatternRecord}
-use Rattle.sheet.specs.declared.PatternRecord.the-variants.{Anything, Symbol, Range as RangeOf, Compound, Variable, Ranged}
+use Rattle.patterns.specs.declared.PatternRecord.{PatternRecord}
+use Rattle.patterns.specs.declared.PatternRecord.the-variants.{Anything, Symbol, Range as RangeOf, Compound, Variable, Ranged}
 use Rattle.sheet.specs.declared.Ranges.{Ranges}
-use Rattle.sheet.specs.views.Noted.{Note}
+use Rattle.patterns.specs.views.Note.{Note}
 
 -- The range that a record gives to variable v.
 abbrev pub recordRange : PatternRecord → ℕ → Option Range

@@ -5,15 +5,9 @@ use mathlib.Core.List.{List, [], _∷_, _++_}
 use Rattle.places.specs.Numbering.{stride}
 use Rattle.terms.specs.Pattern.{Pattern, Patterns, countPatterns, pnil, pcons}
 use Rattle.terms.specs.Pattern.{anything, theSymbol, theRange, theCompound, variable, rangedVariable}
-use Rattle.sheet.specs.declared.PatternRecord.{PatternRecord}
-use Rattle.sheet.specs.declared.PatternRecord.the-variants.{Symbol, Range, Compound, Variable, Ranged}
-
-pub record Note : Type 0 where
-  pub place : ℕ
-  pub what : PatternRecord
-
-abbrev pub note : ℕ → PatternRecord → Note
-note n r = record { place = n; what = r }
+use Rattle.patterns.specs.declared.PatternRecord.the-variants.{Symbol, Range, Compound, Variable, Ranged}
+use Rattle.patterns.specs.views.Note.{note}
+pub use Rattle.patterns.specs.views.Note.{Note}
 
 -- The notes of a pattern at place b with so many levels below it, and of a row of patterns of which the first stands
 -- there.

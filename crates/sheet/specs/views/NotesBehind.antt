@@ -3,10 +3,11 @@ use Prim.Native.Nat.{ℕ}
 use mathlib.Core.List.{List, [], _∷_, _++_}
 use Rattle.records.specs.Reading.{Reading, mapReading}
 use Rattle.terms.specs.Pattern.{Pattern, Patterns}
-use Rattle.sheet.specs.declared.PatternRecord.{PatternRecord}
+use Rattle.patterns.specs.declared.PatternRecord.{PatternRecord}
 use Rattle.sheet.specs.ReadSheet.{readPattern, readPatterns}
-use Rattle.sheet.specs.views.Noted.{Note, patternNotes, patternsNotes}
-use Rattle.sheet.specs.views.PatternRecord.{readLeaf}
+use Rattle.patterns.specs.views.Note.{Note}
+use Rattle.sheet.specs.views.Noted.{patternNotes, patternsNotes}
+use Rattle.patterns.specs.views.PatternRecord.{readLeaf}
 
 module _ {A : Type 0} (put : A → Note → A) where
   -- What is held, with notes put one after another.

@@ -6,7 +6,7 @@ use lib.ListN.{length}
 use Rattle.records.specs.Reading.{Reading, took, refused}
 use Rattle.terms.specs.Pattern.{Patterns}
 use Rattle.terms.specs.RuleTests.{PlaceTest, placeTests, pairTests}
-use Rattle.sheet.specs.views.Noted.{Note}
+use Rattle.patterns.specs.views.Note.{Note}
 use Rattle.sheet.specs.views.NoteRanges.{highsOf}
 use Rattle.sheet_tests.specs.views.TestedPlaces.{placesIn, insertAll}
 use Rattle.pairs.specs.views.KeptPairs.{Kept, keepAll, pairsIn}

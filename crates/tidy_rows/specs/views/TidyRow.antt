@@ -4,9 +4,9 @@ use mathlib.Core.Bool.{cond}
 use mathlib.Core.List.{List, [], _∷_, _++_, map}
 use lib.Dec.{eqb, ltb}
 use lib.ListN.{getD}
-use Rattle.sheet.specs.declared.PatternRecord.{PatternRecord}
-use Rattle.sheet.specs.declared.PatternRecord.the-variants.{Anything, Symbol, Range, Compound, Variable, Ranged}
-use Rattle.sheet.specs.views.PatternRecord.{recordSpelling, recordsSpelling}
+use Rattle.patterns.specs.declared.PatternRecord.{PatternRecord}
+use Rattle.patterns.specs.declared.PatternRecord.the-variants.{Anything, Symbol, Range, Compound, Variable, Ranged}
+use Rattle.patterns.specs.views.PatternRecord.{recordSpelling, recordsSpelling}
 use Rattle.rule_rows.specs.views.Words.{wordLow, wordHigh, wordUses, slot, freshWords, metRecords, Numbering, numberRecord}
 
 -- What a variable becomes, by its word.

@@ -2,7 +2,7 @@
 use Prim.Native.Nat.{ℕ, zero, suc}
 use mathlib.Core.List.{List, [], _++_}
 use lib.ListN.{length, drop}
-use Rattle.sheet.specs.views.PatternRecord.{recordsSpelling}
+use Rattle.patterns.specs.views.PatternRecord.{recordsSpelling}
 use Rattle.rule_rows.specs.views.Row.{ruleRecords}
 use Rattle.tidy_rows.specs.views.TidyRow.{tidyRow}
 

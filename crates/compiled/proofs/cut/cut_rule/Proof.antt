@@ -4,10 +4,10 @@ use mathlib.Core.Path.{sym, ap, _∙_, subst}
 use mathlib.Core.Logic.{⊎-elim}
 use native.Mathlib.Omega.{arith}
 use lib.ListN.{length, getD, drop}
-use Rattle.sheet.specs.declared.PatternRecord.{PatternRecord}
-use Rattle.sheet.specs.views.NoteCode.{Fitting, noteOf}
+use Rattle.patterns.specs.declared.PatternRecord.{PatternRecord}
+use Rattle.patterns.specs.views.NoteCode.{Fitting, noteOf}
 use Rattle.sheet.specs.views.NoteArray.{notesIn}
-use Rattle.sheet.proofs.NoteCodes.{code-fits}
+use Rattle.patterns.proofs.NoteCodes.{code-fits}
 use Rattle.pairs.specs.views.NoteVariables.{Placed}
 use Rattle.pairs.proofs.NoteRows.{notes-next, notes-end, notes-each}
 use Rattle.cuts.specs.views.Cuts.{partAt, countAt}

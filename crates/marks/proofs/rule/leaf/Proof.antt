@@ -3,7 +3,7 @@ use mathlib.Core.Path.{sym, ap, _∙_}
 use native.Mathlib.Omega.{arith}
 use denote.Ref.{now}
 use Rattle.records.specs.Reading.{took}
-use Rattle.sheet.specs.views.PatternRecord.{recordBytes}
+use Rattle.patterns.specs.views.PatternRecord.{recordBytes}
 use Rattle.sheet.specs.views.NotesBehind.{leafHeld}
 use Rattle.sheet.proofs.Leaves.{range-yes, range-no, variable-yes, variable-no, ranged-yes, ranged-no-range, ranged-no-variable}
 use Rattle.marks.specs.views.Marks.{marked, marksIn}

@@ -5,9 +5,9 @@ use native.Mathlib.Omega.{arith}
 use denote.Ref.{now}
 use lib.ListN.{length, getD, drop}
 use Rattle.terms.specs.Outcome.{Outcome, _and_, together}
-use Rattle.sheet.specs.views.NoteCode.{noteOf, Fitting}
+use Rattle.patterns.specs.views.NoteCode.{noteOf, Fitting}
 use Rattle.sheet.specs.views.NoteArray.{notesIn}
-use Rattle.sheet.proofs.NoteCodes.{code-fits}
+use Rattle.patterns.proofs.NoteCodes.{code-fits}
 use Rattle.pairs.specs.views.NoteVariables.{Placed}
 use Rattle.pairs.proofs.NoteRows.{notes-each}
 use Rattle.outcomes.specs.views.CellOutcome.{outcomeOf}

@@ -7,10 +7,10 @@ use native.Mathlib.Omega.{arith}
 use types.Run.{OneOf}
 use denote.Ref.{now}
 use denote.Enum.Declared.{tagOf}
-use Rattle.sheet.specs.declared.PatternRecord.{PatternRecord}
-use Rattle.sheet.specs.declared.PatternRecord.the-variants.{Anything, Symbol, Range, Compound, Variable, Ranged}
-use Rattle.sheet.specs.views.NoteCode.{Fitting}
-use Rattle.sheet.proofs.PatternRecord.{the-type}
+use Rattle.patterns.specs.declared.PatternRecord.{PatternRecord}
+use Rattle.patterns.specs.declared.PatternRecord.the-variants.{Anything, Symbol, Range, Compound, Variable, Ranged}
+use Rattle.patterns.specs.views.NoteCode.{Fitting}
+use Rattle.patterns.proofs.PatternRecord.{the-type}
 use Rattle.plain.specs.views.NotesOutcome.{fixedOutcome, recordOutcome}
 use borrow.Author.Needs.{needs}
 use Rattle.plain.proofs.rule.record_outcome.Statement.{statement}

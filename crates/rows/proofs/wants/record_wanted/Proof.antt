@@ -1,7 +1,7 @@
 -- What is wanted, by the kind of the record.
 use mathlib.Core.Path.{sym, ap, _∙_, subst}
-use Rattle.sheet.specs.declared.PatternRecord.{PatternRecord}
-use Rattle.sheet.specs.views.NoteCode.{Fitting}
+use Rattle.patterns.specs.declared.PatternRecord.{PatternRecord}
+use Rattle.patterns.specs.views.NoteCode.{Fitting}
 use Rattle.rows.specs.views.Wants.{recordWant, wantedCodes}
 use borrow.Author.Needs.{needs}
 use Rattle.rows.proofs.wants.record_wanted.Statement.{statement}

@@ -9,9 +9,9 @@ use Rattle.records.specs.Reading.{took}
 use Rattle.records.proofs.Parts.{rest, rest-length}
 use Rattle.terms.specs.Pattern.{Patterns}
 use Rattle.sheet.specs.ReadSheet.{readPatterns}
-use Rattle.sheet.specs.declared.PatternHead.the-variants.{Whole}
-use Rattle.sheet.specs.views.PatternRecord.{patternHead}
-use Rattle.sheet.proofs.Heads.{head-whole}
+use Rattle.patterns.specs.declared.PatternHead.the-variants.{Whole}
+use Rattle.patterns.specs.views.PatternRecord.{patternHead}
+use Rattle.patterns.proofs.Heads.{head-whole}
 use Rattle.outcomes.specs.views.CellOutcome.{outcomeOf}
 use Rattle.plain.specs.views.NotesOutcome.{flatBytes}
 use Rattle.rule_by_rule.proofs.FlatArguments.{Left, flat-there, left-all, left-out, left-next}

@@ -6,7 +6,7 @@ use native.Mathlib.Omega.{arith}
 use denote.Ref.{now}
 use Rattle.records.specs.Reading.{took}
 use Rattle.records.proofs.Parts.{rest}
-use Rattle.sheet.specs.views.Noted.{Note}
+use Rattle.patterns.specs.views.Note.{Note}
 use Rattle.sheet.specs.ReadSheet.{readPatterns}
 use Rattle.sheet.proofs.SheetReads.{rule-is}
 use Rattle.sheet_tests.proofs.Scanning.{RuleRead, bytes-known, rule-read, rule-refused}

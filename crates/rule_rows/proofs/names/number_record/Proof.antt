@@ -1,7 +1,7 @@
 -- Only a variable's record counts.
 use mathlib.Core.Path.{sym, ap, _∙_}
 use native.Mathlib.Omega.{arith}
-use Rattle.sheet.specs.declared.PatternRecord.{PatternRecord}
+use Rattle.patterns.specs.declared.PatternRecord.{PatternRecord}
 use Rattle.rule_rows.specs.views.Words.{Numbering, numberRecord}
 use borrow.Author.Needs.{needs}
 use Rattle.rule_rows.proofs.names.number_record.Statement.{statement}

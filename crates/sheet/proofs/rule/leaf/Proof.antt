@@ -2,7 +2,7 @@
 use mathlib.Core.Path.{sym, ap, _∙_}
 use native.Mathlib.Omega.{arith}
 use denote.Ref.{now}
-use Rattle.sheet.specs.views.PatternRecord.{recordBytes}
+use Rattle.patterns.specs.views.PatternRecord.{recordBytes}
 use Rattle.sheet.specs.views.NoteArray.{notesIn}
 use Rattle.sheet.specs.views.NotesBehind.{leafHeld, behind}
 use Rattle.sheet.proofs.Leaves.{anything-yes, range-yes, range-no, variable-yes, variable-no, ranged-yes, ranged-no-range, ranged-no-variable}

@@ -2,7 +2,7 @@
 use mathlib.Core.Path.{sym, ap, _∙_}
 use mathlib.Core.List.{List}
 use Rattle.sheet.specs.declared.Ranges.{Ranges}
-use Rattle.sheet.specs.views.Noted.{Note}
+use Rattle.patterns.specs.views.Note.{Note}
 use Rattle.sheet.specs.views.NoteArray.{notesIn}
 use Rattle.sheet.proofs.NoteArrays.{notes-none}
 use Rattle.sheet_tests.specs.views.Gathered.{gatherNotes, held}

@@ -7,7 +7,7 @@ use Rattle.rule_rows.proofs.NextRecords.{goes, ends, behind-it}
 use Rattle.tidy_rows.proofs.RowSteps.{few-bytes, endFrom, sizeFrom, ends-here, nothing-left, ends-same, size-next}
 use Rattle.rule_rows.specs.views.Row.{Going}
 use Rattle.tidy_rows.specs.views.TidyRow.{tidyIn}
-use Rattle.sheet.specs.views.PatternRecord.{recordBytes}
+use Rattle.patterns.specs.views.PatternRecord.{recordBytes}
 use borrow.Author.Needs.{needs}
 use Rattle.tidy_rows.proofs.rules.measure_rule.Statement.{statement}
 use Rattle.tidy_rows.proofs.rules.measure_rule.Tie as tie

@@ -5,8 +5,8 @@ use lib.ListN.{length, length-append}
 use native.Mathlib.Omega.{arith}
 use Rattle.records.specs.Writing.{splice}
 use Rattle.records.proofs.Writing.{splice-none}
-use Rattle.sheet.specs.declared.PatternRecord.{PatternRecord}
-use Rattle.sheet.specs.views.PatternRecord.{recordSpelling}
+use Rattle.patterns.specs.declared.PatternRecord.{PatternRecord}
+use Rattle.patterns.specs.views.PatternRecord.{recordSpelling}
 use Rattle.rule_rows.specs.views.Row.{recordsFrom, Going}
 use Rattle.rule_rows.specs.views.Words.{Numbering}
 use Rattle.tidy_rows.specs.views.TidyRow.{tidyIn, tidyOnward}

@@ -16,8 +16,8 @@ use Rattle.marks.proofs.rule.+pattern+patterns.Lts-pattern as pattern-l
 use Rattle.marks.proofs.rule.patterns.Reads as patterns
 use Rattle.marks.proofs.rule.patterns.Kinds as patterns-kinds
 use Rattle.marks.proofs.rule.+pattern+patterns.Lts-patterns as patterns-lts
-use Rattle.sheet.proofs.record.pattern_head.Reads as pattern-head-reads
-use Rattle.sheet.proofs.record.head_refusal.Reads as head-refusal-reads
+use Rattle.patterns.proofs.record.pattern_head.Reads as pattern-head-reads
+use Rattle.patterns.proofs.record.head_refusal.Reads as head-refusal-reads
 use Rattle.marks.proofs.rule.leaf.Reads as leaf-reads
 use Rattle.marks.proofs.set.mark.Reads as mark-reads
 use Rattle.sheet.proofs.rule.after.Reads as after-reads

@@ -16,8 +16,8 @@ use Rattle.sheet.proofs.rule.+pattern+patterns.Lts-pattern as pattern-l
 use Rattle.sheet.proofs.rule.patterns.Reads as patterns
 use Rattle.sheet.proofs.rule.patterns.Kinds as patterns-kinds
 use Rattle.sheet.proofs.rule.+pattern+patterns.Lts-patterns as patterns-lts
-use Rattle.sheet.proofs.record.pattern_head.Reads as pattern-head-reads
-use Rattle.sheet.proofs.record.head_refusal.Reads as head-refusal-reads
+use Rattle.patterns.proofs.record.pattern_head.Reads as pattern-head-reads
+use Rattle.patterns.proofs.record.head_refusal.Reads as head-refusal-reads
 use Rattle.sheet.proofs.rule.leaf.Reads as leaf-reads
 use Rattle.sheet.proofs.rule.put.Reads as put-reads
 use Rattle.sheet.proofs.rule.after.Reads as after-reads

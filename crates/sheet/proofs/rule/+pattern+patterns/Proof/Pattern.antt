@@ -6,13 +6,13 @@ use native.Mathlib.Omega.{arith}
 use denote.Ref.{now}
 use borrow.Author.Tests.{ltb-true, ltb-false}
 use Rattle.records.proofs.Parts.{rest-length}
-use Rattle.sheet.specs.declared.PatternRecord.the-variants.{Compound}
-use Rattle.sheet.specs.declared.PatternHead.the-variants.{Whole}
-use Rattle.sheet.specs.views.PatternRecord.{patternHead, headRefusal}
+use Rattle.patterns.specs.declared.PatternRecord.the-variants.{Compound}
+use Rattle.patterns.specs.declared.PatternHead.the-variants.{Whole}
+use Rattle.patterns.specs.views.PatternRecord.{patternHead, headRefusal}
 use Rattle.records.specs.Reading.{refused}
 use Rattle.sheet.specs.views.NoteArray.{notesIn, tookNotes, bytesUsed, notesMade}
 use Rattle.sheet.specs.views.NotesBehind.{behind}
-use Rattle.sheet.proofs.Heads.{head-whole}
+use Rattle.patterns.proofs.Heads.{head-whole}
 use Rattle.sheet.proofs.NoteArrays.{was-after, after-used, after-made}
 use Rattle.sheet.proofs.Compounds.{flat-tag, head-no, lowest-read, flat-read, arity-no, arguments-yes, arguments-no}
 use Rattle.sheet.proofs.Rows.{arguments-room, part-read}

@@ -1,9 +1,9 @@
 -- The number of a note, by its record.
 use mathlib.Core.Path.{sym, ap, _∙_}
-use Rattle.sheet.specs.views.NoteCode.{recordCode}
+use Rattle.patterns.specs.views.NoteCode.{recordCode}
 use borrow.Author.Needs.{needs}
-use Rattle.sheet.proofs.note.note_code.Statement.{statement}
-use Rattle.sheet.proofs.note.note_code.Tie as tie
+use Rattle.patterns.proofs.note.note_code.Statement.{statement}
+use Rattle.patterns.proofs.note.note_code.Tie as tie
 
 pub note-code-spec : {M : Type 1} → statement M
 note-code-spec =

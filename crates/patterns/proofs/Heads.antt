@@ -9,11 +9,11 @@ use lib.Dec.{leb, eqb}
 use borrow.Author.Tests.{leb-true, eqb-true, eqb-false}
 use Rattle.records.specs.Fields.{wideAt}
 use Rattle.records.proofs.Questions.{kind-cases}
-use Rattle.sheet.specs.declared.PatternRecord.{PatternRecord}
-use Rattle.sheet.specs.declared.PatternRecord.the-variants.{Anything, Symbol, Range, Compound, Variable, Ranged}
-use Rattle.sheet.specs.declared.PatternHead.{PatternHead}
-use Rattle.sheet.specs.declared.PatternHead.the-variants.{Whole, Refused}
-use Rattle.sheet.specs.views.PatternRecord.{recordBytes, wholeIf, patternHead}
+use Rattle.patterns.specs.declared.PatternRecord.{PatternRecord}
+use Rattle.patterns.specs.declared.PatternRecord.the-variants.{Anything, Symbol, Range, Compound, Variable, Ranged}
+use Rattle.patterns.specs.declared.PatternHead.{PatternHead}
+use Rattle.patterns.specs.declared.PatternHead.the-variants.{Whole, Refused}
+use Rattle.patterns.specs.views.PatternRecord.{recordBytes, wholeIf, patternHead}
 
 module _ (P : PatternHead → Type 0) where
   whole : (k n : ℕ) (r : PatternRecord) → P (Refused 4) → (k ≤ n → P (Whole r)) → P (wholeIf (leb k n) r)

@@ -1,8 +1,8 @@
 -- The ranged variable that the input begins with: whole where 6 bytes are there.
 use borrow.Author.Tests.{lt-leb, le-leb}
 use borrow.Author.Needs.{needs}
-use Rattle.sheet.proofs.record.ranged_head.Statement.{statement}
-use Rattle.sheet.proofs.record.ranged_head.Tie as tie
+use Rattle.patterns.proofs.record.ranged_head.Statement.{statement}
+use Rattle.patterns.proofs.record.ranged_head.Tie as tie
 
 returns : tie.Need-returns
 returns c =

@@ -10,12 +10,12 @@ use Rattle.records.specs.Fields.{wideAt, wideThen, AreBytes}
 use Rattle.records.proofs.WideFields.{wide-bound, high-of, low-of, wide-of}
 use Rattle.basics.specs.Lists.{countFrom}
 use Rattle.terms.specs.Term.{Wide}
-use Rattle.sheet.specs.declared.PatternRecord.{PatternRecord}
-use Rattle.sheet.specs.declared.PatternRecord.the-variants.{Anything, Symbol, Range, Compound, Variable, Ranged}
-use Rattle.sheet.specs.declared.PatternHead.{PatternHead}
-use Rattle.sheet.specs.declared.PatternHead.the-variants.{Whole, Refused}
-use Rattle.sheet.specs.views.PatternRecord.{recordBytes, recordSpelling, patternHead}
-use Rattle.sheet.proofs.Heads.{head-cases}
+use Rattle.patterns.specs.declared.PatternRecord.{PatternRecord}
+use Rattle.patterns.specs.declared.PatternRecord.the-variants.{Anything, Symbol, Range, Compound, Variable, Ranged}
+use Rattle.patterns.specs.declared.PatternHead.{PatternHead}
+use Rattle.patterns.specs.declared.PatternHead.the-variants.{Whole, Refused}
+use Rattle.patterns.specs.views.PatternRecord.{recordBytes, recordSpelling, patternHead}
+use Rattle.patterns.proofs.Heads.{head-cases}
 use Rattle.records.proofs.ByteLists.{byte-at}
 
 -- The wide fields of a record are wide.

@@ -1,8 +1,8 @@
 -- The record that the input begins with, by its kind and by the bytes that are there.
 use borrow.Author.Tests.{eq-eqb, ne-eqb, lt-leb, le-leb}
 use borrow.Author.Needs.{needs}
-use Rattle.sheet.proofs.record.pattern_head.Statement.{statement}
-use Rattle.sheet.proofs.record.pattern_head.Tie as tie
+use Rattle.patterns.proofs.record.pattern_head.Statement.{statement}
+use Rattle.patterns.proofs.record.pattern_head.Tie as tie
 
 returns : tie.Need-returns
 returns c =

@@ -7,10 +7,10 @@ use lib.Dec.{leb, eqb}
 use Rattle.records.specs.Fields.{wideAt, wideThen}
 use Rattle.records.specs.Reading.{Reading, took, refused, ask}
 use Rattle.terms.specs.Pattern.{Pattern, anything, theSymbol, theRange, variable, rangedVariable}
-use Rattle.sheet.specs.declared.PatternRecord.{PatternRecord}
-use Rattle.sheet.specs.declared.PatternRecord.the-variants.{Anything, Symbol, Range, Compound, Variable, Ranged}
-use Rattle.sheet.specs.declared.PatternHead.{PatternHead}
-use Rattle.sheet.specs.declared.PatternHead.the-variants.{Whole, Refused}
+use Rattle.patterns.specs.declared.PatternRecord.{PatternRecord}
+use Rattle.patterns.specs.declared.PatternRecord.the-variants.{Anything, Symbol, Range, Compound, Variable, Ranged}
+use Rattle.patterns.specs.declared.PatternHead.{PatternHead}
+use Rattle.patterns.specs.declared.PatternHead.the-variants.{Whole, Refused}
 
 -- "A record is one kind byte and a body whose length the kind fixes": so many bytes.
 abbrev pub recordBytes : PatternRecord → ℕ

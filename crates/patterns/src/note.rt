@@ -2,8 +2,8 @@
 use crate::PatternRecord;
 ghost use mathlib.Core.Path.{_≡_};
 ghost use Prim.Native.Nat.{_<_};
-ghost use Rattle.sheet.specs.views.Noted.{note};
-ghost use Rattle.sheet.specs.views.NoteCode.{packedNote, noteCode, noteOf};
+ghost use Rattle.patterns.specs.views.Note.{note};
+ghost use Rattle.patterns.specs.views.NoteCode.{packedNote, noteCode, noteOf};
 
 // The parts of a note as one number.
 fn pack(place: usize, kind: u8, variable: u8, first: u16, second: u16) -> u64

@@ -1,8 +1,8 @@
 -- The range that the input begins with: whole where 5 bytes are there.
 use borrow.Author.Tests.{lt-leb, le-leb}
 use borrow.Author.Needs.{needs}
-use Rattle.sheet.proofs.record.range_head.Statement.{statement}
-use Rattle.sheet.proofs.record.range_head.Tie as tie
+use Rattle.patterns.proofs.record.range_head.Statement.{statement}
+use Rattle.patterns.proofs.record.range_head.Tie as tie
 
 returns : tie.Need-returns
 returns c =

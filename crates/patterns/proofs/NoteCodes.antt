@@ -5,10 +5,10 @@ use mathlib.Core.Bool.{Bool, true, false, cond}
 use native.Mathlib.Omega.{arith}
 use lib.Dec.{eqb}
 use Rattle.terms.specs.Term.{Wide}
-use Rattle.sheet.specs.declared.PatternRecord.{PatternRecord}
-use Rattle.sheet.specs.declared.PatternRecord.the-variants.{Anything, Symbol, Range, Compound, Variable, Ranged}
-use Rattle.sheet.specs.views.Noted.{note}
-use Rattle.sheet.specs.views.NoteCode.{packedNote, noteCode, noteOf, codePlace, codeKind, codeVariable, codeFirst, codeSecond, codeRecord, Fitting}
+use Rattle.patterns.specs.declared.PatternRecord.{PatternRecord}
+use Rattle.patterns.specs.declared.PatternRecord.the-variants.{Anything, Symbol, Range, Compound, Variable, Ranged}
+use Rattle.patterns.specs.views.Note.{note}
+use Rattle.patterns.specs.views.NoteCode.{packedNote, noteCode, noteOf, codePlace, codeKind, codeVariable, codeFirst, codeSecond, codeRecord, Fitting}
 
 -- The record of kind k with these fields.
 abbrev recordWith : ℕ → ℕ → ℕ → ℕ → ℕ → PatternRecord

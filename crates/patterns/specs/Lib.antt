@@ -1,0 +1,2 @@
+-- How the records of patterns are read and noted.
+pub mod views

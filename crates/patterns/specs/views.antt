@@ -1,0 +1,4 @@
+-- How the code keeps things.
+pub mod PatternRecord
+pub mod Note
+pub mod NoteCode
