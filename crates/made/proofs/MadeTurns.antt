@@ -9,7 +9,7 @@ use Rattle.terms.specs.RuleTests.{Want, PlaceTest, at}
 use Rattle.sheet.specs.views.NoteCode.{codePlace, codeRecord}
 use Rattle.sheet.specs.views.NoteArray.{notesIn}
 use Rattle.sheet_tests.specs.SheetTests.{Test}
-use Rattle.sheet_tests.specs.declared.Name.the-variants.{Nameless, Of}
+use Rattle.pairs.specs.declared.Name.the-variants.{Nameless, Of}
 use Rattle.sheet_tests.specs.views.KeptPairs.{pairCode}
 use Rattle.sheet_tests.specs.views.NoteTests.{nameOf, isNamed, codesWith, notesCodes}
 use Rattle.rows.proofs.NotesWanted.{wantHere, testsFrom, tests-turn, tests-end}

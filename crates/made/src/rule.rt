@@ -6,10 +6,10 @@ use crate::number::test_number;
 use outcomes::TestOutcome;
 use outcomes::pair_outcome;
 use outcomes::place_outcome;
+use pairs::Name;
 use rows::Wanted;
 use rows::wants::record_wanted;
 use sheet::Ranges;
-use sheet_tests::Name;
 use tables::Tables;
 ghost use mathlib.Core.Path.{_≡_};
 ghost use mathlib.Core.Bool.{true};
@@ -74,9 +74,9 @@ fn place_masks(
     let mut i: usize = 0;
     while i < n {
         let code = notes[i];
-        let wanted = record_wanted(sheet::note_record(code), ranges);
+        let wanted = record_wanted(patterns::note_record(code), ranges);
         if let Wanted::Codes(low, high) = wanted {
-            let place = sheet::note_place(code);
+            let place = patterns::note_place(code);
             let outcome = place_outcome(cells, place, low, high);
             masks = with_outcome(masks, kept, 0x1_0001 * place as u64, outcome);
         }
@@ -115,8 +115,8 @@ fn pairs_with(
     let mut j = from;
     while j < n {
         let code = notes[j];
-        if sheet_tests::rule::is_named(spot.name, sheet::note_record(code)) {
-            all = with_pair(all, kept, cells, spot.place, sheet::note_place(code));
+        if pairs::rule::is_named(spot.name, patterns::note_record(code)) {
+            all = with_pair(all, kept, cells, spot.place, patterns::note_place(code));
         }
         j += 1;
     }
@@ -140,10 +140,10 @@ fn pair_masks(
     let mut i: usize = 0;
     while i < n {
         let code = notes[i];
-        let name = sheet_tests::rule::name_of(sheet::note_record(code));
+        let name = pairs::rule::name_of(patterns::note_record(code));
         if let Name::Of(v) = name {
             let spot = Spot {
-                place: sheet::note_place(code),
+                place: patterns::note_place(code),
                 name: v,
             };
             all = pairs_with(notes, n, i + 1, spot, kept, cells, all);

@@ -7,7 +7,7 @@ use lib.ListN.{length, drop}
 use denote.Ref.{now}
 use Rattle.sheet.specs.views.NoteArray.{notesIn}
 use Rattle.sheet_tests.specs.views.NoteTests.{nameOf, notesCodes, Placed}
-use Rattle.sheet_tests.proofs.NoteRows.{notes-each}
+use Rattle.pairs.proofs.NoteRows.{notes-each}
 use Rattle.made.specs.declared.Masks.{Masks}
 use Rattle.made.specs.views.Kept.{listedTests}
 use Rattle.made.specs.views.RuleMasks.{afterPairs}

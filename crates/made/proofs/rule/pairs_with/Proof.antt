@@ -8,7 +8,7 @@ use denote.Ref.{now}
 use Rattle.sheet.specs.views.NoteArray.{notesIn}
 use Rattle.sheet_tests.specs.views.KeptPairs.{pairCode}
 use Rattle.sheet_tests.specs.views.NoteTests.{isNamed, codesWith, Placed}
-use Rattle.sheet_tests.proofs.NoteRows.{notes-each}
+use Rattle.pairs.proofs.NoteRows.{notes-each}
 use Rattle.made.specs.views.Kept.{listedTests}
 use Rattle.made.specs.views.RuleMasks.{pairMade, withMade, afterPairs}
 use Rattle.made.proofs.MadeTurns.{withFrom, with-yes, with-no, with-end}

@@ -5,12 +5,12 @@ use mathlib.Core.Logic.{⊎-elim}
 use native.Mathlib.Omega.{arith}
 use lib.ListN.{length, getD, drop}
 use denote.Ref.{now}
-use Rattle.sheet.specs.declared.PatternRecord.{PatternRecord}
+use Rattle.patterns.specs.declared.PatternRecord.{PatternRecord}
 use Rattle.sheet.specs.views.NoteCode.{Fitting, codePlace}
 use Rattle.sheet.specs.views.NoteArray.{notesIn}
-use Rattle.sheet.proofs.NoteCodes.{code-fits}
+use Rattle.patterns.proofs.NoteCodes.{code-fits}
 use Rattle.sheet_tests.specs.views.NoteTests.{Placed}
-use Rattle.sheet_tests.proofs.NoteRows.{notes-each}
+use Rattle.pairs.proofs.NoteRows.{notes-each}
 use Rattle.outcomes.specs.views.CellOutcome.{placeCells}
 use Rattle.test_list.specs.views.Tests.{spotCode}
 use Rattle.rows.specs.views.Wants.{recordWant, wantedCodes}
