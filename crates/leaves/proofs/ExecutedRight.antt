@@ -15,10 +15,10 @@ use Rattle.sheet.specs.views.Noted.{ruleNotes}
 use Rattle.sheet_tests.specs.SheetTests.{sheetTests}
 use Rattle.piece.specs.views.LaidOut.{pieceCells}
 use Rattle.decision.specs.Walk.{isNotKnown, ruleTestsWhere, executeWaits}
-use Rattle.made.specs.declared.Masks.{Masks}
-use Rattle.made.specs.views.RuleMasks.{notesMasks}
-use Rattle.made.proofs.MasksOutcome.{masksOutcome}
-use Rattle.made.proofs.MasksRight.{masks-right, outcome-right}
+use Rattle.rule_masks.specs.declared.Masks.{Masks}
+use Rattle.rule_masks.specs.views.RuleMasks.{notesMasks}
+use Rattle.rule_masks.proofs.MasksOutcome.{masksOutcome}
+use Rattle.rule_masks.proofs.MasksRight.{masks-right, outcome-right}
 use Rattle.leaves.specs.views.LeafAnswers.{RuleEnd, executedBy}
 
 -- A wait list holds "for execute those of rule i not known, else none".

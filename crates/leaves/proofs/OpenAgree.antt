@@ -15,7 +15,7 @@ use Rattle.outcomes.proofs.LookFinds.{look-finds}
 use Rattle.outcomes.proofs.PairTestsAgree.{pair-test-agrees}
 use Rattle.decision.specs.Walk.{isUnknown, isNotKnown, testNotKnown}
 use Rattle.leaves.specs.views.OpenTests.{openCells}
-use Rattle.made.specs.views.TestNumbers.{NearTest}
+use Rattle.rule_masks.specs.views.TestNumbers.{NearTest}
 
 -- An unknown is found.
 same-unknown : (f : Found) → hidden.isUnknown f ≡ isUnknown f

@@ -15,8 +15,8 @@ use Rattle.sheet_tests.specs.views.TestedPlaces.{placesIn}
 use Rattle.test_list.specs.views.Tests.{testsPut}
 use Rattle.test_list.proofs.TestsListed.{listed-other}
 use Rattle.rows.proofs.SheetRows.{zeros}
-use Rattle.made.specs.views.Kept.{Arrays, SameTests}
-use Rattle.made.proofs.ListedTests.{arrays-fit}
+use Rattle.rule_masks.specs.views.Kept.{Arrays, SameTests}
+use Rattle.rule_masks.proofs.ListedTests.{arrays-fit}
 use Rattle.leaves.specs.views.Seeking.{Seeking, BeginAt, Begins, beginOf, notedIn, passedBy}
 use Rattle.leaves.proofs.RulesLeft.{seeking-starts}
 

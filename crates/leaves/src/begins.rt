@@ -7,7 +7,7 @@ ghost use mathlib.Core.Path.{_≡_};
 ghost use lib.ListN.{length};
 ghost use Rattle.sheet.specs.ReadSheet.{readRules};
 ghost use Rattle.graph.specs.views.Rewriting.{IsTook};
-ghost use Rattle.made.specs.views.Kept.{SameTests};
+ghost use Rattle.rule_masks.specs.views.Kept.{SameTests};
 ghost use Rattle.leaves.specs.views.Seeking.{Begins, beginOf, notedIn, passedBy};
 
 // The same number at another width.

@@ -1,8 +1,8 @@
 // The answer at an execute of a rule.
 use crate::Executed;
 use crate::begins::passed;
-use made::rule::rule_masks;
 use plain::Answer;
+use rule_masks::rule::rule_masks;
 use sheet::Took;
 use tables::Tables;
 ghost use Prim.Native.Nat.{_≤_};
@@ -15,14 +15,14 @@ ghost use Rattle.terms.specs.Answer.{ruleAt};
 ghost use Rattle.sheet.specs.views.Noted.{ruleNotes};
 ghost use Rattle.sheet.specs.views.NoteArray.{notesIn};
 ghost use Rattle.sheet.specs.ReadSheet.{readRules};
-ghost use Rattle.sheet_tests.specs.views.NoteTests.{Placed};
+ghost use Rattle.pairs.specs.views.NoteVariables.{Placed};
 ghost use Rattle.outcomes.specs.views.CompareCells.{Narrow};
 ghost use Rattle.test_list.specs.views.Tests.{Counted};
 ghost use Rattle.graph.specs.views.Rewriting.{readOr};
-ghost use Rattle.made.specs.views.RuleMasks.{notesMasks};
+ghost use Rattle.rule_masks.specs.views.RuleMasks.{notesMasks};
 ghost use Rattle.leaves.specs.views.LeafAnswers.{executedBy, executedOf};
 ghost use Rattle.leaves.specs.views.TakenNotes.{takenNotes, countOf};
-ghost use Rattle.made.specs.views.Kept.{listedTests};
+ghost use Rattle.rule_masks.specs.views.Kept.{listedTests};
 ghost use Rattle.leaves.specs.views.RuleRead.{RuleRead};
 ghost use Rattle.leaves.specs.views.Seeking.{BeginAt};
 

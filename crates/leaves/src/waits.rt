@@ -1,17 +1,17 @@
 // The tests met on a walk that are not known in the piece.
 use codes::UNKNOWN;
-use made::number::test_number;
 use outcomes::TestOutcome;
 use outcomes::look;
 use outcomes::pair_outcome;
+use rule_masks::number::test_number;
 use tables::Tables;
 ghost use Prim.Native.Nat.{_≤_};
 ghost use mathlib.Core.Path.{_≡_};
 ghost use lib.ListN.{length, take};
 ghost use Rattle.basics.specs.Lists.{All};
 ghost use Rattle.outcomes.specs.views.CompareCells.{Narrow};
-ghost use Rattle.made.specs.views.TestNumbers.{testNumber, codeTest, NearTest, KeptCode, withIf};
-ghost use Rattle.made.specs.views.Kept.{Listed, listedTests};
+ghost use Rattle.rule_masks.specs.views.TestNumbers.{testNumber, codeTest, NearTest, KeptCode, withIf};
+ghost use Rattle.rule_masks.specs.views.Kept.{Listed, listedTests};
 ghost use Rattle.leaves.specs.views.OpenTests.{openCells, metWaits};
 
 // Is the test with a code not known? Not one with a place that the piece lacks, nor a pair that holds.

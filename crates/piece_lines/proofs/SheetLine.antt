@@ -9,9 +9,9 @@ use Rattle.sheet_tests.specs.CheckSheet.{SheetValues, acceptSheet, sheetValues}
 use Rattle.graph_check.specs.CheckGraph.{graphReading}
 use Rattle.piece_lines.specs.views.GraphFor.{GraphFor}
 use Rattle.tables.specs.views.Planes.{testsIn}
-use Rattle.made.specs.views.TestNumbers.{codeTest}
-use Rattle.made.specs.views.Kept.{listedCodes}
-use Rattle.made.proofs.CodeNumbers.{listed-length}
+use Rattle.rule_masks.specs.views.TestNumbers.{codeTest}
+use Rattle.rule_masks.specs.views.Kept.{listedCodes}
+use Rattle.rule_masks.proofs.CodeNumbers.{listed-length}
 use Rattle.walk.specs.views.Ready.{AcceptedKept}
 
 -- Arity, rules and tests of a sheet that was accepted and whose tests are listed.

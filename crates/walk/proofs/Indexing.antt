@@ -27,12 +27,12 @@ use Rattle.graph.proofs.Spelled.{graph-read}
 use Rattle.node_check.specs.views.CheckNode.{startsFrom}
 use Rattle.node_check.proofs.Starts.{start-reads}
 use Rattle.steps.specs.views.CodeSteps.{NearNode}
-use Rattle.made.specs.views.TestNumbers.{NearTest}
-use Rattle.made.proofs.ListedTests.{spot-test, pair-test}
+use Rattle.rule_masks.specs.views.TestNumbers.{NearTest}
+use Rattle.rule_masks.proofs.ListedTests.{spot-test, pair-test}
 use Rattle.path.specs.views.Following.{nodeFrom, nodesAt, GoodNode, Index}
 use Rattle.walk.specs.views.Ready.{LeafNode, AsksKept}
 use Rattle.walk.proofs.MetAsked.{Coded}
-use Rattle.made.proofs.PairsApart.{pairs-apart}
+use Rattle.rule_masks.proofs.PairsApart.{pairs-apart}
 use Rattle.steps.proofs.StepsAgree.{FieldsFit}
 use Rattle.basics.proofs.Positions.{mem-at}
 use Rattle.decision.proofs.rules.NearTests.{Near}

@@ -17,7 +17,7 @@ use Rattle.steps.specs.views.CodeSteps.{stepCells}
 use Rattle.path.specs.views.Following.{Ended, reached, stopped, askedCodes, metCodes, endOf, cellsPath, cellsEnd}
 use Rattle.walk.specs.views.LeafWalks.{LeafIn}
 use Rattle.walk.specs.views.Ready.{LeafNode, AsksKept}
-use Rattle.made.specs.views.TestNumbers.{KeptCode}
+use Rattle.rule_masks.specs.views.TestNumbers.{KeptCode}
 use Rattle.path.proofs.PathsAgree.{nodes-each}
 use Rattle.basics.proofs.ListLaws.{all-join}
 use Rattle.records.specs.Reading.{refused, took}

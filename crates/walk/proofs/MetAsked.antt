@@ -12,7 +12,7 @@ use Rattle.terms.specs.Term.{Terms}
 use Rattle.terms.specs.Pattern.{Patterns}
 use Rattle.terms.specs.Accepted.{AcceptedPiece}
 use Rattle.sheet_tests.specs.SheetTests.{Test, place, pair, sheetTests}
-use Rattle.sheet_tests.specs.views.KeptPairs.{pairCode}
+use Rattle.pairs.specs.views.KeptPairs.{pairCode}
 use Rattle.piece.specs.views.LaidOut.{pieceCells}
 use Rattle.decision.specs.Rules.{sameTest}
 use Rattle.decision.specs.Node.{Node, end, switch, pairNode}
@@ -20,7 +20,7 @@ use Rattle.decision.specs.Path.{nodeAt}
 use Rattle.decision.specs.Walk.{asksTest, suspendWaits}
 use Rattle.path.specs.views.Following.{askedCodes, metCodes}
 use Rattle.path.proofs.PathsAgree.{nodes-each}
-use Rattle.made.specs.views.TestNumbers.{codeTest, NearTest}
+use Rattle.rule_masks.specs.views.TestNumbers.{codeTest, NearTest}
 use Rattle.leaves.specs.views.OpenTests.{isMet, metWaits}
 use Rattle.leaves.proofs.OpenAgree.{open-agrees}
 

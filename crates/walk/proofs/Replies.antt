@@ -27,15 +27,15 @@ use Rattle.graph_check.specs.views.GraphIndex.{AcceptedGraphAs}
 use Rattle.walk.specs.declared.Walked.{Walked}
 use Rattle.walk.specs.declared.Walked.the-variants.{Answered, Refused}
 use Rattle.test_list.specs.views.Tests.{testsPut, Counted}
-use Rattle.made.specs.views.TestNumbers.{Once}
-use Rattle.made.specs.views.Kept.{Arrays, listedTests, SameTests}
+use Rattle.rule_masks.specs.views.TestNumbers.{Once}
+use Rattle.rule_masks.specs.views.Kept.{Arrays, listedTests, SameTests}
 use Rattle.path.specs.views.Following.{Index, cellsEnd, nodesAt}
 use Rattle.walk.specs.views.LeafWalks.{endWalk}
 use Rattle.walk.specs.views.Ready.{LeafNode, AsksKept, Ready, AcceptedKept, Checked}
 use Rattle.walk.specs.Walking.{graphReply, pieceReply, walkReply, replyValues, walkedValues, walkedReading}
-use Rattle.made.proofs.Numbers.{sheet-once}
-use Rattle.made.proofs.CodeNumbers.{listed-few}
-use Rattle.made.proofs.ListedTests.{kept-counted, kept-are, stay-counted, stay-listed}
+use Rattle.rule_masks.proofs.Numbers.{sheet-once}
+use Rattle.rule_masks.proofs.CodeNumbers.{listed-few}
+use Rattle.rule_masks.proofs.ListedTests.{kept-counted, kept-are, stay-counted, stay-listed}
 use Rattle.walk.proofs.Indexing.{nodes-are, nodes-leaves, nodes-asked, index-made}
 use Rattle.walk.proofs.WalksAgree.{walk-agrees}
 use Rattle.plain.specs.views.ReadAs.{ReadAs}

@@ -26,7 +26,7 @@ use Rattle.graph.proofs.TestedPlaces.{tests-near}
 use Rattle.node_check.specs.views.CheckNode.{startsFrom}
 use Rattle.leaves.specs.views.OpenTests.{metWaits}
 use Rattle.path.specs.views.Following.{metCodes, endOf, cellsEnd, nodesAt}
-use Rattle.made.specs.views.RuleMasks.{notesMasks}
+use Rattle.rule_masks.specs.views.RuleMasks.{notesMasks}
 use Rattle.leaves.specs.views.LeafAnswers.{RuleEnd, executedBy}
 use Rattle.walk.specs.views.LeafWalks.{walkAfter, endWalk, LeafIn, leafWalk}
 use Rattle.walk.specs.Walking.{graphReply}

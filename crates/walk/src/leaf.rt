@@ -16,7 +16,7 @@ ghost use Rattle.outcomes.specs.views.CompareCells.{Narrow};
 ghost use Rattle.decision.specs.Key.{executeNode};
 ghost use Rattle.graph.specs.views.Rewriting.{readOr};
 ghost use Rattle.test_list.specs.views.Tests.{Counted};
-ghost use Rattle.made.specs.views.Kept.{listedTests};
+ghost use Rattle.rule_masks.specs.views.Kept.{listedTests};
 ghost use Rattle.leaves.specs.views.RuleRead.{RuleRead};
 ghost use Rattle.leaves.specs.views.Seeking.{Begins};
 ghost use Rattle.walk.specs.Walking.{walkedReading};

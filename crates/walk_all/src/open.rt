@@ -3,7 +3,7 @@ use crate::Opened;
 use graph_check::GraphCheck;
 use graph_check::index_graph;
 use leaves::begins::rule_begins;
-use made::kept::keep_tests;
+use rule_masks::kept::keep_tests;
 use sheet_tests::TestsRead;
 use sheet_tests::read_tests;
 use tables::Tables;

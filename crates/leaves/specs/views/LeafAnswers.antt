@@ -5,7 +5,7 @@ use lib.Dec.{eqb}
 use Rattle.terms.specs.Answer.{Answer, commit, execute, fail}
 use Rattle.plain.specs.Plain.{answerOf}
 use Rattle.leaves.specs.declared.Executed as given
-use Rattle.made.specs.declared.Masks.{Masks}
+use Rattle.rule_masks.specs.declared.Masks.{Masks}
 
 -- What an execute of a rule comes to: the answer, and the tests that it waits for.
 pub record RuleEnd : Type 0 where

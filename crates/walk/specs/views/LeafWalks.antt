@@ -11,7 +11,7 @@ use Rattle.decision.specs.Key.{Leaf, failNode, suspendNode, executeNode}
 use Rattle.decision.specs.Walk.{Walk}
 use Rattle.path.specs.views.Following.{Ended, reached, stopped}
 use Rattle.leaves.specs.views.OpenTests.{metWaits}
-use Rattle.made.specs.views.RuleMasks.{notesMasks}
+use Rattle.rule_masks.specs.views.RuleMasks.{notesMasks}
 use Rattle.leaves.specs.views.LeafAnswers.{RuleEnd, executedBy}
 
 -- What an execute of a rule comes to, where so many edges lead to it.

@@ -13,8 +13,8 @@ use Rattle.graph_check.specs.views.GraphIndex.{AcceptedGraphAs}
 use Rattle.plain.specs.views.ReadAs.{ReadAs}
 use Rattle.test_list.specs.views.Tests.{Counted}
 use Rattle.path.specs.views.Following.{Index, askedCodes, nodesAt}
-use Rattle.made.specs.views.TestNumbers.{KeptCode}
-use Rattle.made.specs.views.Kept.{listedTests, Listed}
+use Rattle.rule_masks.specs.views.TestNumbers.{KeptCode}
+use Rattle.rule_masks.specs.views.Kept.{listedTests, Listed}
 use Rattle.walk.specs.views.LeafWalks.{LeafIn}
 
 -- "Are its nodes and rule in range": so with the rule of an execute node.

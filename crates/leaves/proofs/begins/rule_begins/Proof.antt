@@ -7,7 +7,7 @@ use denote.Ref.{now}
 use Rattle.terms.specs.Pattern.{pnil}
 use Rattle.sheet.specs.ReadSheet.{readRule}
 use Rattle.sheet_tests.proofs.Scanning.{bytes-known, rule-read}
-use Rattle.made.specs.views.Kept.{SameTests}
+use Rattle.rule_masks.specs.views.Kept.{SameTests}
 use Rattle.leaves.specs.views.Seeking.{Seeking, Begins}
 use Rattle.leaves.proofs.RulesLeft.{seeking-starts, seeking-next}
 use Rattle.leaves.proofs.RuleBegins.{begins-noted, tests-start, tests-stay}

@@ -6,9 +6,9 @@ use denote.Ref.{now}
 use Rattle.codes.specs.views.Codes.{unknownCode}
 use Rattle.outcomes.specs.views.CellOutcome.{outcomeOf}
 use Rattle.decision.specs.Walk.{isNotKnown}
-use Rattle.made.specs.views.TestNumbers.{NearTest}
+use Rattle.rule_masks.specs.views.TestNumbers.{NearTest}
 use Rattle.leaves.specs.views.OpenTests.{openCells}
-use Rattle.made.proofs.CodeNumbers.{code-place, code-pair}
+use Rattle.rule_masks.proofs.CodeNumbers.{code-place, code-pair}
 use borrow.Author.Needs.{needs}
 use Rattle.leaves.proofs.waits.is_open.Statement.{statement}
 use Rattle.leaves.proofs.waits.is_open.Tie as tie

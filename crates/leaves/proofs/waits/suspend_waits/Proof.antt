@@ -4,7 +4,7 @@ use mathlib.Core.Path.{_≡_, ap, _∙_}
 use native.Mathlib.Omega.{arith}
 use lib.ListN.{take}
 use denote.Ref.{now}
-use Rattle.made.specs.views.Kept.{listedTests}
+use Rattle.rule_masks.specs.views.Kept.{listedTests}
 use Rattle.leaves.specs.views.OpenTests.{metWaits}
 use Rattle.leaves.proofs.MetTests.{met-none, met-at, met-turn}
 use borrow.Author.Needs.{needs}

@@ -3,10 +3,10 @@ use mathlib.Core.Bool.{Bool}
 use mathlib.Core.Path.{sym, ap, _∙_}
 use native.Mathlib.Omega.{arith}
 use denote.Ref.{now}
-use Rattle.made.specs.views.TestNumbers.{testNumber, codeTest, withIf}
-use Rattle.made.specs.views.Kept.{listedTests}
-use Rattle.made.proofs.Numbers.{number-there}
-use Rattle.made.proofs.CodeNumbers.{listed-few}
+use Rattle.rule_masks.specs.views.TestNumbers.{testNumber, codeTest, withIf}
+use Rattle.rule_masks.specs.views.Kept.{listedTests}
+use Rattle.rule_masks.proofs.Numbers.{number-there}
+use Rattle.rule_masks.proofs.CodeNumbers.{listed-few}
 use borrow.Author.Needs.{needs}
 use Rattle.leaves.proofs.waits.with_open.Statement.{statement}
 use Rattle.leaves.proofs.waits.with_open.Tie as tie

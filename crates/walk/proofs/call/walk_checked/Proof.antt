@@ -10,7 +10,7 @@ use Rattle.sheet.specs.Sheet.{Sheet}
 use Rattle.sheet.specs.ReadSheet.{readRules}
 use Rattle.plain.proofs.PiecesRead.{read-narrow}
 use Rattle.graph.specs.views.Rewriting.{readOr}
-use Rattle.made.specs.views.Kept.{listedTests}
+use Rattle.rule_masks.specs.views.Kept.{listedTests}
 use Rattle.leaves.specs.views.Seeking.{Begins}
 use Rattle.path.specs.views.Following.{cellsEnd, nodesAt}
 use Rattle.walk.specs.views.LeafWalks.{endWalk}

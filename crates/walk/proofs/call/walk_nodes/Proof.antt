@@ -12,7 +12,7 @@ use Rattle.graph.specs.declared.Leaf.{Leaf}
 use Rattle.graph.specs.views.NodeRecord.{leafOf}
 use Rattle.graph.specs.views.Rewriting.{readOr}
 use Rattle.path.specs.views.Following.{reached, nodesAt, endedOf, edgesOf}
-use Rattle.made.specs.views.Kept.{listedTests}
+use Rattle.rule_masks.specs.views.Kept.{listedTests}
 use Rattle.walk.specs.views.LeafWalks.{LeafIn, endWalk}
 use Rattle.walk.proofs.LeafRules.{reached-leaf, reached-kept}
 use borrow.Author.Needs.{needs}

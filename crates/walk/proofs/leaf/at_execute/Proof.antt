@@ -6,14 +6,14 @@ use native.Mathlib.Omega.{arith}
 use denote.Ref.{now}
 use Rattle.basics.specs.Lists.{All}
 use Rattle.records.specs.Reading.{took}
-use Rattle.sheet.specs.views.Noted.{Note}
+use Rattle.patterns.specs.views.Note.{Note}
 use Rattle.sheet.specs.views.NoteArray.{notesIn}
-use Rattle.sheet_tests.specs.views.NoteTests.{Placed}
+use Rattle.pairs.specs.views.NoteVariables.{Placed}
 use Rattle.steps.proofs.HandedBack.{same-thing, something}
-use Rattle.made.specs.views.Kept.{listedTests}
+use Rattle.rule_masks.specs.views.Kept.{listedTests}
 use Rattle.leaves.specs.views.Seeking.{BeginAt}
 use Rattle.leaves.specs.views.TakenNotes.{takenNotes, countOf}
-use Rattle.made.specs.views.RuleMasks.{notesMasks}
+use Rattle.rule_masks.specs.views.RuleMasks.{notesMasks}
 use Rattle.leaves.specs.views.LeafAnswers.{RuleEnd, executedBy}
 use Rattle.walk.specs.views.LeafWalks.{walkAfter}
 use borrow.Author.Needs.{needs}

@@ -20,7 +20,7 @@ use Rattle.accepted.proofs.FoundTests.{found-accepts}
 use Rattle.graph.specs.views.Rewriting.{IsTook}
 use Rattle.graph_check.proofs.FoundGraph.{index-accepts, index-refuses}
 use Rattle.test_list.specs.views.Tests.{testsPut}
-use Rattle.made.specs.views.Kept.{Arrays, SameTests}
+use Rattle.rule_masks.specs.views.Kept.{Arrays, SameTests}
 use Rattle.leaves.specs.views.Seeking.{Begins}
 use Rattle.leaves.proofs.RuleBegins.{none-noted}
 use Rattle.walk.proofs.Replies.{kept-stays, checked-kept}
