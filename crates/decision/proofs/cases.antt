@@ -13,5 +13,6 @@ pub mod CasesSentence
 -- Runs of all numbers, pairs of runs, and the narrowest of them.
 pub mod FramedRuns
 pub mod RunPairs
+pub mod Best
 pub mod Narrowest
 pub mod NumberPairs

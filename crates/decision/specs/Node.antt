@@ -1,10 +1,11 @@
 -- Nodes (document 01, "Records", "Graph").
 use Prim.Native.Nat.{ℕ}
-use mathlib.Core.Bool.{cond}
 use mathlib.Core.List.{List, [], _∷_, _++_, map}
+use mathlib.Core.Option.{Option, some, none}
 use Rattle.terms.specs.Term.{Term}
 use Rattle.decision.specs.Key.{Leaf}
 use Rattle.decision.specs.Cases.{Case, takes}
+use Rattle.decision.specs.Narrowest.{narrower, best}
 
 -- A case of a switch and where it leads.
 pub record CaseEdge (A : Type 0) : Type 0 where
@@ -34,7 +35,14 @@ mapNode f (end l) = end l
 mapNode f (switch n cs x y) = switch n (map (mapCase f) cs) (f x) (f y)
 mapNode f (pairNode p q x y) = pairNode p q (f x) (f y)
 
--- Where a known term leads at a switch: by the first case that takes it, or by neither.
+-- Where a case leads, or where none does.
+abbrev pub leadsOr : {A : Type 0} → A → Option (CaseEdge A) → A
+leadsOr neither none = neither
+leadsOr neither (some c) = c .target
+
+-- Where a known term leads at a switch: "Of the cases that contain it, a number or span follows the one with the highest low, then
+-- the lowest high; else neither."
 abbrev pub follow : {A : Type 0} → List (CaseEdge A) → A → Term → A
-follow [] neither t = neither
-follow (c ∷ cs) neither t = cond (takes (c .case) t) (c .target) (follow cs neither t)
+follow {A} cs neither t =
+    leadsOr neither
+    (best (λ (c : CaseEdge A). takes (c .case) t) (λ (c d : CaseEdge A). narrower (c .case) (d .case)) cs)

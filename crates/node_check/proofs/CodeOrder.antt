@@ -60,7 +60,7 @@ after-case c (d ∷ ds) h hs =
     ∙ and-assoc (caseBefore c (d .case)) (lowAtMostHigh (d .case)) (beforeNext (d .case) ds && casesAscend ds)
     ∙ ap (λ (x : Bool). caseBefore c (d .case) && x) (sym (and-assoc (lowAtMostHigh (d .case)) (beforeNext (d .case) ds) (casesAscend ds)))
 
-first-positive : (c : Case) → 0 < caseLow c
+pub first-positive : (c : Case) → 0 < caseLow c
 first-positive (symbolCase a) = omega arith
 first-positive (compoundCase a n) = omega arith
 first-positive (numbersCase l u) = omega arith

@@ -9,14 +9,16 @@ use lib.ListN.{length, getD, length-map}
 use Rattle.basics.specs.Lists.{All, countFrom}
 use Rattle.terms.specs.Outcome.{Outcome, holds, notKnown, contradicted}
 use Rattle.basics.proofs.Booleans.{cond-holds}
-use Rattle.basics.proofs.ListLaws.{all-split}
+use Rattle.basics.proofs.ListLaws.{all-split, all-from, all-at}
+use Rattle.basics.proofs.Filters.{mem-map}
 use Rattle.outcomes.specs.views.Look.{look}
 use Rattle.outcomes.specs.views.CellOutcome.{pairCells}
 use Rattle.decision.specs.Key.{failNode}
 use Rattle.decision.specs.Node.{Node, CaseEdge, end, switch, pairNode, edges}
 use Rattle.decision.specs.Path.{Step, stop, goTo, noWay, byComparison}
+use Rattle.decision.proofs.cases.Narrowest.{leads-holds}
 use Rattle.codes.specs.views.Codes.{unknownCode}
-use Rattle.steps.specs.views.CodeSteps.{takesCode, followCode, stepCells}
+use Rattle.steps.specs.views.CodeSteps.{takesCodes, narrowerCodes, stepCells}
 use Rattle.path.specs.views.Following.{nodeFrom, nodesAt}
 use Rattle.basics.proofs.Counting.{count-length}
 
@@ -25,13 +27,6 @@ module _ (nodes : ℕ) where
   Leads (stop l) = Unit
   Leads (goTo m) = m < nodes
   Leads noWay = Unit
-
-  follow-inside
-      : (cs : List (CaseEdge ℕ)) (x code : ℕ) → All (λ (m : ℕ). m < nodes) (map (λ (c : CaseEdge ℕ). c .target) cs) → x < nodes
-      → followCode cs x code < nodes
-  follow-inside [] x code h k = k
-  follow-inside (c ∷ cs) x code h k =
-      cond-holds (λ (m : ℕ). m < nodes) (takesCode (c .case) code) _ _ (h .0) (follow-inside cs x code (h .1) k)
 
   compared : (x y : ℕ) (o : Outcome) → x < nodes → y < nodes → Leads (byComparison x y o)
   compared x y holds h k = k
@@ -45,7 +40,11 @@ module _ (nodes : ℕ) where
       let code = look cells p in
       let (cases, others) = all-split (λ (m : ℕ). m < nodes) (map (λ (c : CaseEdge ℕ). c .target) cs) (x ∷ y ∷ []) h in
       cond-holds Leads (eqb code 0) _ _ tt
-      (cond-holds (λ (m : ℕ). m < nodes) (eqb code unknownCode) _ _ (others .1 .0) (follow-inside cs x code cases (others .0)))
+      (cond-holds (λ (m : ℕ). m < nodes) (eqb code unknownCode) _ _ (others .1 .0)
+      (leads-holds (λ (m : ℕ). m < nodes) (λ (c : CaseEdge ℕ). takesCodes (c .case) code code)
+      (λ (c d : CaseEdge ℕ). narrowerCodes (c .case) (d .case)) cs x
+      (all-from (λ (c : CaseEdge ℕ). c .target < nodes) cs
+      (λ c m. all-at (λ (k : ℕ). k < nodes) (mem-map (λ (d : CaseEdge ℕ). d .target) m) cases)) (others .0)))
   step-leads cells (pairNode p q x y) h =
       cond-holds Leads (eqb (look cells p) 0 || eqb (look cells q) 0) _ _ tt (compared x y (pairCells cells p q) (h .0) (h .1 .0))
 

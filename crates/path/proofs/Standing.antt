@@ -40,7 +40,12 @@ module _ {graph starts : List ℕ} {nodes : ℕ} (index : Index graph starts nod
     stands-begins = index .begins k within
 
     pub stands-whole : NodeStands graph (getD starts k 0)
-    stands-whole = record { begins = stands-begins; whole = index .whole k within; near = index .good k within .near }
+    stands-whole = record {
+      begins = stands-begins;
+      whole = index .whole k within;
+      near = index .good k within .near;
+      ordered = index .good k within .ordered;
+    }
 
     this : nodeAt graphNodes k ≡ nodeFrom graph starts k
     this = node-at graph starts nodes k within

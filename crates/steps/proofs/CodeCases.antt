@@ -1,49 +1,121 @@
--- A case takes exactly the terms whose codes lie in its range, if their numbers are known exactly, so a code leads where its
--- term does.
-use Prim.Native.Nat.{ℕ}
-use mathlib.Core.Path.{_≡_, refl, ap, _∙_}
-use mathlib.Core.Bool.{false, _&&_, cond}
-use mathlib.Core.List.{List, [], _∷_}
+-- A case takes exactly the terms whose codes lie in its range, and is narrower than another where its range is, so the codes of a
+-- term lead where the term does.
+use Prim.Native.Nat.{ℕ, _<_, _≤_}
+use mathlib.Core.Path.{_≡_, refl, ap, sym, subst}
+use mathlib.Core.Bool.{false, _&&_, _||_}
+use mathlib.Core.Logic.{_⊎_, inl, inr}
+use mathlib.Core.List.{List}
 use native.Mathlib.Omega.{arith}
-use lib.Dec.{leb, eqb}
+use lib.Dec.{T, leb, eqb}
 use Rattle.basics.specs.Lists.{All}
+use Rattle.basics.specs.Order.{pairBefore}
+use Rattle.basics.proofs.Booleans.{same-truth}
+use Rattle.basics.proofs.Numbers.{both-le}
+use Rattle.basics.proofs.Sorted.{pair-before}
 use Rattle.terms.specs.Term.{Term, count, unknown, symbol, numbers, compound}
 use Rattle.terms.specs.RuleTests.{aSymbol, aNumber, aCompound}
 use Rattle.terms.specs.Filling.{WellFormed}
 use Rattle.terms.specs.Accepted.{Exact}
-use Rattle.terms.proofs.Spans.{inside-number}
 use Rattle.codes.specs.views.Codes.{symbolCode, compoundCode, numberCode, unknownCode, termCode}
-use Rattle.codes.proofs.FitCodes.{over, symbol-fits, number-fits, compound-fits, same-known}
+use Rattle.codes.proofs.CodeOrder.{in-order, before, same-of-sort}
+use Rattle.codes.proofs.FitCodes.{over, symbol-fits, compound-fits, same-known}
 use Rattle.decision.specs.Cases.{Case, symbolCase, compoundCase, numbersCase, takes}
-use Rattle.decision.specs.Node.{CaseEdge, follow}
+use Rattle.decision.specs.Narrowest.{narrower}
+use Rattle.decision.specs.Node.{CaseEdge, leadsOr, follow}
 use Rattle.decision.specs.AcceptedGraph.{CaseFields}
-use Rattle.steps.specs.views.CodeSteps.{takesCode, followCode}
+use Rattle.decision.specs.views.CaseCodes.{caseLow, caseHigh}
+use Rattle.decision.proofs.cases.Best.{best-same}
+use Rattle.steps.specs.views.CodeSteps.{takesCodes, narrowerCodes, followCode}
 
--- A case takes a term exactly where its range holds the term's code: where a want of the same fits the term.
-pub takes-code : (c : Case) (t : Term) → CaseFields c → WellFormed t → Exact t → takesCode c (termCode t) ≡ takes c t
-takes-code (symbolCase a) unknown h ok exact = over (symbolCode a) (symbolCode a) unknownCode (omega arith)
-takes-code (symbolCase a) (symbol b) h ok exact = same-known _ (eqb a b) (symbol-fits (aSymbol a) b h ok)
-takes-code (symbolCase a) (numbers b c) h ok exact = same-known _ false (number-fits (aSymbol a) b h)
-takes-code (symbolCase a) (compound b ts) h ok exact =
+-- The last code of a term: of a span that of its highest number.
+abbrev pub lastCode : Term → ℕ
+lastCode unknown = unknownCode
+lastCode (symbol a) = symbolCode a
+lastCode (numbers a b) = numberCode b
+lastCode (compound a ts) = compoundCode a (count ts)
+
+last-below : (t : Term) → WellFormed t → termCode t ≤ lastCode t
+last-below unknown ok = omega arith
+last-below (symbol a) ok = omega arith
+last-below (numbers a b) ok = omega (arith, ok .0)
+last-below (compound a ts) ok = omega arith
+
+last-exact : (t : Term) → Exact t → lastCode t ≡ termCode t
+last-exact unknown exact = refl
+last-exact (symbol a) exact = refl
+last-exact (numbers a b) exact = ap numberCode (sym exact)
+last-exact (compound a ts) exact = refl
+
+-- Codes that end behind a range do not lie in it.
+ends-behind : (first last low high : ℕ) → last < high → leb first low && leb high last ≡ false
+ends-behind first last low high h =
+    same-truth (leb first low && leb high last) false (λ t. omega (arith, both-le first low high last .0 t .1, h)) (λ t. absurd t)
+
+-- A case takes a term exactly where its range holds the term's codes: where a want of the same fits the term.
+pub takes-codes : (c : Case) (t : Term) → CaseFields c → WellFormed t → takesCodes c (termCode t) (lastCode t) ≡ takes c t
+takes-codes (symbolCase a) unknown h ok = over (symbolCode a) (symbolCode a) unknownCode (omega arith)
+takes-codes (symbolCase a) (symbol b) h ok = same-known _ (eqb a b) (symbol-fits (aSymbol a) b h ok)
+takes-codes (symbolCase a) (numbers b c) h ok =
+    ends-behind (symbolCode a) (symbolCode a) (numberCode b) (numberCode c) (omega (arith, h))
+takes-codes (symbolCase a) (compound b ts) h ok =
     same-known _ false (compound-fits (aSymbol a) b ts h (ok .0) (ok .2))
-takes-code (compoundCase a n) unknown h ok exact =
+takes-codes (compoundCase a n) unknown h ok =
     over (compoundCode a n) (compoundCode a n) unknownCode (omega (arith, h .0, h .1))
-takes-code (compoundCase a n) (symbol b) h ok exact = same-known _ false (symbol-fits (aCompound a n) b h ok)
-takes-code (compoundCase a n) (numbers b c) h ok exact = same-known _ false (number-fits (aCompound a n) b h)
-takes-code (compoundCase a n) (compound b ts) h ok exact =
+takes-codes (compoundCase a n) (symbol b) h ok = same-known _ false (symbol-fits (aCompound a n) b h ok)
+takes-codes (compoundCase a n) (numbers b c) h ok =
+    ends-behind (compoundCode a n) (compoundCode a n) (numberCode b) (numberCode c) (omega (arith, h .0, h .1))
+takes-codes (compoundCase a n) (compound b ts) h ok =
     same-known _ (eqb a b && eqb n (count ts)) (compound-fits (aCompound a n) b ts h (ok .0) (ok .2))
-takes-code (numbersCase l u) unknown h ok exact = over (numberCode l) (numberCode u) unknownCode (omega (arith, h .1))
-takes-code (numbersCase l u) (symbol b) h ok exact = same-known _ false (symbol-fits (aNumber l u) b (h .0) ok)
-takes-code (numbersCase l u) (numbers b c) h ok exact =
-    same-known _ (leb l b && leb b u) (number-fits (aNumber l u) b (h .0) ∙ inside-number l u b b refl)
-    ∙ ap (λ (d : ℕ). leb l b && leb d u) exact
-takes-code (numbersCase l u) (compound b ts) h ok exact =
+takes-codes (numbersCase l u) unknown h ok = over (numberCode l) (numberCode u) unknownCode (omega (arith, h .1))
+takes-codes (numbersCase l u) (symbol b) h ok = same-known _ false (symbol-fits (aNumber l u) b (h .0) ok)
+takes-codes (numbersCase l u) (numbers b c) h ok = λ i. in-order 0x3000000 l b i && in-order 0x3000000 c u i
+takes-codes (numbersCase l u) (compound b ts) h ok =
     same-known _ false (compound-fits (aNumber l u) b ts (h .0) (ok .0) (ok .2))
 
--- So the code of a term leads where the term does.
+-- Numbers that are no pair in order come in no order.
+out-of-order : (p q x y : ℕ) → ((p < x) ⊎ ((p ≡ x) × (q < y)) → ⊥) → pairBefore p q x y ≡ false
+out-of-order p q x y h = same-truth (pairBefore p q x y) false (λ t. h (pair-before p q x y t)) (λ t. absurd t)
+
+-- The codes lie in the case's range.
+abbrev HasCodes : Case → ℕ → ℕ → Type 0
+HasCodes c low high = (caseLow c ≤ low) × (high ≤ caseHigh c)
+
+-- Of cases that hold the same codes one is narrower by its codes exactly where it is.
+narrower-codes
+    : (low high : ℕ) → low ≤ high → (c d : Case) → CaseFields c → CaseFields d → HasCodes c low high → HasCodes d low high
+    → narrowerCodes c d ≡ narrower c d
+narrower-codes low high o (symbolCase a) (symbolCase b) f g h k =
+    out-of-order (symbolCode b) (symbolCode a) (symbolCode a) (symbolCode b)
+    (λ p. elim p [ inl l ↦ omega (arith, h .1, k .0) | inr r ↦ omega (arith, h .0, k .1, r .1) ])
+narrower-codes low high o (symbolCase a) (compoundCase b m) f g h k = absurd (omega (arith, f, h .1, k .0))
+narrower-codes low high o (symbolCase a) (numbersCase x y) f g h k = absurd (omega (arith, f, h .1, k .0))
+narrower-codes low high o (compoundCase a n) (symbolCase b) f g h k = absurd (omega (arith, g, h .0, k .1))
+narrower-codes low high o (compoundCase a n) (compoundCase b m) f g h k =
+    out-of-order (compoundCode b m) (compoundCode a n) (compoundCode a n) (compoundCode b m)
+    (λ p. elim p [ inl l ↦ omega (arith, l, h .0, h .1, k .0, k .1) | inr r ↦ omega (arith, h .0, h .1, k .0, k .1, r .1) ])
+narrower-codes low high o (compoundCase a n) (numbersCase x y) f g h k = absurd (omega (arith, f .0, f .1, h .1, k .0))
+narrower-codes low high o (numbersCase l u) (symbolCase b) f g h k = absurd (omega (arith, g, h .0, k .1))
+narrower-codes low high o (numbersCase l u) (compoundCase b m) f g h k = absurd (omega (arith, g .0, g .1, h .0, k .1))
+narrower-codes low high o (numbersCase l u) (numbersCase x y) f g h k =
+    λ i. before 0x3000000 x l i || (same-of-sort 0x3000000 x l i && before 0x3000000 u y i)
+
+-- So the codes of a term lead where the term does,
+pub follow-codes
+    : (cs : List (CaseEdge ℕ)) (neither : ℕ) (t : Term) → All (λ (c : CaseEdge ℕ). CaseFields (c .case)) cs → WellFormed t
+    → followCode cs neither (termCode t) (lastCode t) ≡ follow cs neither t
+follow-codes cs neither t h ok =
+    let low = termCode t in
+    let high = lastCode t in
+    let held : (c : Case) → T (takesCodes c low high) → HasCodes c low high =
+    λ c k. both-le (caseLow c) low high (caseHigh c) .0 k in
+    ap (leadsOr neither)
+    (best-same (λ (c : CaseEdge ℕ). CaseFields (c .case)) (λ c f. takes-codes (c .case) t f ok)
+    (λ c d f g k m. narrower-codes low high (last-below t ok) (c .case) (d .case) f g (held (c .case) k) (held (d .case) m)) cs h)
+
+-- and its one code does if its numbers are known exactly.
 pub follow-code
     : (cs : List (CaseEdge ℕ)) (neither : ℕ) (t : Term) → All (λ (c : CaseEdge ℕ). CaseFields (c .case)) cs → WellFormed t
-    → Exact t → followCode cs neither (termCode t) ≡ follow cs neither t
-follow-code [] neither t h ok exact = refl
-follow-code (c ∷ cs) neither t h ok exact =
-    λ i. cond (takes-code (c .case) t (h .0) ok exact i) (c .target) (follow-code cs neither t (h .1) ok exact i)
+    → Exact t → followCode cs neither (termCode t) (termCode t) ≡ follow cs neither t
+follow-code cs neither t h ok exact =
+    subst (λ (high : ℕ). followCode cs neither (termCode t) high ≡ follow cs neither t) (last-exact t exact)
+    (follow-codes cs neither t h ok)

@@ -42,9 +42,9 @@ module _ (cs : List (CaseEdge ℕ)) (neither unknownEdge code test : ℕ) where
 
   pub switch-on
       : (b : Bool) → eqb code 0 ≡ false → eqb code unknownCode ≡ b
-      → GoTo (cond b unknownEdge (followCode cs neither code)) test ≡ stepMade test (codeStep cs neither unknownEdge code)
+      → GoTo (cond b unknownEdge (followCode cs neither code code)) test ≡ stepMade test (codeStep cs neither unknownEdge code)
   switch-on b e f =
-      λ i. stepMade test (cond (sym e i) noWay (goTo (cond (sym f i) unknownEdge (followCode cs neither code))))
+      λ i. stepMade test (cond (sym e i) noWay (goTo (cond (sym f i) unknownEdge (followCode cs neither code code))))
 
 -- A pair of which a place is lacking, or none.
 module _ (a b differ other test : ℕ) (outcome : Outcome) where

@@ -34,9 +34,9 @@ FieldsFit (pairNode p q x y) = Unit
 
 -- A code that is there leads on: by unknown where it is an unknown's, else by the cases.
 module _ (cs : List (CaseEdge ℕ)) (x y : ℕ) where
-  leads-on : {n : ℕ} (code : ℕ) (b : Bool) → (code ≡ 0 → ⊥) → eqb code unknownCode ≡ b → cond b y (followCode cs x code) ≡ n → codeStep cs x y code ≡ goTo n
+  leads-on : {n : ℕ} (code : ℕ) (b : Bool) → (code ≡ 0 → ⊥) → eqb code unknownCode ≡ b → cond b y (followCode cs x code code) ≡ n → codeStep cs x y code ≡ goTo n
   leads-on code b some is leads =
-      (λ i. cond (ne-eqb code 0 some i) noWay (goTo (cond (is i) y (followCode cs x code)))) ∙ ap goTo leads
+      (λ i. cond (ne-eqb code 0 some i) noWay (goTo (cond (is i) y (followCode cs x code code)))) ∙ ap goTo leads
 
   -- So at a switch the code of what is found leads where the found does.
   switch-agrees

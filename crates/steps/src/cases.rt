@@ -12,27 +12,35 @@ ghost use lib.ListN.{length, drop};
 ghost use Rattle.graph.specs.ReadGraph.{readCases};
 ghost use Rattle.graph.specs.views.Rewriting.{IsTook, readOr};
 ghost use Rattle.steps.specs.declared.Led.the-variants.{To};
-ghost use Rattle.steps.specs.views.CodeSteps.{followCode};
+ghost use Rattle.steps.specs.views.CodeSteps.{followCode, CodesAscend};
 
-// Where the cases, so many from a position of the graph on, lead for a code; they are whole, so none is refused here. Not by the
-// case behind the one that takes it, nor by neither where a case takes it.
-pub fn find_case(graph: &[u8], start: usize, count: u8, code: u32, neither: u16) -> Led
+// Where the cases, so many from a position of the graph on, lead for the codes from low to high; they are whole, so none is refused
+// here, and ascend, so none behind the first that begins above low takes them. Not by the first case that takes them where a
+// narrower one does too, nor by neither where a case takes them.
+pub fn find_case(graph: &[u8], start: usize, count: u8, low: u32, high: u32, neither: u16) -> Led
     requires { ⌜ (start ≤ length (now graph)) × IsTook (readCases count (drop start (now graph))) ⌝ }
-    ensures { λ r. ⌜ r ≡ To (followCode (readOr [] (readCases count (drop start (now (graph .entry))))) neither code) ⌝ }
+    requires { ⌜ CodesAscend (readOr [] (readCases count (drop start (now graph)))) ⌝ }
+    ensures { λ r. ⌜ r ≡ To (followCode (readOr [] (readCases count (drop start (now (graph .entry))))) neither low high) ⌝ }
 {
     let mut at = start;
     let mut i: u8 = 0;
+    let mut begun: u32 = 0;
+    let mut node = neither;
     while i < count {
         let head = case_head(&graph[at..]);
         let CaseHead::Whole(c) = head else {
             return Led::Refused(case_refusal(head));
         };
         let range = case_range(c);
-        if both(range.first <= code, code <= range.last) {
-            return Led::To(range.node);
+        if low < range.first {
+            return Led::To(node);
+        }
+        if both(begun < range.first, high <= range.last) {
+            begun = range.first;
+            node = range.node;
         }
         at += range.bytes;
         i += 1;
     }
-    Led::To(neither)
+    Led::To(node)
 }

@@ -22,7 +22,7 @@ ghost use Rattle.decision.specs.Key.{failNode};
 ghost use Rattle.decision.specs.Node.{end};
 ghost use Rattle.graph.specs.ReadGraph.{readCases, readRecord};
 ghost use Rattle.graph.specs.views.Rewriting.{IsTook, readOr};
-ghost use Rattle.steps.specs.views.CodeSteps.{codeStep, codesStep, stepMade, nodeStep, NodeStands};
+ghost use Rattle.steps.specs.views.CodeSteps.{codeStep, codesStep, stepMade, nodeStep, CodesAscend, NodeStands};
 
 // A test as one number: the places of a pair, or one place twice.
 fn test_code(p: u16, q: u16) -> u32
@@ -42,6 +42,7 @@ fn switch_step(
     cells: &[u32; 680],
 ) -> Step
     requires { ⌜ (start ≤ length (now graph)) × IsTook (readCases count (drop start (now graph))) × (tested < 680) ⌝ }
+    requires { ⌜ CodesAscend (readOr [] (readCases count (drop start (now graph)))) ⌝ }
     ensures { λ r. ⌜ r
         ≡ stepMade (pairCode tested tested)
         (codeStep (readOr [] (readCases count (drop start (now (graph .entry))))) neither unknown
@@ -55,7 +56,7 @@ fn switch_step(
     if code == UNKNOWN {
         return Step::GoTo(unknown, test);
     }
-    let led = find_case(graph, start, count, code, neither);
+    let led = find_case(graph, start, count, code, code, neither);
     match led {
         Led::To(node) => Step::GoTo(node, test),
         Led::Refused(q) => Step::Refused(q),

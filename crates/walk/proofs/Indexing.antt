@@ -26,7 +26,7 @@ use Rattle.graph.proofs.AcceptedNodes.{accepted-asked}
 use Rattle.graph.proofs.Spelled.{graph-read}
 use Rattle.node_check.specs.views.CheckNode.{startsFrom}
 use Rattle.node_check.proofs.Starts.{start-reads}
-use Rattle.steps.specs.views.CodeSteps.{NearNode}
+use Rattle.steps.specs.views.CodeSteps.{NearNode, OrderedNode}
 use Rattle.rule_masks.specs.views.TestNumbers.{NearTest}
 use Rattle.rule_masks.proofs.ListedTests.{spot-test, pair-test}
 use Rattle.path.specs.views.Following.{nodeFrom, nodesAt, GoodNode, Index}
@@ -34,6 +34,7 @@ use Rattle.walk.specs.views.Ready.{LeafNode, AsksKept}
 use Rattle.walk.proofs.MetAsked.{Coded}
 use Rattle.rule_masks.proofs.PairsApart.{pairs-apart}
 use Rattle.steps.proofs.StepsAgree.{FieldsFit}
+use Rattle.steps.proofs.OrderedCases.{node-ordered}
 use Rattle.basics.proofs.Positions.{mem-at}
 use Rattle.decision.proofs.rules.NearTests.{Near}
 
@@ -86,6 +87,11 @@ module _ (sheet : Sheet) (sound : SoundSheet sheet) (s : List ℕ) (bytes : All 
 
   pub nodes-fit : All FieldsFit nodes
   nodes-fit = all-map (AcceptedNode (sheet .rules) (length nodes)) FieldsFit node-fits nodes (accepted .acceptedNodes)
+
+  -- The cases of an accepted node are in order.
+  cases-ordered : (n : Node ℕ) → AcceptedNode (sheet .rules) (length nodes) n → OrderedNode n
+  cases-ordered n a =
+      node-ordered n (node-fits n a) (accepted-asked (sheet .rules) (length nodes) near (accepted .fewNodes) n a .order)
 
   node-leaf : (n : Node ℕ) → AcceptedNode (sheet .rules) (length nodes) n → LeafNode (length (sheet .rules)) n
   node-leaf (end failNode) a = tt
@@ -151,15 +157,16 @@ module _ (sheet : Sheet) (sound : SoundSheet sheet) (s : List ℕ) (bytes : All 
         (λ k h. let none : 0 + k ≡ k = omega arith in ap (nodeFrom s starts) none ∙ here-is k h)
 
     good : (n : Node ℕ) → AcceptedNode (sheet .rules) (length nodes) n → GoodNode (length nodes) n
-    good (end l) a = record { near = tt; inside = tt }
+    good (end l) a = record { near = tt; ordered = tt; inside = tt }
     good (switch p cs x y) a = record {
       near = near (place p) (a .tested);
+      ordered = cases-ordered (switch p cs x y) a;
       inside =
           all-join (λ (m : ℕ). m < length nodes) (map (λ (c : CaseEdge ℕ). c .target) cs) (x ∷ y ∷ [])
           (all-mapped (λ (m : ℕ). m < length nodes) (λ (c : CaseEdge ℕ). c .target) cs (a .casesInside))
           (a .neitherInside, (a .unknownInside, tt));
     }
-    good (pairNode p q x y) a = record { near = near (pair p q) (a .0); inside = (a .1, (a .2, tt)) }
+    good (pairNode p q x y) a = record { near = near (pair p q) (a .0); ordered = tt; inside = (a .1, (a .2, tt)) }
 
     -- and the starts are an index of them.
     pub index-made : Index s starts (length nodes)

@@ -7,7 +7,7 @@ use mathlib.Core.Logic.{_⊎_, inl, inr}
 use mathlib.Core.List.{List, [], _∷_, map}
 use mathlib.Core.Option.{Option, some, none}
 use lib.Dec.{T, eqb, eqb→eq}
-use Rattle.basics.specs.Lists.{Mem, here, there, All}
+use Rattle.basics.specs.Lists.{Mem, All}
 use Rattle.terms.specs.Term.{Term, Terms, count, unknown, symbol, number, numbers, compound}
 use Rattle.terms.specs.RuleTests.{Want, aSymbol, aNumber, aCompound}
 use Rattle.terms.specs.Lookup.{found}
@@ -15,8 +15,9 @@ use Rattle.terms.specs.Outcome.{contradicted, Holds, known, fits}
 use Rattle.terms.specs.Accepted.{Exact}
 use Rattle.terms.specs.Answer.{isOpen}
 use Rattle.terms.proofs.Unknown.{IsUnknown}
-use Rattle.basics.proofs.ListLaws.{all-always, all-at}
-use Rattle.basics.proofs.Booleans.{both-true, cond-by}
+use Rattle.basics.proofs.ListLaws.{all-always, all-at, all-from}
+use Rattle.basics.proofs.Booleans.{both-true}
+use Rattle.basics.proofs.Filters.{mem-map, map-mem}
 use Rattle.decision.specs.Cases.{Case, symbolCase, compoundCase, numbersCase, takes, isWanted}
 use Rattle.decision.specs.Cases.{symbolsOf, Functor, functorsOf, compoundOf, casesOf}
 use Rattle.decision.specs.Node.{CaseEdge, follow}
@@ -26,6 +27,7 @@ use Rattle.terms.proofs.Spans.{inside-number}
 use Rattle.decision.proofs.Truth.{known-contradicted, open-known}
 use Rattle.decision.proofs.cases.WantedRanges.{numberRuns, runs-all}
 use Rattle.decision.proofs.cases.Runs.{run-uncut, in-run}
+use Rattle.decision.proofs.cases.Narrowest.{follow-narrowest}
 use Rattle.decision.proofs.rules.LiveWants.{mem-gather}
 use Rattle.decision.proofs.cases.CaseList.{cases-all, symbol-listed, compound-listed, run-listed}
 use Rattle.basics.proofs.Numbers.{eqb-swap}
@@ -120,14 +122,20 @@ follow-case
     : {A : Type 0} (cs : List Case) (f : Case → A) (neither : A) (t : Term)
     → ((c : Case) × Mem c cs × T (takes c t) × (follow (edgesTo f cs) neither t ≡ f c))
     ⊎ (All (λ (c : Case). T (takes c t) → ⊥) cs × (follow (edgesTo f cs) neither t ≡ neither))
-follow-case [] f neither t = inr (tt, refl)
-follow-case {A} (c ∷ cs) f neither t =
-    let Untaken : Case → Type 0 = λ d. T (takes d t) → ⊥ in
-    let Follows : A → Type 0 =
-    λ x. ((d : Case) × Mem d (c ∷ cs) × T (takes d t) × (x ≡ f d)) ⊎ (All Untaken (c ∷ cs) × (x ≡ neither)) in
-    cond-by Follows (takes c t) (λ h. inl (c, here, h, refl))
-    (λ h. elim (follow-case cs f neither t)
-    [ inl r ↦ inl (r .0, there (r .1), r .2, r .3) | inr r ↦ inr ((h, r .0), r .1) ])
+follow-case {A} cs f neither t =
+    let edgeTo : Case → CaseEdge A = λ c. record { case = c; target = f c } in
+    elim (follow-narrowest t (edgesTo f cs) neither) [
+      | inl r ↦
+          let c = map-mem edgeTo cs (r .1 .listed) in
+          inl (
+            c .0,
+            c .1,
+            subst (λ (e : CaseEdge A). T (takes (e .case) t)) (c .2) (r .1 .isTaken),
+            r .2 ∙ ap (λ (e : CaseEdge A). e .target) (c .2),
+          )
+      | inr r ↦
+          inr (all-from (λ (c : Case). T (takes c t) → ⊥) cs (λ c m. r .0 (edgeTo c) (mem-map edgeTo m)), r .1)
+    ]
 
 -- A known term takes the edge of a case, and the wants that want what the case takes hold, the others being contradicted;
 -- or it takes neither, and all wants are contradicted.

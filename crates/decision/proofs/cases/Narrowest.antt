@@ -1,157 +1,148 @@
--- Which case a number or span follows (document 02, request 4): of those that contain it the narrowest. Among the pairs of runs
--- it is the pair of the runs of its two ends.
+-- Which case a term follows (document 02, request 4): of those that contain it the narrowest. Among the pairs of runs it is the
+-- pair of the runs of a span's two ends.
 use Prim.Native.Nat.{ℕ, _≤_, _<_}
-use mathlib.Core.Path.{_≡_, refl, ap, sym, subst}
-use mathlib.Core.Bool.{Bool, true, false, cond}
+use mathlib.Core.Path.{_≡_, refl, ap, sym}
+use mathlib.Core.Bool.{Bool}
 use mathlib.Core.Logic.{_⊎_, inl, inr}
-use mathlib.Core.List.{List, [], _∷_, _++_}
+use mathlib.Core.List.{List}
 use mathlib.Core.Option.{Option, some, none}
 use native.Mathlib.Omega.{arith}
 use lib.Dec.{T}
-use Rattle.basics.specs.Lists.{Mem, here, there, All}
+use Rattle.basics.specs.Lists.{Mem, All}
 use Rattle.basics.specs.Order.{pairBefore}
-use Rattle.basics.proofs.ListLaws.{mem-cases, mem-none}
+use Rattle.basics.proofs.ListLaws.{all-map}
 use Rattle.basics.proofs.Numbers.{le-or-lt, both-le}
 use Rattle.basics.proofs.Sorted.{pair-before, before-pair, pair-irreflexive, pair-transitive, pair-total}
+use Rattle.terms.specs.Term.{Term, unknown, symbol, numbers, compound}
 use Rattle.terms.specs.RuleTests.{Range}
 use Rattle.decision.specs.Runs.{covers}
+use Rattle.decision.specs.Cases.{Case, symbolCase, compoundCase, numbersCase, numbersIn, takes}
+use Rattle.decision.specs.Narrowest.{narrower, best}
+use Rattle.decision.specs.Node.{CaseEdge, leadsOr, follow}
+use Rattle.decision.proofs.cases.Best.{TakenOrder, Best, IsBest, IfSome, best-law, best-holds}
 use Rattle.decision.proofs.cases.Intervals.{Contains}
 use Rattle.decision.proofs.cases.RangeOrder.{begins-below, ends-above}
 use Rattle.decision.proofs.cases.FramedRuns.{framed, framed-filled, framed-ascends}
 use Rattle.decision.proofs.cases.RunPairs.{fromTo, runPairs, pair-runs, runs-pair, span-turn}
 
--- "Of the cases that contain it, a number or span follows the one with the highest low, then the lowest high": of the things that
--- are taken, the one that comes before the others.
-abbrev pub better : {A : Type 0} → (A → A → Bool) → Bool → A → Option A → Option A
-better before false x others = others
-better before true x none = some x
-better before true x (some y) = some (cond (before y x) y x)
+-- Of the ranges a..b and x..y not each is narrower than the other; and where a..b is the narrower one, a third range v..w is either
+-- less narrow than a..b or narrower than x..y.
+pub narrower-apart : (a b x y : ℕ) → T (pairBefore x b a y) → T (pairBefore a y x b) → ⊥
+narrower-apart a b x y h k = pair-irreflexive x b (pair-transitive x b a y x b h k)
 
-abbrev pub best : {A : Type 0} → (A → Bool) → (A → A → Bool) → List A → Option A
-best taken before [] = none
-best taken before (x ∷ xs) = better before (taken x) x (best taken before xs)
-
--- The range x has a higher low than y, or the same and a lower high.
-abbrev pub narrower : Range → Range → Bool
-narrower x y = pairBefore (y .low) (x .high) (x .low) (y .high)
-
--- The narrowest of the ranges that contain the numbers from a to b.
-abbrev pub narrowest : ℕ → ℕ → List Range → Option Range
-narrowest a b xs = best (λ (x : Range). covers x (record { low = a; high = b })) narrower xs
-
--- An order of the things that are taken.
-pub record TakenOrder {A : Type 0} (taken : A → Bool) (before : A → A → Bool) : Type 0 where
-  pub asymmetric : (x y : A) → T (before x y) → T (before y x) → ⊥
-  pub across : (x y z : A) → T (taken x) → T (taken y) → T (taken z) → T (before x z) → T (before x y) ⊎ T (before y z)
-
--- x stands in the list and is taken, and nothing else that is taken comes before it.
-pub record Best {A : Type 0} (taken : A → Bool) (before : A → A → Bool) (xs : List A) (x : A) : Type 0 where
-  pub listed : Mem x xs
-  pub isTaken : T (taken x)
-  pub first : (y : A) → Mem y xs → T (taken y) → T (before y x) → ⊥
-
-module _ {A : Type 0} (taken : A → Bool) (before : A → A → Bool) where
-  -- The best of a list, or nothing where nothing is taken.
-  abbrev pub IsBest : List A → Option A → Type 0
-  IsBest xs none = (y : A) → Mem y xs → T (taken y) → ⊥
-  IsBest xs (some x) = Best taken before xs x
-
-  pub best-law : TakenOrder taken before → (xs : List A) → IsBest xs (best taken before xs)
-  best-law order [] = λ y m t. mem-none m
-  best-law order (x ∷ xs) = go (taken x) refl (best taken before xs) (best-law order xs)
-    where
-      is-taken : taken x ≡ true → T (taken x)
-      is-taken e = subst T (sym e) tt
-
-      -- Where x is not taken, what is taken is in the rest.
-      other : taken x ≡ false → (y : A) → Mem y (x ∷ xs) → T (taken y) → Mem y xs
-      other e y m t =
-          elim (mem-cases m) [ inl q ↦ absurd (subst T e (subst (λ (z : A). T (taken z)) q t)) | inr k ↦ k ]
-
-      -- What comes before x is in the rest.
-      alone : (y : A) → Mem y (x ∷ xs) → T (before y x) → Mem y xs
-      alone y m b =
-          elim (mem-cases m) [
-            | inl q ↦ (let own : T (before x x) = subst (λ (z : A). T (before z x)) q b in absurd (order .asymmetric x x own own))
-            | inr k ↦ k
-          ]
-
-      pick
-          : (z : A) → Best taken before xs z → taken x ≡ true → (c : Bool) → before z x ≡ c
-          → Best taken before (x ∷ xs) (cond c z x)
-      pick z h e true d = record {
-        listed = there (h .listed);
-        isTaken = h .isTaken;
-        first = λ y m t b. elim (mem-cases m) [
-          | inl q ↦ order .asymmetric z x (subst T (sym d) tt) (subst (λ (v : A). T (before v z)) q b)
-          | inr k ↦ h .first y k t b
-        ];
-      }
-      pick z h e false d = record {
-        listed = here;
-        isTaken = is-taken e;
-        first = λ y m t b. (let k = alone y m b in
-            elim (order .across y z x t (h .isTaken) (is-taken e) b)
-            [ inl p ↦ h .first y k t p | inr p ↦ subst T d p ]);
-      }
-
-      go : (c : Bool) → taken x ≡ c → (o : Option A) → IsBest xs o → IsBest (x ∷ xs) (better before c x o)
-      go false e none h = λ y m t. h y (other e y m t) t
-      go false e (some z) h = record {
-        listed = there (h .listed);
-        isTaken = h .isTaken;
-        first = λ y m t b. h .first y (other e y m t) t b;
-      }
-      go true e none h = record {
-        listed = here;
-        isTaken = is-taken e;
-        first = λ y m t b. h y (alone y m b) t;
-      }
-      go true e (some z) h = pick z h e (before z x) refl
-
-  -- Where nothing in the first of two lists is taken, the best of both is that of the second.
-  pub best-join
-      : (xs ys : List A) → All (λ (x : A). T (taken x) → ⊥) xs → best taken before (xs ++ ys) ≡ best taken before ys
-  best-join [] ys h = refl
-  best-join (x ∷ xs) ys h = go (taken x) (h .0) (best-join xs ys (h .1))
-    where
-      go : (c : Bool) → (T c → ⊥) → best taken before (xs ++ ys) ≡ best taken before ys
-          → better before c x (best taken before (xs ++ ys)) ≡ best taken before ys
-      go true none-taken e = absurd (none-taken tt)
-      go false none-taken e = e
-
--- Ranges are so ordered.
-narrower-order : (taken : Range → Bool) → TakenOrder taken narrower
-narrower-order taken = record {
-  asymmetric = λ x y h k.
-      pair-irreflexive (y .low) (x .high)
-      (pair-transitive (y .low) (x .high) (x .low) (y .high) (y .low) (x .high) h k);
-  across = λ x y z p q r h. go x y z (pair-before (z .low) (x .high) (x .low) (z .high) h);
-}
+pub narrower-across
+    : (a b v w x y : ℕ) → T (pairBefore x b a y) → T (pairBefore v b a w) ⊎ T (pairBefore x w v y)
+narrower-across a b v w x y h = go (pair-before x b a y h)
   where
-    go : (x y z : Range) → (z .low < x .low) ⊎ ((z .low ≡ x .low) × (x .high < z .high)) → T (narrower x y) ⊎ T (narrower y z)
-    go x y z h =
-        elim (le-or-lt (x .low) (y .low)) [
-          | inr d ↦ inl (before-pair (y .low) (x .high) (x .low) (y .high) (inl d))
-          | inl d ↦ elim (le-or-lt (y .low) (x .low)) [
-            | inr e ↦ (let low : z .low < y .low = elim h [ inl k ↦ omega arith | inr k ↦ omega (arith, k .0) ] in
-                inr (before-pair (z .low) (y .high) (y .low) (z .high) (inl low)))
-            | inl e ↦ elim (le-or-lt (y .high) (x .high)) [
-              | inr f ↦ inl (before-pair (y .low) (x .high) (x .low) (y .high) (inr (omega arith, f)))
-              | inl f ↦ inr (before-pair (z .low) (y .high) (y .low) (z .high) (elim h [
-                | inl k ↦ inl (omega arith)
-                | inr k ↦ inr (omega (arith, k .0), omega (arith, k .1))
+    go : (x < a) ⊎ ((x ≡ a) × (b < y)) → T (pairBefore v b a w) ⊎ T (pairBefore x w v y)
+    go k =
+        elim (le-or-lt a v) [
+          | inr d ↦ inl (before-pair v b a w (inl d))
+          | inl d ↦ elim (le-or-lt v a) [
+            | inr e ↦
+                (let low : x < v = elim k [ inl p ↦ omega arith | inr p ↦ omega (arith, p .0) ] in
+                inr (before-pair x w v y (inl low)))
+            | inl e ↦ elim (le-or-lt w b) [
+              | inr f ↦ inl (before-pair v b a w (inr (omega arith, f)))
+              | inl f ↦ inr (before-pair x w v y (elim k [
+                | inl p ↦ inl (omega arith)
+                | inr p ↦ inr (omega (arith, p .0), omega (arith, p .1))
               ]))
             ]
           ]
         ]
 
+-- So cases are ordered, of two that take a term.
+case-apart : (c d : Case) → T (narrower c d) → T (narrower d c) → ⊥
+case-apart (symbolCase a) d h k = absurd h
+case-apart (compoundCase a n) d h k = absurd h
+case-apart (numbersCase a b) (symbolCase x) h k = absurd h
+case-apart (numbersCase a b) (compoundCase x n) h k = absurd h
+case-apart (numbersCase a b) (numbersCase x y) h k = narrower-apart a b x y h k
+
+-- What a case of numbers takes no other case takes.
+no-symbol : (t : Term) (a b x : ℕ) → T (takes (numbersCase a b) t) → T (takes (symbolCase x) t) → ⊥
+no-symbol unknown a b x h k = absurd h
+no-symbol (symbol y) a b x h k = absurd h
+no-symbol (numbers y z) a b x h k = absurd k
+no-symbol (compound y ts) a b x h k = absurd h
+
+no-compound : (t : Term) (a b x n : ℕ) → T (takes (numbersCase a b) t) → T (takes (compoundCase x n) t) → ⊥
+no-compound unknown a b x n h k = absurd h
+no-compound (symbol y) a b x n h k = absurd h
+no-compound (numbers y z) a b x n h k = absurd k
+no-compound (compound y ts) a b x n h k = absurd h
+
+case-across
+    : (t : Term) (c d e : Case) → T (takes c t) → T (takes d t) → T (narrower c e) → T (narrower c d) ⊎ T (narrower d e)
+case-across t (symbolCase a) d e p q h = absurd h
+case-across t (compoundCase a n) d e p q h = absurd h
+case-across t (numbersCase a b) d (symbolCase x) p q h = absurd h
+case-across t (numbersCase a b) d (compoundCase x n) p q h = absurd h
+case-across t (numbersCase a b) (symbolCase v) (numbersCase x y) p q h = absurd (no-symbol t a b v p q)
+case-across t (numbersCase a b) (compoundCase v n) (numbersCase x y) p q h = absurd (no-compound t a b v n p q)
+case-across t (numbersCase a b) (numbersCase v w) (numbersCase x y) p q h = narrower-across a b v w x y h
+
+module _ {A : Type 0} (t : Term) where
+  -- The edge's case takes the term, and is narrower than that of another.
+  abbrev pub takesEdge : CaseEdge A → Bool
+  takesEdge c = takes (c .case) t
+
+  abbrev pub narrowerEdge : CaseEdge A → CaseEdge A → Bool
+  narrowerEdge c d = narrower (c .case) (d .case)
+
+  edge-order : TakenOrder takesEdge narrowerEdge
+  edge-order = record {
+    asymmetric = λ c d h k. case-apart (c .case) (d .case) h k;
+    across = λ c d e p q r h. case-across t (c .case) (d .case) (e .case) p q h;
+  }
+
+  -- A term follows the narrowest of the cases that take it, or neither, where no case does.
+  abbrev pub FollowsTo : List (CaseEdge A) → A → A → Type 0
+  FollowsTo cs neither x =
+      ((c : CaseEdge A) × Best takesEdge narrowerEdge cs c × (x ≡ c .target))
+      ⊎ (((c : CaseEdge A) → Mem c cs → T (takes (c .case) t) → ⊥) × (x ≡ neither))
+
+  pub follow-narrowest : (cs : List (CaseEdge A)) (neither : A) → FollowsTo cs neither (follow cs neither t)
+  follow-narrowest cs neither = go (best takesEdge narrowerEdge cs) (best-law takesEdge narrowerEdge edge-order cs)
+    where
+      go : (o : Option (CaseEdge A)) → IsBest takesEdge narrowerEdge cs o → FollowsTo cs neither (leadsOr neither o)
+      go none none-takes = inr (none-takes, refl)
+      go (some c) h = inl (c, h, refl)
+
+-- What holds of each target and of neither holds where the best of the cases, or neither, leads.
+pub leads-holds
+    : {A : Type 0} (Q : A → Type 0) (taken : CaseEdge A → Bool) (before : CaseEdge A → CaseEdge A → Bool) (cs : List (CaseEdge A))
+    (neither : A) → All (λ (c : CaseEdge A). Q (c .target)) cs → Q neither → Q (leadsOr neither (best taken before cs))
+leads-holds {A} Q taken before cs neither h k =
+    go (best taken before cs)
+    (best-holds taken before (λ (c : CaseEdge A). Q (c .target)) cs
+    (all-map (λ (c : CaseEdge A). Q (c .target)) (λ (c : CaseEdge A). T (taken c) → Q (c .target)) (λ c q t. q) cs h))
+  where
+    go : (o : Option (CaseEdge A)) → IfSome (λ (c : CaseEdge A). Q (c .target)) o → Q (leadsOr neither o)
+    go none m = k
+    go (some c) m = m
+
+-- Of ranges the narrower: that whose case is.
+abbrev pub narrowerRange : Range → Range → Bool
+narrowerRange x y = narrower (numbersIn x) (numbersIn y)
+
+-- The narrowest of the ranges that contain the numbers from a to b.
+abbrev pub narrowest : ℕ → ℕ → List Range → Option Range
+narrowest a b xs = best (λ (x : Range). covers x (record { low = a; high = b })) narrowerRange xs
+
+range-order : (taken : Range → Bool) → TakenOrder taken narrowerRange
+range-order taken = record {
+  asymmetric = λ x y h k. narrower-apart (x .low) (x .high) (y .low) (y .high) h k;
+  across = λ x y z p q r h. narrower-across (x .low) (x .high) (y .low) (y .high) (z .low) (z .high) h;
+}
+
 -- There is one narrowest range.
 pub narrowest-is
-    : (taken : Range → Bool) (xs : List Range) (x : Range) → Best taken narrower xs x → best taken narrower xs ≡ some x
-narrowest-is taken xs x h = go (best taken narrower xs) (best-law taken narrower (narrower-order taken) xs)
+    : (taken : Range → Bool) (xs : List Range) (x : Range) → Best taken narrowerRange xs x → best taken narrowerRange xs ≡ some x
+narrowest-is taken xs x h = go (best taken narrowerRange xs) (best-law taken narrowerRange (range-order taken) xs)
   where
-    go : (o : Option Range) → IsBest taken narrower xs o → o ≡ some x
+    go : (o : Option Range) → IsBest taken narrowerRange xs o → o ≡ some x
     go none none-taken = absurd (none-taken x (h .listed) (h .isTaken))
     go (some y) k =
         let e =

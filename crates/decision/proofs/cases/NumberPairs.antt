@@ -1,24 +1,30 @@
 -- The number cases of a switch by pairs of runs (document 02, request 4), for the ranges that are wanted there: which pairs they
 -- are, in what order and how many, and which of them a number or span follows.
 use Prim.Native.Nat.{ℕ, suc, _*_, _≤_, _<_}
-use mathlib.Core.Path.{_≡_, refl, ap}
+use mathlib.Core.Path.{_≡_, refl, ap, _∙_}
 use mathlib.Core.Logic.{_↔_}
-use mathlib.Core.List.{List, [], _∷_}
+use mathlib.Core.List.{List, [], _∷_, map}
 use mathlib.Core.Option.{some, none}
 use native.Mathlib.Omega.{arith}
 use lib.Dec.{T}
 use lib.ListN.{length}
 use Rattle.basics.specs.Lists.{Mem, All}
 use Rattle.basics.proofs.Sorted.{Ascending}
+use Rattle.terms.specs.Term.{numbers}
 use Rattle.terms.specs.RuleTests.{Range}
 use Rattle.decision.specs.Runs.{covers}
+use Rattle.decision.specs.Cases.{Case, numbersIn, takes}
+use Rattle.decision.specs.Narrowest.{narrower}
+use Rattle.decision.specs.Node.{CaseEdge, leadsOr, follow}
 use Rattle.decision.proofs.cases.Intervals.{Contains}
 use Rattle.decision.proofs.cases.RangeOrder.{rangeBefore}
 use Rattle.decision.proofs.cases.FramedRuns.{framed, meets, InFrame, MaximalIn, framed-filled, framed-ascends, framed-covers}
 use Rattle.decision.proofs.cases.FramedRuns.{framed-inside, framed-few, framed-are}
 use Rattle.decision.proofs.cases.RunPairs.{fromTo, runPairs, InTurn, pairs-few, pair-runs, runs-pair, pair-filled}
 use Rattle.decision.proofs.cases.RunPairs.{pairs-ascend, pair-covers, pair-meets}
-use Rattle.decision.proofs.cases.Narrowest.{narrowest, narrowest-pair}
+use Rattle.decision.proofs.cases.Best.{mapSome, best-map}
+use Rattle.decision.proofs.cases.Narrowest.{takesEdge, narrowerEdge, narrowest, narrowest-pair}
+use Rattle.decision.proofs.cases.CasesLaws.{edgesTo}
 
 -- "Where a live rule has a range at a switch's place, all numbers are cut into maximal runs ..; elsewhere a switch has no number
 -- case."
@@ -45,6 +51,17 @@ pub number-pairs-ascend : (base top : ℕ) (ws : List Range) → Ascending range
 number-pairs-ascend base top [] = tt
 number-pairs-ascend base top (w ∷ ws) =
     pairs-ascend (framed base top (w ∷ ws)) (framed-filled base top (w ∷ ws)) (framed-ascends base top (w ∷ ws))
+
+-- Of number cases for ranges, numbers from a to b follow that of the narrowest range.
+pub numbers-follow
+    : {A : Type 0} (f : Case → A) (neither : A) (a b : ℕ) (xs : List Range) (x : Range) → narrowest a b xs ≡ some x
+    → follow (edgesTo f (map numbersIn xs)) neither (numbers a b) ≡ f (numbersIn x)
+numbers-follow {A} f neither a b xs x e =
+    let span = numbers a b in
+    let edgeTo : Case → CaseEdge A = λ c. record { case = c; target = f c } in
+    ap (leadsOr neither)
+    (best-map edgeTo (takesEdge span) (narrowerEdge span) (map numbersIn xs)
+    ∙ ap (mapSome edgeTo) (best-map numbersIn (λ (c : Case). takes c span) narrower xs ∙ ap (mapSome numbersIn) e))
 
 -- Where no range is wanted no pair is followed.
 pub none-followed : (base top a b : ℕ) → narrowest a b (numberPairs base top []) ≡ none

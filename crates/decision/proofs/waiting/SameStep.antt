@@ -18,7 +18,9 @@ use Rattle.terms.proofs.Exact.{finds-exact}
 use Rattle.terms.proofs.Stays.{Becomes, staysLacking, filledIn, wasUnknown, puts-count, finds-becomes, compare-stays, pair-stays}
 use Rattle.sheet_tests.specs.SheetTests.{Test, place, pair}
 use Rattle.decision.specs.Cases.{Case, symbolCase, compoundCase, numbersCase, takes}
-use Rattle.decision.specs.Node.{Node, CaseEdge, end, switch, pairNode, follow}
+use Rattle.decision.specs.Node.{Node, CaseEdge, end, switch, pairNode, leadsOr, follow}
+use Rattle.decision.specs.Narrowest.{best}
+use Rattle.decision.proofs.cases.Narrowest.{narrowerEdge}
 use Rattle.decision.specs.Path.{goTo, switchStep, byComparison, pairStep, stepAt}
 use Rattle.decision.specs.Walk.{isNotKnown, isUnknown, testNotKnown}
 use Rattle.terms.proofs.CompareSentences.{compare-unknown}
@@ -91,11 +93,8 @@ module _ {P : Term → Type 0} where
   same-follow
       : {A : Type 0} (cs : List (CaseEdge A)) (x : A) {t g : Term} → Exact t → Puts P t g → (T (isUnknown (found t)) → ⊥)
       → follow cs x g ≡ follow cs x t
-  same-follow [] x exact f k = refl
-  same-follow {A} (c ∷ cs) x exact f k =
-      let e = same-takes (c .case) exact f k in
-      let d = same-follow cs x exact f k in
-      λ i. cond (e i) (c .target) (d i)
+  same-follow {A} cs x {t} exact f k =
+      λ i. leadsOr x (best (λ (c : CaseEdge A). same-takes (c .case) exact f k i) (narrowerEdge t) cs)
 
   -- The step at a switch is the same,
   same-switch

@@ -1,15 +1,18 @@
 -- A step from a node follows one of its edges, and goes the same way where the edges lead to other things.
-use mathlib.Core.Path.{_≡_, refl, ap, subst}
-use mathlib.Core.Bool.{Bool, true, false, cond}
+use mathlib.Core.Path.{_≡_, refl, ap, subst, _∙_}
 use mathlib.Core.List.{List, [], _∷_, _++_, map}
+use mathlib.Core.Option.{Option, some, none}
 use Rattle.basics.specs.Lists.{Mem, here, there}
 use Rattle.terms.specs.Term.{Term, Terms, unknown, symbol, numbers, compound}
 use Rattle.terms.specs.Lookup.{Found, lacking, found, termAt}
 use Rattle.terms.specs.Outcome.{Outcome, holds, notKnown, contradicted, compare}
-use Rattle.decision.specs.Cases.{takes}
-use Rattle.decision.specs.Node.{Node, CaseEdge, end, switch, pairNode, edges, mapCase, mapNode, follow}
+use Rattle.decision.specs.Narrowest.{best}
+use Rattle.decision.specs.Node.{Node, CaseEdge, end, switch, pairNode, edges, mapCase, mapNode, leadsOr, follow}
 use Rattle.decision.specs.Path.{Step, stop, goTo, noWay, switchStep, byComparison, pairStep, stepAt}
-use Rattle.basics.proofs.Filters.{mem-right}
+use Rattle.basics.proofs.ListLaws.{all-from}
+use Rattle.basics.proofs.Filters.{mem-left, mem-right, mem-map}
+use Rattle.decision.proofs.cases.Best.{mapSome, best-map}
+use Rattle.decision.proofs.cases.Narrowest.{takesEdge, narrowerEdge, leads-holds}
 
 -- The same step to another thing.
 abbrev pub mapStep : {A B : Type 0} → (A → B) → Step A → Step B
@@ -20,14 +23,13 @@ mapStep f noWay = noWay
 module _ {A B : Type 0} (f : A → B) where
   -- A known term leads to the other thing of where it leads.
   follow-map : (cs : List (CaseEdge A)) (x : A) (u : Term) → follow (map (mapCase f) cs) (f x) u ≡ f (follow cs x u)
-  follow-map [] x u = refl
-  follow-map (c ∷ cs) x u = go (takes (c .case) u) (follow-map cs x u)
+  follow-map cs x u =
+      ap (leadsOr (f x)) (best-map (mapCase f) (takesEdge u) (narrowerEdge u) cs)
+      ∙ go (best (takesEdge u) (narrowerEdge u) cs)
     where
-      go
-          : (b : Bool) → follow (map (mapCase f) cs) (f x) u ≡ f (follow cs x u)
-          → cond b (f (c .target)) (follow (map (mapCase f) cs) (f x) u) ≡ f (cond b (c .target) (follow cs x u))
-      go true e = refl
-      go false e = e
+      go : (o : Option (CaseEdge A)) → leadsOr (f x) (mapSome (mapCase f) o) ≡ f (leadsOr x o)
+      go none = refl
+      go (some c) = refl
 
   -- So does the step at a switch,
   switch-map
@@ -70,14 +72,12 @@ module _ {A : Type 0} where
 
   -- A known term is led to one of them.
   follow-edge : (cs : List (CaseEdge A)) (x y : A) (u : Term) → Mem (follow cs x u) (targets cs x y)
-  follow-edge [] x y u = here
-  follow-edge (c ∷ cs) x y u = go (takes (c .case) u) (follow-edge cs x y u)
-    where
-      go
-          : (b : Bool) → Mem (follow cs x u) (targets cs x y)
-          → Mem (cond b (c .target) (follow cs x u)) (c .target ∷ targets cs x y)
-      go true m = here
-      go false m = there m
+  follow-edge cs x y u =
+      let here-are = map (λ (c : CaseEdge A). c .target) cs in
+      leads-holds (λ (z : A). Mem z (targets cs x y)) (takesEdge u) (narrowerEdge u) cs x
+      (all-from (λ (c : CaseEdge A). Mem (c .target) (targets cs x y)) cs
+      (λ c m. mem-left (x ∷ y ∷ []) (mem-map (λ (d : CaseEdge A). d .target) m)))
+      (mem-right here-are here)
 
   -- So goes the step at a switch,
   switch-edge : (cs : List (CaseEdge A)) (x y : A) (z : Found) → GoesIn (targets cs x y) (switchStep cs x y z)

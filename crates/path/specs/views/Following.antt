@@ -12,7 +12,7 @@ use Rattle.graph.specs.views.Rewriting.{IsTook, readOr}
 use Rattle.graph.specs.views.NodeRecord.{leafOf}
 use Rattle.graph.specs.ReadGraph.{readRecord}
 use Rattle.records.specs.Reading.{refused, took}
-use Rattle.steps.specs.views.CodeSteps.{stepCells, NearNode}
+use Rattle.steps.specs.views.CodeSteps.{stepCells, NearNode, OrderedNode}
 use Rattle.path.specs.declared.Followed as given
 
 -- A walk that ended at a leaf, with the "edges walked" and the codes of the tests met, in order, or that was refused.
@@ -51,9 +51,11 @@ nodeFrom graph starts k = readOr (end failNode) (readRecord (drop (getD starts k
 unfoldable pub nodesAt : List ℕ → List ℕ → ℕ → List (Node ℕ)
 nodesAt graph starts nodes = map (nodeFrom graph starts) (countFrom 0 nodes)
 
--- A node of a graph of so many, as question 23 leaves it: its places are among the 680, its edges lead to nodes.
+-- A node of a graph of so many, as questions 23 and 24 leave it: its places are among the 680, its cases are in order, and its
+-- edges lead to nodes.
 pub record GoodNode (nodes : ℕ) (n : Node ℕ) : Type 0 where
   pub near : NearNode n
+  pub ordered : OrderedNode n
   pub inside : All (λ (m : ℕ). m < nodes) (edges n)
 
 -- What questions 21 to 25 leave: "1 to 1,024 nodes", and start k is where a whole record of a good node begins.

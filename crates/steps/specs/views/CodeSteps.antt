@@ -2,8 +2,10 @@
 use Prim.Native.Nat.{ℕ, _<_, _≤_}
 use mathlib.Core.Bool.{Bool, _&&_, _||_, cond}
 use mathlib.Core.List.{List, [], _∷_}
-use lib.Dec.{leb, eqb}
+use lib.Dec.{T, leb, eqb}
 use lib.ListN.{length, drop}
+use Rattle.basics.specs.Lists.{All}
+use Rattle.basics.specs.Order.{pairBefore}
 use Rattle.terms.specs.Outcome.{Outcome}
 use Rattle.codes.specs.views.Codes.{unknownCode}
 use Rattle.pairs.specs.views.KeptPairs.{pairCode}
@@ -11,7 +13,8 @@ use Rattle.outcomes.specs.views.Look.{look}
 use Rattle.outcomes.specs.views.CellOutcome.{pairCells}
 use Rattle.decision.specs.Key.{Leaf, failNode, suspendNode, executeNode}
 use Rattle.decision.specs.Cases.{Case}
-use Rattle.decision.specs.Node.{Node, CaseEdge, end, switch, pairNode}
+use Rattle.decision.specs.Narrowest.{best}
+use Rattle.decision.specs.Node.{Node, CaseEdge, end, switch, pairNode, leadsOr}
 use Rattle.decision.specs.Path.{Step, stop, goTo, noWay, byComparison}
 use Rattle.decision.specs.views.CaseCodes.{caseLow, caseHigh}
 use Rattle.graph.specs.declared.Leaf as leaf
@@ -20,20 +23,32 @@ use Rattle.graph.specs.views.Rewriting.{IsTook, readOr}
 use Rattle.steps.specs.declared.Step as step
 
 -- "44 symbol (wide id, ..), 45 compound (wide id, arity, ..), 46 numbers (wide low, wide high, ..)": a case takes the terms whose
--- codes lie from its first to its last.
-abbrev pub takesCode : Case → ℕ → Bool
-takesCode c code = leb (caseLow c) code && leb code (caseHigh c)
+-- codes lie from its first to its last, and so a run of codes that lies there.
+abbrev pub takesCodes : Case → ℕ → ℕ → Bool
+takesCodes c low high = leb (caseLow c) low && leb high (caseHigh c)
 
--- Where a code leads at a switch: by the first case that takes it, or by the "node for neither".
-abbrev pub followCode : List (CaseEdge ℕ) → ℕ → ℕ → ℕ
-followCode [] neither code = neither
-followCode (c ∷ cs) neither code = cond (takesCode (c .case) code) (c .target) (followCode cs neither code)
+-- "The one with the highest low, then the lowest high."
+abbrev pub narrowerCodes : Case → Case → Bool
+narrowerCodes c d = pairBefore (caseLow d) (caseHigh c) (caseLow c) (caseHigh d)
+
+-- Where a run of codes leads at a switch: by the narrowest of the cases that take it, or by the "node for neither".
+abbrev pub followCode : List (CaseEdge ℕ) → ℕ → ℕ → ℕ → ℕ
+followCode cs neither low high =
+    leadsOr neither
+    (best (λ (c : CaseEdge ℕ). takesCodes (c .case) low high) (λ (c d : CaseEdge ℕ). narrowerCodes (c .case) (d .case)) cs)
+
+-- "Number cases ascend by low, then high": cases ascend by their first codes, then by their last ones.
+abbrev pub CodesAscend : List (CaseEdge ℕ) → Type 0
+CodesAscend [] = Unit
+CodesAscend (c ∷ cs) =
+    All (λ (d : CaseEdge ℕ). T (pairBefore (caseLow (c .case)) (caseHigh (c .case)) (caseLow (d .case)) (caseHigh (d .case)))) cs
+    × CodesAscend cs
 
 -- The step at a switch where its place has this code, 0 where the piece lacks it: "27 Is each place it tests in the piece, or
 -- below an unknown?" An unknown leads by the "node for unknown".
 abbrev pub codeStep : List (CaseEdge ℕ) → ℕ → ℕ → ℕ → Step ℕ
 codeStep cs neither unknownEdge code =
-    cond (eqb code 0) noWay (goTo (cond (eqb code unknownCode) unknownEdge (followCode cs neither code)))
+    cond (eqb code 0) noWay (goTo (cond (eqb code unknownCode) unknownEdge (followCode cs neither code code)))
 
 -- The step at a pair where its places have these codes and its test this outcome: by the "node for no" where they differ, else by
 -- the "node for other".
@@ -71,8 +86,15 @@ NearNode (end l) = Unit
 NearNode (switch n cs x y) = n < 680
 NearNode (pairNode p q x y) = (p < 680) × (q < 680)
 
--- At a position of the graph a whole record of a node begins, whose places are among the 680.
+-- The cases of a switch are in order.
+abbrev pub OrderedNode : Node ℕ → Type 0
+OrderedNode (end l) = Unit
+OrderedNode (switch n cs x y) = CodesAscend cs
+OrderedNode (pairNode p q x y) = Unit
+
+-- At a position of the graph a whole record of a node begins, whose places are among the 680 and whose cases are in order.
 pub record NodeStands (graph : List ℕ) (at : ℕ) : Type 0 where
   pub begins : at ≤ length graph
   pub whole : IsTook (readRecord (drop at graph))
   pub near : NearNode (readOr (end failNode) (readRecord (drop at graph)))
+  pub ordered : OrderedNode (readOr (end failNode) (readRecord (drop at graph)))

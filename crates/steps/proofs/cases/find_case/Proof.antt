@@ -1,30 +1,28 @@
--- `steps::cases::find_case` meets its contract: the cases that are left lead where all do.
-use mathlib.Core.Path.{_≡_, sym, ap, subst, _∙_}
-use mathlib.Core.Bool.{_&&_}
-use Prim.Native.Nat.{ℕ, _+_, _-_}
+-- `steps::cases::find_case` meets its contract: with the best so far, the cases that are left lead where all do.
+use mathlib.Core.Path.{_≡_, sym, ap, _∙_}
+use mathlib.Core.Logic.{⊎-elim}
+use Prim.Native.Nat.{ℕ, _-_}
 use native.Mathlib.Omega.{arith}
 use denote.Ref.{now}
-use lib.ListN.{drop}
-use lib.Dec.{leb}
 use Rattle.records.proofs.Parts.{rest}
-use Rattle.node_check.specs.declared.CaseRange.{CaseRange}
-use Rattle.graph.specs.declared.CaseHead.the-variants.{Whole}
 use Rattle.graph.specs.views.NodeRecord.{caseHead}
 use Rattle.steps.specs.declared.Led.the-variants.{To}
-use Rattle.steps.proofs.CasesLeft.{Passed, passed-starts, passed-ends, passed-whole, passed-inside, passed-takes, passed-next, range-takes, range-leads}
+use Rattle.steps.proofs.CasesLeft.{Passed, passed-starts, passed-ends, passed-whole, passed-inside, passed-above, passed-better, passed-still}
 use borrow.Author.Needs.{needs}
 use Rattle.steps.proofs.cases.find_case.Statement.{statement}
 use Rattle.steps.proofs.cases.find_case.Tie as tie
 
 abbrev Inv-loop : tie.InvT-loop
-Inv-loop graph start count code neither at₀ i₀ at i = Passed graph neither code start count at i
+Inv-loop graph start count low high neither at₀ i₀ begun₀ node₀ at i begun node =
+    Passed graph neither low high start count at i begun node
 
 abbrev μ-loop : tie.MeasureT-loop
-μ-loop graph start count code neither at₀ i₀ at i = count - i
+μ-loop graph start count low high neither at₀ i₀ begun₀ node₀ at i begun node = count - i
 
 loop-holds : tie.Need-loop-holds Inv-loop μ-loop
 loop-holds c =
-    let a = c .before .args in passed-starts (now (a .graph)) (a .neither) (a .code) (a .start) (a .count) (c .before .pre .0) (c .before .pre .1)
+    let a = c .before .args in
+    passed-starts (now (a .graph)) (a .neither) (a .low) (a .high) (a .start) (a .count) (c .before .pre .0 .0) (c .before .pre .0 .1)
 
 sub-case-head : tie.Need-sub-case-head Inv-loop μ-loop
 sub-case-head c = c .before .loop .inv .there
@@ -49,37 +47,50 @@ case-refusal-requires c κs = search needs
 
 returns : tie.Need-returns Inv-loop μ-loop
 returns c =
-    let a = c .before .before .before .before .before .before .before .before .args in
+    let read = c .before .before .before in
+    let around = read .before .before .before in
+    let start = around .before .before in
+    let a = start .args in
     let s = now (a .graph) in
     absurd
-    (passed-whole s (a .neither) (a .code) (c .before .before .before .before .before .before .loop .inv) (c .before .before .before .before .before .loop-test .taken)
-    (ap caseHead (sym (rest s (c .before .before .before .before .before .before .loop .at))) ∙ sym (c .before .before .before .case-head .ensures) ∙ c .before .enum-told .given .1))
+    (passed-whole s (a .neither) (a .low) (a .high) (around .loop .inv) (start .pre .1) (read .before .before .loop-test .taken)
+    (ap caseHead (sym (rest s (around .loop .at))) ∙ sym (read .case-head .ensures) ∙ c .before .enum-told .given .1))
 
 case-range-requires : tie.Need-case-range-requires Inv-loop μ-loop
 case-range-requires c κs = search needs
 
+returns-2 : tie.Need-returns-2 Inv-loop μ-loop
+returns-2 c =
+    let ranged = c .before .before in
+    let told = ranged .before .before in
+    let read = told .before .before in
+    let around = read .before .before .before in
+    let start = around .before .before in
+    let a = start .args in
+    let s = now (a .graph) in
+    let whole = ap caseHead (sym (rest s (around .loop .at))) ∙ sym (read .case-head .ensures) ∙ told .head .given .1 in
+    ap To
+    (passed-above s (a .neither) (a .low) (a .high) (around .loop .inv) (start .pre .1) (read .before .before .loop-test .taken)
+    (told .head .given .0 .0) whole (ranged .case-range .ensures) (c .if1 .taken))
+
 both-requires : tie.Need-both-requires Inv-loop μ-loop
 both-requires c κs = search needs
 
-returns-2 : tie.Need-returns-2 Inv-loop μ-loop
-returns-2 c =
-    let a = c .before .before .before .before .before .before .before .before .before .before .before .before .before .args in
-    let s = now (a .graph) in
-    let c' = c .before .before .before .before .before .before .head .given .0 .0 in
-    let told : caseHead (drop (c .before .before .before .before .before .before .before .before .before .before .before .loop .at) s) ≡ Whole c' = ap caseHead (sym (rest s (c .before .before .before .before .before .before .before .before .before .before .before .loop .at))) ∙ sym (c .before .before .before .before .before .before .before .before .case-head .ensures) ∙ c .before .before .before .before .before .before .head .given .1 in
-    let takes = range-takes c' (a .code) ∙ ap (λ (r : CaseRange). leb (r .first) (a .code) && leb (a .code) (r .last)) (sym (c .before .before .before .before .case-range .ensures)) ∙ sym (c .before .both .ensures) in
-    ap To
-    (ap (λ (r : CaseRange). r .node) (c .before .before .before .before .case-range .ensures)
-    ∙ range-leads c'
-    ∙ passed-takes s (a .neither) (a .code) (c .before .before .before .before .before .before .before .before .before .before .before .loop .inv) (c .before .before .before .before .before .before .before .before .before .before .loop-test .taken) c' told (takes ∙ c .if1 .taken))
-
 add-at : tie.Need-add-at Inv-loop μ-loop
 add-at c =
-    let a = c .before .before .before .before .before .before .before .before .before .before .before .before .before .before .args in
+    let ranged = c .before .before .before .before .before .before .before in
+    let told = ranged .before .before in
+    let read = told .before .before in
+    let around = read .before .before .before in
+    let start = around .before .before in
+    let a = start .args in
     let s = now (a .graph) in
-    let c' = c .before .before .before .before .before .before .before .head .given .0 .0 in
-    let told : caseHead (drop (c .before .before .before .before .before .before .before .before .before .before .before .before .loop .at) s) ≡ Whole c' = ap caseHead (sym (rest s (c .before .before .before .before .before .before .before .before .before .before .before .before .loop .at))) ∙ sym (c .before .before .before .before .before .before .before .before .before .case-head .ensures) ∙ c .before .before .before .before .before .before .before .head .given .1 in
-    omega (arith, passed-inside s (a .neither) (a .code) (c .before .before .before .before .before .before .before .before .before .before .before .before .loop .inv) (c .before .before .before .before .before .before .before .before .before .before .before .loop-test .taken) c' told, ap (λ (r : CaseRange). r .bytes) (c .before .before .before .before .before .case-range .ensures))
+    let whole = ap caseHead (sym (rest s (around .loop .at))) ∙ sym (read .case-head .ensures) ∙ told .head .given .1 in
+    omega (
+      arith,
+      passed-inside s (a .neither) (a .low) (a .high) (around .loop .inv) (start .pre .1) (read .before .before .loop-test .taken)
+          (told .head .given .0 .0) whole (ranged .case-range .ensures),
+    )
 
 add-i : tie.Need-add-i Inv-loop μ-loop
 add-i c = search needs
@@ -89,18 +100,32 @@ loop-less c = search needs
 
 loop-again : tie.Need-loop-again Inv-loop μ-loop
 loop-again c =
-    let a = c .before .before .before .before .before .before .before .before .before .before .before .before .before .before .args in
+    let tried = c .before .before in
+    let ranged = tried .before .before .before .before .before in
+    let told = ranged .before .before in
+    let read = told .before .before in
+    let around = read .before .before .before in
+    let start = around .before .before in
+    let a = start .args in
     let s = now (a .graph) in
-    let c' = c .before .before .before .before .before .before .before .head .given .0 .0 in
-    let told : caseHead (drop (c .before .before .before .before .before .before .before .before .before .before .before .before .loop .at) s) ≡ Whole c' = ap caseHead (sym (rest s (c .before .before .before .before .before .before .before .before .before .before .before .before .loop .at))) ∙ sym (c .before .before .before .before .before .before .before .before .before .case-head .ensures) ∙ c .before .before .before .before .before .before .before .head .given .1 in
-    let takes = range-takes c' (a .code) ∙ ap (λ (r : CaseRange). leb (r .first) (a .code) && leb (a .code) (r .last)) (sym (c .before .before .before .before .before .case-range .ensures)) ∙ sym (c .before .before .both .ensures) in
-    subst (λ (n : ℕ). Passed s (a .neither) (a .code) (a .start) (a .count) (c .before .before .before .before .before .before .before .before .before .before .before .before .loop .at + n) (c .before .before .before .before .before .before .before .before .before .before .before .before .loop .i + 1)) (sym (ap (λ (r : CaseRange). r .bytes) (c .before .before .before .before .before .case-range .ensures)))
-    (passed-next s (a .neither) (a .code) (c .before .before .before .before .before .before .before .before .before .before .before .before .loop .inv) (c .before .before .before .before .before .before .before .before .before .before .before .loop-test .taken) c' told (takes ∙ c .before .if1 .left))
+    let next = read .before .before .loop-test .taken in
+    let first = told .head .given .0 .0 in
+    let whole = ap caseHead (sym (rest s (around .loop .at))) ∙ sym (read .case-head .ensures) ∙ told .head .given .1 in
+    let low-enough = tried .before .before .before .if1 .left in
+    ⊎-elim
+    (λ w.
+    passed-better s (a .neither) (a .low) (a .high) (around .loop .inv) (start .pre .1) next first whole (ranged .case-range .ensures)
+    low-enough (sym (tried .both .ensures) ∙ w .0 .taken) (w .1) (w .2))
+    (λ w.
+    passed-still s (a .neither) (a .low) (a .high) (around .loop .inv) (start .pre .1) next first whole (ranged .case-range .ensures)
+    low-enough (sym (tried .both .ensures) ∙ w .0 .left) (w .1) (w .2))
+    (c .before .if2 .came)
 
 returns-3 : tie.Need-returns-3 Inv-loop μ-loop
 returns-3 c =
-    let a = c .before .before .before .args in
-    ap To (passed-ends (now (a .graph)) (a .neither) (a .code) (c .before .loop .inv) (c .loop-test .left))
+    let start = c .before .before .before in
+    let a = start .args in
+    ap To (passed-ends (now (a .graph)) (a .neither) (a .low) (a .high) (c .before .loop .inv) (start .pre .1) (c .loop-test .left))
 
 pub find-case-spec : {M : Type 1} → statement M
 find-case-spec =
@@ -118,8 +143,8 @@ find-case-spec =
     case-refusal-requires
     returns
     case-range-requires
-    both-requires
     returns-2
+    both-requires
     add-at
     add-i
     loop-less

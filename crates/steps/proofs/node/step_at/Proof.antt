@@ -14,7 +14,7 @@ use Rattle.graph.specs.views.NodeRecord.{nodeHead}
 use Rattle.node_check.proofs.CopiedNodes.{node-there}
 use Rattle.pairs.specs.views.KeptPairs.{pairCode}
 use Rattle.steps.specs.declared.Step.the-variants.{Stop}
-use Rattle.steps.specs.views.CodeSteps.{stepMade, nodeStep, NearNode, codeStep}
+use Rattle.steps.specs.views.CodeSteps.{stepMade, nodeStep, NearNode, CodesAscend, OrderedNode, codeStep}
 use Rattle.steps.proofs.StepsMade.{leaf-back}
 use Rattle.steps.proofs.NodeSteps.{leaf-node, pair-node, switch-node, cases-inside, cases-begin, cases-read}
 use borrow.Author.Needs.{needs}
@@ -61,14 +61,20 @@ add-switch-step c = search needs
 
 switch-step-requires : tie.Need-switch-step-requires
 switch-step-requires c κs =
-    let a = c .before .before .before .before .before .before .before .before .before .args in
+    let start = c .before .before .before .before .before .before .before .before .before in
+    let a = start .args in
+    let stands = start .pre .0 in
     let s = now (a .graph) in
-    let cells = now (a .cells) in
     let read = ap nodeHead (sym (rest s (a .at))) ∙ sym (c .before .before .before .before .before .before .node-head .ensures) in
-    let switching : nodeHead (drop (a .at) s) ≡ Whole (Switch (c .before .node2 .given .0 .0) (c .before .node2 .given .0 .1 .0) (c .before .node2 .given .0 .1 .1 .0) (c .before .node2 .given .0 .1 .1 .1 .0)) = read ∙ c .before .before .before .before .head .given .1 ∙ ap Whole (c .before .node2 .given .1) in (
-      cases-inside s (a .at) (c .before .before .before .before .before .before .before .before .before .pre .0 .begins) switching,
-      cases-read s (a .at) (c .before .before .before .before .before .before .before .before .before .pre .0 .begins) switching (c .before .before .before .before .before .before .before .before .before .pre .0 .whole),
-      subst NearNode (sym (switch-node (drop (a .at) s) switching (c .before .before .before .before .before .before .before .before .before .pre .0 .whole))) (c .before .before .before .before .before .before .before .before .before .pre .0 .near),
+    let switching : nodeHead (drop (a .at) s) ≡ Whole (Switch (c .before .node2 .given .0 .0) (c .before .node2 .given .0 .1 .0) (c .before .node2 .given .0 .1 .1 .0) (c .before .node2 .given .0 .1 .1 .1 .0)) = read ∙ c .before .before .before .before .head .given .1 ∙ ap Whole (c .before .node2 .given .1) in
+    let node = sym (switch-node (drop (a .at) s) switching (stands .whole)) in (
+      (
+        cases-inside s (a .at) (stands .begins) switching,
+        cases-read s (a .at) (stands .begins) switching (stands .whole),
+        subst NearNode node (stands .near),
+      ),
+      subst (λ (l : List ℕ). CodesAscend (readOr [] (readCases (c .before .node2 .given .0 .1 .0) l)))
+          (cases-begin s (a .at) (stands .begins) switching) (subst OrderedNode node (stands .ordered)),
     )
 
 enum-known-node-3 : tie.Need-enum-known-node-3
