@@ -7,7 +7,7 @@ use Rattle.terms.specs.Pattern.{Pattern, Patterns, countPatterns, pnil, pcons}
 use Rattle.terms.specs.Pattern.{anything, theSymbol, theRange, theCompound, variable, rangedVariable}
 use Rattle.patterns.specs.declared.PatternRecord.the-variants.{Symbol, Range, Compound, Variable, Ranged}
 use Rattle.patterns.specs.views.Note.{note}
-pub use Rattle.patterns.specs.views.Note.{Note}
+use Rattle.patterns.specs.views.Note.{Note}
 
 -- The notes of a pattern at place b with so many levels below it, and of a row of patterns of which the first stands
 -- there.

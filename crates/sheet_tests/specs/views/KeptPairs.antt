@@ -1,7 +1,6 @@
 -- The pairs of a sheet as tests.
 use Prim.Native.Nat.{ℕ, _/_, _%_}
 use Rattle.sheet_tests.specs.SheetTests.{Test, pair}
-pub use Rattle.pairs.specs.views.KeptPairs.{pairCode}
 
 -- The pair that a number stands for.
 abbrev pub codePair : ℕ → Test

@@ -7,7 +7,6 @@ use lib.ListN.{getD}
 use Rattle.patterns.specs.declared.PatternRecord.{PatternRecord}
 use Rattle.patterns.specs.declared.PatternRecord.the-variants.{Anything, Symbol, Range, Compound, Variable, Ranged}
 use Rattle.patterns.specs.views.Note.{Note}
-pub use Rattle.pairs.specs.views.NoteVariables.{Placed}
 
 -- A record is a place test: a symbol, a range, a compound, or a variable with a range.
 abbrev pub isTested : (ℕ → Bool) → PatternRecord → Bool
