@@ -1,5 +1,5 @@
 -- Cases that question 24 accepts ascend by their codes.
-use Prim.Native.Nat.{ℕ, _<_, _≤_}
+use Prim.Native.Nat.{ℕ, _<_}
 use mathlib.Core.Path.{sym, subst}
 use mathlib.Core.Bool.{_&&_}
 use mathlib.Core.Logic.{inl}
@@ -12,7 +12,6 @@ use Rattle.basics.proofs.Booleans.{both-true}
 use Rattle.basics.proofs.ListLaws.{all-map}
 use Rattle.basics.proofs.Sorted.{before-pair}
 use Rattle.decision.specs.Node.{Node, CaseEdge, end, switch, pairNode}
-use Rattle.decision.specs.AcceptedGraph.{CaseFields}
 use Rattle.decision.specs.views.CaseCodes.{caseLow, caseHigh}
 use Rattle.graph.specs.ReadGraph.{inOrder}
 use Rattle.node_check.proofs.CodeOrder.{ascendAfter, ascend-codes}

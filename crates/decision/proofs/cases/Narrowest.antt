@@ -83,13 +83,14 @@ case-across t (numbersCase a b) (symbolCase v) (numbersCase x y) p q h = absurd 
 case-across t (numbersCase a b) (compoundCase v n) (numbersCase x y) p q h = absurd (no-compound t a b v n p q)
 case-across t (numbersCase a b) (numbersCase v w) (numbersCase x y) p q h = narrower-across a b v w x y h
 
+-- An edge's case is narrower than that of another,
+abbrev pub narrowerEdge : {A : Type 0} → CaseEdge A → CaseEdge A → Bool
+narrowerEdge c d = narrower (c .case) (d .case)
+
 module _ {A : Type 0} (t : Term) where
-  -- The edge's case takes the term, and is narrower than that of another.
+  -- and takes the term.
   abbrev pub takesEdge : CaseEdge A → Bool
   takesEdge c = takes (c .case) t
-
-  abbrev pub narrowerEdge : CaseEdge A → CaseEdge A → Bool
-  narrowerEdge c d = narrower (c .case) (d .case)
 
   edge-order : TakenOrder takesEdge narrowerEdge
   edge-order = record {

@@ -60,7 +60,7 @@ numbers-follow {A} f neither a b xs x e =
     let span = numbers a b in
     let edgeTo : Case → CaseEdge A = λ c. record { case = c; target = f c } in
     ap (leadsOr neither)
-    (best-map edgeTo (takesEdge span) (narrowerEdge span) (map numbersIn xs)
+    (best-map edgeTo (takesEdge span) narrowerEdge (map numbersIn xs)
     ∙ ap (mapSome edgeTo) (best-map numbersIn (λ (c : Case). takes c span) narrower xs ∙ ap (mapSome numbersIn) e))
 
 -- Where no range is wanted no pair is followed.

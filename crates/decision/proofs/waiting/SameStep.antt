@@ -2,8 +2,8 @@
 -- known, is still not known.
 use Prim.Native.Nat.{ℕ}
 use mathlib.Core.Path.{_≡_, refl, ap, ap₂, sym, _∙_}
-use mathlib.Core.Bool.{_&&_, cond}
-use mathlib.Core.List.{List, [], _∷_}
+use mathlib.Core.Bool.{_&&_}
+use mathlib.Core.List.{List}
 use native.Mathlib.Omega.{arith}
 use lib.Dec.{T, eqb}
 use Rattle.terms.specs.Term.{Term, Terms, unknown, symbol, numbers, compound}
@@ -93,8 +93,8 @@ module _ {P : Term → Type 0} where
   same-follow
       : {A : Type 0} (cs : List (CaseEdge A)) (x : A) {t g : Term} → Exact t → Puts P t g → (T (isUnknown (found t)) → ⊥)
       → follow cs x g ≡ follow cs x t
-  same-follow {A} cs x {t} exact f k =
-      λ i. leadsOr x (best (λ (c : CaseEdge A). same-takes (c .case) exact f k i) (narrowerEdge t) cs)
+  same-follow {A} cs x exact f k =
+      λ i. leadsOr x (best (λ (c : CaseEdge A). same-takes (c .case) exact f k i) narrowerEdge cs)
 
   -- The step at a switch is the same,
   same-switch

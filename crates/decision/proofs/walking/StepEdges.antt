@@ -24,8 +24,8 @@ module _ {A B : Type 0} (f : A → B) where
   -- A known term leads to the other thing of where it leads.
   follow-map : (cs : List (CaseEdge A)) (x : A) (u : Term) → follow (map (mapCase f) cs) (f x) u ≡ f (follow cs x u)
   follow-map cs x u =
-      ap (leadsOr (f x)) (best-map (mapCase f) (takesEdge u) (narrowerEdge u) cs)
-      ∙ go (best (takesEdge u) (narrowerEdge u) cs)
+      ap (leadsOr (f x)) (best-map (mapCase f) (takesEdge u) narrowerEdge cs)
+      ∙ go (best (takesEdge u) narrowerEdge cs)
     where
       go : (o : Option (CaseEdge A)) → leadsOr (f x) (mapSome (mapCase f) o) ≡ f (leadsOr x o)
       go none = refl
@@ -74,7 +74,7 @@ module _ {A : Type 0} where
   follow-edge : (cs : List (CaseEdge A)) (x y : A) (u : Term) → Mem (follow cs x u) (targets cs x y)
   follow-edge cs x y u =
       let here-are = map (λ (c : CaseEdge A). c .target) cs in
-      leads-holds (λ (z : A). Mem z (targets cs x y)) (takesEdge u) (narrowerEdge u) cs x
+      leads-holds (λ (z : A). Mem z (targets cs x y)) (takesEdge u) narrowerEdge cs x
       (all-from (λ (c : CaseEdge A). Mem (c .target) (targets cs x y)) cs
       (λ c m. mem-left (x ∷ y ∷ []) (mem-map (λ (d : CaseEdge A). d .target) m)))
       (mem-right here-are here)
