@@ -8,3 +8,5 @@ pub mod Named
 pub mod Questions
 pub mod CheckedSheets
 pub mod FoundTests
+-- That only the number of rules is limited:
+pub mod RuleLimit

@@ -3,6 +3,7 @@ use piece::PieceCheck;
 use plain::Plain;
 use rule_by_rule::rules::answer_rules;
 use sheet_tests::SheetCheck;
+use sheet_tests::Starts;
 ghost use mathlib.Core.Path.{_≡_};
 ghost use Prim.Native.Nat.{_≤_};
 ghost use lib.ListN.{length};
@@ -17,9 +18,9 @@ fn answer_piece(
     count: u8,
     p: &[u8],
     notes: &mut [u64; 680],
-    starts: &[usize; 32],
+    starts: &Starts,
 ) -> Plain
-    requires { ⌜ SheetRules (now s) arity count × (length (now notes) ≡ 680) × (count ≤ 32)
+    requires { ⌜ SheetRules (now s) arity count × (length (now notes) ≡ 680) × (count ≤ 64)
         × StartsIn arity (now s) (now starts) count ⌝ }
     ensures { λ r. ⌜ ((k : SheetRules (now (s .entry)) arity count)
         → plainValues r ≡ readingValues (pieceReading arity (k .rules) (now (p .entry)))) ⌝ }
@@ -43,7 +44,7 @@ pub fn plain(sheet: &[u8], piece: &[u8]) -> Plain
     ensures { λ r. ⌜ plainValues r ≡ readingValues (plainReading (now (sheet .entry)) (now (piece .entry))) ⌝ }
 {
     let mut notes = [0u64; 680];
-    let mut starts = [0usize; 32];
+    let mut starts = [0usize; 64];
     let checked = sheet_tests::check_noted(sheet, &mut notes, &mut starts);
     match checked {
         SheetCheck::Refused(q) => Plain::Refused(q),

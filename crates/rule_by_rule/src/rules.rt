@@ -4,6 +4,7 @@ use outcomes::TestOutcome;
 use plain::Answer;
 use plain::rule::rule_outcome;
 use sheet::Took;
+use sheet_tests::Starts;
 ghost use mathlib.Core.Path.{_≡_};
 ghost use Prim.Native.Nat.{ℕ, _≤_};
 ghost use lib.ListN.{length};
@@ -68,9 +69,9 @@ pub fn answer_rules(
     count: u8,
     cells: &[u32; 680],
     notes: &mut [u64; 680],
-    starts: &[usize; 32],
+    starts: &Starts,
 ) -> Answer
-    requires { ⌜ SheetRules (now s) arity count × (length (now notes) ≡ 680) × Narrow (now cells) × (count ≤ 32)
+    requires { ⌜ SheetRules (now s) arity count × (length (now notes) ≡ 680) × Narrow (now cells) × (count ≤ 64)
         × StartsIn arity (now s) (now starts) count ⌝ }
     ensures { λ r. ⌜ answerValues (answerOf r)
         ≡ readingValues (mapReading (movedBy (cellsOutcome (now (cells .entry))) 1 fail)

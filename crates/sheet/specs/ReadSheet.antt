@@ -15,13 +15,17 @@ use Rattle.terms.specs.RuleTests.{Range, patternsRange}
 use Rattle.sheet.specs.Sheet.{Sheet, SheetHead, mostRules}
 use Rattle.basics.specs.Lists.{allBelow}
 
--- "1 Does it begin with a whole 10 record?" "2 Is its arity 1 to 8?" "3 Has it at most 32 rules (0 is allowed)?"
-unfoldable pub readHeader : List ℕ → Reading SheetHead
-readHeader s =
+-- "1 Does it begin with a whole 10 record?" "2 Is its arity 1 to 8?" "3 Has it at most 32 rules (0 is allowed)?" How many it may
+-- have is given.
+abbrev pub readHeaderUpTo : ℕ → List ℕ → Reading SheetHead
+readHeaderUpTo most s =
     ask 1 (beginsWith 0x10 s)
     (ask 2 (leb 1 (byteAt s 1) && leb (byteAt s 1) 8)
-    (ask 3 (leb (byteAt s 2) mostRules)
+    (ask 3 (leb (byteAt s 2) most)
     (took (recordLength 0x10) (record { arity = byteAt s 1; ruleCount = byteAt s 2 }))))
+
+unfoldable pub readHeader : List ℕ → Reading SheetHead
+readHeader s = readHeaderUpTo mostRules s
 
 -- The pattern of a record, by its kind: "7 Is low at most high?" "8 Is the variable 0 to 15?" A compound is read as given.
 abbrev pub patternOf : Reading Pattern → List ℕ → Reading Pattern
@@ -74,9 +78,12 @@ abbrev pub endSheet : ℕ → ℕ → Reading (List Patterns) → Reading Sheet
 endSheet arity bytes (took a rules) = ask 10 (eqb a bytes) (took (3 + a) (record { arity = arity; rules = rules }))
 endSheet arity bytes (refused q) = refused q
 
--- The first record, the rules, the end.
-unfoldable pub readSheet : List ℕ → Reading Sheet
-readSheet s =
+-- After the first record the rules, then the end.
+abbrev pub afterHeader : Reading SheetHead → List ℕ → Reading Sheet
+afterHeader header s =
     andThen
-    (readHeader s)
+    header
     (λ a head. endSheet (head .arity) (length s - a) (readRules (head .arity) (head .ruleCount) (drop a s)))
+
+unfoldable pub readSheet : List ℕ → Reading Sheet
+readSheet s = afterHeader (readHeader s) s

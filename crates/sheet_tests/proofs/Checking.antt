@@ -237,8 +237,8 @@ module _ (s : List ℕ) where
 
   module _ {arity rules : ℕ} (e : took 3 (record { arity = arity; ruleCount = rules }) ≡ readHeader s) where
     -- Otherwise its 3 bytes are there, and the arity is at most 8.
-    pub header-known : (3 ≤ length s) × (arity ≤ 8) × (rules ≤ 32)
-    header-known = let is = header-is s (sym e) in (is .whole, is .fewArguments, is .fewRules)
+    pub header-known : (3 ≤ length s) × (arity ≤ 8) × (rules ≤ 64)
+    header-known = let is = header-is s (sym e) in (is .whole, is .fewArguments, omega (arith, is .fewRules))
 
     -- The sheet is checked by what follows.
     pub header-read : acceptSheet s ≡ askTests (endSheet arity (length s - 3) (readRules arity rules (drop 3 s)))

@@ -53,5 +53,5 @@ starts-done arity n s starts e h = subst (scanStarts arity s starts n) e h
 
 pub starts-tests
     : (s starts : List ℕ) (arity n places pairs : ℕ) {r : TestsRead} → r ≡ Accepted arity n places pairs
-    → testsStarts s starts r → (n ≤ 32) × StartsIn arity s starts n
+    → testsStarts s starts r → (n ≤ 64) × StartsIn arity s starts n
 starts-tests s starts arity n places pairs e h = subst (testsStarts s starts) e h

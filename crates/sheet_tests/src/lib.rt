@@ -7,6 +7,9 @@ pub use sheets::check_noted;
 pub use sheets::check_sheet;
 pub use sheets::read_tests;
 
+// Where each rule of a sheet begins.
+pub type Starts = [usize; 64];
+
 // What the check of a sheet answers: its arity, rules and tests, or the number of the question that got a no.
 pub enum SheetCheck {
     Accepted(u8, u8, u8),

@@ -1,6 +1,7 @@
 // The tests of a sheet: its rules are read one after another, and the tests of each are gathered. Its check counts them.
 use crate::Scan;
 use crate::SheetCheck;
+use crate::Starts;
 use crate::TestsRead;
 use crate::rule::mark_rule;
 use crate::tested::count_places;
@@ -53,10 +54,10 @@ fn scan_rules(
     notes: &mut [u64; 680],
     words: &mut [u64; 11],
     codes: &mut [u32; 65],
-    starts: &mut [usize; 32],
+    starts: &mut Starts,
 ) -> Scan
     requires { ⌜ (arity ≤ 8) × (length (now notes) ≡ 680) × (length (now words) ≡ 11) × (length (now codes) ≡ 65)
-        × (rules ≤ 32) × (length (now starts) ≡ 32) ⌝ }
+        × (rules ≤ 64) × (length (now starts) ≡ 64) ⌝ }
     ensures { λ r. ⌜ gatheredIn (now (words .exit)) (now (codes .exit)) r
         ≡ mapReading (λ rs. gather rs (held (now (words .entry)) (now (codes .entry)) 0))
         (readRules arity rules (now (s .entry))) ⌝ }
@@ -92,10 +93,10 @@ fn read_rules(
     words: &mut [u64; 11],
     codes: &mut [u32; 65],
     notes: &mut [u64; 680],
-    starts: &mut [usize; 32],
+    starts: &mut Starts,
 ) -> TestsRead
     requires { ⌜ (arity ≤ 8) × (now words ≡ replicate 11 0) × (now codes ≡ replicate 65 0)
-        × (rules ≤ 32) × (length (now notes) ≡ 680) × (length (now starts) ≡ 32) ⌝ }
+        × (rules ≤ 64) × (length (now notes) ≡ 680) × (length (now starts) ≡ 64) ⌝ }
     ensures { λ r. ⌜ testsFound (now (words .exit)) (now (codes .exit)) r
         ≡ sheetFound (askTests (endSheet arity (length (now (s .entry))) (readRules arity rules (now (s .entry))))) ⌝ }
     ensures { λ r. ⌜ Held (now (words .exit)) (now (codes .exit)) r ⌝ }
@@ -134,10 +135,10 @@ fn tests_noted(
     words: &mut [u64; 11],
     codes: &mut [u32; 65],
     notes: &mut [u64; 680],
-    starts: &mut [usize; 32],
+    starts: &mut Starts,
 ) -> TestsRead
     requires { ⌜ (now words ≡ replicate 11 0) × (now codes ≡ replicate 65 0)
-        × (length (now notes) ≡ 680) × (length (now starts) ≡ 32) ⌝ }
+        × (length (now notes) ≡ 680) × (length (now starts) ≡ 64) ⌝ }
     ensures { λ r. ⌜ testsFound (now (words .exit)) (now (codes .exit)) r ≡ sheetFound (acceptSheet (now (s .entry))) ⌝ }
     ensures { λ r. ⌜ Held (now (words .exit)) (now (codes .exit)) r ⌝ }
     ensures { λ r. ⌜ testsStarts (drop 3 (now (s .entry))) (now (starts .exit)) r × (length (now (notes .exit)) ≡ 680) ⌝ }
@@ -156,14 +157,14 @@ pub fn read_tests(s: &[u8], words: &mut [u64; 11], codes: &mut [u32; 65]) -> Tes
     ensures { λ r. ⌜ Held (now (words .exit)) (now (codes .exit)) r ⌝ }
 {
     let mut notes = [0u64; 680];
-    let mut starts = [0usize; 32];
+    let mut starts = [0usize; 64];
     tests_noted(s, words, codes, &mut notes, &mut starts)
 }
 
 // Checks a sheet and leaves where its rules begin, with the notes lent: questions 1 to 11. Not the place of a rule's last byte,
 // nor that of the rule after it.
-pub fn check_noted(s: &[u8], notes: &mut [u64; 680], starts: &mut [usize; 32]) -> SheetCheck
-    requires { ⌜ (length (now notes) ≡ 680) × (length (now starts) ≡ 32) ⌝ }
+pub fn check_noted(s: &[u8], notes: &mut [u64; 680], starts: &mut Starts) -> SheetCheck
+    requires { ⌜ (length (now notes) ≡ 680) × (length (now starts) ≡ 64) ⌝ }
     ensures { λ r. ⌜ sheetCheckValues r ≡ sheetValues (acceptSheet (now (s .entry))) ⌝ }
     ensures { λ r. ⌜ checkStarts (drop 3 (now (s .entry))) (now (starts .exit)) r × (length (now (notes .exit)) ≡ 680) ⌝ }
 {
@@ -185,6 +186,6 @@ pub fn check_sheet(s: &[u8]) -> SheetCheck
     ensures { λ r. ⌜ sheetCheckValues r ≡ sheetValues (acceptSheet (now (s .entry))) ⌝ }
 {
     let mut notes = [0u64; 680];
-    let mut starts = [0usize; 32];
+    let mut starts = [0usize; 64];
     check_noted(s, &mut notes, &mut starts)
 }

@@ -20,7 +20,7 @@ use Rattle.answering.proofs.plain.Statement.{statement}
 use Rattle.answering.proofs.plain.Tie as tie
 
 check-noted-requires : tie.Need-check-noted-requires
-check-noted-requires c κs = (length-replicate {A = ℕ} 680 0, length-replicate {A = ℕ} 32 0)
+check-noted-requires c κs = (length-replicate {A = ℕ} 680 0, length-replicate {A = ℕ} 64 0)
 
 -- Where the sheet was accepted.
 module _ (c : tie.After-known-told2) where

@@ -26,15 +26,15 @@ ruleStart arity s (suc i) = ruleStart arity s i + bytesRead (readRule arity (dro
 abbrev pub StartsIn : ℕ → List ℕ → List ℕ → ℕ → Type 0
 StartsIn arity s starts n = (i : ℕ) → i < n → (getD starts i 0 ≡ ruleStart arity s i) × (getD starts i 0 ≤ length s)
 
--- They say so of all rules, once these are read or the sheet is accepted: there are at most 32.
+-- They say so of all rules, once these are read or the sheet is accepted: there are at most 64.
 abbrev pub scanStarts : ℕ → List ℕ → List ℕ → ℕ → Scan → Type 0
 scanStarts arity s starts n (scan.Done bytes count) = StartsIn arity s starts n
 scanStarts arity s starts n (scan.Refused q) = Unit
 
 abbrev pub testsStarts : List ℕ → List ℕ → TestsRead → Type 0
-testsStarts s starts (tests.Accepted arity n places pairs) = (n ≤ 32) × StartsIn arity s starts n
+testsStarts s starts (tests.Accepted arity n places pairs) = (n ≤ 64) × StartsIn arity s starts n
 testsStarts s starts (tests.Refused q) = Unit
 
 abbrev pub checkStarts : List ℕ → List ℕ → SheetCheck → Type 0
-checkStarts s starts (check.Accepted arity n tests) = (n ≤ 32) × StartsIn arity s starts n
+checkStarts s starts (check.Accepted arity n tests) = (n ≤ 64) × StartsIn arity s starts n
 checkStarts s starts (check.Refused q) = Unit

@@ -6,7 +6,7 @@ use Rattle.sheet_tests.proofs.sheets.check_sheet.Statement.{statement}
 use Rattle.sheet_tests.proofs.sheets.check_sheet.Tie as tie
 
 check-noted-requires : tie.Need-check-noted-requires
-check-noted-requires c κs = (length-replicate {A = ℕ} 680 0, length-replicate {A = ℕ} 32 0)
+check-noted-requires c κs = (length-replicate {A = ℕ} 680 0, length-replicate {A = ℕ} 64 0)
 
 returns : tie.Need-returns
 returns c = c .check-noted .ensures .0

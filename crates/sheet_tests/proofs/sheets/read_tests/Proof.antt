@@ -8,7 +8,7 @@ use Rattle.sheet_tests.proofs.sheets.read_tests.Tie as tie
 tests-noted-requires : tie.Need-tests-noted-requires
 tests-noted-requires c κs =
     let pre = c .before .before .before .before .before .pre in
-    (pre .0, pre .1, length-replicate {A = ℕ} 680 0, length-replicate {A = ℕ} 32 0)
+    (pre .0, pre .1, length-replicate {A = ℕ} 680 0, length-replicate {A = ℕ} 64 0)
 
 returns : tie.Need-returns
 returns c = (c .tests-noted .ensures .0, c .tests-noted .ensures .1 .0)

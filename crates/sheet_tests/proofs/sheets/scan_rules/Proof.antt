@@ -22,7 +22,7 @@ Inv-loop s arity rules notes₀ words₀ codes₀ starts₀ at₀ count₀ i₀ 
     (i ≤ rules) × (at ≤ length s) × (count ≤ 65) × (length notes ≡ 680) × (length words ≡ 11) × (length codes ≡ 65)
     × (scanFrom arity rules s i at (held words codes count)
     ≡ mapReading (λ rs. gather rs (held words₀ codes₀ 0)) (readRules arity rules s))
-    × (length starts ≡ 32) × (at ≡ ruleStart arity s i) × StartsIn arity s starts i
+    × (length starts ≡ 64) × (at ≡ ruleStart arity s i) × StartsIn arity s starts i
 
 abbrev μ-loop : tie.MeasureT-loop
 μ-loop s arity rules notes₀ words₀ codes₀ starts₀ at₀ count₀ i₀ notes words codes starts at count i = rules - i
