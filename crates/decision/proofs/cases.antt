@@ -16,3 +16,4 @@ pub mod RunPairs
 pub mod Best
 pub mod Narrowest
 pub mod NumberPairs
+pub mod PairCases
