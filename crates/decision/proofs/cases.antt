@@ -7,6 +7,7 @@ pub mod RangeOrder
 pub mod WantedRanges
 pub mod Runs
 pub mod CaseList
+pub mod SwitchEdges
 pub mod CasesLaws
 pub mod CasesAccepted
 pub mod CasesSentence
@@ -15,5 +16,9 @@ pub mod FramedRuns
 pub mod RunPairs
 pub mod Best
 pub mod Narrowest
+pub mod SpanFollows
 pub mod NumberPairs
 pub mod PairCases
+pub mod PairCasesLaws
+pub mod PairCasesAccepted
+pub mod PairCasesSentence

@@ -5,5 +5,6 @@ pub mod FirmTests
 pub mod SeenTests
 pub mod RightKeys
 pub mod RightLeaves
+pub mod SwitchOwes
 pub mod RightSwitch
 pub mod RightSteps

@@ -4,4 +4,7 @@ pub mod SamePath
 pub mod Waits
 pub mod WaitSentence
 pub mod KeptOpen
+pub mod SpanWaits
+pub mod SpanWaitsSentence
+pub mod WaitSentenceSpans
 pub mod WaitSentenceKept

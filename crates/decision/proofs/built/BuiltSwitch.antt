@@ -3,31 +3,28 @@
 use Prim.Native.Nat.{ℕ, suc, _≤_, _<_}
 use mathlib.Core.Path.{_≡_, refl, ap, sym, subst}
 use mathlib.Core.List.{List, [], _∷_, map}
-use mathlib.Core.Option.{Option, some, none}
 use native.Mathlib.Omega.{arith}
 use lib.Dec.{T}
 use lib.ListN.{length}
 use Rattle.masks.specs.Mask.{has}
 use Rattle.basics.specs.Lists.{All, Mem, here, there}
 use Rattle.terms.specs.Pattern.{Patterns}
-use Rattle.terms.specs.RuleTests.{Want, placeTests}
+use Rattle.terms.specs.RuleTests.{Want}
 use Rattle.terms.specs.Accepted.{AcceptedRule}
 use Rattle.terms.specs.Answer.{ruleAt}
-use Rattle.basics.proofs.ListLaws.{all-at, all-from}
+use Rattle.basics.proofs.ListLaws.{all-from}
 use Rattle.sheet_tests.specs.SheetTests.{Test, place, pair, sheetTests}
-use Rattle.decision.specs.Rules.{wantAt}
 use Rattle.decision.specs.Key.{Key, Vertex}
 use Rattle.decision.specs.Cases.{Case, casesOf}
 use Rattle.decision.specs.Node.{CaseEdge, edges, mapCase, mapNode}
 use Rattle.decision.specs.Edges.{liveWants, byCase, byNone, byUnknown, askNode}
 use Rattle.decision.specs.AcceptedGraph.{AcceptedSwitch, AcceptedNode}
-use Rattle.decision.proofs.rules.TestsOfRules.{HasTest, want-test, has-want}
+use Rattle.decision.proofs.rules.TestsOfRules.{HasTest, has-want}
 use Rattle.basics.proofs.Filters.{mem-length, mem-map, all-mapped, mem-left, mem-right}
-use Rattle.decision.proofs.cases.Runs.{SoundWant}
-use Rattle.decision.proofs.cases.CasesLaws.{edgesTo}
+use Rattle.decision.proofs.cases.SwitchEdges.{edgesTo}
 use Rattle.decision.proofs.cases.CasesAccepted.{AcceptedCases, cases-accepted}
-use Rattle.decision.proofs.rules.LiveWants.{IfWanted, wants-all, want-listed, wants-few}
-use Rattle.decision.proofs.rules.SoundWants.{SoundTest, rule-tests-sound, rule-accepted}
+use Rattle.decision.proofs.rules.LiveWants.{want-listed, wants-few}
+use Rattle.decision.proofs.rules.SoundWants.{rule-accepted, wants-sound}
 
 -- The edges of cases to vertices, each vertex numbered, are the edges to the numbers.
 edges-numbered
@@ -38,16 +35,6 @@ edges-numbered number f (c ∷ cs) =
     ap (λ (es : List (CaseEdge ℕ)). record { case = c; target = number (f c) } ∷ es) (edges-numbered number f cs)
 
 module _ (arity : ℕ) (rules : List Patterns) (accepted : All (AcceptedRule arity) rules) (few : length rules ≤ 64) where
-  -- What the live rules want at a place is sound.
-  pub wants-sound : (live n : ℕ) → All SoundWant (liveWants rules live n)
-  wants-sound live n = wants-all rules live n SoundWant (λ i l. go i l (wantAt rules i n) refl)
-    where
-      go : (i : ℕ) → i < length rules → (x : Option Want) → wantAt rules i n ≡ x → IfWanted SoundWant x
-      go i l none e = tt
-      go i l (some w) e =
-          let rule = ruleAt rules (suc i) in
-          all-at SoundTest (want-test (placeTests rule) n w e) (rule-tests-sound rule (rule-accepted arity rules accepted i l))
-
   -- A live rule of the key has the test.
   abbrev pub Held : Key → Test → Type 0
   Held key test = (i : ℕ) × (i < length rules) × T (has (key .live) i) × HasTest (ruleAt rules (suc i)) test
@@ -116,7 +103,8 @@ module _ (arity : ℕ) (rules : List Patterns) (accepted : All (AcceptedRule ari
         right : AcceptedCases (map edge cases)
         right =
             let fewWants : length wants ≤ 64 = omega (arith, wants-few rules (key .live) n) in
-            cases-accepted (λ c. number (lead c)) wants (wants-sound (key .live) n) (some-want key n held) fewWants
+            let sound = wants-sound arity rules accepted (key .live) n in
+            cases-accepted (λ c. number (lead c)) wants sound (some-want key n held) fewWants
 
     -- and so is any node that asks a test which a live rule has.
     pub asking-accepted

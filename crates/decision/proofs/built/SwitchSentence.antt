@@ -17,7 +17,7 @@ use Rattle.decision.specs.Rules.{wantAt}
 use Rattle.decision.specs.Edges.{gatherWants, liveWants}
 use Rattle.decision.proofs.keys.Sets.{members-in}
 use Rattle.decision.proofs.rules.LiveWants.{want-listed}
-use Rattle.decision.proofs.built.BuiltSwitch.{wants-sound}
+use Rattle.decision.proofs.rules.SoundWants.{wants-sound}
 use Rattle.decision.proofs.cases.CasesSentence.{CasesAre, cases-are}
 
 -- What is gathered is wanted.
@@ -45,4 +45,4 @@ pub switch-cases
     : (arity : ℕ) (rules : List Patterns) → All (AcceptedRule arity) rules → length rules ≤ 64 → (live n : ℕ)
     → CasesAre (liveWants rules live n)
 switch-cases arity rules accepted few live n =
-    cases-are (liveWants rules live n) (wants-sound arity rules accepted few live n)
+    cases-are (liveWants rules live n) (wants-sound arity rules accepted live n)

@@ -10,23 +10,23 @@ use Rattle.basics.specs.Lists.{Mem, here, All}
 use Rattle.basics.specs.Order.{insertBy}
 use Rattle.terms.specs.Term.{Wide}
 use Rattle.terms.specs.RuleTests.{Want, aSymbol, aNumber, aCompound}
-use Rattle.basics.proofs.ListLaws.{all-join, all-always, all-at, all-from}
+use Rattle.basics.proofs.ListLaws.{all-always, all-at, all-from}
 use Rattle.decision.specs.Runs.{cuts, between, isCovered, runs}
 use Rattle.decision.specs.Cases.{Case, symbolCase, compoundCase, numbersCase}
 use Rattle.decision.specs.Cases.{symbolsOf, Functor, functorsOf, rangesOf, compoundOf, numbersIn, casesOf}
 use Rattle.decision.specs.Node.{CaseEdge}
 use Rattle.decision.specs.AcceptedGraph.{CaseBefore, LowAtMostHigh, Ascend, CaseFields}
-use Rattle.basics.proofs.Filters.{mem-length, all-mapped, mapped-always, filter-length}
-use Rattle.basics.proofs.Ascent.{ascending-map, ascending-join}
+use Rattle.basics.proofs.Filters.{mem-length, all-mapped, filter-length}
+use Rattle.basics.proofs.Ascent.{ascending-map}
 use Rattle.decision.proofs.cases.Insertion.{number-inserted, functor-inserted}
 use Rattle.decision.proofs.cases.Insertion.{symbol-wanted, symbols-ascend, functor-wanted, functors-ascend}
 use Rattle.decision.proofs.cases.Intervals.{between-length}
 use Rattle.decision.proofs.cases.WantedRanges.{numberRuns, runs-all}
 use Rattle.decision.proofs.cases.Runs.{SoundWant, accepts-range, cut-wanted, run-ends}
 use Rattle.decision.proofs.cases.Runs.{runs-ordered, runs-ascend, in-run}
-use Rattle.decision.proofs.cases.CaseList.{symbolCases, compoundCases, cases-all}
+use Rattle.decision.proofs.cases.CaseList.{symbolCases, compoundCases, joined-ascend, cases-all}
 use Rattle.decision.proofs.cases.CaseList.{symbol-listed, compound-listed, run-listed}
-use Rattle.decision.proofs.cases.CasesLaws.{edgesTo}
+use Rattle.decision.proofs.cases.SwitchEdges.{edgesTo}
 use Rattle.basics.proofs.Sorted.{AscendingBy as Ascending}
 
 module _ (ws : List Want) where
@@ -37,18 +37,9 @@ module _ (ws : List Want) where
   -- The cases ascend.
   pub cases-ascend : Ascending CaseBefore (casesOf ws)
   cases-ascend =
-      let BeforeRuns : Case → Type 0 = λ c. All (CaseBefore c) (numberRuns ws) in
-      let BeforeCompounds : Case → Type 0 = λ c. All (CaseBefore c) (compoundCases ws) in
-      ascending-join CaseBefore (symbolCases ws ++ compoundCases ws) (numberRuns ws)
-      (ascending-join CaseBefore (symbolCases ws) (compoundCases ws)
-      (ascending-map CaseBefore symbolCase (symbolsOf ws) (symbols-ascend ws))
-      (ascending-map CaseBefore compoundOf (functorsOf ws) (functors-ascend ws))
-      (mapped-always BeforeCompounds symbolCase
-      (λ a. mapped-always (CaseBefore (symbolCase a)) compoundOf (λ f. tt) (functorsOf ws)) (symbolsOf ws)))
-      (runs-ascend ws)
-      (all-join BeforeRuns (symbolCases ws) (compoundCases ws)
-      (mapped-always BeforeRuns symbolCase (λ a. before-runs (symbolCase a) (λ l h. tt)) (symbolsOf ws))
-      (mapped-always BeforeRuns compoundOf (λ f. before-runs (compoundOf f) (λ l h. tt)) (functorsOf ws)))
+      joined-ascend ws (numberRuns ws) CaseBefore (ascending-map CaseBefore symbolCase (symbolsOf ws) (symbols-ascend ws))
+      (ascending-map CaseBefore compoundOf (functorsOf ws) (functors-ascend ws)) (runs-ascend ws) (λ a f. tt)
+      (λ a. before-runs (symbolCase a) (λ l h. tt)) (λ f. before-runs (compoundOf f) (λ l h. tt))
 
   -- Each low is at most its high.
   pub cases-ordered : All LowAtMostHigh (casesOf ws)

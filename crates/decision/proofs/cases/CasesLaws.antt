@@ -1,11 +1,11 @@
 -- Which edge of a switch a known term takes, if its numbers are known exactly: that of a case that keeps exactly the rules
 -- which the term does not contradict, or neither, where it contradicts every rule that wants something there.
 use Prim.Native.Nat.{ℕ}
-use mathlib.Core.Path.{_≡_, refl, ap, sym, subst, _∙_}
-use mathlib.Core.Bool.{Bool, true, false, _&&_}
+use mathlib.Core.Path.{_≡_, refl, ap, subst, _∙_}
+use mathlib.Core.Bool.{Bool, _&&_}
 use mathlib.Core.Logic.{_⊎_, inl, inr}
-use mathlib.Core.List.{List, map}
-use mathlib.Core.Option.{Option, some, none}
+use mathlib.Core.List.{List}
+use mathlib.Core.Option.{Option}
 use lib.Dec.{T, eqb, eqb→eq}
 use Rattle.basics.specs.Lists.{Mem, All}
 use Rattle.terms.specs.Term.{Term, Terms, count, unknown, symbol, number, numbers, compound}
@@ -15,20 +15,18 @@ use Rattle.terms.specs.Outcome.{contradicted, Holds, known, fits}
 use Rattle.terms.specs.Accepted.{Exact}
 use Rattle.terms.specs.Answer.{isOpen}
 use Rattle.terms.proofs.Unknown.{IsUnknown}
-use Rattle.basics.proofs.ListLaws.{all-always, all-at, all-from}
+use Rattle.basics.proofs.ListLaws.{all-always, all-at}
 use Rattle.basics.proofs.Booleans.{both-true}
-use Rattle.basics.proofs.Filters.{mem-map, map-mem}
 use Rattle.decision.specs.Cases.{Case, symbolCase, compoundCase, numbersCase, takes, isWanted}
 use Rattle.decision.specs.Cases.{symbolsOf, Functor, functorsOf, compoundOf, casesOf}
-use Rattle.decision.specs.Node.{CaseEdge, follow}
+use Rattle.decision.specs.Node.{follow}
 use Rattle.decision.specs.Edges.{caseKeeps, gatherWants}
 use Rattle.terms.proofs.KnownTests.{holds-true}
 use Rattle.terms.proofs.Spans.{inside-number}
 use Rattle.decision.proofs.Truth.{known-contradicted, open-known}
 use Rattle.decision.proofs.cases.WantedRanges.{numberRuns, runs-all}
 use Rattle.decision.proofs.cases.Runs.{run-uncut, in-run}
-use Rattle.decision.proofs.cases.Narrowest.{follow-narrowest}
-use Rattle.decision.proofs.rules.LiveWants.{mem-gather}
+use Rattle.decision.proofs.cases.SwitchEdges.{edgesTo, follow-case, KeepsOpen, takes-keeps}
 use Rattle.decision.proofs.cases.CaseList.{cases-all, symbol-listed, compound-listed, run-listed}
 use Rattle.basics.proofs.Numbers.{eqb-swap}
 
@@ -113,30 +111,6 @@ module _ (ws : List Want) where
   case-found (compound b ts) (aCompound a n) exact m h =
       (compoundCase a n, compound-listed ws a n m, holds-true (eqb a b && eqb n (count ts)) h)
 
--- The edges of the cases, of which case c leads to f c.
-abbrev pub edgesTo : {A : Type 0} → (Case → A) → List Case → List (CaseEdge A)
-edgesTo f cs = map (λ (c : Case). record { case = c; target = f c }) cs
-
--- A term follows the edge of a case that takes it, or neither, where no case does.
-follow-case
-    : {A : Type 0} (cs : List Case) (f : Case → A) (neither : A) (t : Term)
-    → ((c : Case) × Mem c cs × T (takes c t) × (follow (edgesTo f cs) neither t ≡ f c))
-    ⊎ (All (λ (c : Case). T (takes c t) → ⊥) cs × (follow (edgesTo f cs) neither t ≡ neither))
-follow-case {A} cs f neither t =
-    let edgeTo : Case → CaseEdge A = λ c. record { case = c; target = f c } in
-    elim (follow-narrowest t (edgesTo f cs) neither) [
-      | inl r ↦
-          let c = map-mem edgeTo cs (r .1 .listed) in
-          inl (
-            c .0,
-            c .1,
-            subst (λ (e : CaseEdge A). T (takes (e .case) t)) (c .2) (r .1 .isTaken),
-            r .2 ∙ ap (λ (e : CaseEdge A). e .target) (c .2),
-          )
-      | inr r ↦
-          inr (all-from (λ (c : Case). T (takes c t) → ⊥) cs (λ c m. r .0 (edgeTo c) (mem-map edgeTo m)), r .1)
-    ]
-
 -- A known term takes the edge of a case, and the wants that want what the case takes hold, the others being contradicted;
 -- or it takes neither, and all wants are contradicted.
 pub edge-taken
@@ -145,7 +119,7 @@ pub edge-taken
     × ((w : Want) → Mem w ws → fits w t ≡ known (isWanted c w)))
     ⊎ ((follow (edgesTo f (casesOf ws)) neither t ≡ neither) × ((w : Want) → Mem w ws → fits w t ≡ contradicted))
 edge-taken ws f neither t exact k =
-    elim (follow-case (casesOf ws) f neither t) [
+    elim (follow-case f neither t (casesOf ws)) [
       | inl r ↦ inl (r .0, r .1, r .3, λ w m. all-at (Agrees ws) (r .1) (cases-agree ws) t w exact (r .2) m)
       | inr r ↦ inr (r .1, λ w m. none-holds w m (r .0))
     ]
@@ -157,38 +131,14 @@ edge-taken ws f neither t exact k =
         λ h. (let c = case-found ws t w exact m h in all-at (λ (d : Case). T (takes d t) → ⊥) (c .1) untaken (c .2)) in
         b .1 ∙ known-contradicted (b .0) (λ h. never (rw (b .1) h))
 
--- What a rule wants at a place, if anything, is not contradicted by the term there.
-abbrev pub openAt : Term → Option Want → Bool
-openAt t none = true
-openAt t (some w) = isOpen (fits w t)
-
-abbrev pub wantsNothing : Option Want → Bool
-wantsNothing none = true
-wantsNothing (some w) = false
-
-module _ (xs : List (Option Want)) (t : Term) where
-  -- A case that agrees with the term keeps the rules that are open at it.
-  case-keeps
-      : (c : Case) → ((w : Want) → Mem w (gatherWants xs) → fits w t ≡ known (isWanted c w))
-      → (x : Option Want) → Mem x xs → caseKeeps c x ≡ openAt t x
-  case-keeps c h none m = refl
-  case-keeps c h (some w) m = rw (h w (mem-gather m)) (sym (open-known (isWanted c w)))
-
-  -- Where all wants are contradicted, the rules that want nothing are open.
-  neither-keeps
-      : ((w : Want) → Mem w (gatherWants xs) → fits w t ≡ contradicted)
-      → (x : Option Want) → Mem x xs → wantsNothing x ≡ openAt t x
-  neither-keeps h none m = refl
-  neither-keeps h (some w) m = rw (h w (mem-gather m))
-
-  -- Where the live rules want xs, each something or nothing, a known term takes an edge that keeps exactly those which
-  -- it does not contradict: the edge of a case, or neither, which keeps those that want nothing there.
-  pub edge-keeps
-      : {A : Type 0} (f : Case → A) (neither : A) → Exact t → (IsUnknown (found t) → ⊥)
-      → ((c : Case) × (follow (edgesTo f (casesOf (gatherWants xs))) neither t ≡ f c)
-      × ((x : Option Want) → Mem x xs → caseKeeps c x ≡ openAt t x))
-      ⊎ ((follow (edgesTo f (casesOf (gatherWants xs))) neither t ≡ neither)
-      × ((x : Option Want) → Mem x xs → wantsNothing x ≡ openAt t x))
-  edge-keeps f neither exact k =
-      elim (edge-taken (gatherWants xs) f neither t exact k)
-      [ inl r ↦ inl (r .0, r .2, case-keeps (r .0) (r .3)) | inr r ↦ inr (r .0, neither-keeps (r .1)) ]
+-- Where the live rules want xs, each something or nothing, a known term takes an edge that keeps exactly those which it does not
+-- contradict: the edge of a case, or neither, which keeps those that want nothing there.
+pub edge-keeps
+    : {A : Type 0} (xs : List (Option Want)) (t : Term) (f : Case → A) (neither : A) → Exact t → (IsUnknown (found t) → ⊥)
+    → KeepsOpen caseKeeps (casesOf (gatherWants xs)) f neither xs t
+edge-keeps xs t f neither exact k =
+    takes-keeps caseKeeps (λ c. refl) (casesOf (gatherWants xs)) f neither xs t
+    (elim (edge-taken (gatherWants xs) f neither t exact k) [
+      | inl r ↦ inl (r .0, r .1, r .2, λ w m. ap isOpen (r .3 w m) ∙ open-known (isWanted (r .0) w))
+      | inr r ↦ inr r
+    ])

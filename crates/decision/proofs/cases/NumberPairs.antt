@@ -21,10 +21,10 @@ use Rattle.decision.proofs.cases.RangeOrder.{rangeBefore}
 use Rattle.decision.proofs.cases.FramedRuns.{framed, meets, InFrame, MaximalIn, framed-filled, framed-ascends, framed-covers}
 use Rattle.decision.proofs.cases.FramedRuns.{framed-inside, framed-few, framed-are}
 use Rattle.decision.proofs.cases.RunPairs.{fromTo, runPairs, InTurn, pairs-few, pair-runs, runs-pair, pair-filled}
-use Rattle.decision.proofs.cases.RunPairs.{pairs-ascend, pair-covers, pair-meets}
+use Rattle.decision.proofs.cases.RunPairs.{pairs-ascend, span-turn, pair-covers, pair-meets}
 use Rattle.decision.proofs.cases.Best.{mapSome, best-map}
 use Rattle.decision.proofs.cases.Narrowest.{takesEdge, narrowerEdge, narrowest, narrowest-pair}
-use Rattle.decision.proofs.cases.CasesLaws.{edgesTo}
+use Rattle.decision.proofs.cases.SwitchEdges.{edgesTo}
 
 -- "Where a live rule has a range at a switch's place, all numbers are cut into maximal runs ..; elsewhere a switch has no number
 -- case."
@@ -105,6 +105,7 @@ module _ (base top : ℕ) (o : base ≤ top) (w : Range) (ws : List Range) (insi
   -- from a to b, and the ranges that have all of its numbers are those that have all from a to b.
   pub record Followed (a b : ℕ) : Type 0 where
     pub pair : Range
+    pub listed : Mem pair (numberPairs base top wanted)
     pub follows : narrowest a b (numberPairs base top wanted) ≡ some pair
     pub contains : Contains pair a × Contains pair b
     pub meetsSome : (v : Range) → Mem v wanted → T (meets v pair) ↔ ((v .low ≤ b) × (a ≤ v .high))
@@ -118,6 +119,10 @@ module _ (base top : ℕ) (o : base ≤ top) (w : Range) (ws : List Range) (insi
       let s = last .0 in
       record {
         pair = fromTo r s;
+        listed =
+            runs-pair (framed base top wanted) (framed-filled base top wanted) (framed-ascends base top wanted) r s (first .1)
+            (last .1)
+            (span-turn base top wanted r s a b (first .1) (last .1) (first .2) (last .2) order);
         follows = narrowest-pair base top wanted r s a b (first .1) (last .1) (first .2) (last .2) order;
         contains = (
           (first .2 .0, omega (arith, last .2 .1)),

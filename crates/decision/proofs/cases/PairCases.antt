@@ -1,5 +1,4 @@
 -- The cases of a switch where pieces hold spans (document 02, request 4): a number case for each pair of first and last run.
-use Prim.Native.Nat.{ℕ}
 use mathlib.Core.Bool.{Bool, false, true, _&&_}
 use mathlib.Core.List.{List, _++_, map}
 use mathlib.Core.Option.{Option, some, none}
@@ -10,9 +9,11 @@ use Rattle.decision.specs.Cases.{symbolsOf, functorsOf, rangesOf, compou
 use Rattle.decision.proofs.cases.NumberPairs.{numberPairs}
 
 -- "Record 46 becomes one case for each pair of first and last run, ordered so, with low and high their ends."
+abbrev pub numberCases : List Want → List Case
+numberCases ws = map numbersIn (numberPairs 0 65536 (rangesOf ws))
+
 abbrev pub pairCases : List Want → List Case
-pairCases ws =
-    map symbolCase (symbolsOf ws) ++ map compoundOf (functorsOf ws) ++ map numbersIn (numberPairs 0 65536 (rangesOf ws))
+pairCases ws = map symbolCase (symbolsOf ws) ++ map compoundOf (functorsOf ws) ++ numberCases ws
 
 -- "It keeps the rules whose range has a number that this case takes, from its low to its high."
 abbrev pub meetsWant : Case → Want → Bool

@@ -17,7 +17,7 @@ use Rattle.decision.specs.Edges.{firstIn, settledByUnknown, caseKeeps, l
 use Rattle.decision.specs.Edges.{byCase, byNone, byUnknown, byOther, askNode, askFirst}
 use Rattle.decision.specs.Graph.{nextVertices}
 use Rattle.decision.proofs.keys.Vertices.{Means, vertex-means}
-use Rattle.decision.proofs.cases.CasesLaws.{edgesTo}
+use Rattle.decision.proofs.cases.SwitchEdges.{edgesTo}
 
 module _ (rules : List Patterns) where
   -- The vertex is that of the key with these live rules where these tests are left.

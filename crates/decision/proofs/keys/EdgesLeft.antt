@@ -20,7 +20,7 @@ use Rattle.decision.specs.Cases.{Case, casesOf}
 use Rattle.decision.specs.Node.{CaseEdge, edges}
 use Rattle.decision.specs.Edges.{settledByUnknown, liveWants, leadsTo, butTest}
 use Rattle.decision.specs.Edges.{byCase, byNone, byUnknown, askNode}
-use Rattle.decision.proofs.cases.CasesLaws.{edgesTo}
+use Rattle.decision.proofs.cases.SwitchEdges.{edgesTo}
 use Rattle.decision.proofs.keys.Sets.{fewer-members}
 use Rattle.decision.proofs.keys.Vertices.{Pending, Means, pending-in, vertex-means}
 

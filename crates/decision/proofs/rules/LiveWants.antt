@@ -42,8 +42,11 @@ gather-length (some w ∷ xs) = omega (arith, gather-length xs)
 
 module _ (rules : List Patterns) (live n : ℕ) where
   -- What each live rule wants there, if anything.
-  abbrev eachWant : List (Option Want)
+  abbrev pub eachWant : List (Option Want)
   eachWant = map (λ (i : ℕ). wantAt rules i n) (members (length rules) live)
+
+  pub each-there : (i : ℕ) → i < length rules → T (has live i) → Mem (wantAt rules i n) eachWant
+  each-there i l h = mem-map (λ (j : ℕ). wantAt rules j n) (in-members (length rules) live i l h)
 
   -- What holds of all that the rules want there holds of all that is listed,
   pub wants-all
@@ -59,9 +62,7 @@ module _ (rules : List Patterns) (live n : ℕ) where
   pub want-listed
       : (i : ℕ) (w : Want) → i < length rules → T (has live i) → wantAt rules i n ≡ some w
       → Mem w (liveWants rules live n)
-  want-listed i w l h e =
-      let m = mem-map (λ (j : ℕ). wantAt rules j n) (in-members (length rules) live i l h) in
-      mem-gather (subst (λ (x : Option Want). Mem x eachWant) e m)
+  want-listed i w l h e = mem-gather (subst (λ (x : Option Want). Mem x eachWant) e (each-there i l h))
 
   -- and no more is listed than there are rules.
   pub wants-few : length (liveWants rules live n) ≤ length rules

@@ -1,18 +1,23 @@
--- What a rule of an accepted sheet wants is sound: its ids and numbers are wide, no range is empty, arities are small.
+-- What the rules of an accepted sheet want is sound: its ids and numbers are wide, no range is empty, arities are small.
 use Prim.Native.Nat.{ℕ, suc, pred, _+_, _<_}
+use mathlib.Core.Path.{_≡_, refl}
+use mathlib.Core.List.{List}
 use mathlib.Core.Option.{Option, some, none}
+use lib.ListN.{length}
 use Rattle.places.specs.Numbering.{stride}
 use Rattle.basics.specs.Lists.{All}
 use Rattle.terms.specs.Pattern.{Pattern, Patterns, anything, theSymbol, theRange, theCompound, variable, rangedVariable, pnil, pcons}
-use Rattle.terms.specs.RuleTests.{PlaceTest, Range, rangeTest, patternTests, patternsTests, patternsRange, placeTests}
+use Rattle.terms.specs.RuleTests.{Want, PlaceTest, Range, rangeTest, patternTests, patternsTests, patternsRange, placeTests}
 use Rattle.terms.specs.Accepted.{Sound, Sounds, InCommon, AcceptedRule}
 use Rattle.basics.proofs.ListLaws.{all-join, all-at}
 use Rattle.terms.proofs.Ranges.{WideRange, ranges-wide}
-use Rattle.decision.proofs.cases.Runs.{SoundWant}
-use mathlib.Core.List.{List}
-use lib.ListN.{length}
 use Rattle.terms.specs.Answer.{ruleAt}
 use Rattle.basics.proofs.Positions.{mem-at}
+use Rattle.decision.specs.Rules.{wantAt}
+use Rattle.decision.specs.Edges.{liveWants}
+use Rattle.decision.proofs.cases.Runs.{SoundWant}
+use Rattle.decision.proofs.rules.TestsOfRules.{want-test}
+use Rattle.decision.proofs.rules.LiveWants.{IfWanted, wants-all}
 
 -- What the test wants is sound.
 abbrev pub SoundTest : PlaceTest → Type 0
@@ -52,3 +57,14 @@ pub rule-accepted
     : (arity : ℕ) (rules : List Patterns) → All (AcceptedRule arity) rules → (i : ℕ) → i < length rules
     → AcceptedRule arity (ruleAt rules (suc i))
 rule-accepted arity rules accepted i l = all-at (AcceptedRule arity) (mem-at pnil rules i l) accepted
+
+-- So what the live rules want at a place is sound.
+pub wants-sound
+    : (arity : ℕ) (rules : List Patterns) → All (AcceptedRule arity) rules → (live n : ℕ) → All SoundWant (liveWants rules live n)
+wants-sound arity rules accepted live n = wants-all rules live n SoundWant (λ i l. go i l (wantAt rules i n) refl)
+  where
+    go : (i : ℕ) → i < length rules → (x : Option Want) → wantAt rules i n ≡ x → IfWanted SoundWant x
+    go i l none e = tt
+    go i l (some w) e =
+        let rule = ruleAt rules (suc i) in
+        all-at SoundTest (want-test (placeTests rule) n w e) (rule-tests-sound rule (rule-accepted arity rules accepted i l))

@@ -16,7 +16,7 @@ use Rattle.terms.specs.Accepted.{AcceptedRule}
 use Rattle.terms.specs.Answer.{ruleAt}
 use Rattle.sheet_tests.specs.SheetTests.{place}
 use Rattle.decision.specs.Rules.{wantIn, testAt, hasTest, wantAt}
-use Rattle.decision.proofs.cases.CasesLaws.{wantsNothing}
+use Rattle.decision.proofs.cases.SwitchEdges.{wantsNothing}
 use Rattle.decision.proofs.rules.TestsOfRules.{HasTest, want-test, place-wanted, want-has, has-want}
 use Rattle.decision.proofs.rules.SoundWants.{rule-accepted}
 

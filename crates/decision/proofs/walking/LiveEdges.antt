@@ -1,41 +1,39 @@
 -- What an edge keeps: of the live rules of a key that asks a test, the step that a piece takes keeps exactly those for which
 -- the test, if they have it, is not contradicted. For every piece of which each number is known exactly.
 use Prim.Native.Nat.{ℕ, suc, _<_}
-use mathlib.Core.Path.{_≡_, refl, sym, subst, _∙_}
+use mathlib.Core.Path.{_≡_, refl, sym, subst}
 use mathlib.Core.Bool.{Bool, _&&_, not}
-use mathlib.Core.Logic.{_↔_, inl, inr}
-use mathlib.Core.List.{List, map}
+use mathlib.Core.Logic.{_↔_}
+use mathlib.Core.List.{List}
 use mathlib.Core.Option.{Option, some, none}
 use lib.Dec.{T, T-not, not-T}
 use lib.ListN.{length}
-use Rattle.masks.specs.Mask.{has, members}
-use Rattle.basics.specs.Lists.{Mem, All}
+use Rattle.masks.specs.Mask.{has}
+use Rattle.basics.specs.Lists.{All}
 use Rattle.basics.proofs.Booleans.{both-true, true-both}
 use Rattle.basics.proofs.Clash.{clash}
-use Rattle.basics.proofs.Filters.{mem-map}
 use Rattle.terms.specs.Term.{Term, Terms, unknown, symbol, numbers, compound}
 use Rattle.terms.specs.Pattern.{Patterns}
 use Rattle.terms.specs.RuleTests.{Want}
 use Rattle.terms.specs.Lookup.{Found, lacking, found, termAt}
 use Rattle.terms.specs.Outcome.{Outcome, holds, notKnown, contradicted, fits, compare}
-use Rattle.terms.specs.Accepted.{AcceptedRule, Exact, Exacts}
+use Rattle.terms.specs.Accepted.{AcceptedRule, Exacts}
 use Rattle.terms.specs.Answer.{ruleAt, isOpen}
 use Rattle.terms.proofs.Unknown.{IsUnknown}
-use Rattle.terms.proofs.TermPlaces.{IfFound}
-use Rattle.terms.proofs.Exact.{finds-exact}
 use Rattle.sheet_tests.specs.SheetTests.{Test, place, pair, sheetTests}
 use Rattle.decision.specs.Rules.{testAt, hasTest, wantAt, rulesWhere}
 use Rattle.decision.specs.Key.{Key, Vertex, keyOf, vertexOf}
 use Rattle.decision.specs.Cases.{Case, casesOf}
-use Rattle.decision.specs.Node.{Node, follow}
-use Rattle.decision.specs.Edges.{settledByUnknown, caseKeeps, liveWants, leadsTo, butTest, byCase, byNone, byUnknown, byOther, askNode}
+use Rattle.decision.specs.Node.{Node}
+use Rattle.decision.specs.Edges.{settledByUnknown, caseKeeps, liveWants, leadsTo, butTest}
+use Rattle.decision.specs.Edges.{byCase, byNone, byUnknown, byOther, askNode}
 use Rattle.decision.specs.Path.{goTo, switchStep, byComparison, pairStep, stepAt}
 use Rattle.decision.specs.Walk.{testOutcome, isContradicted}
-use Rattle.decision.proofs.keys.Sets.{in-where, where-in, in-members}
-use Rattle.decision.proofs.cases.CasesLaws.{openAt, edgesTo, edge-keeps}
+use Rattle.decision.proofs.keys.Sets.{in-where, where-in}
+use Rattle.decision.proofs.cases.SwitchEdges.{edgesTo, openAt}
+use Rattle.decision.proofs.elimination.SwitchOwes.{Switches, termEdge, SwitchOwes, switch-owes}
 use Rattle.decision.proofs.rules.TestsOfRules.{HasTest, want-has}
 use Rattle.decision.proofs.keys.Vertices.{pending-in}
-use Rattle.decision.proofs.rules.TheWant.{without-want}
 
 module _ (arity : ℕ) (rules : List Patterns) (accepted : All (AcceptedRule arity) rules) (piece : Terms) where
   module _ (nodes : List (Node ℕ)) where
@@ -112,45 +110,22 @@ module _ (arity : ℕ) (rules : List Patterns) (accepted : All (AcceptedRule ari
               λ f. closed-against (fits w u) (λ c. f (want-has (ruleAt rules (suc i)) n w e) (rw (there-is, e) c)),
             )
 
-        -- What the live rules want at the place, each something or nothing.
-        abbrev liveOptions : List (Option Want)
-        liveOptions = map (λ (i : ℕ). wantAt rules i n) (members (length rules) (key .live))
-
-        option-there : (i : ℕ) → i < length rules → T (has (key .live) i) → Mem (wantAt rules i n) liveOptions
-        option-there i l m = mem-map (λ (j : ℕ). wantAt rules j n) (in-members (length rules) (key .live) i l m)
-
         -- Where a known term leads, the rules that are open at it are kept.
-        open-kept
-            : (u : Term) → termAt piece n ≡ found u → (isLeft : ℕ → Bool) (stays : ℕ → Bool)
-            → ((i : ℕ) → i < length rules → T (has (key .live) i) → T (stays i) ↔ T (openAt u (wantAt rules i n)))
-            → KeptRules key t (leadsTo rules (rulesWhere rules (λ i. has (key .live) i && stays i)) isLeft)
-        open-kept u there-is isLeft stays same =
-            drops (place n) at (λ i. has (key .live) i && stays i) isLeft (λ i l. (
-              λ k.
-                  let s = both-true (has (key .live) i) (stays i) k in
-                  (s .0, open-stays u there-is i .0 (same i l (s .0) .0 (s .1))),
-              λ x. true-both (has (key .live) i) (stays i) (x .0) (same i l (x .0) .1 (open-stays u there-is i .1 (x .1))),
-            ))
-
-        -- So it is by the case that takes the term, or by neither.
         known-kept
-            : (u : Term) → termAt piece n ≡ found u → Exact u → (IsUnknown (found u) → ⊥)
-            → KeptRules key t
-            (follow (edgesTo (byCase rules key t n) (casesOf (liveWants rules (key .live) n))) (byNone rules key t) u)
-        known-kept u there-is exact known =
-            elim (edge-keeps liveOptions u (byCase rules key t n) (byNone rules key t) exact known) [
-              | inl r ↦
-                  subst (KeptRules key t) (sym (r .1))
-                  (open-kept u there-is (butTest key t) (λ i. caseKeeps (r .0) (wantAt rules i n)) (λ i l m.
-                  let e = r .2 (wantAt rules i n) (option-there i l m) in
-                  (λ k. subst T e k, λ k. subst T (sym e) k)))
-              | inr r ↦
-                  subst (KeptRules key t) (sym (r .0))
-                  (open-kept u there-is (butTest key t) (λ i. not (hasTest rules i t)) (λ i l m.
-                  let e = r .1 (wantAt rules i n) (option-there i l m) in
-                  let same = without-want arity rules accepted t n at i l in
-                  (λ k. subst T (same ∙ e) k, λ k. subst T (sym (same ∙ e)) k)))
-            ]
+            : {switches : Switches} → SwitchOwes rules piece switches → (u : Term) → termAt piece n ≡ found u
+            → (IsUnknown (found u) → ⊥)
+            → KeptRules key t (termEdge rules switches key t n u)
+        known-kept owes u there-is known =
+            let r = owes .edge key t n at u there-is known in
+            subst (KeptRules key t) (sym (r .leads))
+            (drops (place n) at (λ i. has (key .live) i && r .stays i) (butTest key t) (λ i l. (
+              λ k.
+                  let s = both-true (has (key .live) i) (r .stays i) k in
+                  (s .0, open-stays u there-is i .0 (subst T (r .opens i l (s .0)) (s .1))),
+              λ x.
+                  true-both (has (key .live) i) (r .stays i) (x .0)
+                  (subst T (sym (r .opens i l (x .0))) (open-stays u there-is i .1 (x .1))),
+            )))
 
         -- An unknown contradicts no rule,
         unknown-free : termAt piece n ≡ found unknown → (i : ℕ) → Against i (place n) → ⊥
@@ -163,23 +138,26 @@ module _ (arity : ℕ) (rules : List Patterns) (accepted : All (AcceptedRule ari
         -- and so the step at a switch keeps what it should,
         place-kept
             : Exacts piece → (w : Vertex) → stepAt piece (askNode rules key t (place n)) ≡ goTo w → KeptRules key t w
-        place-kept known w = go (termAt piece n) refl (finds-exact piece known 4 n)
+        place-kept exact w = go (termAt piece n) refl
           where
             cases : List Case
             cases = casesOf (liveWants rules (key .live) n)
 
+            owes : SwitchOwes rules piece (record { cases = casesOf; keeps = caseKeeps })
+            owes = switch-owes rules arity accepted piece exact
+
             go
-                : (x : Found) → termAt piece n ≡ x → IfFound Exact x
+                : (x : Found) → termAt piece n ≡ x
                 → switchStep (edgesTo (byCase rules key t n) cases) (byNone rules key t) (byUnknown rules key n) x ≡ goTo w
                 → KeptRules key t w
-            go lacking e exact s = clash (cc)
-            go (found unknown) e exact s =
+            go lacking e s = clash (cc)
+            go (found unknown) e s =
                 let same : byUnknown rules key n ≡ w = cc in
                 let isLeft : ℕ → Bool = λ u. has (key .pending) u && not (settledByUnknown n (testAt rules u)) in
                 subst (KeptRules key t) same (drops-none (place n) at isLeft (λ i l. unknown-free e i))
-            go (found (symbol a)) e exact s = subst (KeptRules key t) (cc) (known-kept (symbol a) e exact (λ k. k))
-            go (found (numbers a b)) e exact s = subst (KeptRules key t) (cc) (known-kept (numbers a b) e exact (λ k. k))
-            go (found (compound a ts)) e exact s = subst (KeptRules key t) (cc) (known-kept (compound a ts) e exact (λ k. k))
+            go (found (symbol a)) e s = subst (KeptRules key t) (cc) (known-kept owes (symbol a) e (λ k. k))
+            go (found (numbers a b)) e s = subst (KeptRules key t) (cc) (known-kept owes (numbers a b) e (λ k. k))
+            go (found (compound a ts)) e s = subst (KeptRules key t) (cc) (known-kept owes (compound a ts) e (λ k. k))
 
       -- and so does the step at a pair.
       pair-kept

@@ -1,0 +1,183 @@
+-- Which edge of a switch a known term takes where pieces hold spans (document 02, request 4): that of a case which keeps exactly
+-- the wants that the term does not contradict, or neither, where it contradicts every want.
+use Prim.Native.Nat.{ℕ, _≤_, _<_}
+use mathlib.Core.Path.{_≡_, refl, ap, sym, subst, _∙_}
+use mathlib.Core.Bool.{_&&_}
+use mathlib.Core.Logic.{_↔_, inl, inr}
+use mathlib.Core.List.{List, [], _∷_, map}
+use mathlib.Core.Option.{Option}
+use native.Mathlib.Omega.{arith}
+use lib.Dec.{T, leb, eqb, eqb→eq}
+use Rattle.basics.specs.Lists.{Mem, All}
+use Rattle.basics.proofs.ListLaws.{all-at, all-from, mem-none}
+use Rattle.basics.proofs.Booleans.{both-true, same-truth}
+use Rattle.basics.proofs.Filters.{mem-right, mem-map}
+use Rattle.basics.proofs.Numbers.{eqb-swap}
+use Rattle.terms.specs.Term.{Term, Terms, count, unknown, symbol, numbers, compound}
+use Rattle.terms.specs.RuleTests.{Want, aSymbol, aNumber, aCompound, Range}
+use Rattle.terms.specs.Lookup.{found}
+use Rattle.terms.specs.Outcome.{contradicted, inside, fits}
+use Rattle.terms.specs.Filling.{WellFormed}
+use Rattle.terms.specs.Answer.{isOpen}
+use Rattle.terms.proofs.Unknown.{IsUnknown}
+use Rattle.terms.proofs.Outcomes.{is-open}
+use Rattle.terms.proofs.KnownTests.{holds-true}
+use Rattle.terms.proofs.Spans.{range-open-at}
+use Rattle.decision.specs.Cases.{Case, symbolCase, compoundCase, numbersCase, takes, rangesOf, numbersIn}
+use Rattle.decision.specs.Node.{follow}
+use Rattle.decision.specs.Edges.{gatherWants}
+use Rattle.decision.proofs.Truth.{known-contradicted, open-known, open-is}
+use Rattle.decision.proofs.cases.FramedRuns.{InFrame}
+use Rattle.decision.proofs.cases.WantedRanges.{range-wanted, wanted-range}
+use Rattle.decision.proofs.cases.Runs.{SoundWant}
+use Rattle.decision.proofs.cases.CaseList.{nameCases, names-all, symbol-joined, compound-joined}
+use Rattle.decision.proofs.cases.SwitchEdges.{edgesTo, follow-case, follow-past, KeepsOpen, TakesOpen, takes-keeps}
+use Rattle.decision.proofs.cases.NumberPairs.{numberPairs, Followed, span-followed, numbers-follow}
+use Rattle.decision.proofs.cases.PairCases.{numberCases, pairCases, meetsWant, pairKeeps}
+
+-- The case that takes a symbol is that symbol's, and keeps the wants that are open at it;
+symbol-taken : (c : Case) (b : ℕ) → T (takes c (symbol b)) → c ≡ symbolCase b
+symbol-taken (symbolCase a) b h = ap symbolCase (eqb→eq a b h)
+symbol-taken (compoundCase a n) b h = absurd h
+symbol-taken (numbersCase x y) b h = absurd h
+
+symbol-open : (b : ℕ) (w : Want) → isOpen (fits w (symbol b)) ≡ meetsWant (symbolCase b) w
+symbol-open b (aSymbol a) = open-known (eqb a b) ∙ eqb-swap a b
+symbol-open b (aNumber l h) = refl
+symbol-open b (aCompound a n) = refl
+
+-- so it is with compounds.
+compound-taken : (c : Case) (b : ℕ) (ts : Terms) → T (takes c (compound b ts)) → c ≡ compoundCase b (count ts)
+compound-taken (symbolCase a) b ts h = absurd h
+compound-taken (compoundCase a n) b ts h =
+    let s = both-true (eqb a b) (eqb n (count ts)) h in
+    rw (eqb→eq a b (s .0), eqb→eq n (count ts) (s .1))
+compound-taken (numbersCase x y) b ts h = absurd h
+
+compound-open : (b : ℕ) (ts : Terms) (w : Want) → isOpen (fits w (compound b ts)) ≡ meetsWant (compoundCase b (count ts)) w
+compound-open b ts (aSymbol a) = refl
+compound-open b ts (aNumber l h) = refl
+compound-open b ts (aCompound a n) =
+    open-known (eqb a b && eqb n (count ts)) ∙ (λ i. eqb-swap a b i && eqb-swap n (count ts) i)
+
+-- A range is open at a span exactly where it has a number of a pair that meets the same ranges as the span.
+range-open
+    : (l h a b : ℕ) (x : Range) → a ≤ b → T (leb l (x .high) && leb (x .low) h) ↔ ((l ≤ b) × (a ≤ h))
+    → isOpen (inside l h a b) ≡ leb l (x .high) && leb (x .low) h
+range-open l h a b x o same =
+    same-truth (isOpen (inside l h a b)) (leb l (x .high) && leb (x .low) h)
+    (λ t. same .1 (range-open-at l h a b o .0 (is-open (inside l h a b) t)))
+    (λ t. open-is (inside l h a b) (range-open-at l h a b o .1 (same .0 t)))
+
+module _ (ws : List Want) where
+  -- No case of a name takes a number or span.
+  pub names-untaken : (a b : ℕ) → All (λ (c : Case). T (takes c (numbers a b)) → ⊥) (nameCases ws)
+  names-untaken a b = names-all ws (λ (c : Case). T (takes c (numbers a b)) → ⊥) (λ x m t. t) (λ x n m t. t)
+
+  -- Where no case takes a symbol, all wants are contradicted there,
+  symbol-none
+      : (b : ℕ) → All (λ (c : Case). T (takes c (symbol b)) → ⊥) (pairCases ws) → (w : Want) → Mem w ws
+      → fits w (symbol b) ≡ contradicted
+  symbol-none b untaken (aSymbol a) m =
+      known-contradicted (eqb a b) (λ h.
+      all-at (λ (c : Case). T (takes c (symbol b)) → ⊥) (symbol-joined ws (numberCases ws) a m) untaken (holds-true (eqb a b) h))
+  symbol-none b untaken (aNumber l h) m = refl
+  symbol-none b untaken (aCompound a n) m = refl
+
+  -- and so at a compound.
+  compound-none
+      : (b : ℕ) (ts : Terms) → All (λ (c : Case). T (takes c (compound b ts)) → ⊥) (pairCases ws) → (w : Want) → Mem w ws
+      → fits w (compound b ts) ≡ contradicted
+  compound-none b ts untaken (aSymbol a) m = refl
+  compound-none b ts untaken (aNumber l h) m = refl
+  compound-none b ts untaken (aCompound a n) m =
+      known-contradicted (eqb a b && eqb n (count ts)) (λ h.
+      all-at (λ (c : Case). T (takes c (compound b ts)) → ⊥) (compound-joined ws (numberCases ws) a n m) untaken
+      (holds-true (eqb a b && eqb n (count ts)) h))
+
+  -- The ranges that sound wants have are of wide numbers.
+  pub wants-framed : All SoundWant ws → All (InFrame 0 65536) (rangesOf ws)
+  wants-framed sound =
+      all-from (InFrame 0 65536) (rangesOf ws) (λ r m.
+      let s = all-at SoundWant (range-wanted ws r m) sound in (omega arith, s .0, s .1))
+
+  module _ {A : Type 0} (f : Case → A) (neither : A) where
+    -- A number or span follows a number case, or neither where there is none.
+    pub numbers-past
+        : (a b : ℕ)
+        → follow (edgesTo f (pairCases ws)) neither (numbers a b) ≡ follow (edgesTo f (numberCases ws)) neither (numbers a b)
+    numbers-past a b = follow-past f neither (numbers a b) (nameCases ws) (numberCases ws) (names-untaken a b)
+
+    -- Where ranges are wanted it is the pair of the runs of its two ends, and the wants that it keeps are those open at the span.
+    span-edge
+        : (a b : ℕ) → a ≤ b → b < 65536 → (rs : List Range) → rangesOf ws ≡ rs → All (InFrame 0 65536) rs
+        → TakesOpen meetsWant (pairCases ws) f neither ws (numbers a b)
+    span-edge a b o wide [] none framed =
+        let nothing : (l h : ℕ) → Mem (aNumber l h) ws → ⊥ =
+        λ l h m. mem-none (subst (Mem (record { low = l; high = h })) none (wanted-range m)) in
+        inr (
+          numbers-past a b
+              ∙ ap (λ (xs : List Range). follow (edgesTo f (map numbersIn (numberPairs 0 65536 xs))) neither (numbers a b)) none,
+          against nothing,
+        )
+      where
+        against
+            : ((l h : ℕ) → Mem (aNumber l h) ws → ⊥) → (w : Want) → Mem w ws → fits w (numbers a b) ≡ contradicted
+        against nothing (aSymbol x) m = refl
+        against nothing (aNumber l h) m = absurd (nothing l h m)
+        against nothing (aCompound x n) m = refl
+    span-edge a b o wide (r ∷ rs) some framed =
+        let followed = span-followed 0 65536 (omega arith) r rs framed a b (omega arith) o wide in
+        let pair = followed .pair in
+        inl (
+          numbersIn pair,
+          mem-right (nameCases ws) (mem-map numbersIn
+              (subst (λ (xs : List Range). Mem pair (numberPairs 0 65536 xs)) (sym some) (followed .listed))),
+          numbers-past a b
+              ∙ ap (λ (xs : List Range). follow (edgesTo f (map numbersIn (numberPairs 0 65536 xs))) neither (numbers a b)) some
+              ∙ numbers-follow f neither a b (numberPairs 0 65536 (r ∷ rs)) pair (followed .follows),
+          keeps followed,
+        )
+      where
+        keeps
+            : (k : Followed 0 65536 (omega arith) r rs framed a b) → (w : Want) → Mem w ws
+            → isOpen (fits w (numbers a b)) ≡ meetsWant (numbersIn (k .pair)) w
+        keeps k (aSymbol x) m = refl
+        keeps k (aNumber l h) m =
+            range-open l h a b (k .pair) o
+            (k .meetsSome (record { low = l; high = h }) (subst (Mem (record { low = l; high = h })) some (wanted-range m)))
+        keeps k (aCompound x n) m = refl
+
+    -- A known term takes the edge of a case that keeps exactly the wants which are open at it, or neither, and all wants are
+    -- contradicted.
+    pub pair-edge
+        : All SoundWant ws → (t : Term) → WellFormed t → (IsUnknown (found t) → ⊥)
+        → TakesOpen meetsWant (pairCases ws) f neither ws t
+    pair-edge sound unknown ok k = absurd (k tt)
+    pair-edge sound (symbol b) ok k =
+        elim (follow-case f neither (symbol b) (pairCases ws)) [
+          | inl r ↦
+              inl (r .0, r .1, r .3, λ w m. symbol-open b w ∙ ap (λ (c : Case). meetsWant c w) (sym (symbol-taken (r .0) b (r .2))))
+          | inr r ↦ inr (r .1, symbol-none b (r .0))
+        ]
+    pair-edge sound (numbers a b) ok k = span-edge a b (ok .0) (ok .1) (rangesOf ws) refl (wants-framed sound)
+    pair-edge sound (compound b ts) ok k =
+        elim (follow-case f neither (compound b ts) (pairCases ws)) [
+          | inl r ↦
+              inl (
+                r .0,
+                r .1,
+                r .3,
+                λ w m. compound-open b ts w ∙ ap (λ (c : Case). meetsWant c w) (sym (compound-taken (r .0) b ts (r .2))),
+              )
+          | inr r ↦ inr (r .1, compound-none b ts (r .0))
+        ]
+
+-- So where the live rules want xs, each something or nothing, it takes an edge that keeps exactly those which it does not
+-- contradict.
+pub pair-edge-keeps
+    : {A : Type 0} (xs : List (Option Want)) (t : Term) (f : Case → A) (neither : A) → All SoundWant (gatherWants xs)
+    → WellFormed t → (IsUnknown (found t) → ⊥) → KeepsOpen pairKeeps (pairCases (gatherWants xs)) f neither xs t
+pair-edge-keeps xs t f neither sound ok k =
+    takes-keeps pairKeeps (λ c. refl) (pairCases (gatherWants xs)) f neither xs t
+    (pair-edge (gatherWants xs) f neither sound t ok k)
