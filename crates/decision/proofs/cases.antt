@@ -5,6 +5,7 @@ pub mod Intervals
 pub mod RangeRuns
 pub mod RangeOrder
 pub mod WantedRanges
+pub mod Accepts
 pub mod Runs
 pub mod CaseList
 pub mod SwitchEdges

@@ -1,4 +1,5 @@
 -- The wait list, up to the wait sentence.
+pub mod Suspended
 pub mod SameStep
 pub mod SamePath
 pub mod Waits

@@ -17,14 +17,11 @@ use Rattle.decision.specs.Cases.{Case, symbolCase, compoundCase, numbers
 use Rattle.decision.specs.AcceptedGraph.{CaseBefore, LowAtMostHigh}
 use Rattle.decision.proofs.cases.Insertion.{symbol-wanted, functor-wanted}
 use Rattle.decision.proofs.cases.WantedRanges.{numberRuns, runs-all}
-use Rattle.decision.proofs.cases.Runs.{SoundWant, Accepts, Parted, in-run, run-uncut, run-wanted, run-maximal, runs-ordered}
+use Rattle.decision.proofs.cases.Accepts.{Accepts, SameAccept}
+use Rattle.decision.proofs.cases.Runs.{SoundWant, Parted, in-run, run-uncut, run-wanted, run-maximal, runs-ordered}
 use Rattle.decision.proofs.cases.CaseList.{cases-all, symbol-listed, compound-listed, run-listed}
 use Rattle.decision.proofs.cases.CasesAccepted.{cases-ascend}
 use Rattle.basics.proofs.Numbers.{not-apart, both-le}
-
--- The same of the wants accept the one number and the other.
-abbrev pub SameAccept : List Want → ℕ → ℕ → Type 0
-SameAccept ws u v = (w : Want) → Mem w ws → Accepts w u ↔ Accepts w v
 
 -- The numbers from l to h are a "maximal run of numbers accepted by the same non-empty set" of the wants.
 pub record MaximalRun (ws : List Want) (l h : ℕ) : Type 0 where

@@ -14,6 +14,7 @@ use Rattle.basics.proofs.Filters.{mem-length, mem-right, mem-map, all-mapped, m
 use Rattle.basics.proofs.Ascent.{ascending-map}
 use Rattle.basics.proofs.Sorted.{AscendingBy}
 use Rattle.terms.specs.RuleTests.{Want, aSymbol, aNumber, aCompound, Range}
+use Rattle.codes.specs.views.Codes.{SoundWant}
 use Rattle.decision.specs.Cases.{Case, symbolCase, compoundCase, numbersCase, functorBefore}
 use Rattle.decision.specs.Cases.{symbolsOf, functorsOf, rangesOf, compoundOf, numbersIn}
 use Rattle.decision.specs.Node.{CaseEdge}
@@ -21,7 +22,6 @@ use Rattle.decision.specs.AcceptedGraph.{LowAtMostHigh, CaseFields}
 use Rattle.decision.proofs.cases.Insertion.{number-inserted, functor-inserted, symbols-ascend, functors-ascend}
 use Rattle.decision.proofs.cases.FramedRuns.{InFrame}
 use Rattle.decision.proofs.cases.WantedRanges.{wanted-range}
-use Rattle.decision.proofs.cases.Runs.{SoundWant}
 use Rattle.decision.proofs.cases.CaseList.{symbolCases, compoundCases, nameCases, names-all}
 use Rattle.decision.proofs.cases.CaseList.{symbol-joined, compound-joined, joined-ascend}
 use Rattle.decision.proofs.cases.SwitchEdges.{edgesTo}

@@ -23,13 +23,13 @@ use Rattle.terms.proofs.Unknown.{IsUnknown}
 use Rattle.terms.proofs.Outcomes.{is-open}
 use Rattle.terms.proofs.KnownTests.{holds-true}
 use Rattle.terms.proofs.Spans.{range-open-at}
+use Rattle.codes.specs.views.Codes.{SoundWant}
 use Rattle.decision.specs.Cases.{Case, symbolCase, compoundCase, numbersCase, takes, rangesOf, numbersIn}
 use Rattle.decision.specs.Node.{follow}
 use Rattle.decision.specs.Edges.{gatherWants}
 use Rattle.decision.proofs.Truth.{known-contradicted, open-known, open-is}
 use Rattle.decision.proofs.cases.FramedRuns.{InFrame}
 use Rattle.decision.proofs.cases.WantedRanges.{range-wanted, wanted-range}
-use Rattle.decision.proofs.cases.Runs.{SoundWant}
 use Rattle.decision.proofs.cases.CaseList.{nameCases, names-all, symbol-joined, compound-joined}
 use Rattle.decision.proofs.cases.SwitchEdges.{edgesTo, follow-case, follow-past, KeepsOpen, TakesOpen, takes-keeps}
 use Rattle.decision.proofs.cases.NumberPairs.{numberPairs, Followed, span-followed, numbers-follow}

@@ -12,15 +12,15 @@ use Rattle.basics.proofs.Filters.{mem-right, mem-map, all-mapped}
 use Rattle.basics.proofs.Sorted.{AscendingBy}
 use Rattle.terms.specs.Term.{Wide, numbers}
 use Rattle.terms.specs.RuleTests.{Want, aSymbol, aNumber, aCompound, Range}
+use Rattle.codes.specs.views.Codes.{SoundWant}
 use Rattle.decision.specs.Cases.{Case, symbolCase, compoundCase, numbersCase, rangesOf, numbersIn}
 use Rattle.decision.specs.Node.{follow}
 use Rattle.decision.proofs.cases.Intervals.{Contains}
 use Rattle.decision.proofs.cases.FramedRuns.{framed, InFrame, SameRanges, MaximalIn, framed-covers, framed-are}
 use Rattle.decision.proofs.cases.RunPairs.{fromTo, runPairs, InTurn, meets-number}
 use Rattle.decision.proofs.cases.WantedRanges.{range-wanted, wanted-range}
-use Rattle.decision.proofs.cases.Runs.{SoundWant, accepts-range}
+use Rattle.decision.proofs.cases.Accepts.{accepts-range, SameAccept}
 use Rattle.decision.proofs.cases.CaseList.{nameCases, names-all, symbol-joined, compound-joined}
-use Rattle.decision.proofs.cases.CasesSentence.{SameAccept}
 use Rattle.decision.proofs.cases.SwitchEdges.{edgesTo}
 use Rattle.decision.proofs.cases.Narrowest.{narrowest, narrowest-pair}
 use Rattle.decision.proofs.cases.NumberPairs.{numberPairs, number-pairs-are, numbers-follow}

@@ -10,16 +10,17 @@ use lib.Dec.{T, leb}
 use Rattle.basics.specs.Lists.{Mem, All}
 use Rattle.terms.specs.Term.{number}
 use Rattle.terms.specs.RuleTests.{Want, aSymbol, aNumber, aCompound, Range}
-use Rattle.terms.specs.Outcome.{Holds, known, fits}
+use Rattle.terms.specs.Outcome.{known, fits}
 use Rattle.basics.proofs.ListLaws.{all-at, all-from}
-use Rattle.terms.proofs.Spans.{range-holds-at, inside-number}
+use Rattle.terms.proofs.Spans.{inside-number}
 pub use Rattle.codes.specs.views.Codes.{SoundWant}
+pub use Rattle.decision.proofs.cases.Accepts.{Accepts, accepts-range}
 use Rattle.decision.specs.Runs.{cuts, between, covers, isCovered, runs}
 use Rattle.decision.specs.Cases.{Case, symbolCase, compoundCase, numbersCase, takes, isWanted, rangesOf, numbersIn}
 use Rattle.decision.specs.AcceptedGraph.{CaseBefore, LowAtMostHigh}
 use Rattle.basics.proofs.Filters.{filter-mem, any-mem}
 use Rattle.basics.proofs.Ascent.{ascending-map}
-use Rattle.decision.proofs.cases.Intervals.{Contains, in-one-only}
+use Rattle.decision.proofs.cases.Intervals.{in-one-only}
 use Rattle.decision.proofs.cases.RangeRuns as Ranges
 use Rattle.decision.proofs.cases.RangeRuns.{covers-contains, run-between}
 use Rattle.decision.proofs.cases.WantedRanges.{range-wanted, wanted-range}
@@ -27,14 +28,6 @@ use Rattle.decision.proofs.cases.WantedRanges.{numberRuns, run-case, ra
 use Rattle.basics.proofs.Booleans.{same-truth}
 use Rattle.basics.proofs.Sorted.{AscendingBy as Ascending}
 use Rattle.basics.proofs.Numbers.{both-le}
-
--- The want accepts the number.
-abbrev pub Accepts : Want → ℕ → Type 0
-Accepts w v = Holds (fits w (number v))
-
--- A wanted range accepts the numbers in it.
-pub accepts-range : (r : Range) (v : ℕ) → Accepts (aNumber (r .low) (r .high)) v ↔ Contains r v
-accepts-range r v = range-holds-at (r .low) (r .high) v v
 
 module _ (ws : List Want) where
   -- A number is a cut exactly when it is a wanted low or comes after a wanted high,

@@ -13,9 +13,9 @@ use Rattle.basics.proofs.ListLaws.{all-join, all-at}
 use Rattle.terms.proofs.Ranges.{WideRange, ranges-wide}
 use Rattle.terms.specs.Answer.{ruleAt}
 use Rattle.basics.proofs.Positions.{mem-at}
+use Rattle.codes.specs.views.Codes.{SoundWant}
 use Rattle.decision.specs.Rules.{wantAt}
 use Rattle.decision.specs.Edges.{liveWants}
-use Rattle.decision.proofs.cases.Runs.{SoundWant}
 use Rattle.decision.proofs.rules.TestsOfRules.{want-test}
 use Rattle.decision.proofs.rules.LiveWants.{IfWanted, wants-all}
 

@@ -9,9 +9,10 @@ use Rattle.terms.specs.Filling.{Putss}
 use Rattle.terms.specs.Accepted.{Exacts}
 use Rattle.decision.specs.Key.{Leaf}
 use Rattle.decision.specs.Node.{Node}
-use Rattle.decision.specs.Path.{Step, stop, goTo, noWay, stepAt, Path, ends, through, nodeAt, Way}
+use Rattle.decision.specs.Path.{Step, stop, goTo, noWay, stepAt, Path, ends, through, nodeAt}
 use Rattle.decision.specs.Path.{lastStep, nextStep, pathFrom}
 use Rattle.basics.proofs.Clash.{clash}
+use Rattle.decision.proofs.waiting.Suspended.{way-same}
 use Rattle.decision.proofs.waiting.SameStep.{StillNotKnownAt, same-step}
 use Rattle.records.specs.Reading.{refused, took}
 
@@ -23,14 +24,6 @@ StillNotKnownOn nodes piece further walked =
 -- A refusal is no path to a leaf.
 refusal-no-end : {C : Type 0} {q : ℕ} {walked : List ℕ} {l : Leaf} → refused q ≡ ends walked l → C
 refusal-no-end e = clash (cc)
-
--- Two ways to a leaf that are the same path have the same nodes and the same leaf.
-pub way-same
-    : {a : ℕ} {w : Way} {walked : List ℕ} {l : Leaf} → took a w ≡ ends walked l
-    → (a ≡ 0) × (w .walked ≡ walked) × (w .last ≡ l)
-way-same {a} {w} {walked} {l} e =
-    let way : _≡_ {A = Way} w (record { walked = walked; last = l }) = cc in
-    ((cc), ap (λ (x : Way). x .walked) way, ap (λ (x : Way). x .last) way)
 
 module _ {P : Term → Type 0} (nodes : List (Node ℕ)) {piece further : Terms} (exact : Exacts piece)
     (more : Putss P piece further) where

@@ -25,7 +25,8 @@ use Rattle.decision.specs.AcceptedGraph.{AcceptedGraph}
 use Rattle.decision.specs.Waiting.{IsTest, ListedNotKnown}
 use Rattle.decision.proofs.waiting.SameStep.{StillNotKnown, not-known-earlier}
 use Rattle.decision.proofs.waiting.SamePath.{StillNotKnownOn, same-path}
-use Rattle.decision.proofs.waiting.Waits.{Suspended, suspended, accepted-at, asked-numbered, asked-met, met-listed, same-waits}
+use Rattle.decision.proofs.waiting.Suspended.{Suspended, suspended}
+use Rattle.decision.proofs.waiting.Waits.{accepted-at, asked-numbered, asked-met, met-listed, same-waits}
 use Rattle.decision.proofs.built.BuiltGraph.{built-graph-accepted}
 use Rattle.records.specs.Reading.{took}
 

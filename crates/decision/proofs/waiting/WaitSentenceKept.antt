@@ -29,7 +29,7 @@ use Rattle.decision.specs.AskingOrder.{AskingOrder}
 use Rattle.decision.specs.Walk.{Walk, isUnknown, testNotKnown, isMet, walk}
 use Rattle.decision.specs.Waiting.{ListedNotKnown, Kept, ListedKept}
 use Rattle.decision.proofs.keys.Sets.{where-in}
-use Rattle.decision.proofs.waiting.Waits.{Suspended, suspended}
+use Rattle.decision.proofs.waiting.Suspended.{Suspended, suspended}
 use Rattle.decision.proofs.waiting.SpanWaits.{not-known-is, span-waits-exact}
 use Rattle.decision.proofs.waiting.WaitSentenceSpans.{wait-sentence-spans}
 

@@ -25,7 +25,7 @@ use Rattle.decision.specs.Waiting.{ListedKept}
 use Rattle.decision.proofs.elimination.RightKeys.{RightVertex}
 use Rattle.decision.proofs.walking.BuiltWalk.{MetOn, WalksRight, given, walk-answers}
 use Rattle.decision.proofs.walking.Demand3.{right-in-every-order}
-use Rattle.decision.proofs.waiting.SamePath.{way-same}
+use Rattle.decision.proofs.waiting.Suspended.{way-same}
 use Rattle.decision.proofs.waiting.KeptOpen.{suspend-still}
 use Rattle.decision.proofs.waiting.SpanWaits.{spanWaits, unsure-listed}
 

@@ -1,7 +1,7 @@
--- The wait list of a walk that suspends: the walk ends at a suspend node, each test met on it that is not known is
--- listed, and each test that a node of an accepted graph asks has a number, by which it is met.
+-- The wait list of a walk that suspends: each test met on it that is not known is listed, and each test that a node of an
+-- accepted graph asks has a number, by which it is met.
 use Prim.Native.Nat.{ℕ, zero, suc}
-use mathlib.Core.Path.{_≡_, refl, ap, sym, subst, _∙_}
+use mathlib.Core.Path.{_≡_, refl, sym, subst}
 use mathlib.Core.Bool.{Bool, true, false, _&&_}
 use mathlib.Core.List.{List, [], _∷_}
 use lib.Dec.{T}
@@ -11,31 +11,21 @@ use Rattle.masks.proofs.Extensionality.{maskOf-same}
 use Rattle.terms.specs.Term.{Terms}
 use Rattle.basics.specs.Lists.{All, Mem}
 use Rattle.terms.specs.Pattern.{Patterns}
-use Rattle.terms.specs.Outcome.{Outcome, holds, notKnown, contradicted, ruleOutcome}
-use Rattle.terms.specs.Answer.{ruleAt, onlyRule}
 use Rattle.terms.specs.Answer as answers
 use Rattle.basics.proofs.Booleans.{true-both}
 use Rattle.sheet_tests.specs.SheetTests.{Test, place, pair, sheetTests}
 use Rattle.decision.specs.Rules.{sameTest, testAt}
-use Rattle.decision.specs.Key.{failNode, suspendNode, executeNode, Leaf}
+use Rattle.decision.specs.Key.{failNode}
 use Rattle.decision.specs.Node.{Node, end, switch, pairNode}
-use Rattle.decision.specs.Path.{Path, ends, nodeAt, path}
-use Rattle.decision.specs.Walk.{Walk, testNotKnown, asksTest, isMet, suspendWaits, atLeaf, atEnd, walk}
+use Rattle.decision.specs.Path.{nodeAt}
+use Rattle.decision.specs.Walk.{testNotKnown, asksTest, isMet, suspendWaits}
 use Rattle.decision.specs.AcceptedGraph.{AcceptedNode}
-use Rattle.basics.proofs.Clash.{clash}
 use Rattle.basics.proofs.Filters.{mem-any}
 use Rattle.decision.proofs.keys.Sets.{in-where}
 use Rattle.decision.proofs.rules.TestsOfRules.{test-same}
 use Rattle.decision.proofs.waiting.SameStep.{StillNotKnown, StillNotKnownAt}
 use Rattle.basics.proofs.Positions.{number-of}
 use Rattle.decision.specs.Waiting.{IsTest}
-use Rattle.records.specs.Reading.{took, refused}
-
--- The answer at an execute node is never suspend.
-execute-not-suspend : {C : Type 0} (i : ℕ) (x : Outcome) → onlyRule i x ≡ answers.suspend → C
-execute-not-suspend i holds e = clash (cc)
-execute-not-suspend i notKnown e = clash (cc)
-execute-not-suspend i contradicted e = clash (cc)
 
 -- Two truth values, of which the second implies the first, and the first the second where c is true, are the same
 -- beside c.
@@ -71,33 +61,6 @@ module _ (rules : List Patterns) where
       subst (StillNotKnown piece further) (r .2) (f (r .0) (r .1) asked)
 
   module _ (nodes : List (Node ℕ)) (piece : Terms) where
-    -- A walk that suspends, by the path that it takes.
-    pub record Suspended (w : Walk) : Type 0 where
-      pub walked : List ℕ
-      pub taken : path nodes piece ≡ ends walked suspendNode
-      pub told : atLeaf rules nodes piece walked suspendNode ≡ w
-
-    suspended-at
-        : {w : Walk} (walked : List ℕ) (l : Leaf) → path nodes piece ≡ ends walked l → atLeaf rules nodes piece walked l ≡ w
-        → w .answer ≡ answers.suspend → Suspended w
-    suspended-at walked failNode d same suspends =
-        let fails = ap (λ (v : Walk). v .answer) same ∙ suspends in
-        clash (cc)
-    suspended-at walked suspendNode d same suspends = record { walked = walked; taken = d; told = same }
-    suspended-at walked (executeNode i) d same suspends =
-        execute-not-suspend i (ruleOutcome (ruleAt rules i) piece) (ap (λ (v : Walk). v .answer) same ∙ suspends)
-
-    -- The path of a walk that suspends ends at a suspend node.
-    pub suspended : (w : Walk) → walk rules nodes piece ≡ took 0 w → w .answer ≡ answers.suspend → Suspended w
-    suspended w e suspends = go (path nodes piece) refl e
-      where
-        go : (p : Path) → path nodes piece ≡ p → atEnd rules nodes piece p ≡ took 0 w → Suspended w
-        go (refused q) d k = clash (cc)
-        go (took a way) d k =
-            let none : a ≡ 0 = cc in
-            let same : atLeaf rules nodes piece (way .walked) (way .last) ≡ w = cc in
-            suspended-at (way .walked) (way .last) (d ∙ ap (λ (n : ℕ). took n way) none) same suspends
-
     module _ (walked : List ℕ) where
       abbrev Met : ℕ → Type 0
       Met t = T (isMet rules nodes walked t)
