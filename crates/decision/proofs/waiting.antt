@@ -7,5 +7,6 @@ pub mod WaitSentence
 pub mod KeptOpen
 pub mod SpanWaits
 pub mod SpanWaitsSentence
+pub mod SameSpanWaits
 pub mod WaitSentenceSpans
 pub mod WaitSentenceKept

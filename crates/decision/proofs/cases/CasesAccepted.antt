@@ -26,7 +26,7 @@ use Rattle.decision.proofs.cases.Runs.{SoundWant, accepts-range, cut-wa
 use Rattle.decision.proofs.cases.Runs.{runs-ordered, runs-ascend, in-run}
 use Rattle.decision.proofs.cases.CaseList.{symbolCases, compoundCases, joined-ascend, cases-all}
 use Rattle.decision.proofs.cases.CaseList.{symbol-listed, compound-listed, run-listed}
-use Rattle.decision.proofs.cases.SwitchEdges.{edgesTo}
+use Rattle.decision.proofs.cases.SwitchEdges.{edgesTo, edges-ascend}
 use Rattle.basics.proofs.Sorted.{AscendingBy as Ascending}
 
 module _ (ws : List Want) where
@@ -112,12 +112,6 @@ module _ (f : Case → ℕ) where
   abbrev edge : Case → CaseEdge ℕ
   edge c = record { case = c; target = f c }
 
-  -- The edges of ascending cases ascend.
-  edges-ascend : (cs : List Case) → Ascending CaseBefore cs → Ascend (edgesTo f cs)
-  edges-ascend [] a = tt
-  edges-ascend (c ∷ cs) a =
-      (all-mapped (λ (d : CaseEdge ℕ). CaseBefore c (d .case)) edge cs (a .0), edges-ascend cs (a .1))
-
   -- The edges of a switch's cases are accepted, where at most 64 live rules want something there.
   pub cases-accepted
       : (ws : List Want) → All SoundWant ws → 1 ≤ length ws → length ws ≤ 64 → AcceptedCases (edgesTo f (casesOf ws))
@@ -128,5 +122,5 @@ module _ (f : Case → ℕ) where
         fewCases = omega (arith, cases-few ws);
         fields = all-mapped (λ (c : CaseEdge ℕ). CaseFields (c .case)) edge (casesOf ws) (cases-fields ws sound);
         ordered = all-mapped (λ (c : CaseEdge ℕ). LowAtMostHigh (c .case)) edge (casesOf ws) (cases-ordered ws);
-        ascend = edges-ascend (casesOf ws) (cases-ascend ws);
+        ascend = edges-ascend f (casesOf ws) (cases-ascend ws);
       }

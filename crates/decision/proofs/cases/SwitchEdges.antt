@@ -1,14 +1,16 @@
 -- What the edges of a switch owe to the walk, whatever its cases are: the edge that a known term takes keeps exactly the rules
 -- which the term does not contradict.
+use Prim.Native.Nat.{ℕ}
 use mathlib.Core.Path.{_≡_, refl, ap, sym, subst, _∙_}
 use mathlib.Core.Bool.{Bool, true, false}
 use mathlib.Core.Logic.{_⊎_, inl, inr}
-use mathlib.Core.List.{List, _++_, map}
+use mathlib.Core.List.{List, [], _∷_, _++_, map}
 use mathlib.Core.Option.{Option, some, none}
 use lib.Dec.{T}
 use Rattle.basics.specs.Lists.{Mem, All}
 use Rattle.basics.proofs.ListLaws.{all-from}
 use Rattle.basics.proofs.Filters.{mem-map, map-mem, map-join, all-mapped}
+use Rattle.basics.proofs.Sorted.{AscendingBy}
 use Rattle.terms.specs.Term.{Term}
 use Rattle.terms.specs.RuleTests.{Want}
 use Rattle.terms.specs.Outcome.{contradicted, fits}
@@ -16,6 +18,7 @@ use Rattle.terms.specs.Answer.{isOpen}
 use Rattle.decision.specs.Cases.{Case, takes}
 use Rattle.decision.specs.Node.{CaseEdge, leadsOr, follow}
 use Rattle.decision.specs.Edges.{gatherWants}
+use Rattle.decision.specs.AcceptedGraph.{CaseBefore, Ascend}
 use Rattle.decision.proofs.cases.Best.{best-join}
 use Rattle.decision.proofs.cases.Narrowest.{takesEdge, narrowerEdge, follow-narrowest}
 use Rattle.decision.proofs.rules.LiveWants.{mem-gather}
@@ -23,6 +26,13 @@ use Rattle.decision.proofs.rules.LiveWants.{mem-gather}
 -- The edges of the cases, of which case c leads to f c.
 abbrev pub edgesTo : {A : Type 0} → (Case → A) → List Case → List (CaseEdge A)
 edgesTo f cs = map (λ (c : Case). record { case = c; target = f c }) cs
+
+-- Those of ascending cases ascend.
+pub edges-ascend : (f : Case → ℕ) (cs : List Case) → AscendingBy CaseBefore cs → Ascend (edgesTo f cs)
+edges-ascend f [] a = tt
+edges-ascend f (c ∷ cs) a =
+    let edge : Case → CaseEdge ℕ = λ d. record { case = d; target = f d } in
+    (all-mapped (λ (d : CaseEdge ℕ). CaseBefore c (d .case)) edge cs (a .0), edges-ascend f cs (a .1))
 
 module _ {A : Type 0} (f : Case → A) (neither : A) (t : Term) where
   abbrev edgeTo : Case → CaseEdge A

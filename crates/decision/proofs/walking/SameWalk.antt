@@ -40,7 +40,7 @@ module _
         λ i. tests-where i
         (λ t. anyOf (λ (n : ℕ). asksTest (test-at i t) (nodeAt nodes n)) walked && testNotKnown piece (test-at i t))
 
-    outcome-same : (n : ℕ) → testOutcome rules piece n ≡ testOutcome others piece n
+    pub outcome-same : (n : ℕ) → testOutcome rules piece n ≡ testOutcome others piece n
     outcome-same n = fun-ext go
       where
         go : (t : Test) → testOutcome rules piece n t ≡ testOutcome others piece n t
