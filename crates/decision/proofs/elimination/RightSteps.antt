@@ -18,19 +18,17 @@ use Rattle.basics.proofs.ListLaws.{all-at}
 use Rattle.sheet_tests.specs.SheetTests.{Test, place, pair, sheetTests}
 use Rattle.decision.specs.Rules.{testAt, hasTest}
 use Rattle.decision.specs.Key.{Key, Vertex, asking}
-use Rattle.decision.specs.Cases.{Case, casesOf}
-use Rattle.decision.specs.Edges.{firstIn, caseKeeps, liveWants, byCase, byNone, byUnknown, byOther, askNode, askFirst, nodeOf}
+use Rattle.decision.specs.Edges.{firstIn, byNone, byUnknown, byOther, askNode, askFirst, nodeOf}
 use Rattle.decision.specs.AskingOrder.{MustPrecede, AskingOrder}
 use Rattle.decision.specs.Path.{Step, goTo, switchStep, byComparison, pairStep, stepAt}
 use Rattle.decision.proofs.elimination.Elimination.{present}
-use Rattle.decision.proofs.cases.SwitchEdges.{edgesTo}
 use Rattle.decision.proofs.elimination.LocalFacts.{Firm, Missing, firm-dead}
 use Rattle.decision.proofs.elimination.FirmTests.{IsRule, DeadRule, FirmTest, missing-test}
 use Rattle.decision.proofs.keys.Vertices.{Pending, held-by, asking-pending}
 use Rattle.decision.proofs.keys.AskedFirst.{First, first-found}
 use Rattle.decision.proofs.keys.EdgesLeft.{edgesLeft, pendingCount, edges-fewer}
 use Rattle.decision.proofs.elimination.RightKeys.{RightKey, RightVertex, key-more, none-right, settle-right}
-use Rattle.decision.proofs.elimination.SwitchOwes.{SwitchOwes, switch-owes}
+use Rattle.decision.proofs.elimination.SwitchOwes.{graphSwitches, caseEdges, SwitchOwes, switch-owes}
 use Rattle.decision.proofs.elimination.RightSwitch.{unknown-right, known-right}
 use Rattle.decision.proofs.walking.StepEdges.{step-edge}
 
@@ -56,16 +54,13 @@ module _ (arity : ℕ) (rules : List Patterns) (piece : Terms)
     at-place : (n : ℕ) → testAt rules t ≡ place n → GoesRight Seen (stepAt piece (askNode rules key t (place n)))
     at-place n at = go (termAt piece n) refl
       where
-        cases : List Case
-        cases = casesOf (liveWants rules (key .live) n)
-
-        owes : SwitchOwes rules piece (record { cases = casesOf; keeps = caseKeeps })
+        owes : SwitchOwes rules piece graphSwitches
         owes = switch-owes rules arity accepted piece (ok .exact)
 
         go
             : (x : Found) → termAt piece n ≡ x
             → GoesRight Seen
-            (switchStep (edgesTo (byCase rules key t n) cases) (byNone rules key t) (byUnknown rules key n) x)
+            (switchStep (caseEdges rules graphSwitches key t n) (byNone rules key t) (byUnknown rules key n) x)
         go lacking e = absurd (asked-present (rw (at, e) tt))
         go (found unknown) e =
             (_, refl, unknown-right rules piece key right t n at seen (rw e tt))

@@ -25,7 +25,7 @@ use Rattle.sheet_tests.specs.SheetTests.{place}
 use Rattle.decision.specs.Rules.{testAt, hasTest, wantAt, rulesWhere}
 use Rattle.decision.specs.Key.{Key, Vertex}
 use Rattle.decision.specs.Cases.{Case, casesOf}
-use Rattle.decision.specs.Node.{follow}
+use Rattle.decision.specs.Node.{CaseEdge, follow}
 use Rattle.decision.specs.Edges.{caseKeeps, liveWants, leadsTo, butTest, byNone}
 use Rattle.decision.proofs.cases.SwitchEdges.{edgesTo, openAt, KeepsOpen}
 use Rattle.decision.proofs.cases.CasesLaws.{edge-keeps}
@@ -40,18 +40,27 @@ pub record Switches : Type 0 where
   pub cases : List Want → List Case
   pub keeps : Case → Option Want → Bool
 
+-- Those of a graph, and those by pairs of runs.
+abbrev pub graphSwitches : Switches
+graphSwitches = record { cases = casesOf; keeps = caseKeeps }
+
+abbrev pub pairSwitches : Switches
+pairSwitches = record { cases = pairCases; keeps = pairKeeps }
+
 module _ (rules : List Patterns) where
   -- The key's live rules that stay, with the test settled.
   abbrev pub staying : Key → ℕ → (ℕ → Bool) → Vertex
   staying key t stays = leadsTo rules (rulesWhere rules (λ i. has (key .live) i && stays i)) (butTest key t)
 
-  -- Where a case leads, and where a known term does.
+  -- Where a case leads, the edges of all cases, and where a known term leads.
   abbrev pub caseEdge : Switches → Key → ℕ → ℕ → Case → Vertex
   caseEdge switches key t n c = staying key t (λ i. switches .keeps c (wantAt rules i n))
 
+  abbrev pub caseEdges : Switches → Key → ℕ → ℕ → List (CaseEdge Vertex)
+  caseEdges switches key t n = edgesTo (caseEdge switches key t n) (switches .cases (liveWants rules (key .live) n))
+
   abbrev pub termEdge : Switches → Key → ℕ → ℕ → Term → Vertex
-  termEdge switches key t n u =
-      follow (edgesTo (caseEdge switches key t n) (switches .cases (liveWants rules (key .live) n))) (byNone rules key t) u
+  termEdge switches key t n u = follow (caseEdges switches key t n) (byNone rules key t) u
 
   -- The rules that stay are those of which the term does not contradict what they want at the place.
   pub record StaysOpen (key : Key) (t n : ℕ) (u : Term) (v : Vertex) : Type 0 where
@@ -90,15 +99,15 @@ module _ (rules : List Patterns) where
     }
 
     -- The switches of a built graph owe it to a piece of which each number is known exactly,
-    pub switch-owes : Exacts piece → SwitchOwes piece (record { cases = casesOf; keeps = caseKeeps })
+    pub switch-owes : Exacts piece → SwitchOwes piece graphSwitches
     switch-owes exact =
-        keeps-owes (record { cases = casesOf; keeps = caseKeeps }) (λ live n u there-is known f neither.
+        keeps-owes graphSwitches (λ live n u there-is known f neither.
         let own : Exact u = subst (IfFound Exact) there-is (finds-exact piece exact 4 n) in
         edge-keeps (eachWant rules live n) u f neither own known)
 
     -- and those with a case for each pair of runs to every well-formed piece.
-    pub pair-switch-owes : WellFormeds piece → SwitchOwes piece (record { cases = pairCases; keeps = pairKeeps })
+    pub pair-switch-owes : WellFormeds piece → SwitchOwes piece pairSwitches
     pair-switch-owes ok =
-        keeps-owes (record { cases = pairCases; keeps = pairKeeps }) (λ live n u there-is known f neither.
+        keeps-owes pairSwitches (λ live n u there-is known f neither.
         let own : WellFormed u = subst (IfFound WellFormed) there-is (finds-well-formed piece ok 4 n) in
         pair-edge-keeps (eachWant rules live n) u f neither (wants-sound arity rules accepted live n) own known)

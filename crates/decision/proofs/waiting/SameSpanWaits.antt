@@ -1,5 +1,5 @@
--- A list where pieces hold spans (document 02, request 4) goes by the tests of a sheet's rules alone: two sheets whose rules have, one
--- after another, the same place tests and the same equality tests get the same list from any nodes walked.
+-- A list where pieces hold spans (document 02, request 4) goes by the tests of a sheet's rules alone: two sheets whose rules have,
+-- one after another, the same place tests and the same equality tests get the same list from any nodes walked.
 use Prim.Native.Nat.{ℕ}
 use mathlib.Core.Path.{_≡_, refl}
 use mathlib.Core.Bool.{_&&_, _||_, not}

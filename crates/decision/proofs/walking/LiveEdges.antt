@@ -23,15 +23,14 @@ use Rattle.terms.proofs.Unknown.{IsUnknown}
 use Rattle.sheet_tests.specs.SheetTests.{Test, place, pair, sheetTests}
 use Rattle.decision.specs.Rules.{testAt, hasTest, wantAt, rulesWhere}
 use Rattle.decision.specs.Key.{Key, Vertex, keyOf, vertexOf}
-use Rattle.decision.specs.Cases.{Case, casesOf}
 use Rattle.decision.specs.Node.{Node}
-use Rattle.decision.specs.Edges.{settledByUnknown, caseKeeps, liveWants, leadsTo, butTest}
-use Rattle.decision.specs.Edges.{byCase, byNone, byUnknown, byOther, askNode}
+use Rattle.decision.specs.Edges.{settledByUnknown, leadsTo, butTest}
+use Rattle.decision.specs.Edges.{byNone, byUnknown, byOther, askNode}
 use Rattle.decision.specs.Path.{goTo, switchStep, byComparison, pairStep, stepAt}
 use Rattle.decision.specs.Walk.{testOutcome, isContradicted}
 use Rattle.decision.proofs.keys.Sets.{in-where, where-in}
-use Rattle.decision.proofs.cases.SwitchEdges.{edgesTo, openAt}
-use Rattle.decision.proofs.elimination.SwitchOwes.{Switches, termEdge, SwitchOwes, switch-owes}
+use Rattle.decision.proofs.cases.SwitchEdges.{openAt}
+use Rattle.decision.proofs.elimination.SwitchOwes.{Switches, graphSwitches, caseEdges, termEdge, SwitchOwes, switch-owes}
 use Rattle.decision.proofs.rules.TestsOfRules.{HasTest, want-has}
 use Rattle.decision.proofs.keys.Vertices.{pending-in}
 
@@ -140,15 +139,12 @@ module _ (arity : ℕ) (rules : List Patterns) (accepted : All (AcceptedRule ari
             : Exacts piece → (w : Vertex) → stepAt piece (askNode rules key t (place n)) ≡ goTo w → KeptRules key t w
         place-kept exact w = go (termAt piece n) refl
           where
-            cases : List Case
-            cases = casesOf (liveWants rules (key .live) n)
-
-            owes : SwitchOwes rules piece (record { cases = casesOf; keeps = caseKeeps })
+            owes : SwitchOwes rules piece graphSwitches
             owes = switch-owes rules arity accepted piece exact
 
             go
                 : (x : Found) → termAt piece n ≡ x
-                → switchStep (edgesTo (byCase rules key t n) cases) (byNone rules key t) (byUnknown rules key n) x ≡ goTo w
+                → switchStep (caseEdges rules graphSwitches key t n) (byNone rules key t) (byUnknown rules key n) x ≡ goTo w
                 → KeptRules key t w
             go lacking e s = clash (cc)
             go (found unknown) e s =
