@@ -1,7 +1,8 @@
-//! Random sheets with close to 64 tests, spread over all depths, in up to 32 rules.
+//! Random sheets with close to 64 tests, spread over all depths, in up to as many rules as a sheet may have.
 
 use crate::asked::Asked;
 use crate::random::Random;
+use crate::sheets::MOST_RULES;
 use crate::stock::{IDS, NUMBERS};
 use crate::trees::{Pattern, SheetTree};
 
@@ -51,8 +52,19 @@ fn variant(random: &mut Random, rule: &[Pattern]) -> Vec<Pattern> {
         .collect()
 }
 
+/// How many rules, up to this many.
+fn rule_count(random: &mut Random, most: u8) -> u8 {
+    let counts = [1, 2, 3, 8, 32, most];
+    random.pick(if most > 32 { &counts } else { &counts[..5] })
+}
+
 /// A sheet whose first rule alone has close to 64 tests, some fewer or some more.
 pub fn crowded(random: &mut Random) -> SheetTree {
+    crowded_up_to(random, MOST_RULES)
+}
+
+/// Such a sheet with up to so many rules, 32 or more.
+pub fn crowded_up_to(random: &mut Random, most: u8) -> SheetTree {
     let arity = random.between(4, 8);
     let mut first: Vec<Pattern> = (0..arity).map(|_| skeleton(random, 1)).collect();
     let wanted = random.pick(&[60, 62, 63, 64, 64, 64]);
@@ -67,7 +79,7 @@ pub fn crowded(random: &mut Random) -> SheetTree {
         *open[at] = asking(random);
     }
     let mut rules = vec![first];
-    for _ in 1..random.pick(&[1, 2, 3, 8, 32]) {
+    for _ in 1..rule_count(random, most) {
         rules.push(variant(random, &rules[0]));
     }
     SheetTree { arity: arity as u8, rules }

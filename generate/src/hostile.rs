@@ -1,6 +1,7 @@
 //! Hostile sheets and pieces: whole records that break one limit of document 01, or stand just at it.
 
 use crate::random::Random;
+use crate::sheets::MOST_RULES;
 use crate::trees::{piece_bytes, Pattern, SheetTree, Term};
 
 /// Puts a pattern at some place of a rule.
@@ -62,8 +63,8 @@ pub fn hostile_sheet(random: &mut Random, sheet: &SheetTree) -> Vec<u8> {
             sheet.rules.iter_mut().for_each(|rule| rule.resize(usize::from(arity), Pattern::Anything));
         }
         (1, _) => {
-            let count = random.pick(&[32, 33, 34, 255]);
-            sheet.rules.resize(count, vec![Pattern::Anything; usize::from(sheet.arity)]);
+            let count = random.pick(&[MOST_RULES, MOST_RULES + 1, MOST_RULES + 2, 255]);
+            sheet.rules.resize(usize::from(count), vec![Pattern::Anything; usize::from(sheet.arity)]);
         }
         (2 | 3, Some(rule)) => apart(random, rule),
         (_, Some(rule)) => {

@@ -44,43 +44,43 @@ pub fn coins(count: u16) -> Vec<u8> {
     SheetTree { arity: 4, rules: (0..count).map(coin).collect() }.bytes()
 }
 
-/// 32 rules that want the number 0 or 1 at random at each of 8 places: 907 nodes.
-pub fn zeros_and_ones() -> Vec<u8> {
+/// Rules that want the number 0 or 1 at random at each of 8 places: 907 nodes for 32 rules.
+pub fn zeros_and_ones(count: u16) -> Vec<u8> {
     let mut random = Random::new(3);
     let mut bit = || {
         let bit = random.below(2) as u16;
         Pattern::Range(bit, bit)
     };
-    let rules = (0..32).map(|_| (0..8).map(|_| bit()).collect()).collect();
+    let rules = (0..count).map(|_| (0..8).map(|_| bit()).collect()).collect();
     SheetTree { arity: 8, rules }.bytes()
 }
 
-/// 32 rules made of a range each, which is inside that of the rule before.
-fn nested(rule: impl Fn(u16, u16) -> Vec<Pattern>) -> Vec<u8> {
-    let rules: Vec<_> = (0..32).map(|at| rule(at, 1000 - at)).collect();
+/// Rules made of a range each, which is inside that of the rule before.
+fn nested(count: u16, rule: impl Fn(u16, u16) -> Vec<Pattern>) -> Vec<u8> {
+    let rules: Vec<_> = (0..count).map(|at| rule(at, 1000 - at)).collect();
     SheetTree { arity: rules[0].len() as u8, rules }.bytes()
 }
 
-/// Nested ranges at 1 place: 4 nodes, one of them a switch with 63 cases.
-pub fn nested_1() -> Vec<u8> {
-    nested(|low, high| vec![Pattern::Range(low, high)])
+/// Nested ranges at 1 place: 4 nodes, one of them a switch with a case less than two for each rule.
+pub fn nested_1(count: u16) -> Vec<u8> {
+    nested(count, |low, high| vec![Pattern::Range(low, high)])
 }
 
-/// Nested ranges at 8 places: 221 nodes in 52,321 bytes.
-pub fn nested_8() -> Vec<u8> {
-    nested(|low, high| vec![Pattern::Range(low, high); 8])
+/// Nested ranges at 8 places: 221 nodes in 52,321 bytes for 32 rules.
+pub fn nested_8(count: u16) -> Vec<u8> {
+    nested(count, |low, high| vec![Pattern::Range(low, high); 8])
 }
 
-/// Nested ranges at 16 places inside compounds: 687 nodes in 114,645 bytes.
-pub fn nested_16() -> Vec<u8> {
-    nested(|low, high| vec![Pattern::Compound(1, vec![Pattern::Range(low, high); 2]); 8])
+/// Nested ranges at 16 places inside compounds: 687 nodes in 114,645 bytes for 32 rules.
+pub fn nested_16(count: u16) -> Vec<u8> {
+    nested(count, |low, high| vec![Pattern::Compound(1, vec![Pattern::Range(low, high); 2]); 8])
 }
 
 /// Nested ranges at 9 places, some of which a variable ties in the last three rules. An unknown at such a
 /// place settles pairs, so that many keys have all rules live and 63 cases: 1,023 nodes in 400,448 bytes.
 pub fn longest() -> Vec<u8> {
     const TIED: [u16; 3] = [0b1_1001_0111, 0b1_1001_1011, 0b1_1111_1110];
-    nested(|low, high| {
+    nested(32, |low, high| {
         let tied = if low < 29 { 0 } else { TIED[usize::from(low) - 29] };
         let pattern = |place: u16| match tied >> place & 1 {
             1 => Pattern::Ranged(0, low, high),

@@ -4,6 +4,9 @@ use crate::random::Random;
 use crate::stock::Stock;
 use crate::trees::{Pattern, SheetTree};
 
+/// The most rules that a sheet may have.
+pub const MOST_RULES: u8 = 32;
+
 /// Numbers of variables, the lowest and the highest among them.
 const VARIABLES: [u8; 4] = [0, 1, 7, 15];
 
@@ -82,16 +85,18 @@ impl Style {
     }
 }
 
-/// How many rules: mostly few, now and then as many as allowed.
-fn rule_count(random: &mut Random) -> usize {
-    match random.below(20) {
+/// How many rules, up to this many: mostly few, now and then 32; of 26 times 6 times more, where more are allowed.
+fn rule_count(random: &mut Random, most: usize) -> usize {
+    match random.below(if most > 32 { 26 } else { 20 }) {
         0 => 0,
         1..=4 => 1,
         5..=9 => 2,
         10..=14 => random.between(3, 6),
         15..=17 => random.between(7, 16),
         18 => random.between(17, 31),
-        _ => 32,
+        19 => 32,
+        20..=24 => random.between(33, most),
+        _ => most,
     }
 }
 
@@ -117,9 +122,14 @@ fn sheet_of(random: &mut Random, style: &Style, arity: usize, count: usize) -> S
 
 /// A sheet at random.
 pub fn sheet(random: &mut Random) -> SheetTree {
+    sheet_up_to(random, MOST_RULES)
+}
+
+/// A sheet at random with up to so many rules, 32 or more.
+pub fn sheet_up_to(random: &mut Random, most: u8) -> SheetTree {
     let stock = Stock::random(random);
     let style = Style::random(random, stock);
-    let (arity, count) = (random.between(1, 8), rule_count(random));
+    let (arity, count) = (random.between(1, 8), rule_count(random, usize::from(most)));
     sheet_of(random, &style, arity, count)
 }
 

@@ -12,7 +12,7 @@ use crate::nodes::GraphNodes;
 use crate::orders::{reversed, some_table, table};
 use crate::pieces::piece;
 use crate::random::Random;
-use crate::sheets::{sheet, small_sheet};
+use crate::sheets::{sheet, small_sheet, MOST_RULES};
 use crate::stock::Stock;
 use crate::trees::{piece_bytes, SheetTree};
 use crate::variables::tidy_length;
@@ -71,8 +71,8 @@ pub const RESULT: usize = 16;
 const KNOWN: [fn() -> Vec<u8>; 8] = [
     known::three_alike,
     || known::coins(8),
-    known::nested_1,
-    known::nested_8,
+    || known::nested_1(MOST_RULES.into()),
+    || known::nested_8(MOST_RULES.into()),
     known::nodes_1024,
     known::nodes_1025,
     known::nodes_1027,

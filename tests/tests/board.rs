@@ -102,8 +102,8 @@ fn inputs() -> Vec<(Vec<u8>, Vec<u8>, Vec<u8>)> {
     inputs.extend(known::example_pieces().into_iter().map(|piece| (known::example(), piece)));
     for sheet in [
         known::coins(32),
-        known::nested_8(),
-        known::zeros_and_ones(),
+        known::nested_8(32),
+        known::zeros_and_ones(32),
         known::nodes_1024(),
         known::nodes_1027(),
     ] {

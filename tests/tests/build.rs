@@ -4,14 +4,11 @@
 use voltunnis_tests::both::{build, lent, rewrite};
 use voltunnis_tests::bytes::from_hex;
 use voltunnis_tests::generate::known;
-use voltunnis_tests::reference::build::{nodes, nodes_up_to};
+use voltunnis_tests::reference::build::{nodes, nodes_up_to, ENOUGH};
 use voltunnis_tests::reference::nodes::Node;
 use voltunnis_tests::reference::sheet::Sheet;
 use voltunnis_tests::results::{Built, Written};
 use voltunnis_tests::vectors;
-
-/// More bytes than any graph has.
-const ENOUGH: usize = 460_000;
 
 /// The graph of an accepted sheet, from a buffer that is larger.
 #[track_caller]
@@ -108,17 +105,17 @@ fn question_18_comes_after_the_sheets() {
 
 #[test]
 fn a_switch_of_a_built_graph_has_up_to_63_cases() {
-    let graph = has_size(&known::nested_1(), 4, 5 + 8 + 63 * 7 + 2 + 1 + 1);
+    let graph = has_size(&known::nested_1(32), 4, 5 + 8 + 63 * 7 + 2 + 1 + 1);
     assert_eq!(graph[8], 63);
-    let all = nodes(&Sheet::read(&known::nested_8()).expect("a sheet")).expect("a graph");
+    let all = nodes(&Sheet::read(&known::nested_8(32)).expect("a sheet")).expect("a graph");
     let most = |node: &Node| matches!(node, Node::Switch { cases, .. } if cases.len() == 63);
     assert_eq!(all.iter().filter(|node| most(node)).count(), 8);
 }
 
 #[test]
 fn a_graph_may_have_more_bytes_than_a_wide_field_counts() {
-    has_size(&known::nested_8(), 221, 52_321);
-    has_size(&known::nested_16(), 687, 114_645);
+    has_size(&known::nested_8(32), 221, 52_321);
+    has_size(&known::nested_16(32), 687, 114_645);
     has_size(&known::longest(), 1023, 400_448);
 }
 
@@ -127,5 +124,5 @@ fn sheets_have_graphs_of_the_known_size() {
     has_size(&known::example(), 7, 58);
     has_size(&known::coins(8), 52, 1_296);
     has_size(&known::coins(32), 172, 5_304);
-    has_size(&known::zeros_and_ones(), 907, 18_494);
+    has_size(&known::zeros_and_ones(32), 907, 18_494);
 }

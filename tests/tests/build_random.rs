@@ -5,11 +5,8 @@ use voltunnis_tests::generate::crowded::crowded;
 use voltunnis_tests::generate::damage::damaged;
 use voltunnis_tests::generate::random::Random;
 use voltunnis_tests::generate::sheets::sheet;
-use voltunnis_tests::reference;
+use voltunnis_tests::reference::{self, build::ENOUGH};
 use voltunnis_tests::results::{Built, GraphSize, Refusal, Written};
-
-/// More bytes than any graph has.
-const ENOUGH: usize = 460_000;
 
 /// Builds to a buffer of this length; a refusal changes no byte, a graph none after it.
 fn built(sheet: &[u8], len: usize) -> (Result<Built, Refusal>, Vec<u8>) {

@@ -10,18 +10,16 @@ use voltunnis_tests::generate::crowded::crowded;
 use voltunnis_tests::generate::known;
 use voltunnis_tests::generate::pieces::piece;
 use voltunnis_tests::generate::random::Random;
-use voltunnis_tests::generate::sheets::sheet;
+use voltunnis_tests::generate::sheets::{sheet, MOST_RULES};
 use voltunnis_tests::generate::stock::Stock;
 use voltunnis_tests::generate::stream::Stream;
 use voltunnis_tests::generate::trees::{piece_bytes, Pattern, SheetTree};
+use voltunnis_tests::reference::build::ENOUGH;
 use voltunnis_tests::reference::{graph_in, own_graph};
 use voltunnis_tests::results::{Built, Refusal, Written};
 
 #[path = "../src/bin/bench/cases.rs"]
 mod cases;
-
-/// More bytes than any graph has.
-const ENOUGH: usize = 460_000;
 
 /// How often each call was made, each refusal's number given, 0 for accepted, and each answer's word.
 #[derive(Default)]
@@ -180,7 +178,7 @@ fn the_fast_code_gives_the_same_on_the_stream_of_calls() {
 
 /// A sheet whose rules want a range at random at each place: narrow, so that graphs are of all sizes.
 fn ranges(random: &mut Random) -> SheetTree {
-    let (arity, rules) = (random.between(1, 8), random.between(1, 32));
+    let (arity, rules) = (random.between(1, 8), random.between(1, MOST_RULES.into()));
     let width = random.pick(&[1, 2, 10, 100, 400]);
     let most = random.pick(&[2, 100, 1000, 0x10000 - width]);
     let mut range = || {

@@ -82,8 +82,8 @@ fn refusals_end_the_run_and_leave_the_lines_before() {
     }
     assert_eq!(lines(&folder, &known::nodes_1025(), &[]), "refused 18\n");
     assert_eq!(lines(&folder, &known::nodes_1024(), &[]), "sheet 8 4 23 1024\n");
-    assert_eq!(lines(&folder, &known::nested_8(), &[]), "sheet 8 32 8 221\n");
-    assert_eq!(lines(&folder, &known::nested_16(), &[]), "refused 19\n");
+    assert_eq!(lines(&folder, &known::nested_8(32), &[]), "sheet 8 32 8 221\n");
+    assert_eq!(lines(&folder, &known::nested_16(32), &[]), "refused 19\n");
 }
 
 #[test]

@@ -6,14 +6,12 @@ use voltunnis_tests::bytes::{from_hex, to_hex};
 use voltunnis_tests::generate::known;
 use voltunnis_tests::generate::orders::{any, ascending, deepest, last, levels, reversed, table, Fault};
 use voltunnis_tests::generate::random::Random;
+use voltunnis_tests::reference::build::ENOUGH;
 use voltunnis_tests::reference::listing::listing;
 use voltunnis_tests::results::{Built, GraphSize, Refusal};
 
 /// The vectors of request 1.
 const VECTORS: &str = include_str!("../vectors/order.txt");
-
-/// More bytes than any graph has.
-const ENOUGH: usize = 460_000;
 
 /// The graph of an accepted sheet in an order, from a buffer that is larger.
 #[track_caller]
@@ -117,8 +115,8 @@ fn all_places_in_turn_give_the_plain_graph() {
     for sheet in [
         known::example(),
         known::coins(32),
-        known::zeros_and_ones(),
-        known::nested_16(),
+        known::zeros_and_ones(32),
+        known::nested_16(32),
         known::nodes_1024(),
         known::nodes_1025(),
         known::nodes_1027(),
@@ -235,7 +233,7 @@ fn questions_28_to_30_come_after_the_sheets_and_before_18_and_19() {
 #[test]
 fn buffers_are_kept_to() {
     for places in [ascending(), reversed(), deepest()] {
-        for sheet in [known::example(), known::coins(8), known::nested_8(), from_hex("10 01 00")] {
+        for sheet in [known::example(), known::coins(8), known::nested_8(32), from_hex("10 01 00")] {
             let (built, bytes) = graph(&sheet, &places);
             assert_eq!(check_graph(&sheet, &bytes), Ok(GraphSize { nodes: built.nodes }));
             let exact = build_ordered(&sheet, &table(&places), bytes.len());

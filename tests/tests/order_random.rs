@@ -12,6 +12,7 @@ use voltunnis_tests::generate::random::Random;
 use voltunnis_tests::generate::sheets::{sheet, small_sheet};
 use voltunnis_tests::generate::stock::Stock;
 use voltunnis_tests::generate::trees::{piece_bytes, SheetTree};
+use voltunnis_tests::reference::build::ENOUGH;
 use voltunnis_tests::results::{Built, GraphSize, Plain};
 use voltunnis_tests::{reference, voltunnis};
 
@@ -23,9 +24,6 @@ fn some_sheet(random: &mut Random) -> SheetTree {
         _ => sheet(random),
     }
 }
-
-/// More bytes than any graph has.
-const ENOUGH: usize = 460_000;
 
 /// Builds in an order to buffers of several lengths, as the reference does: a refusal changes no byte, a graph none
 /// after it. Gives the graph, if there is one.

@@ -12,6 +12,7 @@ use voltunnis_tests::generate::sheets::{sheet, small_sheet};
 use voltunnis_tests::generate::stock::Stock;
 use voltunnis_tests::generate::trees::{all, piece_bytes, Pattern, SheetTree};
 use voltunnis_tests::generate::variables::variables;
+use voltunnis_tests::reference::build::ENOUGH;
 use voltunnis_tests::reference::sheet::{Sheet, Want};
 use voltunnis_tests::results::Word;
 use voltunnis_tests::voltunnis;
@@ -158,9 +159,6 @@ fn tidying_a_tidy_sheet_changes_no_byte() {
     count.print();
     count.often(1_000, ["tidy before", "changed"]);
 }
-
-/// More bytes than any graph has.
-const ENOUGH: usize = 460_000;
 
 #[test]
 fn the_tidy_sheet_has_the_same_graph_and_the_same_answers() {

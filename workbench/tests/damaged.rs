@@ -179,7 +179,7 @@ fn deep_nesting_is_no_trouble() {
 #[test]
 fn a_reader_that_stops_reading_is_no_trouble() {
     let folder = Folder::new("pipe");
-    folder.write("zeros.bin", voltunnis_generate::known::zeros_and_ones());
+    folder.write("zeros.bin", voltunnis_generate::known::zeros_and_ones(32));
     let line = format!("'{}' draw zeros.bin | head -n 1", env!("CARGO_BIN_EXE_vt"));
     let output =
         std::process::Command::new("sh").args(["-c", &line]).current_dir(&folder.0).output().expect("sh");

@@ -52,6 +52,6 @@ fn inputs_are_cut_and_the_buffer_has_65536_bytes() {
     let folder = Folder::new("listing-cut");
     lists(&folder, &known::example(), &[0x11, 2, 0x30, 0x30].repeat(16_400));
     lists(&folder, &[0x10, 1, 0], &[0x11, 1, 0x30].repeat(30_000));
-    lists(&folder, &known::nested_16(), &[]);
+    lists(&folder, &known::nested_16(32), &[]);
     lists(&folder, &known::nodes_1025(), &[]);
 }

@@ -4,11 +4,15 @@ use super::cases::Taken;
 use super::graph::MOST_NODES;
 use super::keys::{Asking, Key, Kind};
 use super::nodes::{graph_bytes, Case, Node};
-use super::sheet::Sheet;
+use super::sheet::{Sheet, MOST_RULES};
 use crate::results::Refusal;
 
 /// Room for so many nodes is made at first.
 const FEW: usize = 32;
+
+/// Enough bytes for every graph that is built: 5, and for each node 8 and its cases of 7, which are fewer than the
+/// ends of ranges, two for each rule.
+pub const ENOUGH: usize = 5 + MOST_NODES as usize * (8 + 7 * (2 * MOST_RULES as usize - 1));
 
 /// The nodes met so far: what each is, by number; the numbers of leaves; and the keys of those that
 /// ask, each with its number.
@@ -19,7 +23,8 @@ struct Known {
     kinds: Vec<Kind>,
     fail: Option<u16>,
     suspend: Option<u16>,
-    execute: [Option<u16>; 32],
+    /// That of each rule's execute.
+    execute: Vec<Option<u16>>,
     keys: Vec<(Key, u16)>,
 }
 
@@ -99,7 +104,8 @@ pub fn nodes_up_to(sheet: &Sheet, most: u16) -> Result<Vec<Node>, Refusal> {
 pub fn nodes_in(sheet: &Sheet, order: Vec<usize>, most: u16) -> Result<Vec<Node>, Refusal> {
     let asking = Asking::new(sheet, order);
     let (kinds, keys) = (Vec::with_capacity(FEW), Vec::with_capacity(FEW));
-    let mut known = Known { most, kinds, keys, ..Known::default() };
+    let execute = vec![None; sheet.rules.len()];
+    let mut known = Known { most, kinds, execute, keys, ..Known::default() };
     known.number(asking.root(sheet.rules.len()))?;
     let mut nodes = Vec::with_capacity(FEW);
     while let Some(kind) = known.kinds.get(nodes.len()) {

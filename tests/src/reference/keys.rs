@@ -40,6 +40,11 @@ pub struct PlaceTest {
     pub cases: Cases,
 }
 
+/// The set of all members below this one.
+fn below(end: usize) -> u64 {
+    (0..end).fold(0, |set, member| set | 1 << member)
+}
+
 /// The members of a set, ascending.
 pub fn members(mut set: u64) -> impl Iterator<Item = usize> {
     std::iter::from_fn(move || {
@@ -105,7 +110,7 @@ impl<'a> Asking<'a> {
 
     /// The root, with all of these rules live and all tests pending.
     pub fn root(&self, rules: usize) -> Kind {
-        self.kind((1 << rules) - 1, (0..self.having.len()).fold(0, |set, test| set | 1 << test))
+        self.kind(below(rules), below(self.having.len()))
     }
 
     /// What the node is that has these live rules, and of their tests those in this set pending. A live

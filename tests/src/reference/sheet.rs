@@ -6,6 +6,9 @@ use super::variables::{add_wants, by_variable, pairs_of, Occurrence};
 use crate::results::Refusal;
 use voltunnis_generate::asked::Asked;
 
+/// The most rules that a sheet may have.
+pub const MOST_RULES: u8 = 32;
+
 /// The most tests that a sheet may have.
 pub const MOST_TESTS: usize = 64;
 
@@ -148,7 +151,7 @@ impl Sheet {
         if !(1..=8).contains(&arity) {
             return Err(2);
         }
-        if count > 32 {
+        if count > MOST_RULES {
             return Err(3);
         }
         let mut tests = Tests::default();

@@ -40,21 +40,21 @@ fn full_piece() -> Vec<u8> {
     piece_bytes(&vec![full_term(1, &Term::Number(7)); 8])
 }
 
-/// 32 equal rules with 64 place tests each: three full trees of compounds and a symbol.
-fn places_64() -> SheetTree {
+/// So many equal rules with 64 place tests each: three full trees of compounds and a symbol.
+fn places_64(rules: usize) -> SheetTree {
     let mut rule = vec![full_pattern(1, &Pattern::Anything); 3];
     rule.push(Pattern::Symbol(1));
     rule.resize(8, Pattern::Anything);
-    SheetTree { arity: 8, rules: vec![rule; 32] }
+    SheetTree { arity: 8, rules: vec![rule; rules] }
 }
 
-/// 32 equal rules with 55 pairs and 9 place tests each.
-fn pairs_64() -> SheetTree {
+/// So many equal rules with 55 pairs and 9 place tests each.
+fn pairs_64(rules: usize) -> SheetTree {
     let four = |leaf: Pattern| Pattern::Compound(1, vec![leaf; 4]);
     let mut rule = vec![four(Pattern::Variable(0)), four(Pattern::Variable(0))];
     rule.extend([four(Pattern::Anything), four(Pattern::Anything), four(Pattern::Symbol(1))]);
     rule.resize(8, Pattern::Variable(0));
-    SheetTree { arity: 8, rules: vec![rule; 32] }
+    SheetTree { arity: 8, rules: vec![rule; rules] }
 }
 
 /// So many rules that want a range at random at each place, up to this wide.
@@ -110,12 +110,12 @@ pub fn for_graphs() -> Vec<Case> {
         case("32 rules of 4 readings", coins(32), coin(32)),
         random_bits("8 rules of zeros and ones", 8),
         random_bits("16 rules of zeros and ones", 16),
-        open("32 rules of zeros and ones", known::zeros_and_ones()),
+        open("32 rules of zeros and ones", known::zeros_and_ones(32)),
         random_ranges("8 rules of random ranges", 8, 4, 300),
         random_ranges("16 rules of random ranges", 16, 6, 300),
         random_ranges("32 rules of random ranges", 32, 4, 300),
-        open("nested ranges at 8 places", known::nested_8()),
-        open("nested ranges at 16 places", known::nested_16()),
+        open("nested ranges at 8 places", known::nested_8(32)),
+        open("nested ranges at 16 places", known::nested_16(32)),
         open("most nodes", known::nodes_1024()),
         open("too many nodes", known::nodes_1027()),
         open("longest graph", known::longest()),
@@ -134,9 +134,9 @@ pub fn all() -> Vec<Case> {
         example(),
         case("8 rules of 4 readings", coins(8), coin(8)),
         case("32 rules of 4 readings", coins(32), coin(32)),
-        case("32 equal rules of 64 places", places_64().bytes(), piece_bytes(&open)),
-        case("32 equal rules of 55 pairs", pairs_64().bytes(), piece_bytes(&paired)),
-        case("full depth piece", places_64().bytes(), full_piece()),
+        case("32 equal rules of 64 places", places_64(32).bytes(), piece_bytes(&open)),
+        case("32 equal rules of 55 pairs", pairs_64(32).bytes(), piece_bytes(&paired)),
+        case("full depth piece", places_64(32).bytes(), full_piece()),
         case("512 variables a rule", hostile(Pattern::Variable(0)), full_piece()),
     ]
 }

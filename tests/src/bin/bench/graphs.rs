@@ -3,11 +3,9 @@
 use crate::cases::Case;
 use crate::table::{outcome, Table};
 use crate::timing::{against, against_both, Times};
+use voltunnis_tests::reference::build::ENOUGH;
 use voltunnis_tests::results::Built;
 use voltunnis_tests::{fast, reference, voltunnis};
-
-/// More bytes than any graph has.
-const ENOUGH: usize = 460_000;
 
 /// The rows of one case; none but the build's where the sheet has no graph.
 pub fn rows(table: &mut Table, case: &Case) {

@@ -40,7 +40,7 @@ fn rows(table: &mut Table, Case { name, sheet, piece }: &Case) {
 }
 
 /// No tidy sheet has more bytes.
-const TIDY: usize = 20_995;
+const TIDY: usize = ::voltunnis::MOST_TIDY_BYTES;
 
 fn tidy_row(table: &mut Table, Case { name, sheet, .. }: &Case) {
     let (one, two, three) = (&mut vec![0; TIDY], &mut vec![0; TIDY], &mut vec![0; TIDY]);

@@ -4,11 +4,9 @@ use crate::cases::Case;
 use crate::table::{outcome, Table};
 use crate::timing::against;
 use voltunnis_tests::generate::orders::{ascending, reversed, table};
+use voltunnis_tests::reference::build::ENOUGH;
 use voltunnis_tests::results::Built;
 use voltunnis_tests::{reference, voltunnis};
-
-/// More bytes than any graph has.
-const ENOUGH: usize = 460_000;
 
 /// The orders, each in words.
 fn orders() -> [(&'static str, Vec<u8>); 2] {
