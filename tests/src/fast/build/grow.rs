@@ -3,6 +3,7 @@
 use super::items;
 use super::keys::{Key, Keys};
 use super::rules::Tests;
+use super::sets::{Rules, Set};
 
 /// How much of the graph is known.
 #[derive(Clone, Copy)]
@@ -15,7 +16,7 @@ pub struct Grown {
 impl Grown {
     /// Takes the edge to the node with this key; none if there is no room for the node.
     #[inline(always)]
-    fn edge(self, key: Key, keys: &mut Keys, edges: &mut [u16]) -> Option<Grown> {
+    fn edge<R: Rules>(self, key: Key<R>, keys: &mut Keys<R>, edges: &mut [u16]) -> Option<Grown> {
         let mut grown = self;
         let node = keys.number(key, grown.nodes);
         if node == grown.nodes {
@@ -33,18 +34,16 @@ impl Grown {
 }
 
 /// Numbers all nodes; none if there is no room for them.
-pub fn all(tests: &Tests, keys: &mut Keys, edges: &mut [u16]) -> Option<Grown> {
+pub fn all<R: Rules>(tests: &Tests<R>, keys: &mut Keys<R>, edges: &mut [u16]) -> Option<Grown> {
     let sheet = tests.sheet;
-    let count = u32::from(sheet.places) + u32::from(sheet.pair_count);
-    let live = if sheet.rules == 0 { 0 } else { u32::MAX >> (32 - sheet.rules) };
-    let pending = if count == 0 { 0 } else { u64::MAX >> (64 - count) };
+    let (live, pending) = (R::below(sheet.rules), u64::below(sheet.places + sheet.pair_count));
     keys.number(tests.key(live, pending, tests.cover(live, pending)), 0);
     let mut grown = Grown { bytes: 5, nodes: 1, edges: 0 };
     let mut node = 0;
     while node < grown.nodes {
         let key = keys.get(node);
         if key.is_leaf() {
-            grown.bytes += 1 + key.live.count_ones() as usize;
+            grown.bytes += 1 + usize::from(key.live != R::NONE);
         } else {
             let test = key.pending.trailing_zeros() as usize & 63;
             grown = if test < usize::from(sheet.places) {
@@ -59,12 +58,12 @@ pub fn all(tests: &Tests, keys: &mut Keys, edges: &mut [u16]) -> Option<Grown> {
 }
 
 /// Numbers the nodes that a switch leads to.
-fn switch(
-    tests: &Tests,
-    key: Key,
+fn switch<R: Rules>(
+    tests: &Tests<R>,
+    key: Key<R>,
     test: usize,
     mut grown: Grown,
-    keys: &mut Keys,
+    keys: &mut Keys<R>,
     edges: &mut [u16],
 ) -> Option<Grown> {
     let unsettled = key.pending & !(1 << test);
@@ -73,13 +72,13 @@ fn switch(
     let items = tests.items(test);
     let mut marked = tests.marked(test, key.live & tests.having[test]);
     grown.bytes += 8;
-    while marked != 0 {
-        let item = items[1 + marked.trailing_zeros() as usize];
-        marked &= marked - 1;
-        let kept = item as u32 & key.live;
-        if kept != 0 {
+    while marked != R::Items::NONE {
+        let item = items[1 + marked.lowest()];
+        marked = marked.rest();
+        let kept = item.rules & key.live;
+        if kept != R::NONE {
             grown = grown.edge(tests.key(others | kept, unsettled, cover), keys, edges)?;
-            grown.bytes += 5 + items::kind(item) as usize;
+            grown.bytes += 5 + items::kind(item.code) as usize;
         }
     }
     grown = grown.edge(tests.key(others, unsettled, cover), keys, edges)?;
@@ -88,12 +87,12 @@ fn switch(
 }
 
 /// Numbers the nodes that a pair leads to.
-fn pair(
-    tests: &Tests,
-    key: Key,
+fn pair<R: Rules>(
+    tests: &Tests<R>,
+    key: Key<R>,
     test: usize,
     mut grown: Grown,
-    keys: &mut Keys,
+    keys: &mut Keys<R>,
     edges: &mut [u16],
 ) -> Option<Grown> {
     let unsettled = key.pending & !(1 << test);

@@ -3,61 +3,75 @@
 //! An item is a code and a set of rules. The code of a symbol or a compound is its kind, id and arity, and
 //! the set holds the rules that want it. The code of a number says that ranges of rules begin or end there:
 //! first the set holds those rules, then, once `run` has been over the items, the rules whose range holds
-//! the numbers from there to the next item. Cell 0 holds how many items there are.
+//! the numbers from there to the next item. The code of cell 0 is how many items there are.
+
+use super::sets::{Rules, Set};
 
 /// Few items are looked at one by one.
-const FEW: u64 = 5;
+const FEW: u32 = 5;
 
 /// The kind of codes of numbers; symbols have kind 0, compounds kind 1.
-pub const NUMBERS: u64 = 2;
+pub const NUMBERS: u32 = 2;
+
+#[derive(Clone, Copy)]
+pub struct Item<R> {
+    pub code: u32,
+    pub rules: R,
+}
+
+impl<R: Rules> Item<R> {
+    /// An item of no rule; as cell 0 it says that there is none.
+    pub const NONE: Self = Item { code: 0, rules: R::NONE };
+}
 
 /// The code of a symbol.
 #[inline(always)]
-pub fn symbol(id: u16) -> u64 {
-    u64::from(id) << 8
+pub fn symbol(id: u16) -> u32 {
+    u32::from(id) << 8
 }
 
 /// The code of a compound.
 #[inline(always)]
-pub fn compound(id: u16, arity: u8) -> u64 {
-    1 << 24 | u64::from(id) << 8 | u64::from(arity)
+pub fn compound(id: u16, arity: u8) -> u32 {
+    1 << 24 | u32::from(id) << 8 | u32::from(arity)
 }
 
 /// The code of a number.
 #[inline(always)]
-pub fn number(number: u16) -> u64 {
-    NUMBERS << 24 | u64::from(number)
+pub fn number(number: u16) -> u32 {
+    NUMBERS << 24 | u32::from(number)
 }
 
-/// The kind of an item's code.
+/// The kind of a code.
 #[inline(always)]
-pub fn kind(item: u64) -> u64 {
-    item >> 56
+pub fn kind(code: u32) -> u32 {
+    code >> 24
 }
 
 /// Puts in a code that a rule wants.
 #[inline(always)]
-pub fn want(items: &mut [u64], rule: usize, code: u64) {
-    let count = items[0] as usize;
-    items[0] = put(&mut items[1..], count, code << 32 | 1 << rule) as u64;
+pub fn want<R: Rules>(items: &mut [Item<R>], rule: usize, code: u32) {
+    let count = items[0].code as usize;
+    items[0].code = put(&mut items[1..], count, Item { code, rules: R::of(rule) }) as u32;
 }
 
 /// Puts in the two ends of a range that a rule wants.
 #[inline(always)]
-pub fn want_range(items: &mut [u64], rule: usize, low: u16, high: u16) {
-    let count = items[0] as usize;
-    let count = put(&mut items[1..], count, number(low) << 32 | 1 << rule);
-    items[0] = put(&mut items[1..], count, (number(high) + 1) << 32 | 1 << rule) as u64;
+pub fn want_range<R: Rules>(items: &mut [Item<R>], rule: usize, low: u16, high: u16) {
+    let count = items[0].code as usize;
+    let rules = R::of(rule);
+    let count = put(&mut items[1..], count, Item { code: number(low), rules });
+    items[0].code = put(&mut items[1..], count, Item { code: number(high) + 1, rules }) as u32;
 }
 
 /// Puts an item in its position; the sets of equal codes are joined. Gives how many there are then.
-fn put(items: &mut [u64], count: usize, item: u64) -> usize {
+fn put<R: Rules>(items: &mut [Item<R>], count: usize, item: Item<R>) -> usize {
     let mut at = count;
-    while at > 0 && items[at - 1] >> 32 > item >> 32 {
+    while at > 0 && items[at - 1].code > item.code {
         at -= 1;
     }
-    if at > 0 && items[at - 1] >> 32 == item >> 32 {
-        items[at - 1] |= item & 0xffff_ffff;
+    if at > 0 && items[at - 1].code == item.code {
+        items[at - 1].rules |= item.rules;
         return count;
     }
     let mut i = count;
@@ -69,23 +83,22 @@ fn put(items: &mut [u64], count: usize, item: u64) -> usize {
     count + 1
 }
 
-/// Turns ends of ranges to running sets, and notes for each rule the items where it begins or ends, item
-/// i being bit i; gives the rules that have the test.
+/// Turns ends of ranges to running sets, and notes for each rule the items where it begins or ends; gives
+/// the rules that have the test.
 #[inline(always)]
-pub fn run(items: &mut [u64], marks: &mut [u64]) -> u32 {
-    let mut running = 0;
-    let mut having = 0;
-    for i in 0..items[0] as usize {
-        let item = items[1 + i];
-        let mut rules = item as u32;
+pub fn run<R: Rules>(items: &mut [Item<R>], marks: &mut [R::Items]) -> R {
+    let mut running = R::NONE;
+    let mut having = R::NONE;
+    for i in 0..items[0].code as usize {
+        let Item { code, mut rules } = items[1 + i];
         having |= rules;
-        while rules != 0 {
-            marks[rules.trailing_zeros() as usize] |= 1 << i;
-            rules &= rules - 1;
+        if kind(code) == NUMBERS {
+            running ^= rules;
+            items[1 + i].rules = running;
         }
-        if kind(item) == NUMBERS {
-            running ^= item as u32;
-            items[1 + i] = item >> 32 << 32 | u64::from(running);
+        while rules != R::NONE {
+            marks[rules.lowest()] |= R::Items::of(i);
+            rules = rules.rest();
         }
     }
     having
@@ -93,34 +106,34 @@ pub fn run(items: &mut [u64], marks: &mut [u64]) -> u32 {
 
 /// The items where one of these rules begins or ends.
 #[inline(always)]
-pub fn marked(items: &[u64], marks: &[u64], rules: u32) -> u64 {
-    if items[0] < FEW {
+pub fn marked<R: Rules>(items: &[Item<R>], marks: &[R::Items], rules: R) -> R::Items {
+    if items[0].code < FEW {
         return marked_by_items(items, rules);
     }
-    let mut marked = 0;
+    let mut marked = R::Items::NONE;
     let mut left = rules;
-    while left != 0 {
-        marked |= marks[left.trailing_zeros() as usize];
-        left &= left - 1;
+    while left != R::NONE {
+        marked |= marks[left.lowest()];
+        left = left.rest();
     }
     marked
 }
 
 /// The same by a look at every item.
 #[inline(always)]
-fn marked_by_items(items: &[u64], rules: u32) -> u64 {
-    let mut marked = 0;
-    let mut last = 0;
-    for i in 0..items[0] as usize {
+fn marked_by_items<R: Rules>(items: &[Item<R>], rules: R) -> R::Items {
+    let mut marked = R::Items::NONE;
+    let mut last = R::NONE;
+    for i in 0..items[0].code as usize {
         let item = items[1 + i];
-        let now = item as u32 & rules;
-        if kind(item) == NUMBERS {
+        let now = item.rules & rules;
+        if kind(item.code) == NUMBERS {
             if now != last {
-                marked |= 1 << i;
+                marked |= R::Items::of(i);
             }
             last = now;
-        } else if now != 0 {
-            marked |= 1 << i;
+        } else if now != R::NONE {
+            marked |= R::Items::of(i);
         }
     }
     marked

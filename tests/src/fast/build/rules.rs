@@ -1,38 +1,39 @@
 //! The sheet's tests, seen from the rules. Sets are words, member i being bit i.
 
 use super::super::places::{step_of_children, PLACES};
-use super::super::sheet::Sheet;
+use super::super::sheet::{Sheet, MOST_RULES};
 use super::super::variables::Variables;
-use super::items;
+use super::items::{self, Item};
 use super::keys::Key;
+use super::sets::{Rules, Set};
 use super::wants::Wants;
 
-pub struct Tests<'a> {
+pub struct Tests<'a, R: Rules> {
     pub sheet: &'a Sheet<'a>,
     /// The place of each place test.
     pub places: [u16; 64],
     /// What an unknown settles at each place test.
     pub settled: [u64; 64],
     /// The rules that have each test.
-    pub having: [u32; 64],
+    pub having: [R; 64],
     /// The tests of each rule.
-    of_rule: [u64; 32],
+    of_rule: [u64; MOST_RULES],
     /// The items of each place test, so many cells apart.
-    items: &'a mut [u64],
+    items: &'a mut [Item<R>],
     room: usize,
     /// The items where each rule begins or ends, for each place test.
-    marks: &'a mut [u64],
+    marks: &'a mut [R::Items],
 }
 
-impl<'a> Tests<'a> {
+impl<'a, R: Rules> Tests<'a, R> {
     #[inline(always)]
-    pub fn unread(sheet: &'a Sheet, items: &'a mut [u64], marks: &'a mut [u64]) -> Self {
+    pub fn unread(sheet: &'a Sheet, items: &'a mut [Item<R>], marks: &'a mut [R::Items]) -> Self {
         Tests {
             sheet,
             places: [0; 64],
             settled: [0; 64],
-            having: [0; 64],
-            of_rule: [0; 32],
+            having: [R::NONE; 64],
+            of_rule: [0; MOST_RULES],
             items,
             room: 2 * usize::from(sheet.rules) + 1,
             marks,
@@ -105,8 +106,8 @@ impl<'a> Tests<'a> {
                 pairs <<= self.sheet.places & 63;
                 self.of_rule[rule] = pairs;
                 while pairs != 0 {
-                    self.having[pairs.trailing_zeros() as usize] |= 1 << rule;
-                    pairs &= pairs - 1;
+                    self.having[pairs.lowest()] |= R::of(rule);
+                    pairs = pairs.rest();
                 }
             }
         }
@@ -118,33 +119,33 @@ impl<'a> Tests<'a> {
             let items = &mut self.items[test * self.room..];
             let mut having = items::run(items, &mut self.marks[test * usize::from(self.sheet.rules)..]);
             self.having[test] = having;
-            while having != 0 {
-                self.of_rule[having.trailing_zeros() as usize] |= 1 << test;
-                having &= having - 1;
+            while having != R::NONE {
+                self.of_rule[having.lowest()] |= 1 << test;
+                having = having.rest();
             }
         }
     }
 
     /// The items of a place test.
     #[inline(always)]
-    pub fn items(&self, test: usize) -> &[u64] {
+    pub fn items(&self, test: usize) -> &[Item<R>] {
         &self.items[test * self.room..]
     }
 
     /// The items of a place test where one of these rules begins or ends.
     #[inline(always)]
-    pub fn marked(&self, test: usize, rules: u32) -> u64 {
+    pub fn marked(&self, test: usize, rules: R) -> R::Items {
         items::marked(self.items(test), &self.marks[test * usize::from(self.sheet.rules)..], rules)
     }
 
     /// Rules that have a test in this set, as far as needed to cover the live ones.
     #[inline(always)]
-    pub fn cover(&self, live: u32, unsettled: u64) -> u32 {
-        let mut cover = 0;
+    pub fn cover(&self, live: R, unsettled: u64) -> R {
+        let mut cover = R::NONE;
         let mut left = unsettled;
-        while left != 0 && live & !cover != 0 {
-            cover |= self.having[left.trailing_zeros() as usize];
-            left &= left - 1;
+        while left != 0 && live & !cover != R::NONE {
+            cover |= self.having[left.lowest()];
+            left = left.rest();
         }
         cover
     }
@@ -152,19 +153,18 @@ impl<'a> Tests<'a> {
     /// The key of the node with these live rules, of whose tests those in this set are pending. The cover
     /// is that of a set of rules that holds these.
     #[inline(always)]
-    pub fn key(&self, live: u32, unsettled: u64, cover: u32) -> Key {
-        if live & live.wrapping_sub(1) == 0 {
+    pub fn key(&self, live: R, unsettled: u64, cover: R) -> Key<R> {
+        if !live.has_two() {
             return Key { live, pending: 0 };
         }
-        let free = live & !cover;
-        if free & free.wrapping_sub(1) != 0 {
+        if (live & !cover).has_two() {
             return Key::SUSPEND;
         }
         let mut pending = 0;
         let mut left = live;
-        while left != 0 && pending != unsettled {
-            pending |= self.of_rule[left.trailing_zeros() as usize] & unsettled;
-            left &= left - 1;
+        while left != R::NONE && pending != unsettled {
+            pending |= self.of_rule[left.lowest()] & unsettled;
+            left = left.rest();
         }
         Key { live, pending }
     }

@@ -5,21 +5,22 @@ use super::super::places::{PLACES, STEP};
 use super::super::records::{self, Pattern};
 use super::super::sheet::Sheet;
 use super::super::variables::Variables;
-use super::items;
+use super::items::{self, Item};
+use super::sets::Rules;
 
 /// Where the wants of a rule are put.
-pub struct Wants<'a> {
+pub struct Wants<'a, R> {
     /// The number of the test at each tested place.
     pub numbers: &'a [u8; PLACES],
     /// The items of each place test, so many cells apart.
-    pub items: &'a mut [u64],
+    pub items: &'a mut [Item<R>],
     pub room: usize,
     pub rule: usize,
 }
 
-impl Wants<'_> {
+impl<R: Rules> Wants<'_, R> {
     #[inline(always)]
-    fn want(&mut self, place: usize, code: u64) {
+    fn want(&mut self, place: usize, code: u32) {
         let test = usize::from(self.numbers[place]);
         items::want(&mut self.items[test * self.room..], self.rule, code);
     }

@@ -1,12 +1,14 @@
 //! The second pass: the numbered nodes written to the buffer.
 
 use super::super::records::{put_wide, COMPOUND_CASE, NUMBERS_CASE, SYMBOL_CASE};
+use super::super::sheet::MOST_RULES;
 use super::items;
 use super::keys::{Key, Keys};
 use super::rules::Tests;
+use super::sets::{Rules, Set};
 
-/// The most edges of a switch.
-const MOST_EDGES: usize = 66;
+/// No switch has more edges: two for each rule, neither and unknown.
+const MOST_EDGES: usize = 2 * MOST_RULES + 2;
 
 /// How much of the graph is written.
 #[derive(Clone, Copy)]
@@ -16,7 +18,7 @@ struct Written {
 }
 
 /// Writes a graph of so many nodes, for which the buffer has room.
-pub fn graph(buffer: &mut [u8], nodes: usize, tests: &Tests, keys: &Keys, edges: &[u16]) {
+pub fn graph<R: Rules>(buffer: &mut [u8], nodes: usize, tests: &Tests<R>, keys: &Keys<R>, edges: &[u16]) {
     let sheet = tests.sheet;
     buffer[0] = 0x12;
     buffer[1] = sheet.arity;
@@ -42,19 +44,19 @@ pub fn graph(buffer: &mut [u8], nodes: usize, tests: &Tests, keys: &Keys, edges:
 }
 
 /// Writes a leaf; gives how many bytes it has.
-fn leaf(bytes: &mut [u8], key: Key) -> usize {
-    if key.live == 0 {
+fn leaf<R: Rules>(bytes: &mut [u8], key: Key<R>) -> usize {
+    if key.live == R::NONE {
         bytes[0] = 0x40 + key.pending as u8;
         return 1;
     }
     bytes[0] = 0x42;
-    bytes[1] = key.live.trailing_zeros() as u8 + 1;
+    bytes[1] = key.live.lowest() as u8 + 1;
     2
 }
 
 /// The node of an edge: stored by the first pass, or that of the key.
 #[inline(always)]
-fn target(edges: &[u16], edge: usize, key: Key, keys: &Keys) -> u16 {
+fn target<R: Rules>(edges: &[u16], edge: usize, key: Key<R>, keys: &Keys<R>) -> u16 {
     if edge < edges.len() {
         return edges[edge];
     }
@@ -62,36 +64,36 @@ fn target(edges: &[u16], edge: usize, key: Key, keys: &Keys) -> u16 {
 }
 
 /// Writes a switch.
-fn switch(
+fn switch<R: Rules>(
     bytes: &mut [u8],
-    tests: &Tests,
-    key: Key,
+    tests: &Tests<R>,
+    key: Key<R>,
     test: usize,
-    keys: &Keys,
+    keys: &Keys<R>,
     edges: &[u16],
     first: usize,
 ) -> Written {
     let unsettled = key.pending & !(1 << test);
     let are_stored = first + MOST_EDGES <= edges.len();
-    let cover = if are_stored { 0 } else { tests.cover(key.live, unsettled) };
+    let cover = if are_stored { R::NONE } else { tests.cover(key.live, unsettled) };
     let others = key.live & !tests.having[test];
     let items = tests.items(test);
     let mut marked = tests.marked(test, key.live & tests.having[test]);
     let mut at = 8;
     let mut edge = first;
-    while marked != 0 {
-        let item = items[1 + marked.trailing_zeros() as usize];
-        marked &= marked - 1;
-        let kept = item as u32 & key.live;
-        if kept != 0 {
+    while marked != R::Items::NONE {
+        let item = items[1 + marked.lowest()];
+        marked = marked.rest();
+        let kept = item.rules & key.live;
+        if kept != R::NONE {
             let node = if are_stored {
                 edges[edge]
             } else {
                 target(edges, edge, tests.key(others | kept, unsettled, cover), keys)
             };
-            let is_run = items::kind(item) == items::NUMBERS;
-            let end = if is_run { items[1 + marked.trailing_zeros() as usize] } else { 0 };
-            at += case(&mut bytes[at..], (item >> 32) as u32, (end >> 32) as u32, node);
+            let is_run = items::kind(item.code) == items::NUMBERS;
+            let end = if is_run { items[1 + marked.lowest()].code } else { 0 };
+            at += case(&mut bytes[at..], item.code, end, node);
             edge += 1;
         }
     }
@@ -118,12 +120,12 @@ fn header(bytes: &mut [u8], place: u16, cases: usize, neither: u16, unknown: u16
 }
 
 /// Writes a pair.
-fn pair(
+fn pair<R: Rules>(
     bytes: &mut [u8],
-    tests: &Tests,
-    key: Key,
+    tests: &Tests<R>,
+    key: Key<R>,
     test: usize,
-    keys: &Keys,
+    keys: &Keys<R>,
     edges: &[u16],
     first: usize,
 ) -> Written {
@@ -147,7 +149,7 @@ fn pair(
 /// Writes a case, its last field first, so that bounds are checked once; gives how many bytes it has.
 #[inline(always)]
 fn case(bytes: &mut [u8], code: u32, end: u32, node: u16) -> usize {
-    match code >> 24 {
+    match items::kind(code) {
         0 => {
             put_wide(bytes, 3, node);
             put_wide(bytes, 1, (code >> 8) as u16);
