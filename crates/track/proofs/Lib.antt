@@ -2,8 +2,8 @@
 pub mod NextPlace
 pub mod StepByStep
 -- The keys of the places that may follow:
-pub mod OpenedKeys
-pub mod LeastKeys
+pub mod Rows
+pub mod Climb
 pub mod FrontLaws
 pub mod PutInOrder
 -- Request 14's sentences:

@@ -17,7 +17,7 @@ use Rattle.records.proofs.Wrote.{Wrote, wrote-as, wrote-behind}
 use Rattle.order.specs.TableBytes.{tableBytes}
 use Rattle.track.specs.Track.{mayFollow, nextPlace, downAfter, trackOrder}
 use Rattle.track.specs.Ordering.{ordered}
-use Rattle.track.specs.views.Front.{keyOf, Opened, leastOf, Settled, PutDown}
+use Rattle.track.specs.views.Front.{keyOf, Opened, LeastBelow, PutDown}
 use Rattle.track.proofs.StepByStep.{After, after, next-least}
 use Rattle.track.proofs.FrontLaws.{Front, front-first, front-more, least-next}
 
@@ -49,14 +49,14 @@ pub record PutSo (positions buf₀ : List ℕ) (i : ℕ) (keys buf : List ℕ) (
   pub wrote : Wrote buf₀ 0 (tableBytes (downAfter positions i)) end buf
 
 pub put-first
-    : (positions buf₀ opened keys : List ℕ) → 1360 ≤ length buf₀ → ((q : ℕ) → q < 680 → keyOf positions q < 67108864)
-    → Opened positions 1 0 680 (replicate 688 67108864) opened → Settled 8 opened keys → PutSo positions buf₀ 0 keys buf₀ 0
+    : (positions buf₀ keys : List ℕ) → 1360 ≤ length buf₀ → ((q : ℕ) → q < 680 → keyOf positions q < 67108864)
+    → Opened positions 0 85 8 (replicate 680 67108864) keys → PutSo positions buf₀ 0 keys buf₀ 0
 unfolding downAfter
-put-first positions buf₀ opened keys room few o s = record {
+put-first positions buf₀ keys room few o = record {
   within = omega arith;
   room = room;
   few = few;
-  front = front-first positions opened keys o s;
+  front = front-first positions keys o;
   wrote = (refl, splice-none buf₀ 0);
 }
 
@@ -71,7 +71,7 @@ module _ {positions buf₀ : List ℕ} {i : ℕ} {keys buf : List ℕ} {end : �
     pub put-room : end + 2 ≤ length buf
     put-room = omega (arith, s .wrote .0, steps-length positions i, s .room, put-same)
 
-    module _ (place : ℕ) (is : place ≡ leastOf keys 680 8 % 1024) where
+    module _ {key : ℕ} (least : LeastBelow keys 680 key) (place : ℕ) (is : place ≡ key % 1024) where
       abbrev down : List ℕ
       down = downAfter positions i
 
@@ -79,7 +79,7 @@ module _ {positions buf₀ : List ℕ} {i : ℕ} {keys buf : List ℕ} {end : �
       so-far = after positions i (s .within)
 
       comes-next : place ≡ nextPlace positions down
-      comes-next = is ∙ least-next positions (s .few) so-far h (s .front)
+      comes-next = is ∙ least-next positions (s .few) so-far h (s .front) key least
 
       -- The place of the least key is a place,
       pub put-inside : place < 680

@@ -1,12 +1,15 @@
 // The places that may follow, as keys: one for each place.
-ghost use Prim.Native.Nat.{_+_, _≤_, _<_};
+use places::Parents;
+ghost use Prim.Native.Nat.{ℕ, _+_, _*_, _≤_, _<_};
 ghost use mathlib.Core.Path.{_≡_};
 ghost use lib.ListN.{length};
-ghost use Rattle.track.specs.views.Front.{keyOf, Opened, leastOf, Settled, PutDown};
+ghost use Rattle.places.specs.Numbering.{depthAt};
+ghost use Rattle.places.specs.AllParents.{AllParents};
+ghost use Rattle.track.specs.views.Front.{keyOf, Opened, LeastOf, LeastBelow, Climbed, PutDown};
 
-// A key for each place: its position × 1,024 + its number where it may follow, 2 to the power 26 where not. Behind the 680 keys
-// the least of each argument's 85, so that the next place is one of eight.
-pub type Keys = [u32; 688];
+// For each place the least key of those at or below it that may follow, 2 to the power 26 where there is none. A key is a position
+// × 1,024 + the place's number.
+pub type Keys = [u32; 680];
 
 // The key of a place.
 fn key(positions: &[u8], p: usize) -> u32
@@ -17,63 +20,78 @@ fn key(positions: &[u8], p: usize) -> u32
     (position as u32) * 1024 + (p as u32)
 }
 
-// Gives the places at one depth that stand from a place to before another their keys.
-// Ruled out: a key for a place at the next depth; the key of the first of them for all.
-pub fn open_places(positions: &[u8], keys: &mut Keys, depth: usize, from: usize, to: usize)
-    requires { ⌜ (length (now positions) ≡ 1360) × (length (now keys) ≡ 688) × (from ≤ to) × (to ≤ 680) ⌝ }
-    ensures { λ _. ⌜ Opened (now (positions .entry)) depth from to (now (keys .entry)) (now (keys .exit)) ⌝ }
+// Gives n places, so many apart, their keys.
+// Ruled out: the key of the first of them for all; a key for the place behind the last.
+pub fn open_row(positions: &[u8], keys: &mut Keys, from: usize, step: usize, n: usize)
+    requires { ⌜ (length (now positions) ≡ 1360) × (length (now keys) ≡ 680) × (step ≤ 85)
+        × ((i : ℕ) → i < n → from + i * step < 680) ⌝ }
+    ensures { λ _. ⌜ Opened (now (positions .entry)) from step n (now (keys .entry)) (now (keys .exit)) ⌝ }
 {
     let mut q = from;
-    while q < to {
-        if places::depth(q) == depth {
-            keys[q] = key(positions, q);
-        }
-        q += 1;
+    let mut i: usize = 0;
+    while i < n {
+        keys[q] = key(positions, q);
+        q += step;
+        i += 1;
     }
 }
 
-// The least of n keys, from one on.
-// Ruled out: the first of them; 0 of none.
-pub fn least(keys: &Keys, from: usize, n: usize) -> u32
-    requires { ⌜ (length (now keys) ≡ 688) × (from + n ≤ 688) ⌝ }
-    ensures { λ r. ⌜ r ≡ leastOf (now (keys .entry)) from n ⌝ }
+// The least key of n places, so many apart.
+// Ruled out: that of the first of them; 0 of none.
+pub fn least_row(keys: &Keys, from: usize, step: usize, n: usize) -> u32
+    requires { ⌜ (length (now keys) ≡ 680) × (step ≤ 85) × ((i : ℕ) → i < n → from + i * step < 680) ⌝ }
+    ensures { λ r. ⌜ LeastOf (now (keys .entry)) from step n r ⌝ }
 {
     let mut best: u32 = 0x400_0000;
+    let mut q = from;
     let mut i: usize = 0;
     while i < n {
-        let key = keys[from + i];
+        let key = keys[q];
         if key < best {
             best = key;
         }
+        q += step;
         i += 1;
     }
     best
 }
 
-// The least key of each argument's places, where no place is down.
-// Ruled out: the key of an argument for that of the next; a least of 84 places.
-pub fn settle(keys: &mut Keys)
-    requires { ⌜ length (now keys) ≡ 688 ⌝ }
-    ensures { λ _. ⌜ Settled 8 (now (keys .entry)) (now (keys .exit)) ⌝ }
+// The least key of the children of place p.
+// Ruled out: a key for a place that has none; the key of p itself.
+fn least_below(keys: &Keys, p: usize, depth: usize) -> u32
+    requires { ⌜ (length (now keys) ≡ 680) × (p < 680) × (depth ≡ depthAt p) ⌝ }
+    ensures { λ r. ⌜ LeastBelow (now (keys .entry)) p r ⌝ }
 {
-    let mut a: usize = 0;
-    while a < 8 {
-        keys[680 + a] = least(keys, 85 * a, 85);
-        a += 1;
+    if depth == 4 {
+        return 0x400_0000;
+    }
+    least_row(keys, p + 1, places::step(depth), 4)
+}
+
+// Finds the least key again for each place at or above p, from p upwards.
+// Ruled out: the places above p left as they are; an argument before the places between it and p.
+fn climb(parents: &Parents, keys: &mut Keys, p: usize, depth: usize)
+    requires { ⌜ AllParents (now parents) × (length (now keys) ≡ 680) × (p < 680) × (depth ≡ depthAt p) ⌝ }
+    ensures { λ _. ⌜ Climbed p (now (keys .entry)) (now (keys .exit)) ⌝ }
+{
+    let mut q = p;
+    let mut d = depth;
+    while q < 680 {
+        keys[q] = least_below(keys, q, d);
+        q = places::parent_in(parents, q);
+        d -= 1;
     }
 }
 
-// Takes the key of place p away, gives its children theirs, which are the places below it that are one deeper, and finds the least
-// of its argument's places.
+// Takes the key of place p away, gives its children theirs, and finds the least again for p and each place above it.
 // Ruled out: a key left for p, which would be put down twice; one for the children of another place.
-pub fn put_down(positions: &[u8], keys: &mut Keys, p: usize)
-    requires { ⌜ (length (now positions) ≡ 1360) × (length (now keys) ≡ 688) × (p < 680) ⌝ }
+pub fn put_down(positions: &[u8], parents: &Parents, keys: &mut Keys, p: usize)
+    requires { ⌜ (length (now positions) ≡ 1360) × AllParents (now parents) × (length (now keys) ≡ 680) × (p < 680) ⌝ }
     ensures { λ _. ⌜ PutDown (now (positions .entry)) p (now (keys .entry)) (now (keys .exit)) ⌝ }
 {
-    keys[p] = 0x400_0000;
     let depth = places::depth(p);
-    let end = p + places::step(depth - 1);
-    open_places(positions, keys, depth + 1, p + 1, end);
-    let a = p / 85;
-    keys[680 + a] = least(keys, 85 * a, 85);
+    if depth < 4 {
+        open_row(positions, keys, p + 1, places::step(depth), 4);
+    }
+    climb(parents, keys, p, depth);
 }

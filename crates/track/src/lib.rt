@@ -1,10 +1,9 @@
 // The reading order of a track drawing (document 02, request 14), written as request 1's table.
 pub mod front; // the places that may follow, and which of them comes next
 
-use front::least;
-use front::open_places;
+use front::least_row;
+use front::open_row;
 use front::put_down;
-use front::settle;
 ghost use Prim.Native.Nat.{_≤_};
 ghost use mathlib.Core.Path.{_≡_};
 ghost use lib.ListN.{length};
@@ -26,15 +25,15 @@ fn put_order(positions: &[u8], buf: &mut [u8])
     requires { ⌜ (length (now positions) ≡ 1360) × (1360 ≤ length (now buf)) ⌝ }
     ensures { λ _. ⌜ now (buf .exit) ≡ splice (now (buf .entry)) 0 (tableBytes (trackOrder (now (positions .entry)))) ⌝ }
 {
-    let mut keys = [0x400_0000u32; 688];
-    open_places(positions, &mut keys, 1, 0, 680);
-    settle(&mut keys);
+    let parents = places::all_parents();
+    let mut keys = [0x400_0000u32; 680];
+    open_row(positions, &mut keys, 0, 85, 8);
     let mut end: usize = 0;
     let mut i: usize = 0;
     while i < 680 {
-        let key = least(&keys, 680, 8);
+        let key = least_row(&keys, 0, 85, 8);
         let place = (key % 1024) as u16;
-        put_down(positions, &mut keys, place as usize);
+        put_down(positions, &parents, &mut keys, place as usize);
         end = records::put(buf, end, &[records::high(place), records::low(place)]);
         i += 1;
     }

@@ -1,39 +1,38 @@
 -- `track::put_order` meets its contract: each turn puts down the place that comes next, and writes it.
-use Prim.Native.Nat.{ℕ, _+_, _*_, _-_, _%_}
-use mathlib.Core.Path.{_≡_, ap}
+use Prim.Native.Nat.{_+_, _*_, _-_, _%_}
+use mathlib.Core.Path.{_≡_, refl}
 use mathlib.Core.List.{[], _∷_}
 use native.Mathlib.Omega.{arith}
 use borrow.Author.Needs.{needs}
 use lib.ListN.{length}
 use Rattle.records.proofs.Wrote.{wrote-as}
+use Rattle.track.proofs.Rows.{arguments, least-below}
 use Rattle.track.proofs.PutInOrder.{PutSo, put-first, put-same, put-room, put-inside, put-next, put-all}
 use Rattle.track.proofs.put_order.Statement.{statement}
 use Rattle.track.proofs.put_order.Tie as tie
 
 abbrev Inv-loop : tie.InvT-loop
-Inv-loop positions buf₀ keys₀ end₀ i₀ buf keys end i = (length positions ≡ 1360) × PutSo positions buf₀ i keys buf end
+Inv-loop positions buf₀ parents keys₀ end₀ i₀ buf keys end i = (length positions ≡ 1360) × PutSo positions buf₀ i keys buf end
 
 abbrev μ-loop : tie.MeasureT-loop
-μ-loop positions buf₀ keys₀ end₀ i₀ buf keys end i = 680 - i
+μ-loop positions buf₀ parents keys₀ end₀ i₀ buf keys end i = 680 - i
 
-open-places-requires : tie.Need-open-places-requires Inv-loop μ-loop
-open-places-requires c κs = search needs
+all-parents-requires : tie.Need-all-parents-requires Inv-loop μ-loop
+all-parents-requires c κs = search needs
 
-settle-requires : tie.Need-settle-requires Inv-loop μ-loop
-settle-requires c κs = c .before .open-places .ensures .size
+open-row-requires : tie.Need-open-row-requires Inv-loop μ-loop
+open-row-requires c κs = (c .before .before .before .before .pre .0, search needs, omega arith, arguments .inside)
 
 loop-holds : tie.Need-loop-holds Inv-loop μ-loop
 loop-holds c =
-    let start = c .before .before .before .before .before .before in
-    let known = c .before .before .before .before .before .shared-slice-known .given in (
+    let start = c .before .before .before .before .before in
+    let known = c .before .before .before .before .shared-slice-known .given in (
       start .pre .0,
-      put-first _ _ _ _ (start .pre .1) (λ q h. omega (arith, known (2 * q), known (2 * q + 1)))
-          (c .before .before .open-places .ensures)
-          (c .settle .ensures),
+      put-first _ _ _ (start .pre .1) (λ q h. omega (arith, known (2 * q), known (2 * q + 1))) (c .open-row .ensures),
     )
 
-least-requires : tie.Need-least-requires Inv-loop μ-loop
-least-requires c κs = (c .before .before .loop .inv .1 .front .size, omega arith)
+least-row-requires : tie.Need-least-row-requires Inv-loop μ-loop
+least-row-requires c κs = (c .before .before .loop .inv .1 .front .size, omega arith, arguments .inside)
 
 cast-place : tie.Need-cast-place Inv-loop μ-loop
 cast-place c = search needs
@@ -43,12 +42,13 @@ cast-put-down c = search needs
 
 put-down-requires : tie.Need-put-down-requires Inv-loop μ-loop
 put-down-requires c κs =
-    let turn = c .before .before .before .before .loop in
-    let key = c .before .least in (
+    let turn = c .before .before .before .before .before .loop in
+    let key = c .before .before .least-row in (
       turn .inv .0,
+      c .before .before .before .before .before .before .before .before .all-parents .ensures,
       turn .inv .1 .front .size,
-      put-inside (turn .inv .1) (c .before .before .before .loop-test .taken) (key .result % 1024)
-          (ap (λ (k : ℕ). k % 1024) (key .ensures)),
+      put-inside (turn .inv .1) (c .before .before .before .before .loop-test .taken) (least-below arguments (key .ensures))
+          (key .result % 1024) refl,
     )
 
 high-requires : tie.Need-high-requires Inv-loop μ-loop
@@ -62,8 +62,8 @@ slice-aggregate-put c = search needs
 
 put-requires : tie.Need-put-requires Inv-loop μ-loop
 put-requires c κs =
-    put-room (c .before .before .before .before .before .before .before .before .before .loop .inv .1)
-    (c .before .before .before .before .before .before .before .before .loop-test .taken)
+    put-room (c .before .before .before .before .before .before .before .before .before .before .loop .inv .1)
+    (c .before .before .before .before .before .before .before .before .before .loop-test .taken)
 
 add-i : tie.Need-add-i Inv-loop μ-loop
 add-i c = search needs
@@ -73,11 +73,12 @@ loop-less c = search needs
 
 loop-again : tie.Need-loop-again Inv-loop μ-loop
 loop-again c =
-    let turn = c .before .before .before .before .before .before .before .before .before .before .before .before .loop in
-    let key = c .before .before .before .before .before .before .before .before .before .least in (
+    let turn = c .before .before .before .before .before .before .before .before .before .before .before .before .before .loop in
+    let key = c .before .before .before .before .before .before .before .before .before .before .least-row in (
       turn .inv .0,
       put-next (turn .inv .1)
-          (c .before .before .before .before .before .before .before .before .before .before .before .loop-test .taken) (key .result % 1024) (ap (λ (k : ℕ). k % 1024) (key .ensures)) _ _ _
+          (c .before .before .before .before .before .before .before .before .before .before .before .before .loop-test .taken)
+          (least-below arguments (key .ensures)) (key .result % 1024) refl _ _ _
           (c .before .before .before .before .before .before .before .put-down .ensures)
           (wrote-as (turn .buf) (turn .end)
           (λ j. c .before .before .before .before .before .high .ensures j ∷ c .before .before .before .before .low .ensures j ∷ []) (c .before .before .put .ensures)),
@@ -95,10 +96,10 @@ put-order-spec =
     (tie.spec
     Inv-loop
     μ-loop
-    open-places-requires
-    settle-requires
+    all-parents-requires
+    open-row-requires
     loop-holds
-    least-requires
+    least-row-requires
     cast-place
     cast-put-down
     put-down-requires

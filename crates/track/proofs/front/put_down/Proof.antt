@@ -1,101 +1,63 @@
--- `track::front::put_down` meets its contract: the children of p stand within the places that it has.
-use Prim.Native.Nat.{ℕ, _+_, _-_}
-use mathlib.Core.Path.{_≡_, ap, subst, _∙_}
+-- `track::front::put_down` meets its contract: the children of p get their keys, then the places at or above it are climbed.
+use mathlib.Core.Path.{sym, subst}
+use mathlib.Core.Logic.{⊎-elim}
 use native.Mathlib.Omega.{arith}
 use denote.Ref.{now}
-use lib.ListN.{set, length-set}
-use Rattle.places.specs.Numbering.{stride, levelsAt}
-use Rattle.places.proofs.Rows.{step-most, stride-grows}
-use Rattle.places.proofs.Levels.{depth-range, levels-by-depth, levels-range, levels-fit-row}
-use Rattle.track.specs.views.Front.{Opened}
-use Rattle.track.proofs.LeastKeys.{put-down-is}
 use borrow.Author.Needs.{needs}
+use Rattle.places.proofs.Levels.{depth-range}
+use Rattle.places.proofs.Rows.{step-most}
+use Rattle.track.proofs.Rows.{children, no-children}
+use Rattle.track.proofs.Climb.{Fresh, fresh-row, fresh-none, put-down-is}
 use Rattle.track.proofs.front.put_down.Statement.{statement}
 use Rattle.track.proofs.front.put_down.Tie as tie
-
-mul-keys : tie.Need-mul-keys
-mul-keys c = search needs
-
-element-write-keys : tie.Need-element-write-keys
-element-write-keys c = search needs
 
 depth-requires : tie.Need-depth-requires
 depth-requires c κs = search needs
 
-sub-step : tie.Need-sub-step
-sub-step c = omega (arith, depth-range (c .before .before .args .p), c .depth .ensures)
+add-open-row : tie.Need-add-open-row
+add-open-row c = search needs
 
 step-requires : tie.Need-step-requires
-step-requires c κs = omega (arith, depth-range (c .before .before .args .p), c .depth .ensures)
+step-requires c κs = omega (arith, c .before .if1 .taken)
 
-add-end : tie.Need-add-end
-add-end c = omega (arith, step-most (c .before .depth .result - 1), c .step .ensures)
+open-row-requires : tie.Need-open-row-requires
+open-row-requires c κs =
+    let start = c .before .before .before .before .before in
+    let depth = c .before .before .before .depth in
+    let row =
+    children (start .args .p) (depth .result) (c .step .result) (start .pre .3) (depth .ensures)
+    (omega (arith, c .before .before .if1 .taken)) (c .step .ensures) in
+    (start .pre .0, start .pre .2, omega (arith, c .step .ensures, step-most (depth .result)), row .inside)
 
-add-open-places : tie.Need-add-open-places
-add-open-places c = search needs
+-- The children of p have their keys, if it has any.
+module _ (c : tie.Joined1) where
+  fresh
+      : (let a = c .before .before .before .args in Fresh (now (a .positions)) (a .p) (now (a .keys)) (c .if1 .keys))
+  fresh =
+      let start = c .before .before .before in
+      let p = start .args .p in
+      let depth = c .before .depth in
+      ⊎-elim
+      (λ w.
+      subst (Fresh (now (start .args .positions)) p (now (start .args .keys))) (sym (w .4))
+      (fresh-row
+      (children p (depth .result) (w .2 .result) (start .pre .3) (depth .ensures) (omega (arith, w .0 .taken)) (w .2 .ensures))
+      (w .3 .ensures)))
+      (λ w.
+      subst (Fresh (now (start .args .positions)) p (now (start .args .keys))) (sym (w .1))
+      (fresh-none _ _ p (start .pre .2)
+      (no-children p (start .pre .3) (omega (arith, w .0 .left, depth .ensures, depth-range p)))))
+      (c .if1 .came)
 
-add-open-places-2 : tie.Need-add-open-places-2
-add-open-places-2 c = search needs
-
-open-places-requires : tie.Need-open-places-requires
-open-places-requires c κs =
+climb-requires : tie.Need-climb-requires
+climb-requires c κs =
     let start = c .before .before .before .before in
-    let p = start .args .p in
-    let size : c .before .step .result ≡ stride (levelsAt p) =
-    c .before .step .ensures ∙ ap (λ (d : ℕ). stride (4 - (d - 1))) (c .before .before .depth .ensures) ∙ ap stride
-    (levels-by-depth p) in
-    let some = stride-grows 1 (levelsAt p) (levels-range 4 p (omega arith) .0) in (
-      start .pre .0,
-      length-set (start .args .keys .now) p 67108864 ∙ start .pre .1,
-      omega (arith, size, some),
-      omega (arith, size, levels-fit-row 4 p 8 (start .pre .2)),
-    )
-
-mul-least : tie.Need-mul-least
-mul-least c = search needs
-
-least-requires : tie.Need-least-requires
-least-requires c κs = search needs
-
-add-keys : tie.Need-add-keys
-add-keys c = search needs
-
-mul-keys-2 : tie.Need-mul-keys-2
-mul-keys-2 c = search needs
-
-element-write-keys-2 : tie.Need-element-write-keys-2
-element-write-keys-2 c = search needs
+    (start .pre .1, fresh (c .before) .size, start .pre .3, c .before .before .depth .ensures)
 
 returns : tie.Need-returns
-returns c =
-    let start = c .before .before .before .before .before .before .before in
-    let p = start .args .p in
-    let size : c .before .before .before .before .step .result ≡ stride (levelsAt p) =
-    c .before .before .before .before .step .ensures ∙ ap (λ (d : ℕ). stride (4 - (d - 1)))
-    (c .before .before .before .before .before .depth .ensures) ∙ ap stride (levels-by-depth p) in
-    let opened =
-    subst
-    (λ (d : ℕ). Opened (now (start .args .positions)) (d + 1) (p + 1) (p + c .before .before .before .before .step .result)
-    (set (now (start .args .keys)) p 67108864) (c .before .before .open-places .last .1 .0))
-    (c .before .before .before .before .before .depth .ensures) (c .before .before .open-places .ensures) in
-    put-down-is _ _ _ p _ _ (start .pre .2) (ap (λ (n : ℕ). p + n) size) (start .pre .1) opened (c .least .ensures)
+returns c = put-down-is (c .before .before .before .before .before .pre .3) (fresh (c .before .before)) (c .climb .ensures)
 
 pub put-down-spec : {M : Type 1} → statement M
 put-down-spec =
     tie.close
-    (tie.spec
-    mul-keys
-    element-write-keys
-    depth-requires
-    sub-step
-    step-requires
-    add-end
-    add-open-places
-    add-open-places-2
-    open-places-requires
-    mul-least
-    least-requires
-    add-keys
-    mul-keys-2
-    element-write-keys-2
-    returns)
+    (tie.spec depth-requires add-open-row step-requires open-row-requires climb-requires returns)
