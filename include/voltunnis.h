@@ -45,6 +45,8 @@
  *   tidying     31  the tidy sheet fits the lent buffer
  *   an answer   36  commit or execute with rule 1 to 64, or suspend or fail with rule 0
  *   fed
+ *   a track     37  the list of positions is 1,360 bytes
+ *   drawing     38  the buffer has 1,360 bytes or more
  *
  * Kinds are hexadecimal, all other numbers decimal.
  */
@@ -110,6 +112,13 @@ uint64_t vt_check_order(const uint8_t *table, size_t table_len);
  * Fields: nodes (bits 8 to 23), bytes written (bits 24 to 55). */
 uint64_t vt_build_ordered(const uint8_t *sheet, size_t sheet_len, const uint8_t *table, size_t table_len,
                           uint8_t *buffer, size_t buffer_len);
+
+/* Writes the reading order of a track drawing, at the start of the buffer: questions 37, then 38. The positions are wide fields,
+ * one for each of the 680 places. Step by step, of the places not yet put down that are arguments or whose parent is down, the one
+ * with the smallest position comes next, on equal positions the lower place. Whatever the positions, what is written is a table
+ * that vt_check_order and vt_build_ordered accept. The bytes after it stay as they are, and all do on a refusal.
+ * Fields: bytes written (bits 8 to 39), which are VT_ORDER. */
+uint64_t vt_order(const uint8_t *positions, size_t positions_len, uint8_t *buffer, size_t buffer_len);
 
 /* Writes a sheet in its tidy form, at the start of the buffer: questions 1 to 11, then 31. Two accepted sheets get equal bytes
  * exactly when they have the same arity and, rule for rule, the same tests. The tidy form may be longer than the sheet. The bytes

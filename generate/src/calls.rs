@@ -13,6 +13,8 @@ pub enum Role {
     Pieces,
     /// The table of a reading order.
     Order,
+    /// Track positions, one for each place.
+    Positions,
     /// A buffer that is lent to be written, by what it holds before.
     Buffer,
 }
@@ -26,6 +28,7 @@ pub enum Name {
     Plain,
     CheckGraph,
     Tidy,
+    Order,
     Build,
     BuildOrdered,
     Rewrite,
@@ -42,6 +45,7 @@ impl Role {
             Role::Graph => "graph",
             Role::Pieces => "pieces",
             Role::Order => "order",
+            Role::Positions => "track",
             Role::Buffer => "buffer",
         }
     }
@@ -49,13 +53,14 @@ impl Role {
 
 impl Name {
     /// All calls, those that are given less first.
-    pub const ALL: [Name; 11] = [
+    pub const ALL: [Name; 12] = [
         Name::CheckPiece,
         Name::CheckSheet,
         Name::CheckOrder,
         Name::Plain,
         Name::CheckGraph,
         Name::Tidy,
+        Name::Order,
         Name::Build,
         Name::BuildOrdered,
         Name::Rewrite,
@@ -72,6 +77,7 @@ impl Name {
             Name::Plain => "plain",
             Name::CheckGraph => "check_graph",
             Name::Tidy => "tidy",
+            Name::Order => "order",
             Name::Build => "build",
             Name::BuildOrdered => "build_ordered",
             Name::Rewrite => "rewrite",
@@ -89,6 +95,7 @@ impl Name {
             Name::Plain => &[Role::Sheet, Role::Piece],
             Name::CheckGraph => &[Role::Sheet, Role::Graph],
             Name::Tidy | Name::Build => &[Role::Sheet, Role::Buffer],
+            Name::Order => &[Role::Positions, Role::Buffer],
             Name::BuildOrdered => &[Role::Sheet, Role::Order, Role::Buffer],
             Name::Rewrite => &[Role::Sheet, Role::Graph, Role::Buffer],
             Name::Walk => &[Role::Sheet, Role::Graph, Role::Piece],

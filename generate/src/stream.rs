@@ -1,5 +1,5 @@
-//! A stream of calls from a seed: good, hostile and damaged sheets, pieces and graphs, and buffers of all
-//! lengths. The same seed gives the same calls, whoever asks.
+//! A stream of calls from a seed: good, hostile and damaged sheets, pieces and graphs, reading orders, track
+//! positions, and buffers of all lengths. The same seed gives the same calls, whoever asks.
 
 use crate::asked::Asked;
 use crate::calls::{Call, Name, Role};
@@ -9,11 +9,12 @@ use crate::graphs::graph;
 use crate::hostile::{hostile_piece, hostile_sheet};
 use crate::known;
 use crate::nodes::GraphNodes;
-use crate::orders::{reversed, some_table, table};
+use crate::orders::{reversed, some_table, table, PLACES};
 use crate::pieces::piece;
 use crate::random::Random;
 use crate::sheets::{sheet, small_sheet, MOST_RULES};
 use crate::stock::Stock;
+use crate::tracks::{list, numbered, some_list};
 use crate::trees::{piece_bytes, SheetTree};
 use crate::variables::tidy_length;
 use std::collections::VecDeque;
@@ -33,6 +34,7 @@ pub struct Stream<B> {
 struct Given<'a> {
     sheet: &'a [u8],
     order: &'a [u8],
+    positions: &'a [u8],
     graph: &'a [u8],
     piece: &'a [u8],
     pieces: &'a [u8],
@@ -66,6 +68,9 @@ fn buffer_length(random: &mut Random, needed: usize) -> usize {
 
 /// The bytes of a result of many walks.
 pub const RESULT: usize = 16;
+
+/// The bytes of a reading order.
+pub const ORDER: usize = 2 * PLACES as usize;
 
 /// Sheets whose graphs have a known size.
 const KNOWN: [fn() -> Vec<u8>; 8] = [
@@ -121,6 +126,8 @@ impl<B: Fn(&[u8], Option<&[u8]>) -> Option<Vec<u8>>> Stream<B> {
         }
         let (all, buffer) = (&pieces.concat()[..], &lent(RESULT * pieces.len() + 3)[..]);
         self.call(Name::WalkAll, Given { sheet, graph, pieces: all, buffer, ..Given::default() });
+        let (positions, buffer) = (&list(&numbered(&reversed()))[..], &lent(ORDER + 3)[..]);
+        self.call(Name::Order, Given { positions, buffer, ..Given::default() });
         let order = &table(&reversed())[..];
         let graph = &(self.build)(sheet, Some(order)).unwrap_or_default()[..];
         let buffer = &lent(graph.len() + 3)[..];
@@ -137,6 +144,7 @@ impl<B: Fn(&[u8], Option<&[u8]>) -> Option<Vec<u8>>> Stream<B> {
         self.next.push_back(Call::new(name, |role| match role {
             Role::Sheet => given.sheet.to_vec(),
             Role::Order => given.order.to_vec(),
+            Role::Positions => given.positions.to_vec(),
             Role::Graph => given.graph.to_vec(),
             Role::Piece => given.piece.to_vec(),
             Role::Pieces => given.pieces.to_vec(),
@@ -182,8 +190,12 @@ impl<B: Fn(&[u8], Option<&[u8]>) -> Option<Vec<u8>>> Stream<B> {
         self.call(name, Given { buffer, ..given });
     }
 
-    /// The calls on a sheet and a reading order; the graph, if there is one.
+    /// The calls on track positions, and on a sheet and a reading order; the graph, if there is one.
     fn ordered(&mut self, sheet: &[u8]) -> Option<Vec<u8>> {
+        if self.random.percent(30) {
+            let positions = &some_list(&mut self.random)[..];
+            self.write(Name::Order, Given { positions, ..Given::default() }, ORDER);
+        }
         let order = &some_table(&mut self.random)[..];
         let given = Given { sheet, order, ..Given::default() };
         if self.random.percent(30) {

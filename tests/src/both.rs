@@ -103,6 +103,18 @@ pub fn build_ordered(sheet: &[u8], table: &[u8], len: usize) -> (Result<Built, R
     (result, buffer)
 }
 
+/// Writes the reading order of a list of track positions to a buffer of this length; gives the result and the
+/// buffer.
+#[inline]
+pub fn order(positions: &[u8], len: usize) -> (Result<Written, Refusal>, Vec<u8>) {
+    let (result, buffer) = lend(len, |buffer| voltunnis::order(positions, buffer));
+    let (expected, bytes) = lend(len, |buffer| reference::order(positions, buffer));
+    let what = || format!("library, reference: positions {} to {len} bytes", to_hex(positions));
+    assert_eq!(result, expected, "{}", what());
+    assert!(buffer == bytes, "other bytes in the buffer: {}", what());
+    (result, buffer)
+}
+
 /// Tidies a sheet to a buffer of this length; gives the result and the buffer.
 #[inline]
 pub fn tidy(sheet: &[u8], len: usize) -> (Result<Written, Refusal>, Vec<u8>) {

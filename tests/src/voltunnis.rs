@@ -45,6 +45,11 @@ pub fn build_ordered(sheet: &[u8], table: &[u8], buffer: &mut [u8]) -> Result<Bu
 }
 
 #[inline]
+pub fn order(positions: &[u8], buffer: &mut [u8]) -> Result<Written, Refusal> {
+    voltunnis::order(positions, buffer).map_err(u8::from)
+}
+
+#[inline]
 pub fn tidy(sheet: &[u8], buffer: &mut [u8]) -> Result<Written, Refusal> {
     voltunnis::tidy(sheet, buffer).map_err(u8::from)
 }

@@ -10,6 +10,7 @@ use std::ptr::{read_volatile, write_volatile};
 use std::thread;
 use voltunnis_tests::generate::known;
 use voltunnis_tests::generate::orders::{reversed, table};
+use voltunnis_tests::generate::tracks::{list, numbered};
 
 const PAINT: u8 = 0xa5;
 /// The stack that is painted, and how far below the caller's frame the paint begins: the painter's own frame lies between.
@@ -174,6 +175,14 @@ fn the_stack_of_each_writer_is_what_the_readme_says() {
         "`vt_build_ordered`",
         most(move |s, _, _| {
             let _ = black_box(voltunnis::build_ordered(s, &order, &mut lent.lock().expect("one thread")));
+        }),
+    );
+    let lent = std::sync::Mutex::new(buffers());
+    let positions = list(&numbered(&reversed()));
+    holds(
+        "`vt_order`",
+        most(move |_, _, _| {
+            let _ = black_box(voltunnis::order(&positions, &mut lent.lock().expect("one thread")));
         }),
     );
     let lent = std::sync::Mutex::new(buffers());

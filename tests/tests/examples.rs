@@ -40,6 +40,12 @@ fn the_examples_pieces_are_walked_two_at_a_time() {
 }
 
 #[test]
+fn the_example_is_built_in_the_order_of_a_track_drawing() {
+    let said = "1360 bytes, place 85 first\ntable 0\n7 nodes, place 85 asked first\nrefused 37 and 38\n";
+    assert_eq!(printed("order"), said);
+}
+
+#[test]
 fn the_rust_example_prints_the_four_answers() {
     let program = Path::new(env!("CARGO_TARGET_TMPDIR")).join("../debug/examples/plain");
     let output = run(&mut Command::new(program));

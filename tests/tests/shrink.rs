@@ -3,7 +3,7 @@
 use voltunnis_tests::generate::calls::{Call, Name, Role};
 use voltunnis_tests::generate::shrink::smallest;
 use voltunnis_tests::generate::stream::Stream;
-use voltunnis_tests::reference::{self, graph_in};
+use voltunnis_tests::reference::{self, graph_in, track};
 
 /// The refusal of a call, 0 if it is answered.
 fn refusal(call: &Call) -> u8 {
@@ -17,6 +17,7 @@ fn refusal(call: &Call) -> u8 {
         Name::Plain => reference::plain(sheet, piece).map(drop),
         Name::CheckGraph => reference::check_graph(sheet, graph).map(drop),
         Name::Tidy => reference::tidy(sheet, &mut buffer).map(drop),
+        Name::Order => reference::order(of(Role::Positions), &mut buffer).map(drop),
         Name::Build => reference::build(sheet, &mut buffer).map(drop),
         Name::BuildOrdered => reference::build_ordered(sheet, order, &mut buffer).map(drop),
         Name::Rewrite => reference::rewrite(sheet, graph, &mut buffer).map(drop),
@@ -27,7 +28,7 @@ fn refusal(call: &Call) -> u8 {
 }
 
 /// The smallest calls that each question refuses.
-const SMALLEST: [(u8, &[&str]); 26] = [
+const SMALLEST: [(u8, &[&str]); 27] = [
     (1, &["check_sheet -"]),
     (2, &["check_sheet 100000"]),
     (3, &["check_sheet 100121"]),
@@ -69,6 +70,7 @@ const SMALLEST: [(u8, &[&str]); 26] = [
         ],
     ),
     (31, &["tidy 100100 -"]),
+    (37, &["order - -"]),
 ];
 
 /// Calls of the stream that this question refuses.
@@ -135,6 +137,31 @@ fn an_order_that_matters_comes_down_to_what_matters() {
         let sheet = small.argument(Role::Sheet).unwrap_or_default();
         assert!(sheet.len() <= 16 && out_of_turn(&small) <= 3, "{small} from {call}");
         assert_eq!(small.argument(Role::Buffer), Some(&[][..]));
+    }
+}
+
+/// The positions of a call.
+fn positions(call: &Call) -> Vec<u16> {
+    let bytes = call.argument(Role::Positions).unwrap_or_default();
+    bytes.chunks_exact(2).map(|two| u16::from_be_bytes([two[0], two[1]])).collect()
+}
+
+#[test]
+fn positions_come_down_to_zeros_or_to_one_place_that_stands_behind() {
+    for call in refused(38).take(6) {
+        let small = smallest(&call, &graph_in, &mut |call| refusal(call) == 38, 20_000);
+        assert_eq!(small.to_string(), format!("order {} -", "0".repeat(2720)), "from {call}");
+    }
+    // A place that comes after one that is higher.
+    let not_ascending = |call: &Call| {
+        let list = positions(call);
+        list.len() == 680 && !track::places(&list).is_sorted()
+    };
+    for call in Stream::new(2, graph_in).filter(not_ascending).take(12) {
+        let small = smallest(&call, &graph_in, &mut |call| not_ascending(call), 20_000);
+        let mut behind = positions(&small);
+        behind.retain(|position| *position > 0);
+        assert_eq!((behind, small.argument(Role::Buffer)), (vec![1], Some(&[][..])), "{small} from {call}");
     }
 }
 

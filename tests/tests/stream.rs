@@ -25,6 +25,7 @@ fn outcome(call: &Call) -> String {
         Name::Plain => both::plain(sheet, piece).map(|plain| format!("plain {}", plain.word.name())),
         Name::CheckGraph => both::check_graph(sheet, graph).map(|_| "graph".to_string()),
         Name::Tidy => both::tidy(sheet, buffer.len()).0.map(|_| "tidy".to_string()),
+        Name::Order => both::order(of(Role::Positions), buffer.len()).0.map(|_| "ordered".to_string()),
         Name::Build => both::build(sheet, buffer.len()).0.map(|_| "built".to_string()),
         Name::BuildOrdered => {
             both::build_ordered(sheet, order, buffer.len()).0.map(|_| "built in order".to_string())
@@ -48,8 +49,8 @@ fn every_refusal_and_every_word_is_met_whatever_the_seed() {
         println!("seed {seed}: {counts:?}");
         let words = ["commit", "execute", "suspend", "fail"];
         let plain = words.map(|word| format!("plain {word}"));
-        let refusals = (1..=31).map(|number| format!("refused {number}"));
-        let written = ["tidy", "built", "built in order", "rewritten", "walked all"];
+        let refusals = (1..=31).chain([37, 38]).map(|number| format!("refused {number}"));
+        let written = ["tidy", "ordered", "built", "built in order", "rewritten", "walked all"];
         let accepted = ["sheet", "piece", "graph", "order"].into_iter().chain(written).map(String::from);
         for wanted in refusals.chain(words.map(String::from)).chain(plain).chain(accepted) {
             assert!(counts.contains_key(&wanted), "seed {seed}: {wanted} never");

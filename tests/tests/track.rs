@@ -1,9 +1,9 @@
-//! Reading orders from track positions (document 02, request 14): the reference against the request's
-//! sentence, step by step, on lists of all sorts; what it writes is a table that the library accepts and
-//! builds with.
+//! Reading orders from track positions (document 02, request 14): library and reference against the request's
+//! sentence, step by step, on lists of all sorts; what they write is a table that builds accept.
 
 use std::ops::Range;
-use voltunnis_tests::both::{build_ordered, check_order, lend, lent};
+use voltunnis_tests::both::{build_ordered, check_order, lent, order};
+use voltunnis_tests::bytes::{from_hex, to_hex};
 use voltunnis_tests::count::Count;
 use voltunnis_tests::generate::known;
 use voltunnis_tests::generate::orders::{any, ascending, order as some_order, table};
@@ -12,9 +12,12 @@ use voltunnis_tests::generate::sheets::small_sheet;
 use voltunnis_tests::generate::stock::Stock;
 use voltunnis_tests::generate::tracks::{list, numbered, some_list, Sort};
 use voltunnis_tests::reference::places::{argument, child, depth, parent, PLACES};
-use voltunnis_tests::reference::track::{order, BYTES};
+use voltunnis_tests::reference::track::BYTES;
 use voltunnis_tests::results::{Built, Refusal, Written};
 use voltunnis_tests::voltunnis;
+
+/// The vectors of request 14.
+const VECTORS: &str = include_str!("../vectors/track.txt");
 
 /// How many lists of each sort are tried.
 const ROUNDS: usize = 250;
@@ -22,7 +25,7 @@ const ROUNDS: usize = 250;
 /// The places that an accepted list lays down, from a buffer that takes just the table.
 #[track_caller]
 fn ordered(positions: &[u16]) -> Vec<u16> {
-    let (result, buffer) = lend(BYTES, |buffer| order(&list(positions), buffer));
+    let (result, buffer) = order(&list(positions), BYTES);
     assert_eq!(result, Ok(Written { bytes: 1360 }));
     buffer.chunks_exact(2).map(|two| u16::from_be_bytes([two[0], two[1]])).collect()
 }
@@ -104,7 +107,26 @@ fn compare_neighbours(count: &mut Count, positions: &[u16], places: &[u16]) {
 }
 
 #[test]
-fn the_reference_is_the_requests_sentence_on_lists_of_all_sorts() {
+fn the_shared_vectors_are_met() {
+    let mut count = 0;
+    for line in VECTORS.lines() {
+        let [_, call, said] = line.split('|').collect::<Vec<_>>()[..] else { panic!("not a vector: {line}") };
+        let ["order_from_positions", positions, len] = call.split(' ').collect::<Vec<_>>()[..] else {
+            panic!("no call: {call}")
+        };
+        let (result, buffer) = order(&from_hex(positions), len.parse().expect("a length"));
+        let reply = match result {
+            Ok(Written { bytes }) => format!("ok {bytes} {}", to_hex(&buffer[..bytes as usize])),
+            Err(refusal) => format!("refused {refusal}"),
+        };
+        assert_eq!(reply, said, "{call}");
+        count += 1;
+    }
+    assert_eq!(count, 1);
+}
+
+#[test]
+fn the_order_is_the_requests_sentence_on_lists_of_all_sorts() {
     let mut random = Random::new(0x7472_6163);
     let mut count = Count::default();
     for sort in [Sort::ALL; ROUNDS].into_iter().flatten() {
@@ -130,7 +152,7 @@ fn the_reference_is_the_requests_sentence_on_lists_of_all_sorts() {
 }
 
 #[test]
-fn the_result_is_a_table_that_the_library_accepts_and_builds_with() {
+fn the_result_is_a_table_that_is_accepted_and_built_with() {
     let mut random = Random::new(0x7461_626c);
     let mut count = Count::default();
     for sort in [Sort::ALL; ROUNDS].into_iter().flatten() {
@@ -212,7 +234,7 @@ fn positions_that_number_a_reading_order_give_it_back() {
 /// Writes to a buffer of this length and is refused; no byte of it changes.
 #[track_caller]
 fn refused(positions: &[u8], len: usize, refusal: Refusal) {
-    let (result, buffer) = lend(len, |buffer| order(positions, buffer));
+    let (result, buffer) = order(positions, len);
     assert_eq!(result, Err(refusal), "{} bytes to {len}", positions.len());
     assert!(buffer == lent(len), "a byte changed on a refusal");
 }
@@ -235,7 +257,7 @@ fn the_table_stands_at_the_front_and_the_rest_stays() {
     let positions = numbered(&any(&mut Random::new(0x726f_6f6d)));
     let table = table(&step_by_step(&positions));
     for len in [1360, 1361, 1362, 2720] {
-        let (result, buffer) = lend(len, |buffer| order(&list(&positions), buffer));
+        let (result, buffer) = order(&list(&positions), len);
         assert_eq!(result, Ok(Written { bytes: 1360 }));
         assert!(buffer[..1360] == table[..] && buffer[1360..] == lent(len)[1360..], "{len} bytes");
     }
@@ -248,7 +270,7 @@ fn lists_of_any_length_are_ordered_or_refused() {
     for _ in 0..3_000 {
         let positions = some_list(&mut random);
         let len = random.pick(&[0, 1, 1359, 1360, 1361, 1400]);
-        let (result, buffer) = lend(len, |buffer| order(&positions, buffer));
+        let (result, buffer) = order(&positions, len);
         let expected = match (positions.len(), len) {
             (1360, 1360..) => Ok(Written { bytes: 1360 }),
             (1360, _) => Err(38),

@@ -53,7 +53,7 @@ fn the_right_maker_passes_and_all_is_covered() {
         assert_eq!((problems.as_str(), status), ("", 0), "{said}");
         assert!(said.starts_with(&format!("10000 calls of seed {seed}: all equal.\n")), "{said}");
         assert!(!said.contains("never met"), "{said}");
-        for number in 1..=31 {
+        for number in (1..=31).chain([37, 38]) {
             assert!(said.contains(&format!(" {number}: ")), "refusal {number}: {said}");
         }
     }
@@ -68,12 +68,10 @@ fn a_short_run_says_what_it_never_met() {
         lines[..2],
         ["3 calls of seed 1: all equal.", "calls       check_sheet 1, check_graph 1, build 1"]
     );
-    assert!(
-        lines.contains(
-            &"never met   calls check_piece, check_order, plain, tidy, build_ordered, rewrite, walk, walk_all"
-        ),
-        "{said}"
-    );
+    let never =
+        "never met   calls check_piece, check_order, plain, tidy, order, build_ordered, rewrite, walk,";
+    let at = lines.iter().position(|line| *line == never).expect("a line of calls");
+    assert_eq!(lines[at + 1].trim_start(), "walk_all", "{said}");
     assert!(lines.contains(&"never met   answers commit, execute, suspend, fail"), "{said}");
     assert!(lines.iter().any(|line| line.starts_with("never met   refusals 1, 2, 3, ")), "{said}");
 }

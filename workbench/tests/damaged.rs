@@ -65,6 +65,7 @@ fn damaged_files_are_refused_or_read() {
             &["check", "--positions", "track.bin"],
             &["text", "--positions", "track.bin"],
             &["text", "track.bin"],
+            &["order", "track.bin"],
         ] {
             met[survives(&folder, words) as usize] += 1;
         }

@@ -96,6 +96,7 @@ fn wrong_use_is_told() {
     wrong(&["build", "example.sheet", "-o"], "vt: option `-o` needs a value: FILE\nSee `vt build --help`.\n");
     wrong(&["build"], "vt: expected one sheet\nSee `vt build --help`.\n");
     wrong(&["tidy"], "vt: expected one sheet\nSee `vt tidy --help`.\n");
+    wrong(&["order"], "vt: expected one track drawing\nSee `vt order --help`.\n");
     wrong(&["bytes"], "vt: expected one file\nSee `vt bytes --help`.\n");
     wrong(&["text", "a", "b"], "vt: expected one file\nSee `vt text --help`.\n");
     wrong(
@@ -129,7 +130,7 @@ fn help_is_given() {
     let all = folder.says(&["--help"]);
     assert_eq!(folder.says(&["help"]), all);
     assert_eq!((folder.run(&[]).status, folder.run(&[]).stderr), (2, all.clone()));
-    for name in ["check", "bytes", "text", "tidy", "build", "draw", "try", "explain", "listing"] {
+    for name in ["check", "bytes", "text", "tidy", "order", "build", "draw", "try", "explain", "listing"] {
         assert!(all.contains(&format!("\n  {name} ")), "{name}");
         let help = folder.says(&[name, "--help"]);
         assert!(help.starts_with(&format!("vt {name}: ")) && help.contains("\nExamples:\n  vt "), "{help}");

@@ -22,6 +22,7 @@ mod order;
 mod packed;
 mod refusal;
 mod results;
+mod track;
 mod walks;
 pub mod window;
 
@@ -31,13 +32,14 @@ pub use calls::{
 pub use order::{build_ordered, check_order, graph_ordered};
 pub use refusal::Refusal;
 pub use results::{Answer, Built, GraphSize, PieceSize, Plain, Run, SheetSize, Walk, Word, Written};
+pub use track::{order, track_order};
 pub use walks::{answers, results, walk_all, Answers, RESULT_BYTES};
 
 /// The most bytes that a graph has, built or accepted: 5, and for each of 1,024 nodes 8 and 255 cases
 /// of 7.
 pub const MOST_BYTES: usize = 1_836_037;
 
-/// The bytes of a reading order: 680 wide places.
+/// The bytes of a reading order, 680 wide places, and those of as many track positions.
 pub const ORDER_BYTES: usize = 1_360;
 
 /// No tidy sheet has more bytes: 3, and 656 for each of 32 rules.

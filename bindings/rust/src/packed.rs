@@ -151,6 +151,8 @@ mod tests {
         assert_eq!(pack(&Ok(written)), 0x0102_0300);
         assert_eq!(unpack(0x0102_0300), Ok(written));
         assert_eq!(unpack::<Written>(31).map_err(u8::from), Err(31));
+        assert_eq!(unpack::<Written>(1360 << 8), Ok(Written { bytes: 1360 }));
+        assert_eq!(unpack::<Written>(38).map_err(u8::from), Err(38));
         let walk = Walk { word: Word::Fail, rule: 0, edges: 64 };
         assert_eq!(pack(&Ok(walk)), 0x4000_0400);
         let run = Run { results: 0x12_3456, bytes: 0xfedc_ba98 };

@@ -15,7 +15,7 @@ use std::fmt;
 pub struct Refusal(u8);
 
 /// The questions, ascending: the number, when it is asked, and its words.
-const QUESTIONS: [(u8, &str, &str); 32] = [
+const QUESTIONS: [(u8, &str, &str); 34] = [
     (1, SHEET, "Does it begin with a whole 10 record?"),
     (2, SHEET, "Is its arity 1 to 8?"),
     (3, SHEET, "Has it at most 32 rules (0 is allowed)?"),
@@ -55,6 +55,8 @@ const QUESTIONS: [(u8, &str, &str); 32] = [
     (30, ORDER, "Does none stand before its parent?"),
     (31, TIDYING, "Does the tidy sheet fit the lent buffer?"),
     (36, WINDOW, "Is the rule 1 to 64 for commit or execute, 0 for the others?"),
+    (37, TRACK, "Is the list of positions 1,360 bytes?"),
+    (38, TRACK, "Has the lent buffer 1,360 bytes or more?"),
 ];
 
 const SHEET: &str = "Sheet";
@@ -68,6 +70,7 @@ const WALKED: &str = "At each switch or pair walked";
 const ORDER: &str = "Reading order, after the sheet";
 const TIDYING: &str = "Tidying, after the sheet";
 const WINDOW: &str = "At each answer fed";
+const TRACK: &str = "Track drawing";
 
 impl Refusal {
     /// The refusal by the question of this number, if there is one.
@@ -86,7 +89,7 @@ impl Refusal {
     /// All refusals, ascending.
     ///
     /// ```
-    /// assert_eq!(voltunnis::Refusal::all().count(), 32);
+    /// assert_eq!(voltunnis::Refusal::all().count(), 34);
     /// ```
     pub fn all() -> impl Iterator<Item = Refusal> {
         QUESTIONS.iter().map(|row| Refusal(row.0))

@@ -2,7 +2,7 @@
 pub mod answers; // plain answers, and walks of one piece and of many
 pub mod checks; // the checks of sheets, pieces, graphs and reading orders
 pub mod windows; // what the calls of a window hand back
-pub mod writers; // graphs and sheets written into a lent buffer
+pub mod writers; // graphs, sheets and reading orders written into a lent buffer
 
 ghost use mathlib.Core.List.{[], _∷_};
 ghost use Rattle.packing.specs.Packed.{Packs, bits8, bits16, bits32};

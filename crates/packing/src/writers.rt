@@ -1,13 +1,15 @@
-// Graphs and sheets written into a lent buffer.
+// Graphs, sheets and reading orders written into a lent buffer.
 use crate::pack_two;
 use crate::pack_wide;
 use build::Built;
 use graph_check::Rewrote;
 use tidying::Tidied;
+use track::Ordered;
 ghost use Prim.Native.Nat.{ℕ};
 ghost use mathlib.Core.List.{List};
 ghost use Rattle.graph_check.specs.Rewritten as rewritten;
 ghost use Rattle.tidying.specs.views.HandedBack as tidied;
+ghost use Rattle.track.specs.views.HandedBack as ordered;
 ghost use Rattle.build.specs.BuildOutcome.{builtValues};
 ghost use Rattle.packing.specs.Packed.{Packs, writtenFields, builtFields};
 
@@ -30,6 +32,17 @@ pub fn pack_tidied(written: Tidied) -> u64
     match written {
         Tidied::Written(bytes) => pack_wide(0, bytes),
         Tidied::Refused(q) => pack_wide(q, 0),
+    }
+}
+
+// The bytes of a track drawing's reading order, whatever the buffer. Not a byte beside a refusal's number, nor a refusal for an
+// order that was written.
+pub fn pack_ordered(written: Ordered) -> u64
+    ensures { λ r. ⌜ ((buffer : List ℕ) → Packs r (writtenFields (ordered.leftBy written buffer))) ⌝ }
+{
+    match written {
+        Ordered::Written => pack_wide(0, 1360),
+        Ordered::Refused(q) => pack_wide(q, 0),
     }
 }
 

@@ -1,11 +1,12 @@
 //! A call with its arguments read as far as they can be, and what each step makes of it.
 
-use super::{bytes, graphs, orders, parts, pieces, sheets, Build, Step, Value};
+use super::{bytes, graphs, orders, parts, pieces, sheets, tracks, Build, Step, Value};
 use crate::asked::Asked;
 use crate::calls::{Call, Name, Role};
 use crate::nodes::GraphNodes;
 use crate::orders::table;
-use crate::stream::RESULT;
+use crate::stream::{ORDER, RESULT};
+use crate::tracks::list;
 use crate::trees::{piece_bytes, read_piece, SheetTree, Term};
 use crate::variables::tidy_length;
 use std::collections::BTreeSet;
@@ -19,13 +20,14 @@ pub struct Case<'a> {
     pieces: Option<pieces::Several>,
     graph: Option<(GraphNodes, Vec<u8>)>,
     order: Option<Vec<u16>>,
+    positions: Option<Vec<u16>>,
     /// Whether the graph is the sheet's own.
     own: bool,
     /// How many bytes a writer needs.
     needed: Option<usize>,
 }
 
-/// So many shorter tables are tried in the stead of an order.
+/// So many shorter lists are tried in the stead of an order, or of positions.
 const SHORTER: usize = 7;
 
 /// A tree and the bytes after it.
@@ -33,9 +35,12 @@ fn kept<T>((tree, tail): (T, &[u8])) -> (T, Vec<u8>) {
     (tree, tail.to_vec())
 }
 
-/// How many bytes a writer needs: those of the sheet's own graph, of its tidy form, of the results of pieces, or of
-/// the graph that it is given.
+/// How many bytes a writer needs: those of an order, of the sheet's own graph, of its tidy form, of the results of
+/// pieces, or of the graph that it is given.
 fn needed(name: Name, call: &Call, build: Build) -> Option<usize> {
+    if name == Name::Order {
+        return Some(ORDER);
+    }
     let sheet = call.argument(Role::Sheet)?;
     match name {
         Name::Build => build(sheet, None).map(|graph| graph.len()),
@@ -62,6 +67,7 @@ impl<'a> Case<'a> {
             pieces: call.argument(Role::Pieces).map(pieces::Several::read),
             graph: call.argument(Role::Graph).and_then(GraphNodes::read).map(kept),
             order: call.argument(Role::Order).and_then(orders::read),
+            positions: call.argument(Role::Positions).and_then(orders::read),
             own: is_own(&call, build),
             needed: needed(call.name(), &call, build),
             call,
@@ -93,14 +99,22 @@ impl<'a> Case<'a> {
             let tested = self.sheet.as_ref().map_or(vec![], |(sheet, _)| Asked::of(sheet).places);
             steps.extend(orders::steps(places, &tested).map(Step::Order));
         }
+        if let Some(positions) = &self.positions {
+            steps.extend(tracks::steps(positions).map(Step::Positions));
+        }
         if let Some(buffer) = self.call.argument(Role::Buffer) {
             let shorter = parts(buffer.len()).map(|part| buffer.len() - part.len());
             steps.extend(self.needed.into_iter().chain(shorter).map(Step::Length));
             steps.push(Step::Zeros);
         }
         for (role, argument) in self.call.arguments().filter(|(role, _)| *role != Role::Buffer) {
-            // An order has one length: a few shorter tables tell whether it matters.
-            let most = if role == Role::Order && self.order.is_some() { SHORTER } else { usize::MAX };
+            // An order and positions have one length: a few shorter ones tell whether it matters.
+            let whole = match role {
+                Role::Order => self.order.is_some(),
+                Role::Positions => self.positions.is_some(),
+                _ => false,
+            };
+            let most = if whole { SHORTER } else { usize::MAX };
             steps.extend(bytes::steps(argument).take(most).map(|step| Step::Bytes(role, step)));
         }
         steps
@@ -131,6 +145,10 @@ impl<'a> Case<'a> {
             Step::Order(step) => {
                 let places = orders::after(self.order.as_ref()?, step)?;
                 Some(self.refitted(self.call.with(Role::Order, &table(&places))))
+            }
+            Step::Positions(step) => {
+                let positions = tracks::after(self.positions.as_ref()?, step)?;
+                Some(self.call.with(Role::Positions, &list(&positions)))
             }
             Step::Length(length) => {
                 let buffer = self.call.argument(Role::Buffer)?;

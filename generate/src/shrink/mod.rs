@@ -1,5 +1,6 @@
 //! A call made smaller for as long as it shows what it has to show: fewer rules, arguments and nodes,
-//! simpler patterns and terms, smaller ids and numbers, orders closer to ascending, fewer bytes.
+//! simpler patterns and terms, smaller ids and numbers, orders closer to ascending, fewer and lower positions,
+//! fewer bytes.
 //!
 //! Sheets, pieces and graphs that can be read are made smaller as trees; a sheet takes its own graph, the
 //! pieces' arguments, the order and the buffer's length along. Whatever can't be read is made smaller byte by byte.
@@ -12,6 +13,7 @@ mod orders;
 mod pieces;
 mod sheets;
 mod tiny;
+mod tracks;
 
 use crate::calls::{Call, Name, Role};
 use case::Case;
@@ -33,6 +35,7 @@ enum Step {
     Ranked(Value),
     Graph(graphs::Step),
     Order(orders::Step),
+    Positions(tracks::Step),
     /// A buffer of this length.
     Length(usize),
     /// A buffer of zeros.

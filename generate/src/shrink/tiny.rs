@@ -54,7 +54,7 @@ pub fn calls(name: Name, build: Build) -> Vec<Call> {
                 Role::Sheet => bytes.clone(),
                 Role::Graph => own.clone(),
                 Role::Piece => piece_bytes(piece),
-                Role::Pieces | Role::Order | Role::Buffer => Vec::new(),
+                Role::Pieces | Role::Order | Role::Positions | Role::Buffer => Vec::new(),
             }));
         }
     }

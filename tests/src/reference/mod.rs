@@ -22,6 +22,7 @@ pub mod walk;
 pub mod walks;
 pub mod window;
 
+pub use track::order;
 pub use voltunnis_generate::{nodes, records};
 
 use crate::generate::trees::SheetTree;

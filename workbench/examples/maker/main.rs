@@ -7,8 +7,8 @@ mod wrong;
 use std::io::{stdin, BufRead};
 use voltunnis_tests::bytes::{from_hex, to_hex};
 use voltunnis_tests::reference::{
-    build, build_ordered, check_graph, check_order, check_piece, check_sheet, plain, rewrite, tidy, walk,
-    walk_all,
+    build, build_ordered, check_graph, check_order, check_piece, check_sheet, order, plain, rewrite, tidy,
+    walk, walk_all,
 };
 use voltunnis_tests::results::Built;
 
@@ -29,6 +29,7 @@ fn call(name: &str, arguments: &mut [Vec<u8>]) -> Option<Said> {
         ("check_order", [order]) => check_order(order).map(|()| String::new()),
         ("build", [sheet, buffer]) => build(sheet, buffer).map(size),
         ("build_ordered", [sheet, order, buffer]) => build_ordered(sheet, order, buffer).map(size),
+        ("order", [positions, buffer]) => order(positions, buffer).map(|written| written.bytes.to_string()),
         ("tidy", [sheet, buffer]) => tidy(sheet, buffer).map(|written| written.bytes.to_string()),
         ("rewrite", [sheet, graph, buffer]) => {
             rewrite(sheet, graph, buffer).map(|written| written.bytes.to_string())
@@ -47,7 +48,7 @@ fn size(built: Built) -> String {
 }
 
 /// The calls that are lent a buffer.
-const WRITERS: [&str; 5] = ["tidy", "build", "build_ordered", "rewrite", "walk_all"];
+const WRITERS: [&str; 6] = ["order", "tidy", "build", "build_ordered", "rewrite", "walk_all"];
 
 fn main() {
     let trap = std::env::args().skip_while(|word| word != "--wrong").nth(1);

@@ -5,6 +5,8 @@
 //! - `drop` drops a rule because its test is not known.
 //! - `lowest` asks the lowest test under every reading order.
 //! - `hurried` refuses by question 30 before it has asked 29 over the whole table.
+//! - `drift` puts places down by their positions alone, whether or not their parent is down.
+//! - `higher` puts the higher of two places at one position down first.
 //! - `late` gives each of many pieces the result of the one before it.
 //! - `eager` takes the bytes of a piece that it could not read.
 //! - `spill` writes a zero after a graph, where the buffer is longer.
@@ -15,14 +17,15 @@
 //! - `mute` says nothing at all, `chatter` says each reply twice, `half` knows no graphs.
 
 use super::{call as right, size, Said};
-use std::collections::BTreeSet;
+use std::cmp::Reverse;
+use std::collections::{BTreeSet, BinaryHeap};
 use std::sync::OnceLock;
 use voltunnis_tests::generate::trees::SheetTree;
 use voltunnis_tests::reference::piece::Piece;
+use voltunnis_tests::reference::places::{argument, child, depth, parent, DEEPEST, PLACES};
 use voltunnis_tests::reference::sheet::{Rule, Sheet};
-use voltunnis_tests::reference::{
-    self, build, check_order, graph, places::parent, plain, tidy, truth::Truth, walk,
-};
+use voltunnis_tests::reference::{self, build, check_order, graph, plain, tidy, truth::Truth, walk};
+use voltunnis_tests::results::Written;
 
 type Result<T> = std::result::Result<T, u8>;
 
@@ -124,6 +127,38 @@ fn hurried(order: &[u8]) -> Result<()> {
     }
 }
 
+/// The table of these places where a list of positions is taken.
+fn laid(positions: &[u8], buffer: &mut [u8], places: impl Fn(&[u16]) -> Vec<u16>) -> Result<String> {
+    let Written { bytes } = reference::order(positions, buffer)?;
+    let wide: Vec<u16> = positions.chunks_exact(2).map(|two| u16::from_be_bytes([two[0], two[1]])).collect();
+    for (entry, place) in buffer.chunks_exact_mut(2).zip(places(&wide)) {
+        entry.copy_from_slice(&place.to_be_bytes());
+    }
+    Ok(bytes.to_string())
+}
+
+/// All places by position.
+fn drifted(positions: &[u16]) -> Vec<u16> {
+    let mut places: Vec<u16> = (0..PLACES).collect();
+    places.sort_by_key(|place| positions[usize::from(*place)]);
+    places
+}
+
+/// Of those that may come next always one with the smallest position, the highest of them.
+fn highest(positions: &[u16]) -> Vec<u16> {
+    let with_position = |place: u16| (Reverse(positions[usize::from(place)]), place);
+    let mut open: BinaryHeap<_> = (1..=8).map(argument).map(with_position).collect();
+    let mut down = Vec::new();
+    while let Some((_, place)) = open.pop() {
+        down.push(place);
+        let depth = depth(place);
+        if depth < DEEPEST {
+            open.extend((1..=4).map(|j| child(place, depth, j)).map(with_position));
+        }
+    }
+    down
+}
+
 /// The two fields of a reply, if it is accepted.
 fn fields(said: &Option<Said>) -> Option<[usize; 2]> {
     let (one, two) = said.as_ref()?.as_ref().ok()?.split_once(' ')?;
@@ -146,6 +181,8 @@ pub fn call(trap: &str, name: &str, arguments: &mut [Vec<u8>]) -> Option<Said> {
             Some(built.map(size))
         }
         ("hurried", "check_order", [order]) => Some(hurried(order).map(|()| String::new())),
+        ("drift", "order", [positions, buffer]) => Some(laid(positions, buffer, drifted)),
+        ("higher", "order", [positions, buffer]) => Some(laid(positions, buffer, highest)),
         ("late", "walk_all", _) => {
             let result = right(name, arguments);
             let written = fields(&result).map_or(0, |[results, _]| 16 * results);

@@ -22,6 +22,7 @@ mod table;
 mod text;
 mod tidy;
 mod track;
+mod track_order;
 mod try_pieces;
 mod vectors;
 
@@ -52,6 +53,7 @@ pub const COMMANDS: &[Command] = &[
     bytes::COMMAND,
     text::COMMAND,
     tidy::COMMAND,
+    track_order::COMMAND,
     build::COMMAND,
     draw::COMMAND,
     try_pieces::COMMAND,

@@ -1,19 +1,20 @@
-//! Reading orders that the library accepts, from text or bytes.
+//! Reading orders that the library accepts, from text or bytes, or from a track drawing.
 
 use super::args::{Args, Opt};
 use super::refused;
-use super::source::{Content, Source};
+use super::source::{About, Content, Source};
 use super::stop::Stop;
+use super::track::track;
 use crate::locate::{self, Where};
 use crate::notation::{parse_order, places, Line, Order, Span};
-use voltunnis::check_order;
+use voltunnis::{check_order, track_order};
 
 /// `--order`
 pub const ORDER: Opt = Opt {
     long: "order",
     short: None,
     value: Some("FILE"),
-    help: "the reading order in which the graph asks, as text or as a table",
+    help: "the reading order in which the graph asks, as text or as a table, or a track drawing",
 };
 
 /// An accepted reading order.
@@ -26,7 +27,22 @@ pub struct OrderInput {
 impl OrderInput {
     /// Reads the order that a command is given, if it is.
     pub fn given(args: &Args) -> Result<Option<OrderInput>, Stop> {
-        args.value(ORDER).map(|path| OrderInput::of(&Source::load(path, args)?)).transpose()
+        let read = |path| {
+            let source = Source::load(path, args)?;
+            match source.about() {
+                About::Track => OrderInput::along(&source),
+                _ => OrderInput::of(&source),
+            }
+        };
+        args.value(ORDER).map(read).transpose()
+    }
+
+    /// The order that the library writes for a track drawing.
+    pub fn along(source: &Source) -> Result<OrderInput, Stop> {
+        let bytes = track_order(&track(source)?.bytes())
+            .map_err(|refusal| refused::whole(&source.name, refusal, ""))?;
+        let order = Order::read(&bytes).map_err(|_| Stop::internal("a written order that cannot be read"))?;
+        Ok(OrderInput { order, bytes })
     }
 
     /// An order that the library must accept.

@@ -33,14 +33,18 @@ fn run(args: &Args, out: &Out) -> Result<(), Stop> {
     let SheetInput { source, names, bytes, .. } = SheetInput::load(path, args)?;
     let bytes = voltunnis::tidy_sheet(&bytes).map_err(|refusal| refused::whole(&source.name, refusal, ""))?;
     let sheet = Sheet::read(&bytes).map_err(|_| Stop::internal("a tidy sheet that cannot be read"))?;
-    let text = sheet.print(&names);
-    let mut json = vec![("kind", Json::text("sheet"))];
+    write(args, out, "sheet", &bytes, sheet.print(&names))
+}
+
+/// Writes what a call wrote to the file that is named, as bytes if its name ends in .bin, or shows it as text.
+pub fn write(args: &Args, out: &Out, kind: &str, bytes: &[u8], text: String) -> Result<(), Stop> {
+    let mut json = vec![("kind", Json::text(kind))];
     if let Some(path) = args.value(OUTPUT) {
-        out.file(path, if holds_bytes(path) { &bytes } else { text.as_bytes() })?;
+        out.file(path, if holds_bytes(path) { bytes } else { text.as_bytes() })?;
         json.push(("file", Json::text(path)));
     }
     if args.has(JSON) {
-        let (length, bytes) = (Json::count(bytes.len()), Json::bytes(&bytes));
+        let (length, bytes) = (Json::count(bytes.len()), Json::bytes(bytes));
         json.extend([("length", length), ("bytes", bytes), ("text", Json::text(text))]);
         return out.json(&Json::Object(json));
     }

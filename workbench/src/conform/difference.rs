@@ -2,7 +2,7 @@
 
 use super::program::{Heard, Program};
 use super::replies::{fields, graph_in, reply};
-use crate::notation::{count, print_graph, print_order, print_piece, print_sheet, Piece};
+use crate::notation::{count, print_graph, print_order, print_piece, print_sheet, print_track, Piece};
 use std::fmt::Write;
 use std::io;
 use voltunnis::Refusal;
@@ -224,6 +224,7 @@ fn in_notation(role: Role, bytes: &[u8]) -> String {
         Role::Piece => print_piece(bytes),
         Role::Graph => print_graph(bytes),
         Role::Order => print_order(bytes),
+        Role::Positions => print_track(bytes),
         Role::Pieces => return pieces_in_notation(bytes),
         Role::Buffer => return format!("{} long", count(bytes.len(), "byte")),
     };

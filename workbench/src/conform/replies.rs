@@ -38,7 +38,7 @@ pub fn fields(name: Name) -> &'static [&'static str] {
         Name::Plain => &["answer", "rule"],
         Name::CheckGraph => &["nodes"],
         Name::Build | Name::BuildOrdered => &["nodes", "bytes"],
-        Name::Tidy | Name::Rewrite => &["bytes"],
+        Name::Tidy | Name::Order | Name::Rewrite => &["bytes"],
         Name::Walk => &["answer", "rule", "edges", "wait list"],
         Name::WalkAll => &["results", "bytes"],
     }
@@ -67,6 +67,7 @@ pub fn reply(call: &Call) -> Reply {
         }
         Name::CheckGraph => voltunnis::check_graph(sheet, graph).map(|size| size.nodes.to_string()),
         Name::Tidy => voltunnis::tidy(sheet, lent).map(|written| written.bytes.to_string()),
+        Name::Order => voltunnis::order(of(Role::Positions), lent).map(|written| written.bytes.to_string()),
         Name::Build => voltunnis::build(sheet, lent).map(size),
         Name::BuildOrdered => voltunnis::build_ordered(sheet, order, lent).map(size),
         Name::Rewrite => voltunnis::rewrite(sheet, graph, lent).map(|written| written.bytes.to_string()),
