@@ -10,6 +10,7 @@ mod listing;
 mod orders;
 mod table;
 mod timing;
+mod tracks;
 mod window;
 
 use cases::Case;
@@ -65,6 +66,7 @@ fn main() {
     cases::all().iter().for_each(|case| rows(table, case));
     cases::all().iter().for_each(|case| tidy_row(table, case));
     cases::for_graphs().iter().for_each(|case| graphs::rows(table, case));
+    tracks::rows(table);
     orders::table_rows(table);
     cases::for_graphs().iter().for_each(|case| orders::rows(table, case));
     cases::for_graphs().iter().for_each(|case| listing::row(table, case));
