@@ -1,18 +1,16 @@
--- The pass that cuts a switch, one law a turn: the runs that are written, and those before the cuts to come, are the whole.
-use Prim.Native.Nat.{ℕ, zero, suc, pred, _+_, _*_, _-_, _≤_, _<_}
+-- The cuts of a part from one of them on, and a run that is written behind the others.
+use Prim.Native.Nat.{ℕ, zero, suc, _+_, _*_, _-_, _≤_, _<_}
 use mathlib.Core.Path.{_≡_, refl, sym, ap, _∙_}
-use mathlib.Core.List.{List, [], _∷_, _++_, map, append-nil}
+use mathlib.Core.List.{List, [], _∷_, _++_, map}
 use native.Mathlib.Omega.{arith}
 use native.Mathlib.Numerals.{add-one}
-use lib.Bits.{bitAnd, bitXor}
 use lib.ListN.{length, getD, set, length-set}
-use lib.Seq.{getD-set-same, getD-set-other, append-snoc}
-use borrow.Author.Tests.{eq-eqb, ne-eqb}
+use lib.Seq.{getD-set-same, getD-set-other}
 use Rattle.basics.specs.Lists.{countFrom}
 use Rattle.basics.proofs.Counting.{count-append}
 use Rattle.basics.proofs.Filters.{map-join}
 use Rattle.cuts.specs.views.Cuts.{Cut, cutAt}
-use Rattle.cuts.specs.views.Runs.{Run, cutRuns, runAt, runsIn}
+use Rattle.cuts.specs.views.Runs.{Run, runAt, runsIn, withRun}
 
 -- The cuts of a part from the k-th on, of so many.
 abbrev pub cutsFrom : List ℕ → ℕ → ℕ → ℕ → List Cut
@@ -31,18 +29,24 @@ cuts-done c from count k h =
     ap (λ (n : ℕ). map (cutAt c from) (countFrom k n)) e
 
 -- A run is written behind the others: each of its words stands there,
-module _ (runs : List ℕ) (n low high which : ℕ) where
-  abbrev pub with : List ℕ
-  with = set (set (set runs (3 * n) low) (3 * n + 1) high) (3 * n + 2) which
+module _ (runs : List ℕ) (n : ℕ) (new : Run) where
+  abbrev with : List ℕ
+  with = withRun runs n new
+
+  abbrev low : ℕ
+  low = new .low
+
+  abbrev high : ℕ
+  high = new .high
+
+  abbrev which : ℕ
+  which = new .set
 
   pub with-length : length with ≡ length runs
   with-length =
       length-set (set (set runs (3 * n) low) (3 * n + 1) high) (3 * n + 2) which
       ∙ length-set (set runs (3 * n) low) (3 * n + 1) high
       ∙ length-set runs (3 * n) low
-
-  abbrev new : Run
-  new = record { low = low; high = high; set = which }
 
   written : 3 * n + 2 < length runs → runAt with n ≡ new
   written room =
@@ -81,50 +85,3 @@ module _ (runs : List ℕ) (n low high which : ℕ) where
       ∙ ap (λ (l : List Run). l ++ (runAt with (0 + n) ∷ [])) (kept n 0 (omega arith))
       ∙ ap (λ (k : ℕ). runsIn runs n ++ (runAt with k ∷ [])) (let e : 0 + n ≡ n = omega arith in e)
       ∙ ap (λ (r : Run). runsIn runs n ++ (r ∷ [])) (written room)
-
--- The runs that are written, and those before the cuts to come.
-module _ (c : List ℕ) (from count live : ℕ) where
-  abbrev pub runsWith : List ℕ → ℕ → ℕ → ℕ → ℕ → List Run
-  runsWith runs n start now k = runsIn runs n ++ cutRuns live start now (cutsFrom c from count k)
-
-  abbrev turned : ℕ → ℕ
-  turned k = bitAnd (cutAt c from k .turns) live
-
-  next
-      : (runs : List ℕ) (n start now k : ℕ) → k < count
-      → runsWith runs n start now k
-      ≡ runsIn runs n ++ cutRuns live start now (cutAt c from k ∷ cutsFrom c from count (k + 1))
-  next runs n start now k h = ap (λ (l : List Cut). runsIn runs n ++ cutRuns live start now l) (cuts-next c from count k h)
-
-  module _ (runs : List ℕ) (n start now k : ℕ) (h : k < count) where
-    -- No live rule turns: the run goes on.
-    pub cut-passed : turned k ≡ 0 → runsWith runs n start now k ≡ runsWith runs n start now (k + 1)
-    cut-passed e = next runs n start now k h ∙ rw (eq-eqb (turned k) 0 e)
-
-    -- What no live rule wanted is over.
-    pub cut-first
-        : (turned k ≡ 0 → ⊥) → now ≡ 0
-        → runsWith runs n start now k ≡ runsWith runs n (cutAt c from k .code) (bitXor now (turned k)) (k + 1)
-    cut-first e z = next runs n start now k h ∙ rw (ne-eqb (turned k) 0 e, eq-eqb now 0 z)
-
-    -- A run that live rules wanted is over.
-    pub cut-run
-        : (turned k ≡ 0 → ⊥) → (now ≡ 0 → ⊥) → 3 * n + 2 < length runs
-        → runsWith runs n start now k
-        ≡ runsWith (with runs n start (cutAt c from k .code - 1) now) (n + 1) (cutAt c from k .code) (bitXor now (turned k)) (k + 1)
-    cut-run e z room =
-        let code = cutAt c from k .code in
-        let rest = cutRuns live code (bitXor now (turned k)) (cutsFrom c from count (k + 1)) in
-        let run : Run = record { low = start; high = code - 1; set = now } in
-        let before : pred code ≡ code - 1 = omega arith in
-        let ended : cutRuns live start now (cutAt c from k ∷ cutsFrom c from count (k + 1)) ≡ run ∷ rest =
-        rw (ne-eqb (turned k) 0 e, ne-eqb now 0 z, before) in
-        next runs n start now k h
-        ∙ ap (λ (l : List Run). runsIn runs n ++ l) ended
-        ∙ sym (append-snoc (runsIn runs n) run rest)
-        ∙ ap (λ (l : List Run). l ++ rest) (sym (run-more runs n start (code - 1) now room))
-
-  -- After the last cut all runs are written.
-  pub cut-done : (runs : List ℕ) (n start now k : ℕ) → count ≤ k → runsWith runs n start now k ≡ runsIn runs n
-  cut-done runs n start now k h =
-      ap (λ (l : List Cut). runsIn runs n ++ cutRuns live start now l) (cuts-done c from count k h) ∙ append-nil (runsIn runs n)

@@ -1,6 +1,7 @@
 -- The laws that the proofs of `cuts` cite.
 pub mod Splices
 pub mod Cutting
+pub mod FramedPass
 pub mod Turning
 -- The cases of a switch as runs of codes.
 pub mod CodeRanges
@@ -10,6 +11,7 @@ pub mod CaseCodes
 pub mod Parity
 pub mod AscendingCuts
 pub mod RunningSets
+pub mod Framing
 pub mod ListedWants
 pub mod TurningCuts
 pub mod SwitchCases

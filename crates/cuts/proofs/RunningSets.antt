@@ -89,7 +89,7 @@ module _ (live : ℕ) where
   running-past set (x ∷ xs) z h = rw (lt-leb (x .code) z (h .0)) (running-past set xs z (h .1))
 
   -- From each cut to the next the set changes by the rules that turn there.
-  abbrev Follows : (ℕ → ℕ) → ℕ → List Cut → Type 0
+  abbrev pub Follows : (ℕ → ℕ) → ℕ → List Cut → Type 0
   Follows sets set [] = Unit
   Follows sets set (x ∷ xs) = (sets (x .code) ≡ bitXor set (turned x)) × Follows sets (sets (x .code)) xs
 
@@ -114,7 +114,7 @@ module _ (live : ℕ) where
 
   module _ (sets : ℕ → ℕ) where
     -- A cut at which no live rule turns changes nothing.
-    unchanged : (set : ℕ) (x : Cut) → turned x ≡ 0 → sets (x .code) ≡ bitXor set (turned x) → sets (x .code) ≡ set
+    pub unchanged : (set : ℕ) (x : Cut) → turned x ≡ 0 → sets (x .code) ≡ bitXor set (turned x) → sets (x .code) ≡ set
     unchanged set x e f = f ∙ ap (bitXor set) e ∙ xor-zero-r set
 
     -- What is before the next cut is a run where it has a set.

@@ -1,4 +1,5 @@
 -- How the code keeps things.
 pub mod Cuts
 pub mod Runs
+pub mod FramedRuns
 pub mod CutsOf

@@ -1,15 +1,17 @@
 // Where the switches of a sheet are cut (document 01, "Nodes"): the cuts of each place test are sorted once a sheet, and a switch
 // takes those of its live rules in one pass.
 ghost use mathlib.Core.Path.{_≡_};
-ghost use Prim.Native.Nat.{ℕ, _+_, _*_, _≤_, _<_};
+ghost use mathlib.Core.List.{[], _++_};
+ghost use Prim.Native.Nat.{ℕ, max, _+_, _*_, _≤_, _<_};
 ghost use lib.ListN.{length};
 ghost use lib.Seq.{slice};
 ghost use Rattle.records.specs.Writing.{splice};
 ghost use Rattle.cuts.specs.views.Cuts.{partAt, countAt, cutAt, cutsIn, partWords, toggle, Spot};
-ghost use Rattle.cuts.specs.views.Runs.{switchRuns, runsIn};
+ghost use Rattle.cuts.specs.views.Runs.{switchRuns, runsIn, withRun};
+ghost use Rattle.cuts.specs.views.FramedRuns.{framedRun, framedFrom, pointRuns};
 
-// The cases of one switch: for each the lowest code, the highest and the rules that want it.
-pub type Runs = [u64; 384];
+// The runs of one switch: for each the lowest code, the highest and the live rules that want it. 64 rules make 129 at most.
+pub type Runs = [u64; 390];
 
 // The same number at another width.
 fn wide(x: u64) -> usize
@@ -76,17 +78,83 @@ pub fn turn(c: &mut [u64], from: usize, code: u64, bit: u64)
     c[from] = count as u64 + 1;
 }
 
-// Cuts a switch whose test has the part that begins there: how many cases it has for the live rules, each left in `runs`. Not a
-// case that no live rule wants, nor one cut where only rules turn that are not live.
-pub fn cut_switch(c: &[u64], from: usize, live: u64, runs: &mut Runs) -> usize
+// How many runs a switch has, and how many of them begin below the base, as those of symbols and compounds do.
+pub struct Framed {
+    pub count: usize,
+    pub points: usize,
+}
+
+// The higher of two codes.
+fn higher(x: u64, y: u64) -> u64
+    ensures { λ r. ⌜ r ≡ max x y ⌝ }
+{
+    if x < y {
+        return y;
+    }
+    x
+}
+
+// Writes a run behind n others. Not over one of them, nor its high before its low.
+fn put_run(runs: &mut Runs, n: usize, low: u64, high: u64, set: u64)
+    requires { ⌜ (length (now runs) ≡ 390) × (n < 130) ⌝ }
+    ensures { λ _. ⌜ now (runs .exit) ≡ withRun (now (runs .entry)) n (record { low = low; high = high; set = set }) ⌝ }
+{
+    runs[3 * n] = low;
+    runs[3 * n + 1] = high;
+    runs[3 * n + 2] = set;
+}
+
+// Ends the run from one code up to the next cut: it is written behind the others. Not a run below the base that no live rule wants,
+// nor a wanted one without those of its codes that are below it.
+fn end_run(runs: &mut Runs, done: Framed, base: u64, start: u64, next: u64, set: u64) -> Framed
+    requires { ⌜ (length (now runs) ≡ 390) × (done .count < 130) × (done .points ≤ done .count) × (0 < next) ⌝ }
+    ensures { λ r. ⌜ (runsIn (now (runs .exit)) (r .count)
+        ≡ runsIn (now (runs .entry)) (done .count) ++ framedRun base start next set [])
+        × (r .points ≡ done .points + length (pointRuns base (framedRun base start next set [])))
+        × (r .count ≤ done .count + 1) × (length (now (runs .exit)) ≡ 390) ⌝ }
+{
+    let n = done.count;
+    let points = done.points;
+    if set == 0 {
+        let low = higher(start, base);
+        if next <= low {
+            return done;
+        }
+        put_run(runs, n, low, next - 1, 0);
+        return Framed {
+            count: n + 1,
+            points: points,
+        };
+    }
+    put_run(runs, n, start, next - 1, set);
+    if start < base {
+        return Framed {
+            count: n + 1,
+            points: points + 1,
+        };
+    }
+    Framed {
+        count: n + 1,
+        points: points,
+    }
+}
+
+// Cuts a switch whose test has the part that begins there into runs for the live rules, each left in `runs`: below the base those
+// that a live rule wants, and all from the base up to the end of the numbers where one turns there. Not a run cut where only rules
+// turn that are not live, nor all but the first or the last.
+pub fn frame_switch(c: &[u64], from: usize, live: u64, base: u64, runs: &mut Runs) -> Framed
     requires { ⌜ (from + 1 + 2 * countAt (now c) from ≤ length (now c)) × (countAt (now c) from ≤ 128)
-        × (length (now runs) ≡ 384) ⌝ }
+        × (length (now runs) ≡ 390) ⌝ }
     requires { ⌜ ((k : ℕ) → k < countAt (now c) from → 0 < cutAt (now c) from k .code) ⌝ }
-    ensures { λ r. ⌜ (runsIn (now (runs .exit)) r ≡ switchRuns live (cutsIn (now (c .entry)) from))
-        × (r ≤ 127) × (length (now (runs .exit)) ≡ 384) ⌝ }
+    ensures { λ r. ⌜ (runsIn (now (runs .exit)) (r .count) ≡ framedFrom base 0x301_0000 live 0 0 (cutsIn (now (c .entry)) from))
+        × (r .points ≡ length (pointRuns base (runsIn (now (runs .exit)) (r .count))))
+        × (r .count ≤ 129) × (length (now (runs .exit)) ≡ 390) ⌝ }
 {
     let count = wide(c[from]);
-    let mut n: usize = 0;
+    let mut framed = Framed {
+        count: 0,
+        points: 0,
+    };
     let mut start: u64 = 0;
     let mut set: u64 = 0;
     let mut k: usize = 0;
@@ -94,16 +162,27 @@ pub fn cut_switch(c: &[u64], from: usize, live: u64, runs: &mut Runs) -> usize
         let turned = c[from + 2 + 2 * k] & live;
         if turned != 0 {
             let code = c[from + 1 + 2 * k];
-            if set != 0 {
-                runs[3 * n] = start;
-                runs[3 * n + 1] = code - 1;
-                runs[3 * n + 2] = set;
-                n += 1;
-            }
+            framed = end_run(runs, framed, base, start, code, set);
             set ^= turned;
             start = code;
         }
         k += 1;
     }
-    n
+    if start < base {
+        return framed;
+    }
+    end_run(runs, framed, base, start, 0x301_0000, 0)
+}
+
+// Cuts a switch whose test has the part that begins there: how many cases it has for the live rules, each left in `runs`. Not a
+// case that no live rule wants, nor one cut where only rules turn that are not live.
+pub fn cut_switch(c: &[u64], from: usize, live: u64, runs: &mut Runs) -> usize
+    requires { ⌜ (from + 1 + 2 * countAt (now c) from ≤ length (now c)) × (countAt (now c) from ≤ 128)
+        × (length (now runs) ≡ 390) ⌝ }
+    requires { ⌜ ((k : ℕ) → k < countAt (now c) from → 0 < cutAt (now c) from k .code) ⌝ }
+    ensures { λ r. ⌜ (runsIn (now (runs .exit)) r ≡ switchRuns live (cutsIn (now (c .entry)) from))
+        × (r ≤ 127) × (length (now (runs .exit)) ≡ 390) ⌝ }
+{
+    let framed = frame_switch(c, from, live, 0xffff_ffff_ffff_ffff, runs);
+    framed.count
 }

@@ -90,11 +90,11 @@ fn put_switch(
     keys: &Keys,
 ) -> usize
     requires { ⌜ Chained (now keys) × Parted (rulesIn (now s)) (placeTestsIn (now s)) (now c)
-        × (asked .test < placeTestsIn (now s)) × (length (now runs) ≡ 384) ⌝ }
+        × (asked .test < placeTestsIn (now s)) × (length (now runs) ≡ 390) ⌝ }
     requires { ⌜ Room (now buf) at (askBytes (now s) (now c) (keysIn (now keys)) asked) ⌝ }
     ensures { λ r. ⌜ Wrote (now (buf .entry)) at
         (askBytes (now (s .entry)) (now (c .entry)) (keysIn (now (keys .entry))) asked) r (now (buf .exit)) ⌝ }
-    ensures { λ _. ⌜ length (now (runs .exit)) ≡ 384 ⌝ }
+    ensures { λ _. ⌜ length (now (runs .exit)) ≡ 390 ⌝ }
 {
     let t = asked.test;
     let count = cut_switch(c, part(tables::rules(s), t), asked.live, runs);
@@ -133,11 +133,11 @@ pub fn put_one(
     runs: &mut Runs,
     keys: &Keys,
 ) -> usize
-    requires { ⌜ Chained (now keys) × Parted (rulesIn (now s)) (placeTestsIn (now s)) (now c) × (length (now runs) ≡ 384) ⌝ }
+    requires { ⌜ Chained (now keys) × Parted (rulesIn (now s)) (placeTestsIn (now s)) (now c) × (length (now runs) ≡ 390) ⌝ }
     requires { ⌜ Room (now buf) at (keyBytes (now s) (now c) (keysIn (now keys)) (keyIn key)) ⌝ }
     ensures { λ r. ⌜ Wrote (now (buf .entry)) at
         (keyBytes (now (s .entry)) (now (c .entry)) (keysIn (now (keys .entry))) (keyIn key)) r (now (buf .exit)) ⌝ }
-    ensures { λ _. ⌜ length (now (runs .exit)) ≡ 384 ⌝ }
+    ensures { λ _. ⌜ length (now (runs .exit)) ≡ 390 ⌝ }
 {
     let kind = kind_of(s, key);
     match kind {

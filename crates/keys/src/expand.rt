@@ -93,9 +93,9 @@ fn meet_runs(keys: &mut Keys, s: &Tables, asked: Asked, runs: &Runs, count: usiz
 // A switch. Not neither before a case, nor unknown before neither.
 fn expand_switch(keys: &mut Keys, s: &Tables, c: &[u64], asked: Asked, runs: &mut Runs) -> Measured
     requires { ⌜ Chained (now keys) × Parted (rulesIn (now s)) (placeTestsIn (now s)) (now c)
-        × (asked .test < placeTestsIn (now s)) × (length (now runs) ≡ 384) ⌝ }
+        × (asked .test < placeTestsIn (now s)) × (length (now runs) ≡ 390) ⌝ }
     ensures { λ r. ⌜ EdgesMet (askIn (now (s .entry)) (now (c .entry)) asked) (keysIn (now (keys .entry))) r (now (keys .exit)) ⌝ }
-    ensures { λ r. ⌜ Chained (now (keys .exit)) × AtMost 1000 r × (length (now (runs .exit)) ≡ 384) ⌝ }
+    ensures { λ r. ⌜ Chained (now (keys .exit)) × AtMost 1000 r × (length (now (runs .exit)) ≡ 390) ⌝ }
 {
     let count = cut_switch(c, part(tables::rules(s), asked.test), asked.live, runs);
     let met = meet_runs(keys, s, asked, runs, count);
@@ -123,10 +123,10 @@ fn expand_pair(keys: &mut Keys, s: &Tables, asked: Asked) -> Measured
 // earlier edge, nor the length of a switch's record without its cases.
 pub fn expand(keys: &mut Keys, k: usize, s: &Tables, c: &[u64], runs: &mut Runs) -> Measured
     requires { ⌜ Chained (now keys) × (k < countIn (now keys)) × Parted (rulesIn (now s)) (placeTestsIn (now s)) (now c)
-        × (length (now runs) ≡ 384) ⌝ }
+        × (length (now runs) ≡ 390) ⌝ }
     ensures { λ r. ⌜ EdgesMet (nodeIn (now (s .entry)) (now (c .entry)) (keyAt (now (keys .entry)) k)) (keysIn (now (keys .entry)))
         r (now (keys .exit)) ⌝ }
-    ensures { λ r. ⌜ Chained (now (keys .exit)) × AtMost 1000 r × (length (now (runs .exit)) ≡ 384) ⌝ }
+    ensures { λ r. ⌜ Chained (now (keys .exit)) × AtMost 1000 r × (length (now (runs .exit)) ≡ 390) ⌝ }
 {
     let key = key_at(keys, k);
     let kind = kind_of(s, key);

@@ -6,7 +6,7 @@ use mathlib.Core.Bool.{cond}
 use mathlib.Core.List.{List, [], _∷_, map}
 use lib.Bits.{bitAnd, bitXor}
 use lib.Dec.{eqb, ltb}
-use lib.ListN.{getD}
+use lib.ListN.{getD, set}
 use Rattle.basics.specs.Lists.{countFrom}
 use Rattle.decision.specs.Cases.{Case, symbolCase, compoundCase, numbersCase}
 use Rattle.cuts.specs.views.Cuts.{Cut}
@@ -32,12 +32,15 @@ cutRuns live start set (x ∷ xs) =
 abbrev pub switchRuns : ℕ → List Cut → List Run
 switchRuns live cuts = cutRuns live 0 0 cuts
 
--- Runs in an array, three numbers each.
+-- Runs in an array, three numbers each, and with one more.
 abbrev pub runAt : List ℕ → ℕ → Run
 runAt runs k = record { low = getD runs (3 * k) 0; high = getD runs (3 * k + 1) 0; set = getD runs (3 * k + 2) 0 }
 
 abbrev pub runsIn : List ℕ → ℕ → List Run
 runsIn runs n = map (runAt runs) (countFrom 0 n)
+
+abbrev pub withRun : List ℕ → ℕ → Run → List ℕ
+withRun runs n r = set (set (set runs (3 * n) (r .low)) (3 * n + 1) (r .high)) (3 * n + 2) (r .set)
 
 -- The case whose codes run from one to another.
 abbrev pub caseOf : ℕ → ℕ → Case

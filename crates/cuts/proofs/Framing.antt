@@ -1,0 +1,204 @@
+-- A pass over ascending cuts that leaves the runs of the empty set too, from base up to top. Without them the runs are those of a
+-- switch.
+use Prim.Native.Nat.{ℕ, pred, max, _-_, _≤_, _<_}
+use mathlib.Core.Path.{_≡_, refl, sym, ap, subst, _∙_}
+use mathlib.Core.Bool.{Bool, false, not, cond}
+use mathlib.Core.List.{List, [], _∷_, _++_, map}
+use mathlib.Core.Logic.{inl, inr}
+use native.Mathlib.Omega.{arith}
+use lib.Bits.{bitXor}
+use lib.Dec.{eqb, ltb}
+use lib.ListN.{length}
+use borrow.Author.Tests.{eqb-true, eq-eqb, lt-ltb, le-ltb, ltb-true}
+use Rattle.basics.specs.Lists.{All, filter}
+use Rattle.basics.specs.Order.{insertBy}
+use Rattle.basics.proofs.Booleans.{by-test}
+use Rattle.basics.proofs.ListLaws.{all-map}
+use Rattle.basics.proofs.Numbers.{le-or-lt}
+use Rattle.basics.proofs.Sorted.{AscendingBy}
+use Rattle.terms.specs.RuleTests.{Range}
+use Rattle.decision.specs.Runs.{between}
+use Rattle.cuts.specs.views.Cuts.{Cut}
+use Rattle.cuts.specs.views.Runs.{Run, cutRuns, switchRuns}
+use Rattle.cuts.specs.views.FramedRuns.{gapRun, framedRun, framedFrom}
+use Rattle.cuts.proofs.RunningSets.{runOf, setRuns, turned, turning, Follows, unchanged}
+
+-- Some live rule wants the codes of a run.
+abbrev pub isWantedRun : Run → Bool
+isWantedRun r = not (eqb (r .set) 0)
+
+gap-dropped : (start next : ℕ) (rest : List Run) → filter isWantedRun (gapRun start next rest) ≡ filter isWantedRun rest
+gap-dropped start next rest = by-test (ltb start next) (λ e. rw e) (λ e. rw e)
+
+wanted-kept : (r : Run) (rest : List Run) → eqb (r .set) 0 ≡ false → filter isWantedRun (r ∷ rest) ≡ r ∷ filter isWantedRun rest
+wanted-kept r rest e = rw e
+
+-- A range from one code up to the next comes before those between the next codes.
+top-behind : (z top : ℕ) (zs : List ℕ) → z ≤ top → (rest : List ℕ) × (insertBy ltb top (z ∷ zs) ≡ z ∷ rest)
+top-behind z top zs h = by-test (ltb z top) (λ e. (insertBy ltb top zs, rw (le-ltb top z h, e))) (λ e. (zs, rw (le-ltb top z h, e)))
+
+between-next : (start z top : ℕ) (zs : List ℕ) → z ≤ top
+    → between (start ∷ insertBy ltb top (z ∷ zs)) ≡ record { low = start; high = pred z } ∷ between (insertBy ltb top (z ∷ zs))
+between-next start z top zs h =
+    let next = top-behind z top zs h in
+    ap (λ (l : List ℕ). between (start ∷ l)) (next .1)
+    ∙ ap (λ (l : List ℕ). record { low = start; high = pred z } ∷ between l) (sym (next .1))
+
+between-first : (base z top : ℕ) (zs : List ℕ) → base ≤ z → z ≤ top
+    → between (insertBy ltb base (insertBy ltb top (z ∷ zs)))
+    ≡ cond (ltb base z) (record { low = base; high = pred z } ∷ between (insertBy ltb top (z ∷ zs)))
+    (between (insertBy ltb top (z ∷ zs)))
+between-first base z top zs h l =
+    let next = top-behind z top zs l in
+    let same = ap between (sym (next .1)) in
+    ap (λ (l : List ℕ). between (insertBy ltb base l)) (next .1)
+    ∙ by-test (ltb base z) (λ e. rw e (ap (λ (l : List Range). record { low = base; high = pred z } ∷ l) same))
+    (λ e. rw (e, le-ltb z base h) same)
+
+-- A switch has at most as many cases as cuts but one.
+module _ (live : ℕ) where
+  cut-few : (start set : ℕ) (xs : List Cut) → length (cutRuns live start set xs) ≤ length xs
+  cut-few start set [] = omega arith
+  cut-few start set (x ∷ xs) =
+      let next = cut-few (x .code) (bitXor set (turned live x)) xs in
+      by-test (eqb (turned live x) 0) (λ e. rw e (omega (arith, cut-few start set xs)))
+      (λ e. rw e (by-test (eqb set 0) (λ d. rw d (omega arith)) (λ d. rw d (omega arith))))
+
+  pub switch-few : (xs : List Cut) → length (switchRuns live xs) ≤ length xs - 1
+  switch-few [] = omega arith
+  switch-few (x ∷ xs) =
+      by-test (eqb (turned live x) 0) (λ e. rw e (omega (arith, switch-few xs)))
+      (λ e. rw e (omega (arith, cut-few (x .code) (bitXor 0 (turned live x)) xs)))
+
+module _ (base top live : ℕ) where
+  -- The runs that some live rule wants are those of a switch.
+  pub framed-cut : (start set : ℕ) (xs : List Cut)
+      → filter isWantedRun (framedFrom base top live start set xs) ≡ cutRuns live start set xs
+  framed-cut start set [] = by-test (ltb start base) (λ e. rw e) (λ e. rw e (gap-dropped (max start base) top []))
+  framed-cut start set (x ∷ xs) =
+      let next = framed-cut (x .code) (bitXor set (turned live x)) xs in
+      let run : Run = record { low = start; high = pred (x .code); set = set } in
+      by-test (eqb (turned live x) 0) (λ e. rw e (framed-cut start set xs))
+      (λ e.
+      rw e
+      (by-test (eqb set 0)
+      (λ d.
+      rw d
+      (gap-dropped (max start base) (x .code) (framedFrom base top live (x .code) (bitXor set (turned live x)) xs) ∙ next))
+      (λ d.
+      rw d
+      (wanted-kept run (framedFrom base top live (x .code) (bitXor set (turned live x)) xs) d
+      ∙ ap (λ (l : List Run). run ∷ l) next))))
+
+  -- Where no code is above the base the runs are those of a switch.
+  pub unframed : top ≤ base → (start set : ℕ) (xs : List Cut) → All (λ (x : Cut). x .code ≤ base) xs
+      → framedFrom base top live start set xs ≡ cutRuns live start set xs
+  unframed o start set [] h =
+      by-test (ltb start base) (λ e. rw e) (λ e. rw (e, le-ltb (max start base) top (omega arith)))
+  unframed o start set (x ∷ xs) h =
+      let next = unframed o (x .code) (bitXor set (turned live x)) xs (h .1) in
+      let run : Run = record { low = start; high = pred (x .code); set = set } in
+      by-test (eqb (turned live x) 0) (λ e. rw e (unframed o start set xs (h .1)))
+      (λ e.
+      rw e
+      (by-test (eqb set 0) (λ d. rw (d, le-ltb (max start base) (x .code) (omega (arith, h .0))) next)
+      (λ d. rw d (ap (λ (l : List Run). run ∷ l) next))))
+
+  module _ (sets : ℕ → ℕ) where
+    -- The same pass over the codes at which live rules turn, with the sets that are reached.
+    abbrev pub framedCodes : ℕ → List ℕ → List Run
+    framedCodes start [] = cond (ltb start base) [] (framedRun base start top 0 [])
+    framedCodes start (z ∷ zs) = framedRun base start z (sets start) (framedCodes z zs)
+
+    pub framed-codes : (start : ℕ) (xs : List Cut) → Follows live sets (sets start) xs
+        → framedFrom base top live start (sets start) xs ≡ framedCodes start (turning live xs)
+    framed-codes start [] f = refl
+    framed-codes start (x ∷ xs) f =
+        by-test (eqb (turned live x) 0)
+        (λ y.
+        let same = unchanged live sets (sets start) x (eqb-true (turned live x) 0 y) (f .0) in
+        rw y (framed-codes start xs (subst (λ (s : ℕ). Follows live sets s xs) same (f .1))))
+        (λ y.
+        let next = ap (λ (s : ℕ). framedFrom base top live (x .code) s xs) (sym (f .0)) ∙ framed-codes (x .code) xs (f .1) in
+        rw y (ap (framedRun base start (x .code) (sets start)) next))
+
+    abbrev run : ℕ → ℕ → ℕ → Run
+    run start next set = record { low = start; high = pred next; set = set }
+
+    -- From base on each code is in a run: the runs lie between the codes and top.
+    framed-numbers
+        : (start : ℕ) (zs : List ℕ) → base ≤ start → AscendingBy _<_ (start ∷ zs) → All (λ (z : ℕ). z ≤ top) (start ∷ zs)
+        → ((y : ℕ) → All (λ (z : ℕ). z ≤ y) (start ∷ zs) → y < top → sets y ≡ 0)
+        → framedCodes start zs ≡ map (runOf sets) (between (insertBy ltb top (start ∷ zs)))
+    framed-numbers start [] from a within over =
+        let max-is : max start base ≡ start = omega arith in
+        elim (le-or-lt top start) [
+          | inl h ↦ rw (le-ltb start base from, max-is, le-ltb start top h, le-ltb top start (omega (arith, within .0)))
+          | inr h ↦ rw (le-ltb start base from, max-is, lt-ltb start top h, le-ltb top start (omega arith))
+              (let none : sets start ≡ 0 = over start (omega arith, tt) h in
+              ap (λ (s : ℕ). record { low = start; high = pred top; set = s } ∷ []) (sym none))
+        ]
+    framed-numbers start (z ∷ zs) from a within over =
+        let later =
+        framed-numbers z zs (omega (arith, a .0 .0)) (a .1) (within .1)
+        (λ y h l. over y (omega (arith, a .0 .0, h .0), h) l) in
+        let whole : run start z (sets start) ∷ framedCodes z zs
+        ≡ map (runOf sets) (between (start ∷ insertBy ltb top (z ∷ zs))) =
+        ap (λ (l : List Run). run start z (sets start) ∷ l) later
+        ∙ sym (ap (map (runOf sets)) (between-next start z top zs (within .1 .0))) in
+        let max-is : max start base ≡ start = omega arith in
+        let below : start < top = omega (arith, a .0 .0, within .1 .0) in
+        rw (le-ltb top start (omega arith), lt-ltb start top below)
+        (by-test (eqb (sets start) 0)
+        (λ e.
+        rw (e, max-is, lt-ltb start z (a .0 .0))
+        (ap (λ (s : ℕ). run start z s ∷ framedCodes z zs) (sym (eqb-true (sets start) 0 e)) ∙ whole))
+        (λ e. rw e whole))
+
+    -- All runs from base on: none where no live rule turns there.
+    abbrev pub framedNumbers : List ℕ → List Run
+    framedNumbers [] = []
+    framedNumbers (z ∷ zs) = map (runOf sets) (between (insertBy ltb base (insertBy ltb top (z ∷ zs))))
+
+    -- The codes from base to top at which live rules turn: none wants what is behind them, nor base where they are all above it.
+    pub record NumberCodes (ns : List ℕ) : Type 0 where
+      pub above : All (λ (z : ℕ). base ≤ z) ns
+      pub within : All (λ (z : ℕ). z ≤ top) ns
+      pub ascend : AscendingBy _<_ ns
+      pub quietBehind : (y : ℕ) → base ≤ y → All (λ (z : ℕ). z ≤ y) ns → sets y ≡ 0
+      pub quietBase : All (λ (z : ℕ). base < z) ns → sets base ≡ 0
+
+    -- Where the codes below base are over.
+    framed-first : (start : ℕ) (ns : List ℕ) → NumberCodes ns → start < base → sets start ≡ 0
+        → framedCodes start ns ≡ framedNumbers ns
+    framed-first start [] q below none = rw (lt-ltb start base below)
+    framed-first start (z ∷ zs) q below none =
+        let first : base ≤ z = q .above .0 in
+        let behind : z ≤ top = q .within .0 in
+        let later =
+        framed-numbers z zs first (q .ascend) (q .within) (λ y h l. q .quietBehind y (omega (arith, h .0)) h) in
+        let max-is : max start base ≡ base = omega arith in
+        let rest = between (insertBy ltb top (z ∷ zs)) in
+        let step : gapRun base z (map (runOf sets) rest)
+        ≡ map (runOf sets) (cond (ltb base z) (record { low = base; high = pred z } ∷ rest) rest) =
+        by-test (ltb base z)
+        (λ e.
+        let l = ltb-true base z e in
+        let beyond = all-map (λ (y : ℕ). z < y) (λ (y : ℕ). base < y) (λ y h. omega arith) zs (q .ascend .0) in
+        rw e (ap (λ (s : ℕ). run base z s ∷ map (runOf sets) rest) (sym (q .quietBase (l, beyond)))))
+        (λ e. rw e) in
+        rw (eq-eqb (sets start) 0 none, max-is)
+        (ap (gapRun base z) later ∙ step ∙ sym (ap (map (runOf sets)) (between-first base z top zs first behind)))
+
+    -- The whole pass: the runs below base that have a set, then all from base on.
+    pub framed-parted : (start : ℕ) (ps ns : List ℕ) → NumberCodes ns → AscendingBy _<_ (start ∷ ps)
+        → All (λ (z : ℕ). z < base) (start ∷ ps)
+        → ((y : ℕ) → y < base → All (λ (z : ℕ). z ≤ y) (start ∷ ps) → sets y ≡ 0)
+        → framedCodes start (ps ++ ns) ≡ setRuns sets (start ∷ ps) ++ framedNumbers ns
+    framed-parted start [] ns q a below over = framed-first start ns q (below .0) (over start (below .0) (omega arith, tt))
+    framed-parted start (p ∷ ps) ns q a below over =
+        let later =
+        framed-parted p ps ns q (a .1) (below .1) (λ y l h. over y l (omega (arith, a .0 .0, h .0), h)) in
+        let max-is : max start base ≡ base = omega (arith, below .0) in
+        by-test (eqb (sets start) 0) (λ e. rw (e, max-is, le-ltb base p (omega (arith, below .1 .0))) later)
+        (λ e. rw e (ap (λ (l : List Run). run start p (sets start) ∷ l) later))
