@@ -15,3 +15,9 @@ pub mod Framing
 pub mod ListedWants
 pub mod TurningCuts
 pub mod SwitchCases
+-- All numbers in runs.
+pub mod PointCodes
+pub mod FramedSwitch
+pub mod FramedNumbers
+pub mod Parts
+pub mod FramedCases

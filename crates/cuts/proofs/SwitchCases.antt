@@ -76,7 +76,7 @@ filter-same : {A : Type 0} (p q : A → Bool) (xs : List A) → All (λ (x : A).
 filter-same p q [] h = refl
 filter-same p q (x ∷ xs) h = λ i. cond (h .0 i) (x ∷ filter-same p q xs (h .1) i) (filter-same p q xs (h .1) i)
 
-map-same
+pub map-same
     : {A B C : Type 0} (f : A → B) (g : B → C) (h : A → C) (xs : List A) → All (λ (x : A). g (f x) ≡ h x) xs
     → map g (map f xs) ≡ map h xs
 map-same f g h [] e = refl
@@ -91,16 +91,16 @@ module _ (rules : List Patterns) (n live : ℕ) (fits : live < 2 ^ length rules)
   wants = liveWants rules live n
 
   -- A code is one that is wanted.
-  abbrev holdsAt : ℕ → Option Want → Bool
+  abbrev pub holdsAt : ℕ → Option Want → Bool
   holdsAt z none = false
   holdsAt z (some w) = leb (wantLow w) z && leb z (wantHigh w)
 
   -- The live rules that want a code.
-  abbrev wantersAt : ℕ → ℕ
+  abbrev pub wantersAt : ℕ → ℕ
   wantersAt z = rulesWhere rules (λ i. has live i && holdsAt z (wantAt rules i n))
 
   -- They are what the pass over the cuts reaches there.
-  running-wanted : (z : ℕ) → runningTo live 0 cuts z ≡ wantersAt z
+  pub running-wanted : (z : ℕ) → runningTo live 0 cuts z ≡ wantersAt z
   running-wanted z =
       maskOf-unique (length rules) (runningTo live 0 cuts z) (λ i. has live i && holdsAt z (wantAt rules i n))
       (running-fits live (length rules) 0 cuts z fits (pow-pos (length rules)))
@@ -121,6 +121,30 @@ module _ (rules : List Patterns) (n live : ℕ) (fits : live < 2 ^ length rules)
       go : (i : ℕ) (x : Option Want) → wantAt rules i n ≡ x → turnsBy (λ c. leb c z) i x ≡ holdsAt z x
       go i none e = refl
       go i (some w) e = apart-between (wantLow w) (wantHigh w) z (want-order w (sound i w e))
+
+  -- There are none where the code is in nothing that they want.
+  pub none-want : (z : ℕ) → ((w : Want) → Mem w wants → Contains (wantRange w) z → ⊥) → wantersAt z ≡ 0
+  none-want z h =
+      empty-ext (length rules) (wantersAt z) (maskOf-lt (length rules) wanting)
+      (λ i l. has-maskOf (length rules) wanting i l ∙ none-here i l)
+    where
+      wanting : ℕ → Bool
+      wanting i = has live i && holdsAt z (wantAt rules i n)
+
+      none-here : (i : ℕ) → i < length rules → wanting i ≡ false
+      none-here i l =
+          by-test (has live i) (λ y. ap (λ (a : Bool). a && holdsAt z (wantAt rules i n)) y ∙ go (wantAt rules i n) refl y)
+          (λ y. ap (λ (a : Bool). a && holdsAt z (wantAt rules i n)) y)
+        where
+          go : (x : Option Want) → wantAt rules i n ≡ x → has live i ≡ true → holdsAt z x ≡ false
+          go none e y = refl
+          go (some w) e y =
+              by-test (holdsAt z (some w))
+              (λ d.
+              absurd
+              (h w (want-listed rules live n i w l (is-true y) e)
+              (both-le (wantLow w) z z (wantHigh w) .0 (is-true d))))
+              (λ d. d)
 
   module _ (r : Range) (b : Between (rangeCuts (map wantRange wants)) r) where
     -- A run that is covered has its first code wanted,
@@ -159,28 +183,7 @@ module _ (rules : List Patterns) (n live : ℕ) (fits : live < 2 ^ length rules)
             ap not (ne-eqb (wantersAt (r .low)) 0 (λ e. omega arith))
 
         shut-run : (T (isCovered (map wantRange wants) r) → ⊥) → not (eqb (wantersAt (r .low)) 0) ≡ false
-        shut-run h =
-            ap not
-            (eq-eqb (wantersAt (r .low)) 0
-            (empty-ext (length rules) (wantersAt (r .low)) (maskOf-lt (length rules) wanting)
-            (λ i l. has-maskOf (length rules) wanting i l ∙ none-here i l)))
-          where
-            none-here : (i : ℕ) → i < length rules → wanting i ≡ false
-            none-here i l =
-                by-test (has live i)
-                (λ y. ap (λ (a : Bool). a && holdsAt (r .low) (wantAt rules i n)) y ∙ go (wantAt rules i n) refl y)
-                (λ y. ap (λ (a : Bool). a && holdsAt (r .low) (wantAt rules i n)) y)
-              where
-                go : (x : Option Want) → wantAt rules i n ≡ x → has live i ≡ true → holdsAt (r .low) x ≡ false
-                go none e y = refl
-                go (some w) e y =
-                    by-test (holdsAt (r .low) (some w))
-                    (λ d.
-                    absurd
-                    (h
-                    (want-covered w (want-listed rules live n i w l (is-true y) e)
-                    (both-le (wantLow w) (r .low) (r .low) (wantHigh w) .0 (is-true d)))))
-                    (λ d. d)
+        shut-run h = ap not (eq-eqb (wantersAt (r .low)) 0 (none-want (r .low) (λ w m k. h (want-covered w m k))))
 
   -- The set of a run is that of the live rules that want what the case takes.
   case-set : (c : Case) → Mem c (casesOf wants) → runOf wantersAt (caseRange c) ≡ caseRun rules n live c
