@@ -15,9 +15,11 @@ pub mod Framing
 pub mod ListedWants
 pub mod TurningCuts
 pub mod SwitchCases
--- All numbers in runs.
+-- All numbers in runs, and pairs of them.
+pub mod UnionPairs
 pub mod PointCodes
 pub mod FramedSwitch
 pub mod FramedNumbers
 pub mod Parts
 pub mod FramedCases
+pub mod PairSwitch

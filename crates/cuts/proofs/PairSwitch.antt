@@ -1,0 +1,155 @@
+-- The cases of a switch where pieces hold spans (document 02, request 4) are its runs of symbols and compounds, then the pairs of
+-- its runs of numbers, each with the union of the sets from its first run to its last.
+use Prim.Native.Nat.{ℕ, suc, _+_, _*_, _^_, _<_, _≤_}
+use mathlib.Core.Path.{_≡_, refl, sym, ap, _∙_}
+use mathlib.Core.Bool.{Bool, true, false, not, _&&_, _||_}
+use mathlib.Core.List.{List, [], _∷_, _++_, map}
+use mathlib.Core.Logic.{inl, inr}
+use mathlib.Core.Option.{Option, some, none}
+use native.Mathlib.Omega.{arith}
+use lib.Bits.{bitOr}
+use lib.Dec.{leb}
+use lib.ListN.{length, length-append, length-map}
+use Rattle.basics.specs.Lists.{filter}
+use Rattle.basics.proofs.Booleans.{same-truth, either-true, true-left, true-right}
+use Rattle.basics.proofs.Filters.{map-join}
+use Rattle.basics.proofs.ListLaws.{all-always}
+use Rattle.basics.proofs.Numbers.{le-or-lt, both-le}
+use Rattle.masks.specs.Mask.{has, maskOf}
+use Rattle.masks.proofs.Extensionality.{has-maskOf, maskOf-same, maskOf-lt}
+use Rattle.masks.proofs.Operations.{union-is}
+use Rattle.terms.specs.Pattern.{Patterns}
+use Rattle.terms.specs.RuleTests.{Want, aSymbol, aNumber, aCompound, Range}
+use Rattle.codes.specs.views.Codes.{numberCode, SoundWant}
+use Rattle.decision.specs.Cases.{rangesOf, numbersIn}
+use Rattle.decision.specs.Edges.{liveWants}
+use Rattle.decision.specs.Rules.{wantAt}
+use Rattle.decision.proofs.cases.FramedRuns.{frame, framed}
+use Rattle.decision.proofs.cases.NumberPairs.{numberPairs}
+use Rattle.decision.proofs.cases.PairCases.{pairCases}
+use Rattle.decision.proofs.cases.RangeOrder.{Filled}
+use Rattle.decision.proofs.cases.RunPairs.{fromTo}
+use Rattle.cuts.specs.views.Runs.{Run}
+use Rattle.cuts.specs.views.FramedRuns.{framedRuns, isPoint, pointRuns}
+use Rattle.cuts.specs.views.CutsOf.{cutsTo}
+use Rattle.cuts.proofs.FramedCases.{pointCases, runs-of-numbers, runs-of-points, runs-are-framed}
+use Rattle.cuts.proofs.FramedNumbers.{numberFrames, frames-ascend, meetsFor, pairRun, numberRun}
+use Rattle.cuts.proofs.FramedSwitch.{base}
+use Rattle.cuts.proofs.Parts.{left-part, right-part}
+use Rattle.cuts.proofs.SwitchCases.{map-same}
+use Rattle.cuts.proofs.UnionPairs.{unionPairs, union-count, pairs-union, between-unbroken}
+
+-- The runs of numbers.
+abbrev pub numberRuns : ℕ → List Run → List Run
+numberRuns from rs = filter (λ (r : Run). not (isPoint from r)) rs
+
+and-or : (x a b : Bool) → (x && a) || (x && b) ≡ x && (a || b)
+and-or true a b = refl
+and-or false a b = refl
+
+-- A range meets two that adjoin where it meets one of them.
+meets-joined : (l h a b c d : ℕ) → l ≤ h → a ≤ c → c ≡ suc b → c ≤ d
+    → (leb l b && leb a h) || (leb l d && leb c h) ≡ leb l d && leb a h
+meets-joined l h a b c d o p e f =
+    let whole = both-le l d a h in
+    let first = both-le l b a h in
+    let last = both-le l d c h in
+    same-truth ((leb l b && leb a h) || (leb l d && leb c h)) (leb l d && leb a h)
+    (λ t.
+    elim (either-true (leb l b && leb a h) (leb l d && leb c h) t) [
+      | inl u ↦ (let k = first .0 u in whole .1 (omega (arith, k .0), k .1))
+      | inr u ↦ (let k = last .0 u in whole .1 (k .0, omega (arith, k .1)))
+    ])
+    (λ t.
+    let k = whole .0 t in
+    elim (le-or-lt l b) [
+      | inl u ↦ true-left (leb l b && leb a h) (leb l d && leb c h) (first .1 (u, k .1))
+      | inr u ↦ true-right (leb l b && leb a h) (leb l d && leb c h) (last .1 (k .0, omega arith))
+    ])
+
+module _ (rules : List Patterns) (n live : ℕ) (fits : live < 2 ^ length rules)
+    (sound : (i : ℕ) (w : Want) → wantAt rules i n ≡ some w → SoundWant w) where
+  abbrev wants : List Want
+  wants = liveWants rules live n
+
+  abbrev asRun : Range → Run
+  asRun = numberRun rules n live
+
+  -- The live rules whose range has a number of two ranges that adjoin.
+  sets-join : (q r s : Range) → q .low ≤ s .low → s .low ≡ suc (r .high) → Filled s
+      → bitOr (asRun (fromTo q r) .set) (asRun s .set) ≡ asRun (fromTo q s) .set
+  sets-join q r s o e f =
+      let met : Range → ℕ → Bool = λ x i. has live i && meetsFor rules n (numbersIn x) (wantAt rules i n) in
+      let w = length rules in
+      let first = maskOf w (met (fromTo q r)) in
+      let last = maskOf w (met s) in
+      union-is w first last (maskOf-lt w (met (fromTo q r))) (maskOf-lt w (met s))
+      ∙ maskOf-same w (λ i. has first i || has last i) (met (fromTo q s))
+      (λ i l.
+      (λ j. has-maskOf w (met (fromTo q r)) i l j || has-maskOf w (met s) i l j)
+      ∙ and-or (has live i) (meetsFor rules n (numbersIn (fromTo q r)) (wantAt rules i n))
+      (meetsFor rules n (numbersIn s) (wantAt rules i n))
+      ∙ ap (λ (b : Bool). has live i && b) (go i (wantAt rules i n) refl))
+    where
+      go : (i : ℕ) (x : Option Want) → wantAt rules i n ≡ x
+          → meetsFor rules n (numbersIn (fromTo q r)) x || meetsFor rules n (numbersIn s) x
+          ≡ meetsFor rules n (numbersIn (fromTo q s)) x
+      go i none d = refl
+      go i (some (aSymbol a)) d = refl
+      go i (some (aCompound a j)) d = refl
+      go i (some (aNumber l h)) d =
+          meets-joined l h (q .low) (r .high) (s .low) (s .high) (sound i (aNumber l h) d .0) o e f
+
+  -- The pairs of runs of numbers, by running unions.
+  pub numbers-paired : (ws : List Range) → map asRun (numberPairs 0 65536 ws) ≡ unionPairs (map asRun (numberFrames ws))
+  numbers-paired [] = refl
+  numbers-paired (w ∷ ws) =
+      sym
+      (pairs-union numberCode (λ r. asRun r .set) sets-join (framed 0 65536 (w ∷ ws))
+      (between-unbroken (frame 0 65536 (w ∷ ws)) (frames-ascend (w ∷ ws))))
+
+  abbrev runs : List Run
+  runs = framedRuns live (cutsTo rules n (length rules))
+
+  abbrev pointPart : List Run
+  pointPart = map (pairRun rules n live) (pointCases wants)
+
+  abbrev numberPart : List Run
+  numberPart = map asRun (numberFrames (rangesOf wants))
+
+  -- The runs of symbols and compounds come first, then those of numbers.
+  pub points-part : pointRuns base runs ≡ pointPart
+  points-part =
+      ap (pointRuns base) (runs-are-framed rules n live fits sound)
+      ∙ left-part (isPoint base) pointPart numberPart (runs-of-points rules n live fits sound)
+      (runs-of-numbers rules n live fits sound (numberFrames (rangesOf wants)))
+
+  pub numbers-part : numberRuns base runs ≡ numberPart
+  numbers-part =
+      ap (numberRuns base) (runs-are-framed rules n live fits sound)
+      ∙ right-part (isPoint base) pointPart numberPart (runs-of-points rules n live fits sound)
+      (runs-of-numbers rules n live fits sound (numberFrames (rangesOf wants)))
+
+  pub points-first : runs ≡ pointRuns base runs ++ numberRuns base runs
+  points-first = runs-are-framed rules n live fits sound ∙ (λ i. sym points-part i ++ sym numbers-part i)
+
+  -- "Record 46 becomes one case for each pair of first and last run, ordered so, with low and high their ends. It keeps the rules
+  -- whose range has a number that this case takes, from its low to its high."
+  pub switch-pairs : map (pairRun rules n live) (pairCases wants) ≡ pointRuns base runs ++ unionPairs (numberRuns base runs)
+  switch-pairs =
+      let pairs = numberPairs 0 65536 (rangesOf wants) in
+      map-join (pairRun rules n live) (pointCases wants) (map numbersIn pairs)
+      ∙ ap (λ (l : List Run). pointPart ++ l)
+      (map-same numbersIn (pairRun rules n live) asRun pairs
+      (all-always (λ (r : Range). pairRun rules n live (numbersIn r) ≡ asRun r) (λ r. refl) pairs)
+      ∙ numbers-paired (rangesOf wants))
+      ∙ (λ i. sym points-part i ++ unionPairs (sym numbers-part i))
+
+  -- There are as many as runs of symbols and compounds, and r (r + 1) / 2 for r runs of numbers.
+  pub pairs-counted : length (pairCases wants) * 2
+      ≡ length (pointRuns base runs) * 2 + length (numberRuns base runs) * suc (length (numberRuns base runs))
+  pairs-counted =
+      let all = length-map (pairCases wants) (pairRun rules n live) in
+      let same = ap (λ (l : List Run). length l) switch-pairs in
+      let both = length-append (pointRuns base runs) (unionPairs (numberRuns base runs)) in
+      omega (arith, union-count (numberRuns base runs))
