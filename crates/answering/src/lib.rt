@@ -25,7 +25,7 @@ fn answer_piece(
     ensures { λ r. ⌜ ((k : SheetRules (now (s .entry)) arity count)
         → plainValues r ≡ readingValues (pieceReading arity (k .rules) (now (p .entry)))) ⌝ }
 {
-    let mut cells = [0u32; 680];
+    let mut cells = [0u64; 680];
     let read = piece::read_piece(p, &mut cells);
     match read {
         PieceCheck::Refused(q) => Plain::Refused(q),

@@ -1,17 +1,15 @@
 -- What a place test wants fits a term exactly where its run of codes holds the term's code.
 use Prim.Native.Nat.{ℕ, _≤_, _<_}
-use mathlib.Core.Path.{_≡_, refl, ap, sym}
+use mathlib.Core.Path.{_≡_, refl, ap}
 use mathlib.Core.Bool.{Bool, true, false, _&&_}
 use native.Mathlib.Omega.{arith}
 use lib.Dec.{T, leb, eqb, leb→le, le→leb, eqb→eq}
-use Rattle.terms.specs.Term.{Terms, count, symbol, number, compound, Wide}
+use Rattle.terms.specs.Term.{Terms, count, symbol, compound, Wide}
 use Rattle.terms.specs.RuleTests.{Want, aSymbol, aNumber, aCompound}
 use Rattle.terms.specs.Outcome.{known, fits}
 use Rattle.basics.proofs.Booleans.{both-true, true-both, same-truth}
 use Rattle.basics.proofs.Numbers.{eq-true}
-use Rattle.terms.proofs.Spans.{inside-number}
 use Rattle.codes.specs.views.Codes.{symbolCode, compoundCode, numberCode, wantLow, wantHigh}
-use Rattle.codes.proofs.CodeOrder.{in-order}
 
 -- A run holds a code exactly where b is true.
 within
@@ -46,16 +44,6 @@ symbol-fits (aSymbol a) b f ok =
     (λ t. let same = eqb→eq a b t in (omega arith, omega arith)) (λ l u. eq-true a b (omega arith)))
 symbol-fits (aNumber l h) b f ok = ap known (under (numberCode l) (numberCode h) (symbolCode b) (omega arith))
 symbol-fits (aCompound a n) b f ok = ap known (under (compoundCode a n) (compoundCode a n) (symbolCode b) (omega arith))
-
--- at a number,
-pub number-fits
-    : (w : Want) (b : ℕ) → WantFields w
-    → known (leb (wantLow w) (numberCode b) && leb (numberCode b) (wantHigh w)) ≡ fits w (number b)
-number-fits (aSymbol a) b f = ap known (over (symbolCode a) (symbolCode a) (numberCode b) (omega arith))
-number-fits (aNumber l h) b f =
-    rw (in-order 0x3000000 l b, in-order 0x3000000 b h) (sym (inside-number l h b b refl))
-number-fits (aCompound a n) b f =
-    ap known (over (compoundCode a n) (compoundCode a n) (numberCode b) (omega (arith, f .0, f .1)))
 
 -- and at a compound.
 pub compound-fits

@@ -1,3 +1,4 @@
 -- The laws of codes.
 pub mod CodeOrder
 pub mod FitCodes
+pub mod TermRuns

@@ -1,15 +1,17 @@
-// The number of a term, but for its arguments.
+// The number of a term, but for its arguments, and runs of such numbers.
 ghost use mathlib.Core.Path.{_≡_};
-ghost use Rattle.codes.specs.views.Codes.{symbolCode, compoundCode, numberCode};
+ghost use Prim.Native.Nat.{_≤_};
+ghost use Rattle.codes.specs.views.Codes.{symbolCode, compoundCode, numberCode, runOf, lowOf, highOf};
 
-// The codes of symbols, compounds and numbers begin here, and the code of an unknown is this.
+// The codes of symbols, compounds and numbers begin here.
 pub const SYMBOLS: u32 = 0x100_0000;
 
 pub const COMPOUNDS: u32 = 0x200_0000;
 
 pub const NUMBERS: u32 = 0x300_0000;
 
-pub const UNKNOWN: u32 = 0x400_0000;
+// The run of all codes: what an unknown can become has any of them.
+pub const UNKNOWN: u64 = 0x2ff_ffff_0100_0000;
 
 // The code of a symbol. Not that of a number with the same bytes, nor of a compound with the same id.
 pub fn symbol_code(id: u16) -> u32
@@ -30,4 +32,26 @@ pub fn number_code(value: u16) -> u32
     ensures { λ r. ⌜ r ≡ numberCode value ⌝ }
 {
     NUMBERS + (value as u32)
+}
+
+// The codes from low to high as one number, that of a single code the code itself.
+pub fn run_of(low: u32, high: u32) -> u64
+    requires { ⌜ low ≤ high ⌝ }
+    ensures { λ r. ⌜ r ≡ runOf low high ⌝ }
+{
+    ((high - low) as u64) * 0x1_0000_0000 + (low as u64)
+}
+
+// The lowest code of a run. Not its highest, which only a run of one code shares.
+pub fn low_of(run: u64) -> u32
+    ensures { λ r. ⌜ r ≡ lowOf run ⌝ }
+{
+    (run % 0x1_0000_0000) as u32
+}
+
+// The highest code of a run. Not its lowest.
+pub fn high_of(run: u64) -> u32
+    ensures { λ r. ⌜ r ≡ highOf run ⌝ }
+{
+    ((run % 0x1_0000_0000 + run / 0x1_0000_0000) % 0x1_0000_0000) as u32
 }

@@ -7,10 +7,10 @@ use Rattle.terms.specs.Lookup.{Found, lacking, found, termAt}
 use Rattle.terms.specs.Accepted.{AcceptedPiece}
 use Rattle.terms.proofs.WellFormed.{finds-well-formed}
 use Rattle.sheet_tests.specs.SheetTests.{Test, place, pair}
-use Rattle.codes.specs.views.Codes.{unknownCode}
+use Rattle.codes.specs.views.Codes.{unknownRun}
 use Rattle.piece.specs.views.LaidOut.{pieceCells}
 use Rattle.outcomes.proofs.Hidden as hidden
-use Rattle.outcomes.proofs.Codes.{code-unknown}
+use Rattle.outcomes.proofs.FoundRuns.{run-unknown}
 use Rattle.outcomes.proofs.LookFinds.{look-finds}
 use Rattle.outcomes.proofs.PairTestsAgree.{pair-test-agrees}
 use Rattle.decision.specs.Walk.{isUnknown, isNotKnown, testNotKnown}
@@ -28,7 +28,7 @@ same-unknown (found (compound a ts)) = refl
 module _ (arity : ℕ) (piece : Terms) (accepted : AcceptedPiece arity piece) (few : arity ≤ 8) where
   pub open-agrees : (t : Test) → NearTest t → openCells (pieceCells piece) t ≡ testNotKnown piece t
   open-agrees (place n) near =
-      ap (λ (k : ℕ). eqb k unknownCode) (look-finds arity piece accepted few n near)
-      ∙ code-unknown (termAt piece n) (finds-well-formed piece (accepted .wellFormed) 4 n)
+      ap (λ (k : ℕ). eqb k unknownRun) (look-finds arity piece accepted few n near)
+      ∙ run-unknown (termAt piece n) (finds-well-formed piece (accepted .wellFormed) 4 n)
       ∙ same-unknown (termAt piece n)
   open-agrees (pair p q) near = ap isNotKnown (pair-test-agrees arity piece accepted few p q (near .0) (near .1))

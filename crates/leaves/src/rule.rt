@@ -1,6 +1,7 @@
 // The answer at an execute of a rule.
 use crate::Executed;
 use crate::begins::passed;
+use piece::Cells;
 use plain::Answer;
 use rule_masks::rule::rule_masks;
 use sheet::Took;
@@ -62,13 +63,7 @@ pub fn notes_at(
 
 // The answer at an execute of the rule with these notes: all its tests are made. Not commit where a test is not known, nor a wait
 // list beside a commit or a fail.
-pub fn at_rule(
-    notes: &[u64; 680],
-    n: usize,
-    rule: u8,
-    kept: &Tables,
-    cells: &[u32; 680],
-) -> Executed
+pub fn at_rule(notes: &[u64; 680], n: usize, rule: u8, kept: &Tables, cells: &Cells) -> Executed
     requires { ⌜ (n ≤ 680) × (length (now notes) ≡ 680) × All Placed (notesIn (now notes) n) × Counted (now kept)
         × Narrow (now cells) ⌝ }
     ensures { λ r. ⌜ executedOf r

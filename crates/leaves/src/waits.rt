@@ -3,6 +3,7 @@ use codes::UNKNOWN;
 use outcomes::TestOutcome;
 use outcomes::look;
 use outcomes::pair_outcome;
+use piece::Cells;
 use rule_masks::number::test_number;
 use tables::Tables;
 ghost use Prim.Native.Nat.{_≤_};
@@ -15,7 +16,7 @@ ghost use Rattle.rule_masks.specs.views.Kept.{Listed, listedTests};
 ghost use Rattle.leaves.specs.views.OpenTests.{openCells, metWaits};
 
 // Is the test with a code not known? Not one with a place that the piece lacks, nor a pair that holds.
-pub fn is_open(cells: &[u32; 680], code: u32) -> bool
+pub fn is_open(cells: &Cells, code: u32) -> bool
     requires { ⌜ NearTest (codeTest code) × Narrow (now cells) ⌝ }
     ensures { λ r. ⌜ r ≡ openCells (now (cells .entry)) (codeTest code) ⌝ }
 {
@@ -34,7 +35,7 @@ pub fn is_open(cells: &[u32; 680], code: u32) -> bool
 
 // The set of tests with the one that has a code, where that is not known. Not with a test that is known, nor without those of the
 // set.
-fn with_open(set: u64, kept: &Tables, cells: &[u32; 680], code: u32) -> u64
+fn with_open(set: u64, kept: &Tables, cells: &Cells, code: u32) -> u64
     requires { ⌜ Listed (now kept) × KeptCode (listedTests (now kept)) code × Narrow (now cells) ⌝ }
     ensures { λ r. ⌜ r
         ≡ withIf (openCells (now (cells .entry)) (codeTest code)) set
@@ -48,7 +49,7 @@ fn with_open(set: u64, kept: &Tables, cells: &[u32; 680], code: u32) -> u64
 
 // The set of the tests met, of which so many stand at the front of the list, that are not known. Not all tests met, nor those of
 // the sheet that are not known, nor a test behind the walk's edges.
-pub fn suspend_waits(met: &[u32; 64], edges: u8, kept: &Tables, cells: &[u32; 680]) -> u64
+pub fn suspend_waits(met: &[u32; 64], edges: u8, kept: &Tables, cells: &Cells) -> u64
     requires { ⌜ Listed (now kept) × (length (now met) ≡ 64) × (edges ≤ 64) × Narrow (now cells) ⌝ }
     requires { ⌜ All (KeptCode (listedTests (now kept))) (take edges (now met)) ⌝ }
     ensures { λ r. ⌜ r ≡ metWaits (listedTests (now (kept .entry))) (now (cells .entry)) (take edges (now (met .entry))) ⌝ }

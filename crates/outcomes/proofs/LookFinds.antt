@@ -1,4 +1,4 @@
--- In the cells of an accepted piece, looking at a place gives the code of what stands there.
+-- In the cells of an accepted piece, looking at a place gives the run of what stands there.
 use Prim.Native.Nat.{ℕ, zero, suc, pred, _+_, _-_, _*_, _≤_, _<_}
 use mathlib.Core.Path.{_≡_, refl, ap, sym, subst, _∙_}
 use mathlib.Core.Bool.{Bool, true, false, cond}
@@ -18,16 +18,18 @@ use Rattle.terms.specs.Accepted.{AcceptedPiece}
 use Rattle.terms.specs.Filling.{WellFormed}
 use Rattle.terms.proofs.TermPlaces.{extent, extent-le, IfFound}
 use Rattle.terms.proofs.WellFormed.{finds-well-formed}
-use Rattle.codes.specs.views.Codes.{unknownCode}
-use Rattle.piece.specs.views.Cells.{foundCode}
+use Rattle.codes.specs.views.Codes.{unknownRun}
+use Rattle.codes.proofs.TermRuns.{run-some}
+use Rattle.piece.specs.views.Cells.{foundRun}
 use Rattle.piece.specs.views.LaidOut.{emptyCells, pieceCells}
 use Rattle.outcomes.specs.views.Look.{nearest, look}
 use Rattle.outcomes.specs.views.CompareCells.{Narrow}
 use Rattle.outcomes.proofs.Climbing.{no-parent, has-cell, has-none}
 use Rattle.outcomes.proofs.FindWith.{findWith, findsWith, finds-is, row-composes, unknown-stays, lacking-stays, goOn}
-use Rattle.outcomes.proofs.Stored.{Empty, terms-length, terms-stored}
+use Rattle.piece.proofs.StoredCells.{terms-length}
+use Rattle.outcomes.proofs.Stored.{Empty, terms-stored}
 use Rattle.outcomes.proofs.Hidden.{stores-row, first-same, isUnknown, unknownIf, orElse, or-nothing, child-found}
-use Rattle.outcomes.proofs.Codes.{code-some, code-unknown, code-arity}
+use Rattle.outcomes.proofs.FoundRuns.{run-unknown, narrow-found}
 
 -- Nothing stands in the empty cells.
 all-empty : Empty emptyCells 0 680
@@ -42,10 +44,10 @@ unknown-if : (b : Bool) → isUnknown (unknownIf b) ≡ b
 unknown-if true = refl
 unknown-if false = refl
 
--- Its code is an unknown's, and that of nothing is 0.
-code-if : (b : Bool) → foundCode (unknownIf b) ≡ cond b unknownCode 0
-code-if true = refl
-code-if false = refl
+-- Its run is an unknown's, and that of nothing is 0.
+run-if : (b : Bool) → foundRun (unknownIf b) ≡ cond b unknownRun 0
+run-if true = refl
+run-if false = refl
 
 module _ (piece : Terms) where
   -- What is stored at a place.
@@ -110,8 +112,8 @@ module _ (piece : Terms) where
       ]
 
 module _ (arity : ℕ) (piece : Terms) (accepted : AcceptedPiece arity piece) (few : arity ≤ 8) where
-  -- Each cell is the code of what is stored at its place.
-  pub cell-stored : (n : ℕ) → n < 680 → getD (pieceCells piece) n 0 ≡ foundCode (storedAt piece n)
+  -- Each cell is the run of what is stored at its place.
+  pub cell-stored : (n : ℕ) → n < 680 → getD (pieceCells piece) n 0 ≡ foundRun (storedAt piece n)
   cell-stored n inside =
       let counted = accepted .arguments in
       let room : extent (count piece) 4 ≤ 680 = omega (arith, extent-le (count piece) 8 4 (omega arith)) in
@@ -127,17 +129,17 @@ module _ (arity : ℕ) (piece : Terms) (accepted : AcceptedPiece arity piece) (f
     stored-found : (t : Term) → storedAt piece n ≡ found t → termAt piece n ≡ found t
     stored-found t stored = place-found piece n inside ∙ (rw stored)
 
-    -- Its cell is its code,
-    stored-cell : (t : Term) → storedAt piece n ≡ found t → getD (pieceCells piece) n 0 ≡ foundCode (termAt piece n)
-    stored-cell t stored = cell-stored n inside ∙ ap foundCode (stored ∙ sym (stored-found t stored))
+    -- Its cell is its run,
+    stored-cell : (t : Term) → storedAt piece n ≡ found t → getD (pieceCells piece) n 0 ≡ foundRun (termAt piece n)
+    stored-cell t stored = cell-stored n inside ∙ ap foundRun (stored ∙ sym (stored-found t stored))
 
     -- which is not 0.
-    has-code : (t : Term) → storedAt piece n ≡ found t → getD (pieceCells piece) n 0 ≡ 0 → ⊥
-    has-code t stored none = code-some t (ap foundCode (sym stored) ∙ sym (cell-stored n inside) ∙ none)
+    has-run : (t : Term) → storedAt piece n ≡ found t → getD (pieceCells piece) n 0 ≡ 0 → ⊥
+    has-run t stored none = run-some t (ap foundRun (sym stored) ∙ sym (cell-stored n inside) ∙ none)
 
     -- Where nothing is stored, the cell is 0,
-    no-code : storedAt piece n ≡ lacking → getD (pieceCells piece) n 0 ≡ 0
-    no-code stored = cell-stored n inside ∙ ap foundCode stored
+    no-run : storedAt piece n ≡ lacking → getD (pieceCells piece) n 0 ≡ 0
+    no-run stored = cell-stored n inside ∙ ap foundRun stored
 
     -- and an unknown is found where one stands above, else nothing.
     hidden-found : storedAt piece n ≡ lacking → termAt piece n ≡ unknownIf (aboveUnknown piece n)
@@ -147,12 +149,12 @@ module _ (arity : ℕ) (piece : Terms) (accepted : AcceptedPiece arity piece) (f
   above-found
       : (k n : ℕ) → n < 680
       →
-      ((q : ℕ) → q < 680 → levelsAt q ≡ suc (levelsAt n) → eqb (nearest k (pieceCells piece) q) unknownCode ≡ isUnknown (termAt piece q))
-      → eqb (nearest k (pieceCells piece) (parentAt n)) unknownCode ≡ aboveUnknown piece n
+      ((q : ℕ) → q < 680 → levelsAt q ≡ suc (levelsAt n) → eqb (nearest k (pieceCells piece) q) unknownRun ≡ isUnknown (termAt piece q))
+      → eqb (nearest k (pieceCells piece) (parentAt n)) unknownRun ≡ aboveUnknown piece n
   above-found k n inside up =
       elim (ℕ-discrete (parentAt n) 680) [
         | yes none ↦
-            ap (λ x. eqb x unknownCode) (no-parent k (pieceCells piece) (parentAt n) none)
+            ap (λ x. eqb x unknownRun) (no-parent k (pieceCells piece) (parentAt n) none)
             ∙ sym (above-none piece n none)
         | no has ↦
             up (parentAt n) (omega (arith, parent-before n has)) (child-of-parent n has .levels)
@@ -162,40 +164,40 @@ module _ (arity : ℕ) (piece : Terms) (accepted : AcceptedPiece arity piece) (f
   -- From a place, climbing far enough, the nearest cell is an unknown's exactly where an unknown stands at the place.
   nearest-found
       : (k n : ℕ) → n < 680 → 5 ≤ levelsAt n + k
-      → eqb (nearest k (pieceCells piece) n) unknownCode ≡ isUnknown (termAt piece n)
+      → eqb (nearest k (pieceCells piece) n) unknownRun ≡ isUnknown (termAt piece n)
   nearest-found zero n inside enough = absurd (omega (arith, levels-range 4 n (omega arith)))
   nearest-found (suc k) n inside enough =
       go (storedAt piece n) refl (above-found k n inside (λ q below levels. nearest-found k q below (omega arith)))
     where
       go
-          : (s : Found) → storedAt piece n ≡ s → eqb (nearest k (pieceCells piece) (parentAt n)) unknownCode ≡
+          : (s : Found) → storedAt piece n ≡ s → eqb (nearest k (pieceCells piece) (parentAt n)) unknownRun ≡
           aboveUnknown piece n
-          → eqb (nearest (suc k) (pieceCells piece) n) unknownCode ≡ isUnknown (termAt piece n)
+          → eqb (nearest (suc k) (pieceCells piece) n) unknownRun ≡ isUnknown (termAt piece n)
       go (found t) stored above =
-          ap (λ x. eqb x unknownCode)
-          (has-cell (suc k) (pieceCells piece) n (omega arith) (λ e. omega arith) (has-code n inside t stored) ∙ stored-cell n inside t stored)
-          ∙ code-unknown (termAt piece n) (found-well-formed n)
+          ap (λ x. eqb x unknownRun)
+          (has-cell (suc k) (pieceCells piece) n (omega arith) (λ e. omega arith) (has-run n inside t stored) ∙ stored-cell n inside t stored)
+          ∙ run-unknown (termAt piece n) (found-well-formed n)
       go lacking stored above =
           let less : suc k - 1 ≡ k = omega arith in
-          ap (λ x. eqb x unknownCode)
-          (has-none (suc k) (pieceCells piece) n (omega arith) (λ e. omega arith) (no-code n inside stored)
+          ap (λ x. eqb x unknownRun)
+          (has-none (suc k) (pieceCells piece) n (omega arith) (λ e. omega arith) (no-run n inside stored)
           ∙ ap (λ (j : ℕ). nearest j (pieceCells piece) (parentAt n)) less)
           ∙ above ∙ sym (ap isUnknown (hidden-found n inside stored) ∙ unknown-if (aboveUnknown piece n))
 
-  -- Looking at a place gives the code of what stands there.
-  pub look-finds : (n : ℕ) → n < 680 → look (pieceCells piece) n ≡ foundCode (termAt piece n)
+  -- Looking at a place gives the run of what stands there.
+  pub look-finds : (n : ℕ) → n < 680 → look (pieceCells piece) n ≡ foundRun (termAt piece n)
   look-finds n inside =
       go (storedAt piece n) refl
       (above-found 3 n inside (λ q below levels. nearest-found 3 q below (omega (arith, levels-range 4 n (omega arith)))))
     where
       go
-          : (s : Found) → storedAt piece n ≡ s → eqb (nearest 3 (pieceCells piece) (parentAt n)) unknownCode ≡
+          : (s : Found) → storedAt piece n ≡ s → eqb (nearest 3 (pieceCells piece) (parentAt n)) unknownRun ≡
           aboveUnknown piece n
-          → look (pieceCells piece) n ≡ foundCode (termAt piece n)
-      go (found t) stored above = rw (ne-eqb _ _ (has-code n inside t stored)) (stored-cell n inside t stored)
+          → look (pieceCells piece) n ≡ foundRun (termAt piece n)
+      go (found t) stored above = rw (ne-eqb _ _ (has-run n inside t stored)) (stored-cell n inside t stored)
       go lacking stored above =
-          rw (eq-eqb _ _ (no-code n inside stored), above)
-          (sym (ap foundCode (hidden-found n inside stored) ∙ code-if (aboveUnknown piece n)))
+          rw (eq-eqb _ _ (no-run n inside stored), above)
+          (sym (ap foundRun (hidden-found n inside stored) ∙ run-if (aboveUnknown piece n)))
 
   -- What is stored at a place is well-formed.
   stored-well-formed : (n : ℕ) → n < 680 → IfFound WellFormed (storedAt piece n)
@@ -211,7 +213,7 @@ module _ (arity : ℕ) (piece : Terms) (accepted : AcceptedPiece arity piece) (f
   unfolding emptyCells
   narrow i =
       elim (decLt i 680) [
-        | yes inside ↦ rw (cell-stored i inside) (code-arity (storedAt piece i) (stored-well-formed i inside))
+        | yes inside ↦ rw (cell-stored i inside) (narrow-found (storedAt piece i) (stored-well-formed i inside))
         | no outside ↦
             let size = terms-length piece 3 0 emptyCells ∙ length-replicate {A = ℕ} 680 0 in
             let beyond : length (pieceCells piece) ≤ i = omega arith in

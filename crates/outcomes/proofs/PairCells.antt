@@ -1,31 +1,36 @@
--- Laws of the equality test at two places, by their cells.
+-- Laws of the equality test at two places, by their runs.
 use Prim.Native.Nat.{ℕ, suc, pred, _+_, _-_, _≤_, _<_}
 use mathlib.Core.Path.{_≡_, ap}
 use mathlib.Core.Bool.{true, false}
+use mathlib.Core.List.{List}
 use mathlib.Core.Logic.{_⊎_}
 use native.Mathlib.Omega.{arith}
 use lib.Dec.{eqb}
-use Rattle.places.specs.Numbering.{stride, levelsAt, depthAt}
+use lib.ListN.{getD}
+use Rattle.places.specs.Numbering.{stride, levelsAt, depthAt, parentAt}
 use Rattle.places.proofs.Levels.{levels-range, levels-fit-row}
-use Rattle.terms.specs.Outcome.{Outcome, notKnown, contradicted}
-use Rattle.codes.specs.views.Codes.{unknownCode}
-use Rattle.outcomes.specs.views.CompareCells.{Inside}
-use Rattle.outcomes.specs.views.CellOutcome.{codesOutcome}
+use Rattle.terms.specs.Outcome.{Outcome, contradicted}
+use Rattle.basics.proofs.Booleans.{cond-holds}
+use Rattle.codes.specs.views.Codes.{unknownRun}
+use Rattle.outcomes.specs.views.Look.{nearest, look}
+use Rattle.outcomes.specs.views.CompareCells.{NarrowRun, Narrow, Inside}
+use Rattle.outcomes.specs.views.CellOutcome.{runsOutcome}
 use Rattle.outcomes.proofs.TwoTests.{one-is, none-is}
 
 module _ (a b : ℕ) (compared : Outcome) where
   -- A test at a place that the piece lacks is contradicted.
-  pub one-lacking : (a ≡ 0) ⊎ (eqb b 0 ≡ true) → contradicted ≡ codesOutcome a b compared
+  pub one-lacking : (a ≡ 0) ⊎ (eqb b 0 ≡ true) → contradicted ≡ runsOutcome a b compared
   one-lacking h = rw (one-is a b 0 h)
 
-  module _ (there : a ≡ 0 → ⊥) (there-b : eqb b 0 ≡ false) where
-    -- A test at an unknown is not known.
-    pub one-unknown : (a ≡ unknownCode) ⊎ (eqb b unknownCode ≡ true) → notKnown ≡ codesOutcome a b compared
-    one-unknown h = rw (none-is a b 0 there there-b, one-is a b unknownCode h)
+  -- Else the terms are compared.
+  pub both-there : (a ≡ 0 → ⊥) → eqb b 0 ≡ false → runsOutcome a b compared ≡ compared
+  both-there there there-b = rw (none-is a b 0 there there-b)
 
-    -- Else the terms are compared.
-    pub none-unknown : (a ≡ unknownCode → ⊥) → eqb b unknownCode ≡ false → codesOutcome a b compared ≡ compared
-    none-unknown known known-b = rw (none-is a b 0 there there-b, none-is a b unknownCode known known-b)
+-- No compound has more than 4 arguments where a cell is looked at, nor where none is stored.
+pub look-narrow : (cells : List ℕ) (p : ℕ) → Narrow cells → NarrowRun (look cells p)
+look-narrow cells p narrow =
+    cond-holds NarrowRun (eqb (getD cells p 0) 0) _ _
+    (cond-holds NarrowRun (eqb (nearest 3 cells (parentAt p)) unknownRun) unknownRun 0 (λ h. absurd h) (λ h. absurd h)) (narrow p)
 
 module _ (p d : ℕ) (depth : d ≡ depthAt p) where
   -- A place at depth d has 4 - d levels below it.

@@ -1,15 +1,17 @@
 // What stands at the places of a piece that is laid out by place, and the outcomes of tests there.
 use codes::COMPOUNDS;
 use codes::NUMBERS;
-use codes::SYMBOLS;
 use codes::UNKNOWN;
+use codes::high_of;
+use codes::low_of;
+use piece::Cells;
 ghost use mathlib.Core.Path.{_≡_};
 ghost use Prim.Native.Nat.{suc, _≤_, _<_};
 ghost use Rattle.places.specs.Numbering.{stride};
 ghost use Rattle.terms.specs.Outcome.{_and_};
 ghost use Rattle.outcomes.specs.views.Look.{nearest, look};
-ghost use Rattle.outcomes.specs.views.CompareCells.{Narrow, Inside, compareAt, compareRow};
-ghost use Rattle.outcomes.specs.views.CellOutcome.{outcomeOf, runLow, runHigh, placeCells, pairCells};
+ghost use Rattle.outcomes.specs.views.CompareCells.{NarrowRun, Narrow, Inside, compareAt, compareCells, compareRow};
+ghost use Rattle.outcomes.specs.views.CellOutcome.{outcomeOf, placeCells, pairCells};
 
 // The value of a test.
 pub enum TestOutcome {
@@ -19,7 +21,7 @@ pub enum TestOutcome {
 }
 
 // The cell of the nearest place that has one, of p and the places above it, 3 in all; 0 where none has.
-fn nearest(cells: &[u32; 680], p: usize) -> u32
+fn nearest(cells: &Cells, p: usize) -> u64
     requires { ⌜ p ≤ 680 ⌝ }
     ensures { λ r. ⌜ r ≡ nearest 3 (now (cells .entry)) p ⌝ }
 {
@@ -39,8 +41,8 @@ fn nearest(cells: &[u32; 680], p: usize) -> u32
     0
 }
 
-// The code of what stands at place p, 0 where the piece lacks it.
-pub fn look(cells: &[u32; 680], p: usize) -> u32
+// The run of what stands at place p, 0 where the piece lacks it.
+pub fn look(cells: &Cells, p: usize) -> u64
     requires { ⌜ p < 680 ⌝ }
     ensures { λ r. ⌜ r ≡ look (now (cells .entry)) p ⌝ }
 {
@@ -69,20 +71,31 @@ pub fn both(a: TestOutcome, b: TestOutcome) -> TestOutcome
     }
 }
 
-// Compares the terms at places p and q, with so many levels below the one and the other.
-fn compare(cells: &[u32; 680], below: usize, other: usize, p: usize, q: usize) -> TestOutcome
-    requires { ⌜ Inside below 1 p × Inside other 1 q × Narrow (now cells) ⌝ }
-    ensures { λ r. ⌜ outcomeOf r ≡ compareAt (now (cells .entry)) below other p q ⌝ }
+// Compares the terms at places p and q, whose runs are a and b, with so many levels below the one and the other. Not "equal" where
+// one of them has several codes, nor "different" where they have one in common.
+fn compare(
+    cells: &Cells,
+    below: usize,
+    other: usize,
+    p: usize,
+    q: usize,
+    a: u64,
+    b: u64,
+) -> TestOutcome
+    requires { ⌜ Inside below 1 p × Inside other 1 q × Narrow (now cells) × NarrowRun a ⌝ }
+    ensures { λ r. ⌜ outcomeOf r ≡ compareAt (now (cells .entry)) below other p q a b ⌝ }
 {
-    let code = cells[p];
-    let code_other = cells[q];
-    if code == UNKNOWN || code_other == UNKNOWN {
-        return TestOutcome::NotKnown;
-    }
-    if code != code_other {
+    let low = low_of(a);
+    let high = high_of(a);
+    let low_other = low_of(b);
+    let high_other = high_of(b);
+    if high < low_other || high_other < low {
         return TestOutcome::Contradicted;
     }
-    if code < COMPOUNDS || NUMBERS <= code {
+    if low != high || low_other != high_other {
+        return TestOutcome::NotKnown;
+    }
+    if low < COMPOUNDS || NUMBERS <= low {
         return TestOutcome::Holds;
     }
     if below == 0 || other == 0 {
@@ -92,7 +105,7 @@ fn compare(cells: &[u32; 680], below: usize, other: usize, p: usize, q: usize) -
         cells,
         below - 1,
         other - 1,
-        (code % 256) as usize,
+        (low % 256) as usize,
         p + 1,
         q + 1,
     )
@@ -100,7 +113,7 @@ fn compare(cells: &[u32; 680], below: usize, other: usize, p: usize, q: usize) -
 
 // Compares n pairs of terms in turn, the first at places p and q.
 fn compare_args(
-    cells: &[u32; 680],
+    cells: &Cells,
     below: usize,
     other: usize,
     n: usize,
@@ -109,58 +122,38 @@ fn compare_args(
 ) -> TestOutcome
     requires { ⌜ Inside below n p × Inside other n q × Narrow (now cells) ⌝ }
     ensures { λ r. ⌜ outcomeOf r
-        ≡ compareRow (compareAt (now (cells .entry)) below other) (stride (suc below)) (stride (suc other)) n p q ⌝ }
+        ≡ compareRow (compareCells (now (cells .entry)) below other) (stride (suc below)) (stride (suc other)) n p q ⌝ }
 {
     if n == 0 {
         return TestOutcome::Holds;
     }
-    let first = compare(cells, below, other, p, q);
+    let first = compare(cells, below, other, p, q, cells[p], cells[q]);
     let next_p = p + places::step(3 - below);
     let next_q = q + places::step(3 - other);
     let others = compare_args(cells, below, other, n - 1, next_p, next_q);
     both(first, others)
 }
 
-// The lowest code that what stands at a place with this cell can have. Not an unknown's own, nor one that a symbol cannot have.
-fn lowest(cell: u32) -> u32
-    ensures { λ r. ⌜ r ≡ runLow cell ⌝ }
-{
-    if cell == UNKNOWN {
-        return SYMBOLS;
-    }
-    cell
-}
-
-// The highest code that what stands at a place with this cell can have. Not an unknown's own, nor one below the last.
-fn highest(cell: u32) -> u32
-    ensures { λ r. ⌜ r ≡ runHigh cell ⌝ }
-{
-    if cell == UNKNOWN {
-        return UNKNOWN - 1;
-    }
-    cell
-}
-
 // The outcome of the place test at place p that holds at the codes from low to high. Not "holds" where some of the codes that
 // what stands there can have lie outside, nor "contradicted" where some lie inside.
-pub fn place_outcome(cells: &[u32; 680], p: usize, low: u32, high: u32) -> TestOutcome
+pub fn place_outcome(cells: &Cells, p: usize, low: u32, high: u32) -> TestOutcome
     requires { ⌜ p < 680 ⌝ }
     ensures { λ r. ⌜ outcomeOf r ≡ placeCells (now (cells .entry)) p low high ⌝ }
 {
-    let cell = look(cells, p);
-    let x = lowest(cell);
-    let y = highest(cell);
-    if y < low || high < x {
-        return TestOutcome::Contradicted;
-    }
+    let run = look(cells, p);
+    let x = low_of(run);
+    let y = high_of(run);
     if low <= x && y <= high {
         return TestOutcome::Holds;
+    }
+    if y < low || high < x {
+        return TestOutcome::Contradicted;
     }
     TestOutcome::NotKnown
 }
 
 // The outcome of the equality test at places p and q.
-pub fn pair_outcome(cells: &[u32; 680], p: usize, q: usize) -> TestOutcome
+pub fn pair_outcome(cells: &Cells, p: usize, q: usize) -> TestOutcome
     requires { ⌜ (p < 680) × (q < 680) × Narrow (now cells) ⌝ }
     ensures { λ r. ⌜ outcomeOf r ≡ pairCells (now (cells .entry)) p q ⌝ }
 {
@@ -169,8 +162,13 @@ pub fn pair_outcome(cells: &[u32; 680], p: usize, q: usize) -> TestOutcome
     if a == 0 || b == 0 {
         return TestOutcome::Contradicted;
     }
-    if a == UNKNOWN || b == UNKNOWN {
-        return TestOutcome::NotKnown;
-    }
-    compare(cells, 4 - places::depth(p), 4 - places::depth(q), p, q)
+    compare(
+        cells,
+        4 - places::depth(p),
+        4 - places::depth(q),
+        p,
+        q,
+        a,
+        b,
+    )
 }

@@ -17,7 +17,7 @@ use Rattle.decision.specs.Key.{failNode}
 use Rattle.decision.specs.Node.{Node, CaseEdge, end, switch, pairNode, edges}
 use Rattle.decision.specs.Path.{Step, stop, goTo, noWay, byComparison}
 use Rattle.decision.proofs.cases.Narrowest.{leads-holds}
-use Rattle.codes.specs.views.Codes.{unknownCode}
+use Rattle.codes.specs.views.Codes.{lowOf, highOf, unknownRun}
 use Rattle.steps.specs.views.CodeSteps.{takesCodes, narrowerCodes, stepCells}
 use Rattle.path.specs.views.Following.{nodeFrom, nodesAt}
 use Rattle.basics.proofs.Counting.{count-length}
@@ -37,11 +37,11 @@ module _ (nodes : ℕ) where
   step-leads : (cells : List ℕ) (n : Node ℕ) → All (λ (m : ℕ). m < nodes) (edges n) → Leads (stepCells cells n)
   step-leads cells (end l) h = tt
   step-leads cells (switch p cs x y) h =
-      let code = look cells p in
+      let run = look cells p in
       let (cases, others) = all-split (λ (m : ℕ). m < nodes) (map (λ (c : CaseEdge ℕ). c .target) cs) (x ∷ y ∷ []) h in
-      cond-holds Leads (eqb code 0) _ _ tt
-      (cond-holds (λ (m : ℕ). m < nodes) (eqb code unknownCode) _ _ (others .1 .0)
-      (leads-holds (λ (m : ℕ). m < nodes) (λ (c : CaseEdge ℕ). takesCodes (c .case) code code)
+      cond-holds Leads (eqb run 0) _ _ tt
+      (cond-holds (λ (m : ℕ). m < nodes) (eqb run unknownRun) _ _ (others .1 .0)
+      (leads-holds (λ (m : ℕ). m < nodes) (λ (c : CaseEdge ℕ). takesCodes (c .case) (lowOf run) (highOf run))
       (λ (c d : CaseEdge ℕ). narrowerCodes (c .case) (d .case)) cs x
       (all-from (λ (c : CaseEdge ℕ). c .target < nodes) cs
       (λ c m. all-at (λ (k : ℕ). k < nodes) (mem-map (λ (d : CaseEdge ℕ). d .target) m) cases)) (others .0)))

@@ -1,5 +1,6 @@
 // The walk from node to node.
 use graph::Leaf;
+use piece::Cells;
 use steps::Step;
 use steps::node::step_at;
 ghost use Prim.Native.Nat.{_≤_};
@@ -21,7 +22,7 @@ pub fn follow_path(
     graph: &[u8],
     starts: &[u32; 1024],
     nodes: u16,
-    cells: &[u32; 680],
+    cells: &Cells,
     met: &mut [u32; 64],
 ) -> Followed
     requires { ⌜ Narrow (now cells) × (length (now starts) ≡ 1024) × (length (now met) ≡ 64) ⌝ }

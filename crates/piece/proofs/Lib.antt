@@ -1,5 +1,6 @@
 -- The laws of reading pieces into cells, and of the bytes that spell them.
 pub mod Rooms
+pub mod StoredCells
 pub mod Readings
 pub mod Heads
 pub mod RecordKinds

@@ -18,7 +18,7 @@ use Rattle.piece.specs.declared.Taken.the-variants as taken
 use Rattle.piece.specs.declared.Taken.the-variants.{Bytes}
 use Rattle.piece.specs.views.TermRecord.{termHead, onHead}
 use Rattle.piece.specs.ReadPiece.{readTerm, readTerms}
-use Rattle.codes.specs.views.Codes.{compoundCode}
+use Rattle.codes.specs.views.Codes.{compoundCode, runOf}
 use Rattle.piece.specs.views.Cells.{storeTerm, storeTerms}
 use Rattle.piece.specs.views.LaidOut.{tookCells, termCells, termsCells}
 use Rattle.piece.proofs.Readings.{bytesOf, bytes-map, map-after, same-views, row-took}
@@ -70,7 +70,7 @@ module _ (below : ℕ) (s : List ℕ) (p : ℕ) (cells : List ℕ) where
       -- Else it is stored, and then its arguments from the next place on.
       pub arguments-read
           : 1 ≤ n → n ≤ 4 → {r : Reading (List ℕ)}
-          → r ≡ termsCells (below - 1) n (p + 1) (set cells p (compoundCode a n)) (drop 4 s)
+          → r ≡ termsCells (below - 1) n (p + 1) (set cells p (runOf (compoundCode a n) (compoundCode a n))) (drop 4 s)
           → later 4 r ≡ termCells below p cells s
       arguments-read least most read =
           ap (later 4) read

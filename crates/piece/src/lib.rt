@@ -1,7 +1,8 @@
-// Reads pieces: checks their bytes and lays their terms out by place, one number a place.
+// Reads pieces: checks their bytes and lays their terms out by place, one run of codes a place.
 use codes::UNKNOWN;
 use codes::compound_code;
 use codes::number_code;
+use codes::run_of;
 use codes::symbol_code;
 ghost use mathlib.Core.Path.{_≡_};
 ghost use Prim.Native.Nat.{suc, _+_, _*_, _≤_, _<_};
@@ -13,6 +14,10 @@ ghost use Rattle.piece.specs.ReadPiece.{readArity, readPrefix, readPiece
 ghost use Rattle.piece.specs.views.LaidOut.{tookCells, termCells, termsCells, layOut};
 ghost use Rattle.piece.specs.views.LaidOut.{arityRead, prefixRead, prefixBytes, pieceRead};
 ghost use Rattle.piece.specs.CheckPiece.{pieceCheckValues, pieceValues};
+
+// For each of the 680 places the run of codes that what stands there can have (codes::low_of, codes::high_of), 0 where the piece
+// lacks it.
+pub type Cells = [u64; 680];
 
 // A whole record of a term.
 pub enum TermRecord {
@@ -90,7 +95,7 @@ fn head_refusal(head: TermHead) -> u8
 }
 
 // Reads the term that the input begins with, which stands at place p with so many levels below it, into its cells.
-fn term(s: &[u8], below: usize, p: usize, cells: &mut [u32; 680]) -> Taken
+fn term(s: &[u8], below: usize, p: usize, cells: &mut Cells) -> Taken
     requires { ⌜ (below < 4) × (p + stride (suc below) ≤ 680) ⌝ }
     ensures { λ r. ⌜ tookCells (now (cells .exit)) r ≡ termCells below p (now (cells .entry)) (now (s .entry)) ⌝ }
 {
@@ -104,11 +109,13 @@ fn term(s: &[u8], below: usize, p: usize, cells: &mut [u32; 680]) -> Taken
             Taken::Bytes(1)
         }
         TermRecord::Symbol(id) => {
-            cells[p] = symbol_code(id);
+            let code = symbol_code(id);
+            cells[p] = run_of(code, code);
             Taken::Bytes(3)
         }
         TermRecord::Number(value) => {
-            cells[p] = number_code(value);
+            let code = number_code(value);
+            cells[p] = run_of(code, code);
             Taken::Bytes(3)
         }
         TermRecord::Compound(id, arity) => {
@@ -118,7 +125,8 @@ fn term(s: &[u8], below: usize, p: usize, cells: &mut [u32; 680]) -> Taken
             if arity < 1 || 4 < arity {
                 return Taken::Refused(16);
             }
-            cells[p] = compound_code(id, arity);
+            let code = compound_code(id, arity);
+            cells[p] = run_of(code, code);
             let arguments = terms(&s[4..], below - 1, arity as usize, p + 1, cells);
             let Taken::Bytes(bytes) = arguments else {
                 return arguments;
@@ -129,7 +137,7 @@ fn term(s: &[u8], below: usize, p: usize, cells: &mut [u32; 680]) -> Taken
 }
 
 // Reads the n terms that the input begins with, of which the first stands at place p, into their cells.
-fn terms(s: &[u8], below: usize, n: usize, p: usize, cells: &mut [u32; 680]) -> Taken
+fn terms(s: &[u8], below: usize, n: usize, p: usize, cells: &mut Cells) -> Taken
     requires { ⌜ (below < 4) × (p + n * stride (suc below) ≤ 680) ⌝ }
     ensures { λ r. ⌜ tookCells (now (cells .exit)) r ≡ termsCells below n p (now (cells .entry)) (now (s .entry)) ⌝ }
 {
@@ -167,7 +175,7 @@ fn piece_head(s: &[u8]) -> Prefix
 }
 
 // Reads the piece that the input begins with. Bytes may follow it.
-pub fn read_prefix(s: &[u8], cells: &mut [u32; 680]) -> Prefix
+pub fn read_prefix(s: &[u8], cells: &mut Cells) -> Prefix
     ensures { λ r. ⌜ (prefixRead (now (cells .exit)) r ≡ mapReading layOut (readPrefix (now (s .entry))))
         × (prefixBytes r ≤ length (now (s .entry))) ⌝ }
 {
@@ -184,7 +192,7 @@ pub fn read_prefix(s: &[u8], cells: &mut [u32; 680]) -> Prefix
 }
 
 // Reads a piece that is the whole input.
-pub fn read_piece(s: &[u8], cells: &mut [u32; 680]) -> PieceCheck
+pub fn read_piece(s: &[u8], cells: &mut Cells) -> PieceCheck
     ensures { λ r. ⌜ pieceRead (length (now (s .entry))) (now (cells .exit)) r ≡ mapReading layOut (readPiece (now (s .entry))) ⌝ }
 {
     let prefix = read_prefix(s, cells);

@@ -5,6 +5,7 @@ use outcomes::pair_outcome;
 use outcomes::place_outcome;
 use pairs::Name;
 use patterns::PatternRecord;
+use piece::Cells;
 use sheet::Ranges;
 ghost use mathlib.Core.Path.{_≡_};
 ghost use Prim.Native.Nat.{_≤_, _<_};
@@ -22,7 +23,7 @@ ghost use Rattle.plain.specs.views.NotesOutcome.{pairTestCells, pairsOut
 
 // The outcome of the test of a symbol, a range or a compound at a place; any other record has none. Not that of a range's low end
 // alone, nor a symbol's where a compound stands.
-pub fn fixed_outcome(cells: &[u32; 680], place: usize, what: PatternRecord) -> TestOutcome
+pub fn fixed_outcome(cells: &Cells, place: usize, what: PatternRecord) -> TestOutcome
     requires { ⌜ place < 680 ⌝ }
     ensures { λ r. ⌜ outcomeOf r ≡ fixedOutcome (now (cells .entry)) place what ⌝ }
 {
@@ -50,7 +51,7 @@ pub fn fixed_outcome(cells: &[u32; 680], place: usize, what: PatternRecord) -> T
 }
 
 // The outcome of the test of a variable's common range at a place. A high above every number stands for no range, so no test.
-fn range_outcome(cells: &[u32; 680], place: usize, low: u16, high: u32) -> TestOutcome
+fn range_outcome(cells: &Cells, place: usize, low: u16, high: u32) -> TestOutcome
     requires { ⌜ place < 680 ⌝ }
     ensures { λ r. ⌜ outcomeOf r ≡ rangeOutcome (now (cells .entry)) place low high ⌝ }
 {
@@ -66,12 +67,7 @@ fn range_outcome(cells: &[u32; 680], place: usize, low: u16, high: u32) -> TestO
 }
 
 // The outcome of a record's place test at a place.
-fn record_outcome(
-    cells: &[u32; 680],
-    ranges: Ranges,
-    place: usize,
-    what: PatternRecord,
-) -> TestOutcome
+fn record_outcome(cells: &Cells, ranges: Ranges, place: usize, what: PatternRecord) -> TestOutcome
     requires { ⌜ (place < 680) × Fitting what ⌝ }
     ensures { λ r. ⌜ outcomeOf r ≡ recordOutcome (now (cells .entry)) (ranges .low) (ranges .high) place what ⌝ }
 {
@@ -89,7 +85,7 @@ fn record_outcome(
 }
 
 // The outcome of all place tests of a rule. One contradicted settles it, so the others are not made.
-fn places_outcome(notes: &[u64; 680], n: usize, ranges: Ranges, cells: &[u32; 680]) -> TestOutcome
+fn places_outcome(notes: &[u64; 680], n: usize, ranges: Ranges, cells: &Cells) -> TestOutcome
     requires { ⌜ (n ≤ 680) × (length (now notes) ≡ 680) × All Placed (notesIn (now notes) n) ⌝ }
     ensures { λ r. ⌜ outcomeOf r
         ≡ placesOutcome (now (cells .entry)) (ranges .low) (ranges .high) (notesIn (now (notes .entry)) n) ⌝ }
@@ -120,7 +116,7 @@ fn pairs_with(
     from: usize,
     place: usize,
     v: u8,
-    cells: &[u32; 680],
+    cells: &Cells,
 ) -> TestOutcome
     requires { ⌜ (from ≤ n) × (n ≤ 680) × (place < 680) × (length (now notes) ≡ 680)
         × All Placed (notesIn (now notes) n) × Narrow (now cells) ⌝ }
@@ -144,7 +140,7 @@ fn pairs_with(
 }
 
 // The outcome of all equality tests of a rule.
-fn pairs_outcome(notes: &[u64; 680], n: usize, cells: &[u32; 680]) -> TestOutcome
+fn pairs_outcome(notes: &[u64; 680], n: usize, cells: &Cells) -> TestOutcome
     requires { ⌜ (n ≤ 680) × (length (now notes) ≡ 680) × All Placed (notesIn (now notes) n) × Narrow (now cells) ⌝ }
     ensures { λ r. ⌜ outcomeOf r ≡ pairsOutcome (now (cells .entry)) (notesIn (now (notes .entry)) n) ⌝ }
 {
@@ -166,7 +162,7 @@ fn pairs_outcome(notes: &[u64; 680], n: usize, cells: &[u32; 680]) -> TestOutcom
 
 // The outcome of all tests of a rule: of its place tests and, where none is contradicted, its equality tests. Not contradicted
 // because a test is not known, nor holding where only the place tests hold.
-pub fn rule_outcome(notes: &[u64; 680], n: usize, cells: &[u32; 680]) -> TestOutcome
+pub fn rule_outcome(notes: &[u64; 680], n: usize, cells: &Cells) -> TestOutcome
     requires { ⌜ (n ≤ 680) × (length (now notes) ≡ 680) × All Placed (notesIn (now notes) n) × Narrow (now cells) ⌝ }
     ensures { λ r. ⌜ outcomeOf r ≡ notesOutcome (now (cells .entry)) (notesIn (now (notes .entry)) n) ⌝ }
 {

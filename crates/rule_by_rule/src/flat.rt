@@ -2,6 +2,7 @@
 use outcomes::TestOutcome;
 use patterns::PatternHead;
 use patterns::PatternRecord;
+use piece::Cells;
 use plain::rule::fixed_outcome;
 ghost use mathlib.Core.Path.{_≡_};
 ghost use mathlib.Core.Bool.{true};
@@ -28,7 +29,7 @@ fn flat_length(what: PatternRecord) -> usize
 
 // Is a rule, which the input begins with, contradicted at an argument up to its first compound? Not where a test is not known, nor
 // at a variable.
-pub fn is_out(s: &[u8], arity: usize, cells: &[u32; 680]) -> bool
+pub fn is_out(s: &[u8], arity: usize, cells: &Cells) -> bool
     requires { ⌜ arity ≤ 8 ⌝ }
     ensures { λ r. ⌜ (r ≡ true → (b : ℕ) (rule : Patterns) → readPatterns 3 arity (now (s .entry)) ≡ took b rule
         → cellsOutcome (now (cells .entry)) rule ≡ contradicted) ⌝ }

@@ -1,6 +1,7 @@
 // The answer, rule by rule: fail while no rule is open, the one open rule, suspend from the second on.
 use crate::flat::is_out;
 use outcomes::TestOutcome;
+use piece::Cells;
 use plain::Answer;
 use plain::rule::rule_outcome;
 use sheet::Took;
@@ -45,7 +46,7 @@ fn moved(answer: Answer, rule: u8, outcome: TestOutcome) -> Answer
 
 // The outcome of the tests of an accepted sheet's rule, which the input begins with. Of a rule that is contradicted at an argument
 // up to its first compound no more is read. Not contradicted because a test is not known, nor holding where those arguments do.
-fn tried(s: &[u8], arity: usize, cells: &[u32; 680], notes: &mut [u64; 680]) -> TestOutcome
+fn tried(s: &[u8], arity: usize, cells: &Cells, notes: &mut [u64; 680]) -> TestOutcome
     requires { ⌜ (arity ≤ 8) × (length (now notes) ≡ 680) × Narrow (now cells) ⌝ }
     ensures { λ r. ⌜ ((b : ℕ) (rule : Patterns) → readRule arity (now (s .entry)) ≡ took b rule
         → outcomeOf r ≡ cellsOutcome (now (cells .entry)) rule) ⌝ }
@@ -67,7 +68,7 @@ pub fn answer_rules(
     s: &[u8],
     arity: usize,
     count: u8,
-    cells: &[u32; 680],
+    cells: &Cells,
     notes: &mut [u64; 680],
     starts: &Starts,
 ) -> Answer

@@ -7,6 +7,7 @@ use outcomes::TestOutcome;
 use outcomes::pair_outcome;
 use outcomes::place_outcome;
 use pairs::Name;
+use piece::Cells;
 use rows::Wanted;
 use rows::wants::record_wanted;
 use sheet::Ranges;
@@ -55,13 +56,7 @@ fn with_outcome(masks: Masks, kept: &Tables, code: u64, outcome: TestOutcome) ->
 }
 
 // The masks of a rule's place tests. Not a lacking place among those not known, nor a range that what stands there lies in.
-fn place_masks(
-    notes: &[u64; 680],
-    n: usize,
-    ranges: Ranges,
-    kept: &Tables,
-    cells: &[u32; 680],
-) -> Masks
+fn place_masks(notes: &[u64; 680], n: usize, ranges: Ranges, kept: &Tables, cells: &Cells) -> Masks
     requires { ⌜ (n ≤ 680) × (length (now notes) ≡ 680) × All Placed (notesIn (now notes) n) × Counted (now kept) ⌝ }
     ensures { λ r. ⌜ r
         ≡ afterPlaces (listedTests (now (kept .entry))) (now (cells .entry)) (ranges .low) (ranges .high)
@@ -86,7 +81,7 @@ fn place_masks(
 }
 
 // The masks with the test of a pair of places more.
-fn with_pair(masks: Masks, kept: &Tables, cells: &[u32; 680], p: usize, q: usize) -> Masks
+fn with_pair(masks: Masks, kept: &Tables, cells: &Cells, p: usize, q: usize) -> Masks
     requires { ⌜ Counted (now kept) × Narrow (now cells) × (p < 680) × (q < 680) ⌝ }
     ensures { λ r. ⌜ r
         ≡ withMade (listedTests (now (kept .entry))) masks (pairMade (now (cells .entry)) (pairCode p q)) ⌝ }
@@ -102,7 +97,7 @@ fn pairs_with(
     from: usize,
     spot: Spot,
     kept: &Tables,
-    cells: &[u32; 680],
+    cells: &Cells,
     masks: Masks,
 ) -> Masks
     requires { ⌜ (from ≤ n) × (n ≤ 680) × (spot .place < 680) × (length (now notes) ≡ 680) × All Placed (notesIn (now notes) n)
@@ -124,13 +119,7 @@ fn pairs_with(
 }
 
 // The masks with all pairs of a rule.
-fn pair_masks(
-    notes: &[u64; 680],
-    n: usize,
-    kept: &Tables,
-    cells: &[u32; 680],
-    masks: Masks,
-) -> Masks
+fn pair_masks(notes: &[u64; 680], n: usize, kept: &Tables, cells: &Cells, masks: Masks) -> Masks
     requires { ⌜ (n ≤ 680) × (length (now notes) ≡ 680) × All Placed (notesIn (now notes) n) × Counted (now kept)
         × Narrow (now cells) ⌝ }
     ensures { λ r. ⌜ r
@@ -155,7 +144,7 @@ fn pair_masks(
 
 // The masks of all tests of a rule with these notes. Not those of its place tests alone, nor a test that another rule has, nor a
 // contradicted test among those not known.
-pub fn rule_masks(notes: &[u64; 680], n: usize, kept: &Tables, cells: &[u32; 680]) -> Masks
+pub fn rule_masks(notes: &[u64; 680], n: usize, kept: &Tables, cells: &Cells) -> Masks
     requires { ⌜ (n ≤ 680) × (length (now notes) ≡ 680) × All Placed (notesIn (now notes) n) × Counted (now kept)
         × Narrow (now cells) ⌝ }
     ensures { λ r. ⌜ r

@@ -1,7 +1,7 @@
 -- A case takes exactly the terms whose codes lie in its range, and is narrower than another where its range is, so the codes of a
 -- term lead where the term does.
 use Prim.Native.Nat.{ℕ, _<_, _≤_}
-use mathlib.Core.Path.{_≡_, refl, ap, sym, subst}
+use mathlib.Core.Path.{_≡_, ap}
 use mathlib.Core.Bool.{false, _&&_, _||_}
 use mathlib.Core.Logic.{_⊎_, inl, inr}
 use mathlib.Core.List.{List}
@@ -15,10 +15,10 @@ use Rattle.basics.proofs.Sorted.{pair-before}
 use Rattle.terms.specs.Term.{Term, count, unknown, symbol, numbers, compound}
 use Rattle.terms.specs.RuleTests.{aSymbol, aNumber, aCompound}
 use Rattle.terms.specs.Filling.{WellFormed}
-use Rattle.terms.specs.Accepted.{Exact}
-use Rattle.codes.specs.views.Codes.{symbolCode, compoundCode, numberCode, unknownCode, termCode}
+use Rattle.codes.specs.views.Codes.{symbolCode, compoundCode, numberCode, highestCode, termLow, termHigh}
 use Rattle.codes.proofs.CodeOrder.{in-order, before, same-of-sort}
-use Rattle.codes.proofs.FitCodes.{over, symbol-fits, compound-fits, same-known}
+use Rattle.codes.proofs.FitCodes.{symbol-fits, compound-fits, same-known}
+use Rattle.codes.proofs.TermRuns.{ends-ordered}
 use Rattle.decision.specs.Cases.{Case, symbolCase, compoundCase, numbersCase, takes}
 use Rattle.decision.specs.Narrowest.{narrower}
 use Rattle.decision.specs.Node.{CaseEdge, leadsOr, follow}
@@ -27,46 +27,28 @@ use Rattle.decision.specs.views.CaseCodes.{caseLow, caseHigh}
 use Rattle.decision.proofs.cases.Best.{best-same}
 use Rattle.steps.specs.views.CodeSteps.{takesCodes, narrowerCodes, followCode}
 
--- The last code of a term: of a span that of its highest number.
-abbrev pub lastCode : Term → ℕ
-lastCode unknown = unknownCode
-lastCode (symbol a) = symbolCode a
-lastCode (numbers a b) = numberCode b
-lastCode (compound a ts) = compoundCode a (count ts)
-
-last-below : (t : Term) → WellFormed t → termCode t ≤ lastCode t
-last-below unknown ok = omega arith
-last-below (symbol a) ok = omega arith
-last-below (numbers a b) ok = omega (arith, ok .0)
-last-below (compound a ts) ok = omega arith
-
-last-exact : (t : Term) → Exact t → lastCode t ≡ termCode t
-last-exact unknown exact = refl
-last-exact (symbol a) exact = refl
-last-exact (numbers a b) exact = ap numberCode (sym exact)
-last-exact (compound a ts) exact = refl
-
 -- Codes that end behind a range do not lie in it.
 ends-behind : (first last low high : ℕ) → last < high → leb first low && leb high last ≡ false
 ends-behind first last low high h =
     same-truth (leb first low && leb high last) false (λ t. omega (arith, both-le first low high last .0 t .1, h)) (λ t. absurd t)
 
 -- A case takes a term exactly where its range holds the term's codes: where a want of the same fits the term.
-pub takes-codes : (c : Case) (t : Term) → CaseFields c → WellFormed t → takesCodes c (termCode t) (lastCode t) ≡ takes c t
-takes-codes (symbolCase a) unknown h ok = over (symbolCode a) (symbolCode a) unknownCode (omega arith)
+pub takes-codes : (c : Case) (t : Term) → CaseFields c → WellFormed t → takesCodes c (termLow t) (termHigh t) ≡ takes c t
+takes-codes (symbolCase a) unknown h ok = ends-behind (symbolCode a) (symbolCode a) (symbolCode 0) highestCode (omega (arith, h))
 takes-codes (symbolCase a) (symbol b) h ok = same-known _ (eqb a b) (symbol-fits (aSymbol a) b h ok)
 takes-codes (symbolCase a) (numbers b c) h ok =
     ends-behind (symbolCode a) (symbolCode a) (numberCode b) (numberCode c) (omega (arith, h))
 takes-codes (symbolCase a) (compound b ts) h ok =
     same-known _ false (compound-fits (aSymbol a) b ts h (ok .0) (ok .2))
 takes-codes (compoundCase a n) unknown h ok =
-    over (compoundCode a n) (compoundCode a n) unknownCode (omega (arith, h .0, h .1))
+    ends-behind (compoundCode a n) (compoundCode a n) (symbolCode 0) highestCode (omega (arith, h .0, h .1))
 takes-codes (compoundCase a n) (symbol b) h ok = same-known _ false (symbol-fits (aCompound a n) b h ok)
 takes-codes (compoundCase a n) (numbers b c) h ok =
     ends-behind (compoundCode a n) (compoundCode a n) (numberCode b) (numberCode c) (omega (arith, h .0, h .1))
 takes-codes (compoundCase a n) (compound b ts) h ok =
     same-known _ (eqb a b && eqb n (count ts)) (compound-fits (aCompound a n) b ts h (ok .0) (ok .2))
-takes-codes (numbersCase l u) unknown h ok = over (numberCode l) (numberCode u) unknownCode (omega (arith, h .1))
+takes-codes (numbersCase l u) unknown h ok =
+    ends-behind (numberCode l) (numberCode u) (symbolCode 0) highestCode (omega (arith, h .1))
 takes-codes (numbersCase l u) (symbol b) h ok = same-known _ false (symbol-fits (aNumber l u) b (h .0) ok)
 takes-codes (numbersCase l u) (numbers b c) h ok = λ i. in-order 0x3000000 l b i && in-order 0x3000000 c u i
 takes-codes (numbersCase l u) (compound b ts) h ok =
@@ -99,23 +81,15 @@ narrower-codes low high o (numbersCase l u) (compoundCase b m) f g h k = absurd 
 narrower-codes low high o (numbersCase l u) (numbersCase x y) f g h k =
     λ i. before 0x3000000 x l i || (same-of-sort 0x3000000 x l i && before 0x3000000 u y i)
 
--- So the codes of a term lead where the term does,
+-- So the codes of a term lead where the term does.
 pub follow-codes
     : (cs : List (CaseEdge ℕ)) (neither : ℕ) (t : Term) → All (λ (c : CaseEdge ℕ). CaseFields (c .case)) cs → WellFormed t
-    → followCode cs neither (termCode t) (lastCode t) ≡ follow cs neither t
+    → followCode cs neither (termLow t) (termHigh t) ≡ follow cs neither t
 follow-codes cs neither t h ok =
-    let low = termCode t in
-    let high = lastCode t in
+    let low = termLow t in
+    let high = termHigh t in
     let held : (c : Case) → T (takesCodes c low high) → HasCodes c low high =
     λ c k. both-le (caseLow c) low high (caseHigh c) .0 k in
     ap (leadsOr neither)
     (best-same (λ (c : CaseEdge ℕ). CaseFields (c .case)) (λ c f. takes-codes (c .case) t f ok)
-    (λ c d f g k m. narrower-codes low high (last-below t ok) (c .case) (d .case) f g (held (c .case) k) (held (d .case) m)) cs h)
-
--- and its one code does if its numbers are known exactly.
-pub follow-code
-    : (cs : List (CaseEdge ℕ)) (neither : ℕ) (t : Term) → All (λ (c : CaseEdge ℕ). CaseFields (c .case)) cs → WellFormed t
-    → Exact t → followCode cs neither (termCode t) (termCode t) ≡ follow cs neither t
-follow-code cs neither t h ok exact =
-    subst (λ (high : ℕ). followCode cs neither (termCode t) high ≡ follow cs neither t) (last-exact t exact)
-    (follow-codes cs neither t h ok)
+    (λ c d f g k m. narrower-codes low high (ends-ordered t ok) (c .case) (d .case) f g (held (c .case) k) (held (d .case) m)) cs h)

@@ -1,4 +1,4 @@
--- What happens at a node, by the codes at its places and by its record.
+-- What happens at a node, by the runs at its places and by its record.
 use Prim.Native.Nat.{ℕ, _+_, _≤_}
 use mathlib.Core.Path.{_≡_, refl, sym, ap, subst, _∙_}
 use mathlib.Core.Bool.{Bool, true, false, cond}
@@ -10,7 +10,7 @@ use lib.ListN.{length, drop, length-drop}
 use lib.Seq.{drop-drop}
 use Rattle.records.specs.Reading.{Reading, took, refused, ask, after}
 use Rattle.terms.specs.Outcome.{Outcome}
-use Rattle.codes.specs.views.Codes.{unknownCode}
+use Rattle.codes.specs.views.Codes.{lowOf, highOf, unknownRun}
 use Rattle.outcomes.proofs.TwoTests.{one-is, none-is}
 use Rattle.decision.specs.Key.{failNode}
 use Rattle.decision.specs.Node.{Node, CaseEdge, end, switch, pairNode}
@@ -27,7 +27,7 @@ use Rattle.node_check.proofs.CopiedNodes.{cases-there}
 use Rattle.steps.specs.declared.Led.{Led}
 use Rattle.steps.specs.declared.Led.the-variants.{To, Refused}
 use Rattle.steps.specs.declared.Step.the-variants.{GoTo, NoWay}
-use Rattle.steps.specs.views.CodeSteps.{followCode, codeStep, codesStep, stepMade}
+use Rattle.steps.specs.views.CodeSteps.{followCode, runStep, runsStep, stepMade}
 use Rattle.graph.proofs.ByKinds.{node-read-by}
 
 -- The node that the cases of a switch lead to.
@@ -36,24 +36,26 @@ ledTo (To n) = n
 ledTo (Refused q) = 0
 
 -- A switch whose place is lacking, unknown or known.
-module _ (cs : List (CaseEdge ℕ)) (neither unknownEdge code test : ℕ) where
-  pub switch-lacking : eqb code 0 ≡ true → NoWay ≡ stepMade test (codeStep cs neither unknownEdge code)
+module _ (cs : List (CaseEdge ℕ)) (neither unknownEdge run test : ℕ) where
+  pub switch-lacking : eqb run 0 ≡ true → NoWay ≡ stepMade test (runStep cs neither unknownEdge run)
   switch-lacking e = rw e
 
   pub switch-on
-      : (b : Bool) → eqb code 0 ≡ false → eqb code unknownCode ≡ b
-      → GoTo (cond b unknownEdge (followCode cs neither code code)) test ≡ stepMade test (codeStep cs neither unknownEdge code)
+      : (b : Bool) → eqb run 0 ≡ false → eqb run unknownRun ≡ b
+      → GoTo (cond b unknownEdge (followCode cs neither (lowOf run) (highOf run))) test
+      ≡ stepMade test (runStep cs neither unknownEdge run)
   switch-on b e f =
-      λ i. stepMade test (cond (sym e i) noWay (goTo (cond (sym f i) unknownEdge (followCode cs neither code code))))
+      λ i. stepMade test
+      (cond (sym e i) noWay (goTo (cond (sym f i) unknownEdge (followCode cs neither (lowOf run) (highOf run)))))
 
 -- A pair of which a place is lacking, or none.
 module _ (a b differ other test : ℕ) (outcome : Outcome) where
-  pub pair-lacking : (a ≡ 0) ⊎ (eqb b 0 ≡ true) → NoWay ≡ stepMade test (codesStep differ other a b outcome)
+  pub pair-lacking : (a ≡ 0) ⊎ (eqb b 0 ≡ true) → NoWay ≡ stepMade test (runsStep differ other a b outcome)
   pair-lacking h = rw (one-is a b 0 h)
 
   pub pair-there
       : {o : Outcome} → (a ≡ 0 → ⊥) → eqb b 0 ≡ false → o ≡ outcome
-      → stepMade test (byComparison differ other o) ≡ stepMade test (codesStep differ other a b outcome)
+      → stepMade test (byComparison differ other o) ≡ stepMade test (runsStep differ other a b outcome)
   pair-there h k e = rw (none-is a b 0 h k) (ap (λ (x : Outcome). stepMade test (byComparison differ other x)) e)
 
 -- The node of a record that s begins with.

@@ -3,6 +3,8 @@ use crate::Led;
 use crate::Step;
 use crate::cases::find_case;
 use codes::UNKNOWN;
+use codes::high_of;
+use codes::low_of;
 use graph::NodeHead;
 use graph::NodeRecord;
 use graph::node_head;
@@ -10,6 +12,7 @@ use graph::node_refusal;
 use outcomes::TestOutcome;
 use outcomes::look;
 use outcomes::pair_outcome;
+use piece::Cells;
 ghost use Prim.Native.Nat.{_≤_, _<_};
 ghost use mathlib.Core.Path.{_≡_};
 ghost use mathlib.Core.List.{[]};
@@ -22,7 +25,7 @@ ghost use Rattle.decision.specs.Key.{failNode};
 ghost use Rattle.decision.specs.Node.{end};
 ghost use Rattle.graph.specs.ReadGraph.{readCases, readRecord};
 ghost use Rattle.graph.specs.views.Rewriting.{IsTook, readOr};
-ghost use Rattle.steps.specs.views.CodeSteps.{codeStep, codesStep, stepMade, nodeStep, CodesAscend, NodeStands};
+ghost use Rattle.steps.specs.views.CodeSteps.{runStep, runsStep, stepMade, nodeStep, CodesAscend, NodeStands};
 
 // A test as one number: the places of a pair, or one place twice.
 fn test_code(p: u16, q: u16) -> u32
@@ -31,7 +34,7 @@ fn test_code(p: u16, q: u16) -> u32
     (p as u32) * 0x1_0000 + (q as u32)
 }
 
-// The step at a switch, whose cases, so many, begin at a position of the graph: code 0 says that the piece lacks the place.
+// The step at a switch, whose cases, so many, begin at a position of the graph: run 0 says that the piece lacks the place.
 fn switch_step(
     graph: &[u8],
     start: usize,
@@ -39,24 +42,24 @@ fn switch_step(
     tested: u16,
     neither: u16,
     unknown: u16,
-    cells: &[u32; 680],
+    cells: &Cells,
 ) -> Step
     requires { ⌜ (start ≤ length (now graph)) × IsTook (readCases count (drop start (now graph))) × (tested < 680) ⌝ }
     requires { ⌜ CodesAscend (readOr [] (readCases count (drop start (now graph)))) ⌝ }
     ensures { λ r. ⌜ r
         ≡ stepMade (pairCode tested tested)
-        (codeStep (readOr [] (readCases count (drop start (now (graph .entry))))) neither unknown
+        (runStep (readOr [] (readCases count (drop start (now (graph .entry))))) neither unknown
         (look (now (cells .entry)) tested)) ⌝ }
 {
-    let code = look(cells, tested as usize);
-    if code == 0 {
+    let run = look(cells, tested as usize);
+    if run == 0 {
         return Step::NoWay;
     }
     let test = test_code(tested, tested);
-    if code == UNKNOWN {
+    if run == UNKNOWN {
         return Step::GoTo(unknown, test);
     }
-    let led = find_case(graph, start, count, code, code, neither);
+    let led = find_case(graph, start, count, low_of(run), high_of(run), neither);
     match led {
         Led::To(node) => Step::GoTo(node, test),
         Led::Refused(q) => Step::Refused(q),
@@ -64,11 +67,11 @@ fn switch_step(
 }
 
 // The step at a pair: by differ only where its test is contradicted, and no way where a place is lacking.
-fn pair_step(cells: &[u32; 680], p: u16, q: u16, differ: u16, other: u16) -> Step
+fn pair_step(cells: &Cells, p: u16, q: u16, differ: u16, other: u16) -> Step
     requires { ⌜ (p < 680) × (q < 680) × Narrow (now cells) ⌝ }
     ensures { λ r. ⌜ r
         ≡ stepMade (pairCode p q)
-        (codesStep differ other (look (now (cells .entry)) p) (look (now (cells .entry)) q)
+        (runsStep differ other (look (now (cells .entry)) p) (look (now (cells .entry)) q)
         (pairCells (now (cells .entry)) p q)) ⌝ }
 {
     if look(cells, p as usize) == 0 {
@@ -88,7 +91,7 @@ fn pair_step(cells: &[u32; 680], p: u16, q: u16, differ: u16, other: u16) -> Ste
 
 // The step at the node whose record, which is whole, begins at a position of the graph. Not by neither where the place is
 // unknown, nor by other where a place is lacking, nor with the test of another node.
-pub fn step_at(graph: &[u8], at: usize, cells: &[u32; 680]) -> Step
+pub fn step_at(graph: &[u8], at: usize, cells: &Cells) -> Step
     requires { ⌜ NodeStands (now graph) at × Narrow (now cells) ⌝ }
     ensures { λ r. ⌜ r ≡ nodeStep (now (cells .entry)) (readOr (end failNode) (readRecord (drop at (now (graph .entry))))) ⌝ }
 {

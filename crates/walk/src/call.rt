@@ -9,6 +9,7 @@ use graph_check::index_graph;
 use leaves::waits::suspend_waits;
 use path::Followed;
 use path::follow_path;
+use piece::Cells;
 use piece::PieceCheck;
 use plain::Answer;
 use rule_masks::kept::keep_tests;
@@ -39,7 +40,7 @@ fn walk_nodes(
     kept: &Tables,
     sizes: Sizes,
     notes: &mut [u64; 680],
-    cells: &[u32; 680],
+    cells: &Cells,
 ) -> Walked
     requires { ⌜ (length (now starts) ≡ 1024) × Narrow (now cells) × Begins (now s) (sizes .arity) (sizes .rules) (now kept)
         × (length (now notes) ≡ 680) ⌝ }
@@ -79,7 +80,7 @@ pub fn walk_checked(
     kept: &Tables,
     sizes: Sizes,
     notes: &mut [u64; 680],
-    cells: &[u32; 680],
+    cells: &Cells,
 ) -> Walked
     requires { ⌜ (length (now starts) ≡ 1024) × SomePiece (now cells) (sizes .arity)
         × Begins (drop 3 (now sheet)) (sizes .arity) (sizes .rules) (now kept) × (length (now notes) ≡ 680) ⌝ }
@@ -99,7 +100,7 @@ fn walk_graph(
     words: &[u64; 11],
     codes: &[u32; 65],
     sizes: Sizes,
-    cells: &[u32; 680],
+    cells: &Cells,
 ) -> Walked
     requires { ⌜ Arrays (now words) (now codes) (sizes .pairs) × SomePiece (now cells) (sizes .arity) ⌝ }
     requires { ⌜ AcceptedTests (now sheet) (now words) (now codes) (sizes .arity) (sizes .rules) (sizes .pairs) ⌝ }
@@ -149,7 +150,7 @@ fn walk_piece(
         (sizes .rules) (sizes .pairs))
         → walkedReading r ≡ pieceReply (t .read .sheet) (now (graph .entry)) (now (piece .entry))) ⌝ }
 {
-    let mut cells = [0u32; 680];
+    let mut cells = [0u64; 680];
     let read = piece::read_piece(piece, &mut cells);
     match read {
         PieceCheck::Refused(q) => Walked::Refused(q),

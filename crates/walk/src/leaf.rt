@@ -5,6 +5,7 @@ use crate::Walked;
 use leaves::begins::begin_of;
 use leaves::rule::at_rule;
 use leaves::rule::notes_at;
+use piece::Cells;
 use sheet::Took;
 use tables::Tables;
 ghost use mathlib.Core.Path.{_≡_};
@@ -31,7 +32,7 @@ pub fn at_execute(
     kept: &Tables,
     sizes: Sizes,
     notes: &mut [u64; 680],
-    cells: &[u32; 680],
+    cells: &Cells,
 ) -> Walked
     requires { ⌜ RuleRead (now s) (sizes .arity) (sizes .rules) rule × Narrow (now cells) × Counted (now kept)
         × Begins (now s) (sizes .arity) (sizes .rules) (now kept) × (length (now notes) ≡ 680) ⌝ }

@@ -27,7 +27,7 @@ pub fn walk_first(
     ensures { λ r. ⌜ firstOf r ≡ firstReply (walkReply (now (sheet .entry)) (now (graph .entry))) (now (input .entry)) ⌝ }
     ensures { λ r. ⌜ PieceWithin (length (now (input .entry))) r × (length (now (notes .exit)) ≡ 680) ⌝ }
 {
-    let mut cells = [0u32; 680];
+    let mut cells = [0u64; 680];
     let prefix = read_prefix(input, &mut cells);
     match prefix {
         Prefix::Refused(q) => First::Unread(q),

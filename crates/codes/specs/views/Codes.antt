@@ -1,6 +1,6 @@
--- A number for each term, but for its arguments, and what a place test wants as a run of such numbers: the lowest and the highest
--- code of a term that it holds at. The codes of symbols, compounds and numbers ascend in this order, as the cases of a switch do.
-use Prim.Native.Nat.{ℕ, _+_, _*_, _≤_}
+-- A number for each term, but for its arguments. What stands at a place and what a place test wants are runs of such numbers, each
+-- with a lowest and a highest code. The codes of symbols, compounds and numbers ascend in this order, as the cases of a switch do.
+use Prim.Native.Nat.{ℕ, _+_, _-_, _*_, _/_, _%_, _≤_}
 use Rattle.terms.specs.Term.{Term, count, unknown, symbol, numbers, compound, Wide}
 use Rattle.terms.specs.RuleTests.{Want, aSymbol, aNumber, aCompound}
 
@@ -15,15 +15,40 @@ compoundCode a n = 0x2000000 + a * 256 + n
 abbrev pub numberCode : ℕ → ℕ
 numberCode a = 0x3000000 + a
 
-abbrev pub unknownCode : ℕ
-unknownCode = 0x4000000
+-- 24 bits are kept for a number.
+abbrev pub highestCode : ℕ
+highestCode = 0x3ffffff
 
--- A number that is known exactly has the code of either end.
-abbrev pub termCode : Term → ℕ
-termCode unknown = unknownCode
-termCode (symbol a) = symbolCode a
-termCode (numbers a b) = numberCode a
-termCode (compound a ts) = compoundCode a (count ts)
+-- The codes that what is known of a term allows, but for its arguments: a symbol, a compound and a number have one, "a number known
+-- to lie between them" has those from its low to its high, and an unknown all, since anything can stand there.
+abbrev pub termLow : Term → ℕ
+termLow unknown = symbolCode 0
+termLow (symbol a) = symbolCode a
+termLow (numbers a b) = numberCode a
+termLow (compound a ts) = compoundCode a (count ts)
+
+abbrev pub termHigh : Term → ℕ
+termHigh unknown = highestCode
+termHigh (symbol a) = symbolCode a
+termHigh (numbers a b) = numberCode b
+termHigh (compound a ts) = compoundCode a (count ts)
+
+-- A run of codes as one number: its lowest code in 32 bits, and above them how far it goes on, so that a single code is its own
+-- run.
+abbrev pub runOf : ℕ → ℕ → ℕ
+runOf low high = (high - low) * 0x100000000 + low
+
+abbrev pub lowOf : ℕ → ℕ
+lowOf run = run % 0x100000000
+
+abbrev pub highOf : ℕ → ℕ
+highOf run = (run % 0x100000000 + run / 0x100000000) % 0x100000000
+
+abbrev pub termRun : Term → ℕ
+termRun t = runOf (termLow t) (termHigh t)
+
+abbrev pub unknownRun : ℕ
+unknownRun = runOf (symbolCode 0) highestCode
 
 abbrev pub wantLow : Want → ℕ
 wantLow (aSymbol a) = symbolCode a

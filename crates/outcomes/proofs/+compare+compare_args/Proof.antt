@@ -2,22 +2,24 @@
 -- of pairs along a row: a compound has at most 4 arguments, so 6 for each level and 1 for each pair still to come are
 -- enough.
 use Prim.Native.Nat.{ℕ, suc, _+_, _*_, _≤_, _<_}
-use mathlib.Core.Path.{_≡_, sym, _∙_}
+use mathlib.Core.Path.{_≡_, sym, subst, _∙_}
 use mathlib.Core.List.{List}
 use mathlib.Core.Logic.{inl, inr, ⊎-elim}
 use native.Mathlib.Omega.{arith}
-use lib.ListN.{getD}
 use denote.Ref.{now}
+use lib.Dec.{T}
 use borrow.Author.Needs.{needs}
-use borrow.Author.Tests.{eqb-false}
+use borrow.Author.Tests.{eqb-false, not-true, not-false}
 use borrow.Fn.Kinds.{In}
 use borrow.Fn.PlainCycle.{Measures, is, falls, and}
 use Rattle.places.specs.Numbering.{stride}
 use Rattle.places.proofs.step.Reads as step-reads
 use Rattle.terms.specs.Outcome.{Outcome}
+use Rattle.codes.proofs.high_of.Reads as high-of-reads
+use Rattle.codes.proofs.low_of.Reads as low-of-reads
 use Rattle.piece.proofs.Rooms.{arguments-room, step-of}
-use Rattle.outcomes.specs.views.CompareCells.{arityOf, compareCodes, compareAt}
-use Rattle.outcomes.proofs.Comparing.{one-unknown, other-codes, same-leaf, same-compound, a-compound, compareBelow, by-codes, no-level, some-level, no-pairs, first-pair}
+use Rattle.outcomes.specs.views.CompareCells.{isCompound, arityOf, compareRuns, compareAt, compareCells}
+use Rattle.outcomes.proofs.Comparing.{none-common, several-codes, same-leaf, same-compound, a-compound, compareBelow, by-runs, no-level, some-level, no-pairs, first-pair}
 use Rattle.outcomes.proofs.both.Reads as both-reads
 use Rattle.outcomes.proofs.compare.Reads as compare
 use Rattle.outcomes.proofs.compare.Kinds as compare-kinds
@@ -48,7 +50,14 @@ abbrev compare-args-below : ℕ → In 1 compare-args-kinds.ps
 compare-args-below t = and 1 compare-args-kinds.ps (falls 1 compare-args-kinds.ps _<_ μ-compare-args t) compare-args.Pre
 
 abbrev compare-calls : ℕ → compare-lts.Claims
-compare-calls t = (compare-args-below t, compare-args.Post)
+compare-calls t = (
+  low-of-reads.Asked,
+  low-of-reads.Learnt,
+  high-of-reads.Asked,
+  high-of-reads.Learnt,
+  compare-args-below t,
+  compare-args.Post,
+)
 
 abbrev compare-args-calls : ℕ → compare-args-lts.Claims
 compare-args-calls t = (
@@ -63,123 +72,152 @@ compare-args-calls t = (
 )
 
 module _ {t : ℕ} where
-  -- Where `compare` begins: what the arguments say, and that the codes decide else.
-  module _ (c : compare-lts.Start (compare-calls t) (compare-at t) compare.Post) where
-    abbrev cells : List ℕ
-    cells = now (c .args .cells)
+  -- Where the ends of both runs are known: what the arguments say, and that the ends decide else.
+  module _ (c : compare-lts.After-high-of2 (compare-calls t) (compare-at t) compare.Post) where
+    abbrev begun : compare-lts.Start (compare-calls t) (compare-at t) compare.Post
+    begun = c .before .before .before .before
 
-    abbrev code : ℕ
-    code = getD cells (c .args .p) 0
+    abbrev low : ℕ
+    low = c .before .before .before .low-of .result
 
-    abbrev code-other : ℕ
-    code-other = getD cells (c .args .q) 0
+    abbrev high : ℕ
+    high = c .before .before .high-of .result
+
+    abbrev low-other : ℕ
+    low-other = c .before .low-of2 .result
+
+    abbrev high-other : ℕ
+    high-other = c .high-of2 .result
 
     abbrev arguments : Outcome
-    arguments = compareBelow cells (c .args .below) (c .args .other) (c .args .p) (c .args .q)
+    arguments =
+        let a = begun .args in compareBelow (now (a .cells)) (arityOf low) (a .below) (a .other) (a .p) (a .q)
 
-    codes-decide
-        : compareAt cells (c .args .below) (c .args .other) (c .args .p) (c .args .q) ≡ compareCodes code code-other arguments
-    codes-decide = by-codes cells (c .args .below) (c .args .other) (c .args .p) (c .args .q)
+    ends-decide
+        : let a = begun .args in
+        compareAt (now (a .cells)) (a .below) (a .other) (a .p) (a .q) (a .a) (a .b)
+        ≡ compareRuns low high low-other high-other arguments
+    ends-decide =
+        let a = begun .args in
+        let first = c .before .before .before .low-of .ensures in
+        by-runs (now (a .cells)) (a .below) (a .other) (a .p) (a .q) (a .a) (a .b)
+        ∙ (λ i. compareRuns (sym first i) (sym (c .before .before .high-of .ensures) i) (sym (c .before .low-of2 .ensures) i)
+        (sym (c .high-of2 .ensures) i) (compareBelow (now (a .cells)) (arityOf (sym first i)) (a .below) (a .other) (a .p) (a .q)))
 
-  -- Where both codes are the same compound's, the arguments decide.
-  module _ (c : compare-lts.Else5 (compare-calls t) (compare-at t) compare.Post) where
-    abbrev compound-start : compare-lts.Start (compare-calls t) (compare-at t) compare.Post
-    compound-start = c .before .before .before .before .before .before .before
+  -- Where both have the same compound's code alone, the arguments decide.
+  module _ (c : compare-lts.Else6 (compare-calls t) (compare-at t) compare.Post) where
+    abbrev ends : compare-lts.After-high-of2 (compare-calls t) (compare-at t) compare.Post
+    ends = c .before .before .before .before .before .before
 
-    arguments-decide : compareAt (cells compound-start) (compound-start .args .below) (compound-start .args .other) (compound-start .args .p) (compound-start .args .q) ≡ arguments compound-start
+    arguments-decide
+        : let a = begun ends .args in
+        compareAt (now (a .cells)) (a .below) (a .other) (a .p) (a .q) (a .a) (a .b) ≡ arguments ends
     arguments-decide =
-        let m = compound-start in
-        codes-decide m
-        ∙ same-compound (code m) (code-other m) (arguments m) (c .before .before .before .before .if1 .left) (c .before .before .before .if2 .left) (c .before .before .if3 .left)
-        (c .before .if4 .left) (c .if5 .left)
+        ends-decide ends
+        ∙ same-compound (low ends) (high ends) (low-other ends) (high-other ends) (arguments ends)
+        (c .before .before .before .before .before .if1 .left) (c .before .before .before .before .if2 .left)
+        (c .before .before .before .if3 .left) (not-false _ (c .before .before .if4 .left)) (c .before .if5 .left) (c .if6 .left)
 
 compare-returns : (t : ℕ) → compare-lts.Need-returns (compare-calls t) (compare-at t) compare.Post
 compare-returns t c =
-    let m = c .before .before .before in
-    one-unknown (code m) (code-other m) (arguments m) (⊎-elim (λ w. inl (w .taken)) (λ w. inr (w .1 .taken)) (c .if1 .came)) ∙ sym (codes-decide m)
+    let m = c .before in
+    none-common (low m) (high m) (low-other m) (high-other m) (arguments m)
+    (⊎-elim (λ w. inl (w .taken)) (λ w. inr (w .1 .taken)) (c .if1 .came))
+    ∙ sym (ends-decide m)
 
 compare-returns-2 : (t : ℕ) → compare-lts.Need-returns-2 (compare-calls t) (compare-at t) compare.Post
 compare-returns-2 t c =
-    let m = c .before .before .before .before .before in
-    other-codes (code m) (code-other m) (arguments m) (c .before .before .if1 .left) (c .before .if2 .left) (c .if3 .taken)
-    ∙ sym (codes-decide m)
+    let m = c .before .before .before in
+    several-codes (low m) (high m) (low-other m) (high-other m) (arguments m) (c .before .before .if1 .left) (c .before .if2 .left)
+    (⊎-elim (λ w. inl (w .taken)) (λ w. inr (not-true _ (w .1 .taken))) (c .if3 .came))
+    ∙ sym (ends-decide m)
 
 compare-returns-3 : (t : ℕ) → compare-lts.Need-returns-3 (compare-calls t) (compare-at t) compare.Post
 compare-returns-3 t c =
-    let m = c .before .before .before .before .before .before in
-    same-leaf (code m) (code-other m) (arguments m) (c .before .before .before .if1 .left) (c .before .before .if2 .left) (c .before .if3 .left)
-    (⊎-elim (λ w. inl (w .taken)) (λ w. inr (w .1 .taken)) (c .if4 .came))
-    ∙ sym (codes-decide m)
+    let m = c .before .before .before .before .before in
+    same-leaf (low m) (high m) (low-other m) (high-other m) (arguments m) (c .before .before .before .before .if1 .left)
+    (c .before .before .before .if2 .left) (c .before .before .if3 .left) (not-false _ (c .before .if4 .left))
+    (⊎-elim (λ w. inl (w .taken)) (λ w. inr (w .1 .taken)) (c .if5 .came))
+    ∙ sym (ends-decide m)
 
 compare-returns-4 : (t : ℕ) → compare-lts.Need-returns-4 (compare-calls t) (compare-at t) compare.Post
 compare-returns-4 t c =
-    let a = compound-start (c .before) .args in
+    let m = ends (c .before) in
+    let a = begun m .args in
     sym
     (arguments-decide (c .before)
-    ∙ no-level (now (a .cells)) (a .below) (a .other) (a .p) (a .q)
-    (⊎-elim (λ w. inl (w .taken)) (λ w. inr (w .1 .taken)) (c .if6 .came)))
+    ∙ no-level (now (a .cells)) (arityOf (low m)) (a .below) (a .other) (a .p) (a .q)
+    (⊎-elim (λ w. inl (w .taken)) (λ w. inr (w .1 .taken)) (c .if7 .came)))
 
 compare-sub-compare-args-2 : (t : ℕ) → compare-lts.Need-sub-compare-args-2 (compare-calls t) (compare-at t) compare.Post
 compare-sub-compare-args-2 t c =
-    omega (arith, eqb-false (compound-start (c .before .before) .args .other) 0 (c .if7 .left))
+    omega (arith, eqb-false (begun (ends (c .before .before)) .args .other) 0 (c .if8 .left))
 
 compare-compare-args-requires : (t : ℕ) → compare-lts.Need-compare-args-requires (compare-calls t) (compare-at t) compare.Post
 compare-compare-args-requires t c κs =
-    let m = compound-start (c .before .before) in
-    let narrow = m .pre .1 .2 in
-    let most : arityOf (code m) ≤ 4 = narrow (m .args .p) (a-compound (code m) (c .before .before .before .if4 .left) (c .before .before .if5 .left)) in
-    let room = arguments-room (m .args .below) _ (c .before .if6 .left) most in
-    let room-other = arguments-room (m .args .other) _ (eqb-false _ _ (c .if7 .left)) most in
-    (omega arith, (record { levels = omega arith; places = omega arith }, record { levels = omega arith; places = omega arith }, narrow))
+    let m = ends (c .before .before) in
+    let a = begun m .args in
+    let inner = a-compound (low m) (c .before .before .before .if5 .left) (c .before .before .if6 .left) in
+    let most : arityOf (low m) ≤ 4 =
+    subst (λ (k : ℕ). T (isCompound k) → arityOf k ≤ 4) (sym (m .before .before .before .low-of .ensures)) (begun m .pre .1 .3) inner in
+    let room = arguments-room (a .below) _ (c .before .if7 .left) most in
+    let room-other = arguments-room (a .other) _ (eqb-false _ _ (c .if8 .left)) most in
+    (omega arith, (record { levels = omega arith; places = omega arith }, record { levels = omega arith; places = omega arith }, begun m .pre .1 .2))
 
 compare-returns-5 : (t : ℕ) → compare-lts.Need-returns-5 (compare-calls t) (compare-at t) compare.Post
 compare-returns-5 t c =
-    let a = compound-start (c .before .before .before) .args in
+    let m = ends (c .before .before .before) in
+    let a = begun m .args in
     c .compare-args .ensures
     ∙ sym
     (arguments-decide (c .before .before .before)
-    ∙ some-level (now (a .cells)) (a .below) (a .other) (a .p) (a .q) (c .before .before .if6 .left) (c .before .if7 .left))
+    ∙ some-level (now (a .cells)) (arityOf (low m)) (a .below) (a .other) (a .p) (a .q) (c .before .before .if7 .left) (c .before .if8 .left))
 
 compare-args-returns : (t : ℕ) → compare-args-lts.Need-returns (compare-args-calls t) (compare-args-at t) compare-args.Post
 compare-args-returns t c =
     let a = c .before .args in
-    no-pairs (compareAt (now (a .cells)) (a .below) (a .other)) (stride (suc (a .below))) (stride (suc (a .other))) (a .n)
+    no-pairs (compareCells (now (a .cells)) (a .below) (a .other)) (stride (suc (a .below))) (stride (suc (a .other))) (a .n)
     (a .p) (a .q) (c .if1 .taken)
 
 compare-args-compare-requires : (t : ℕ) → compare-args-lts.Need-compare-requires (compare-args-calls t) (compare-args-at t) compare-args.Post
 compare-args-compare-requires t c κs =
-    let a = c .before .args in
-    let room = row-room (a .n) (stride (suc (a .below))) (c .if1 .left) in
-    let room-other = row-room (a .n) (stride (suc (a .other))) (c .if1 .left) in
-    (omega arith, (record { levels = omega arith; places = omega arith }, record { levels = omega arith; places = omega arith }, c .before .pre .1 .2))
+    let m = c .before .before in
+    let a = m .before .args in
+    let narrow = m .before .pre .1 .2 in
+    let room = row-room (a .n) (stride (suc (a .below))) (m .if1 .left) in
+    let room-other = row-room (a .n) (stride (suc (a .other))) (m .if1 .left) in
+    (omega arith, (record { levels = omega arith; places = omega arith }, record { levels = omega arith; places = omega arith }, narrow, narrow (a .p)))
 
 compare-args-add-next-p : (t : ℕ) → compare-args-lts.Need-add-next-p (compare-args-calls t) (compare-args-at t) compare-args.Post
 compare-args-add-next-p t c =
-    let a = c .before .before .before .args in
-    let room = row-room (a .n) (stride (suc (a .below))) (c .before .before .if1 .left) in
+    let m = c .before .before .before .before in
+    let a = m .before .args in
+    let room = row-room (a .n) (stride (suc (a .below))) (m .if1 .left) in
     let step = step-of (a .below) (search needs) (c .step .ensures) in omega arith
 
 compare-args-add-next-q : (t : ℕ) → compare-args-lts.Need-add-next-q (compare-args-calls t) (compare-args-at t) compare-args.Post
 compare-args-add-next-q t c =
-    let a = c .before .before .before .before .args in
-    let room = row-room (a .n) (stride (suc (a .other))) (c .before .before .before .if1 .left) in
+    let m = c .before .before .before .before .before in
+    let a = m .before .args in
+    let room = row-room (a .n) (stride (suc (a .other))) (m .if1 .left) in
     let step = step-of (a .other) (search needs) (c .step2 .ensures) in omega arith
 
 compare-args-compare-args-requires : (t : ℕ) → compare-args-lts.Need-compare-args-requires (compare-args-calls t) (compare-args-at t) compare-args.Post
 compare-args-compare-args-requires t c κs =
-    let a = c .before .before .before .before .args in
-    let some = c .before .before .before .if1 .left in
-    let room = row-room (a .n) (stride (suc (a .below))) some in
-    let room-other = row-room (a .n) (stride (suc (a .other))) some in
+    let m = c .before .before .before .before .before in
+    let a = m .before .args in
+    let room = row-room (a .n) (stride (suc (a .below))) (m .if1 .left) in
+    let room-other = row-room (a .n) (stride (suc (a .other))) (m .if1 .left) in
     let step = step-of (a .below) (search needs) (c .before .step .ensures) in
     let step-other = step-of (a .other) (search needs) (c .step2 .ensures) in
-    (omega arith, (record { levels = omega arith; places = omega arith }, record { levels = omega arith; places = omega arith }, c .before .before .before .before .pre .1 .2))
+    (omega arith, (record { levels = omega arith; places = omega arith }, record { levels = omega arith; places = omega arith }, m .before .pre .1 .2))
 
 compare-args-returns-2 : (t : ℕ) → compare-args-lts.Need-returns-2 (compare-args-calls t) (compare-args-at t) compare-args.Post
 compare-args-returns-2 t c =
-    let a = c .before .before .before .before .before .before .args in
-    first-pair (compareAt (now (a .cells)) (a .below) (a .other)) (stride (suc (a .below))) (stride (suc (a .other))) (a .n)
-    (a .p) (a .q) (c .before .before .before .before .before .if1 .left) (c .both .ensures) (c .before .before .before .before .compare .ensures)
+    let m = c .before .before .before .before .before .before .before in
+    let a = m .before .args in
+    first-pair (compareCells (now (a .cells)) (a .below) (a .other)) (stride (suc (a .below))) (stride (suc (a .other))) (a .n)
+    (a .p) (a .q) (m .if1 .left) (c .both .ensures) (c .before .before .before .before .compare .ensures)
     (step-of (a .below) (search needs) (c .before .before .before .step .ensures))
     (step-of (a .other) (search needs) (c .before .before .step2 .ensures)) (c .before .compare-args .ensures)
 
@@ -187,10 +225,10 @@ pub +compare+compare-args-spec : {M : Type 1} → statement M
 +compare+compare-args-spec = close μ-compare μ-compare-args (λ t. compare-lts.spec (compare-calls t)
     (compare-at t)
     compare.Post
-    (λ c. search needs)
-    (λ c. search needs)
-    (λ c. search needs)
-    (λ c. search needs)
+    (λ c κs. search needs)
+    (λ c κs. search needs)
+    (λ c κs. search needs)
+    (λ c κs. search needs)
     (compare-returns t)
     (compare-returns-2 t)
     (compare-returns-3 t)
@@ -206,6 +244,10 @@ pub +compare+compare-args-spec : {M : Type 1} → statement M
     (compare-args-at t)
     compare-args.Post
     (compare-args-returns t)
+    (λ c. search needs)
+    (λ c. search needs)
+    (λ c. search needs)
+    (λ c. search needs)
     (compare-args-compare-requires t)
     (λ c. search needs)
     (λ c κs. search needs)

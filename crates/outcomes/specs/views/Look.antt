@@ -5,7 +5,7 @@ use mathlib.Core.List.{List}
 use lib.ListN.{getD}
 use lib.Dec.{eqb}
 use Rattle.places.specs.Numbering.{parentAt}
-use Rattle.codes.specs.views.Codes.{unknownCode}
+use Rattle.codes.specs.views.Codes.{unknownRun}
 
 -- The cell of the nearest place that has one, of p and the places above it, so many in all; 0 where none has. The
 -- parents are those of the table, 680 where there is none.
@@ -19,5 +19,5 @@ nearest (suc k) cells p =
 abbrev pub look : List ℕ → ℕ → ℕ
 look cells p =
     cond (eqb (getD cells p 0) 0)
-    (cond (eqb (nearest 3 cells (parentAt p)) unknownCode) unknownCode 0)
+    (cond (eqb (nearest 3 cells (parentAt p)) unknownRun) unknownRun 0)
     (getD cells p 0)

@@ -10,6 +10,7 @@ use borrow.Author.Needs.{needs}
 use borrow.Author.Tests.{ltb-true, ltb-false}
 use Rattle.places.specs.Numbering.{stride}
 use Rattle.records.specs.Reading.{took, refused}
+use Rattle.codes.specs.views.Codes.{runOf}
 use Rattle.records.proofs.RowSoFar.{row-begun, row-ended}
 use Rattle.piece.specs.views.TermRecord.{headRefusal}
 use Rattle.piece.proofs.Rooms.{arguments-room}
@@ -46,23 +47,23 @@ term-returns-3 t c =
     (⊎-elim (λ w. inl (w .taken)) (λ w. inr (ltb-true _ _ (w .1 .taken))) (c .if2 .came))
 
 term-sub-terms : (t : ℕ) → term-lts.Need-sub-terms (term-calls t) (term-at t) term.Post
-term-sub-terms t c = omega (arith, compound-there (c .before .before .before .before))
+term-sub-terms t c = omega (arith, compound-there (c .before .before .before .before .before))
 
 term-part-terms-start : (t : ℕ) → term-lts.Need-part-terms-start (term-calls t) (term-at t) term.Post
-term-part-terms-start t c = omega (arith, compound-there (c .before .before .before .before))
+term-part-terms-start t c = omega (arith, compound-there (c .before .before .before .before .before))
 
 term-terms-requires : (t : ℕ) → term-lts.Need-terms-requires (term-calls t) (term-at t) term.Post
 term-terms-requires t c κs =
-    let k = c .before .before .before .before .before .before in
-    let some = c .before .before .before .before .before .if1 .left in
-    let most : arity k ≤ 4 = ltb-false _ _ (c .before .before .before .if3 .left) in
+    let k = c .before .before .before .before .before .before .before in
+    let some = c .before .before .before .before .before .before .if1 .left in
+    let most : arity k ≤ 4 = ltb-false _ _ (c .before .before .before .before .if3 .left) in
     omega (arith, arguments-room (compound-start k .args .below) (arity k) some most)
 
 term-returns-4 : (t : ℕ) → term-lts.Need-returns-4 (term-calls t) (term-at t) term.Post
 term-returns-4 t c = stopped 4 _ _ (compound-read (c .before .before)) (c .enum-told3 .given .1)
 
-term-add-t30 : (t : ℕ) → term-lts.Need-add-t30 (term-calls t) (term-at t) term.Post
-term-add-t30 t c =
+term-add-t33 : (t : ℕ) → term-lts.Need-add-t33 (term-calls t) (term-at t) term.Post
+term-add-t33 t c =
     let m = c .before .before .before in
     omega (arith, arguments-fit m (c .before .arguments .given .1), arguments-start m .good .0 .0)
 
@@ -73,17 +74,17 @@ term-returns-5 t c =
 
 term-returns-6 : (t : ℕ) → term-lts.Need-returns-6 (term-calls t) (term-at t) term.Post
 term-returns-6 t c =
-    let a = head-start (c .before .before .before .before) .args in
-    ap (λ x. took 3 (set (now (a .cells)) (a .p) x)) (c .symbol-code .ensures)
-    ∙ by-record (a .below) (now (a .s)) (a .p) (now (a .cells))
-    (whole-head (c .before .before .before .before) (c .before .before .«record» .given .1))
+    let known = c .before .before .before .before .before in
+    let a = head-start known .args in
+    ap (λ x. took 3 (set (now (a .cells)) (a .p) x)) (c .run-of .ensures ∙ ap (λ k. runOf k k) (c .before .symbol-code .ensures))
+    ∙ by-record (a .below) (now (a .s)) (a .p) (now (a .cells)) (whole-head known (c .before .before .before .«record» .given .1))
 
 term-returns-7 : (t : ℕ) → term-lts.Need-returns-7 (term-calls t) (term-at t) term.Post
 term-returns-7 t c =
-    let a = head-start (c .before .before .before .before) .args in
-    ap (λ x. took 3 (set (now (a .cells)) (a .p) x)) (c .number-code .ensures)
-    ∙ by-record (a .below) (now (a .s)) (a .p) (now (a .cells))
-    (whole-head (c .before .before .before .before) (c .before .before .record2 .given .1))
+    let known = c .before .before .before .before .before in
+    let a = head-start known .args in
+    ap (λ x. took 3 (set (now (a .cells)) (a .p) x)) (c .run-of2 .ensures ∙ ap (λ k. runOf k k) (c .before .number-code .ensures))
+    ∙ by-record (a .below) (now (a .s)) (a .p) (now (a .cells)) (whole-head known (c .before .before .before .record2 .given .1))
 
 term-returns-8 : (t : ℕ) → term-lts.Need-returns-8 (term-calls t) (term-at t) term.Post
 term-returns-8 t c = went-on 4 _ _ (compound-read (c .before .before .before)) (c .before .arguments .given .1)
@@ -134,15 +135,18 @@ pub +term+terms-spec : {M : Type 1} → statement M
     (λ c. search needs)
     (λ c. search needs)
     (λ c κs. search needs)
+    (λ c κs. search needs)
     (λ c. search needs)
     (λ c. search needs)
     (λ c. search needs)
+    (λ c κs. search needs)
     (λ c κs. search needs)
     (λ c. search needs)
     (λ c. search needs)
     (λ c. search needs)
     (term-returns-2 t)
     (term-returns-3 t)
+    (λ c κs. search needs)
     (λ c κs. search needs)
     (λ c. search needs)
     (λ c. search needs)
@@ -156,7 +160,7 @@ pub +term+terms-spec : {M : Type 1} → statement M
     (λ c. search needs)
     (λ c. search needs)
     (term-returns-4 t)
-    (term-add-t30 t)
+    (term-add-t33 t)
     (term-returns-5 t)
     (term-returns-6 t)
     (term-returns-7 t)

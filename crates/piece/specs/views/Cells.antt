@@ -1,25 +1,25 @@
--- A piece laid out by place: a number for what stands at each place.
+-- A piece laid out by place: for each place the run of codes that what stands there can have.
 use Prim.Native.Nat.{ℕ, suc, pred, _+_}
 use mathlib.Core.List.{List}
 use lib.ListN.{set}
 use Rattle.places.specs.Numbering.{stride}
-use Rattle.terms.specs.Term.{Term, Terms, count, unknown, symbol, numbers, compound, nil, cons}
+use Rattle.terms.specs.Term.{Term, Terms, unknown, symbol, numbers, compound, nil, cons}
 use Rattle.terms.specs.Lookup.{Found, lacking, found}
-use Rattle.codes.specs.views.Codes.{symbolCode, compoundCode, numberCode, unknownCode, termCode}
+use Rattle.codes.specs.views.Codes.{termRun}
 
--- The code of what stands at a place, 0 where the piece lacks it.
-abbrev pub foundCode : Found → ℕ
-foundCode lacking = 0
-foundCode (found t) = termCode t
+-- The run of what stands at a place, 0 where the piece lacks it: code 0 alone, which no term has.
+abbrev pub foundRun : Found → ℕ
+foundRun lacking = 0
+foundRun (found t) = termRun t
 
 -- The cells after a term with so many levels below it is stored at place p, and after a row of terms from there on.
 -- Nothing is stored below an unknown.
 abbrev mutual
   pub storeTerm : Term → ℕ → ℕ → List ℕ → List ℕ
-  storeTerm unknown below p cells = set cells p unknownCode
-  storeTerm (symbol a) below p cells = set cells p (symbolCode a)
-  storeTerm (numbers a b) below p cells = set cells p (numberCode a)
-  storeTerm (compound a ts) below p cells = storeTerms ts (pred below) (p + 1) (set cells p (compoundCode a (count ts)))
+  storeTerm unknown below p cells = set cells p (termRun unknown)
+  storeTerm (symbol a) below p cells = set cells p (termRun (symbol a))
+  storeTerm (numbers a b) below p cells = set cells p (termRun (numbers a b))
+  storeTerm (compound a ts) below p cells = storeTerms ts (pred below) (p + 1) (set cells p (termRun (compound a ts)))
 
   pub storeTerms : Terms → ℕ → ℕ → List ℕ → List ℕ
   storeTerms nil below p cells = cells

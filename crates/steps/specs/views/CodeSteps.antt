@@ -1,4 +1,4 @@
--- What happens at a node (document 01, "The walk"), as the cells of a piece tell it: a number for what stands at each place.
+-- What happens at a node (document 01, "The walk"), as the cells of a piece tell it: a run of codes for what stands at each place.
 use Prim.Native.Nat.{ℕ, _<_, _≤_}
 use mathlib.Core.Bool.{Bool, _&&_, _||_, cond}
 use mathlib.Core.List.{List, [], _∷_}
@@ -7,7 +7,7 @@ use lib.ListN.{length, drop}
 use Rattle.basics.specs.Lists.{All}
 use Rattle.basics.specs.Order.{pairBefore}
 use Rattle.terms.specs.Outcome.{Outcome}
-use Rattle.codes.specs.views.Codes.{unknownCode}
+use Rattle.codes.specs.views.Codes.{lowOf, highOf, unknownRun}
 use Rattle.pairs.specs.views.KeptPairs.{pairCode}
 use Rattle.outcomes.specs.views.Look.{look}
 use Rattle.outcomes.specs.views.CellOutcome.{pairCells}
@@ -44,21 +44,21 @@ CodesAscend (c ∷ cs) =
     All (λ (d : CaseEdge ℕ). T (pairBefore (caseLow (c .case)) (caseHigh (c .case)) (caseLow (d .case)) (caseHigh (d .case)))) cs
     × CodesAscend cs
 
--- The step at a switch where its place has this code, 0 where the piece lacks it: "27 Is each place it tests in the piece, or
+-- The step at a switch where its place has this run, 0 where the piece lacks it: "27 Is each place it tests in the piece, or
 -- below an unknown?" An unknown leads by the "node for unknown".
-abbrev pub codeStep : List (CaseEdge ℕ) → ℕ → ℕ → ℕ → Step ℕ
-codeStep cs neither unknownEdge code =
-    cond (eqb code 0) noWay (goTo (cond (eqb code unknownCode) unknownEdge (followCode cs neither code code)))
+abbrev pub runStep : List (CaseEdge ℕ) → ℕ → ℕ → ℕ → Step ℕ
+runStep cs neither unknownEdge run =
+    cond (eqb run 0) noWay (goTo (cond (eqb run unknownRun) unknownEdge (followCode cs neither (lowOf run) (highOf run))))
 
--- The step at a pair where its places have these codes and its test this outcome: by the "node for no" where they differ, else by
+-- The step at a pair where its places have these runs and its test this outcome: by the "node for no" where they differ, else by
 -- the "node for other".
-abbrev pub codesStep : ℕ → ℕ → ℕ → ℕ → Outcome → Step ℕ
-codesStep differ other a b outcome = cond (eqb a 0 || eqb b 0) noWay (byComparison differ other outcome)
+abbrev pub runsStep : ℕ → ℕ → ℕ → ℕ → Outcome → Step ℕ
+runsStep differ other a b outcome = cond (eqb a 0 || eqb b 0) noWay (byComparison differ other outcome)
 
 abbrev pub stepCells : List ℕ → Node ℕ → Step ℕ
 stepCells cells (end l) = stop l
-stepCells cells (switch n cs x y) = codeStep cs x y (look cells n)
-stepCells cells (pairNode p q x y) = codesStep x y (look cells p) (look cells q) (pairCells cells p q)
+stepCells cells (switch n cs x y) = runStep cs x y (look cells n)
+stepCells cells (pairNode p q x y) = runsStep x y (look cells p) (look cells q) (pairCells cells p q)
 
 -- "A walk meets the tests that its nodes ask": the test of a node as one number, place p as the pair p, p. A leaf asks none.
 abbrev pub nodeCode : Node ℕ → ℕ

@@ -3,7 +3,7 @@ use Prim.Native.Nat.{ℕ}
 use mathlib.Core.Path.{sym, ap, subst, _∙_}
 use lib.Dec.{eqb}
 use denote.Ref.{now}
-use Rattle.codes.specs.views.Codes.{unknownCode}
+use Rattle.codes.specs.views.Codes.{unknownRun}
 use Rattle.outcomes.specs.views.CellOutcome.{outcomeOf}
 use Rattle.decision.specs.Walk.{isNotKnown}
 use Rattle.rule_masks.specs.views.TestNumbers.{NearTest}
@@ -23,7 +23,7 @@ look-requires : tie.Need-look-requires
 look-requires c κs = subst NearTest (code-place (c .before .args .code) (c .if1 .taken)) (c .before .pre .0)
 
 returns : tie.Need-returns
-returns c = ap (λ (k : ℕ). eqb k unknownCode) (c .look .ensures)
+returns c = ap (λ (k : ℕ). eqb k unknownRun) (c .look .ensures)
     ∙ ap (openCells (now (c .before .before .args .cells))) (sym (code-place (c .before .before .args .code) (c .before .if1 .taken)))
 
 pair-outcome-requires : tie.Need-pair-outcome-requires

@@ -28,6 +28,7 @@ use Rattle.piece.proofs.RowCells.{termRow, term-stops, term-goes-on, te
 use Rattle.codes.proofs.compound_code.Reads as compound-code-reads
 use Rattle.piece.proofs.head_refusal.Reads as head-refusal-reads
 use Rattle.codes.proofs.number_code.Reads as number-code-reads
+use Rattle.codes.proofs.run_of.Reads as run-of-reads
 use Rattle.codes.proofs.symbol_code.Reads as symbol-code-reads
 use Rattle.piece.proofs.term_head.Reads as term-head-reads
 use Rattle.piece.proofs.term.Reads as term
@@ -63,6 +64,8 @@ term-calls t = (
   head-refusal-reads.Learnt,
   symbol-code-reads.Asked,
   symbol-code-reads.Learnt,
+  run-of-reads.Asked,
+  run-of-reads.Learnt,
   number-code-reads.Asked,
   number-code-reads.Learnt,
   compound-code-reads.Asked,
@@ -136,7 +139,7 @@ module _ {t : ℕ} where
 
   module _ (c : ArgumentsRead t) where
     abbrev known : CompoundKnown t
-    known = c .before .before .before .before .before .before .before
+    known = c .before .before .before .before .before .before .before .before
 
     abbrev pub arguments-start : Begun t
     arguments-start = compound-start known
@@ -152,10 +155,11 @@ module _ {t : ℕ} where
         let a = arguments-start .args in
         let s = now (a .s) in
         arguments-read (a .below) s (a .p) (now (a .cells)) (id known) (arity known) (compound-head known)
-        (c .before .before .before .before .before .before .if1 .left)
-        (c .before .before .before .before .before .if2 .left)
-        (ltb-false _ _ (c .before .before .before .before .if3 .left))
-        (c .terms .ensures ∙ (simp (rest s 4, c .before .before .before .compound-code .ensures)))
+        (c .before .before .before .before .before .before .before .if1 .left)
+        (c .before .before .before .before .before .before .if2 .left)
+        (ltb-false _ _ (c .before .before .before .before .before .if3 .left))
+        (c .terms .ensures
+        ∙ (simp (rest s 4, c .before .before .before .run-of3 .ensures, c .before .before .before .before .compound-code .ensures)))
 
     pub arguments-fit : {k : ℕ} → c .terms .result ≡ Bytes k → 4 + k ≤ length (now (arguments-start .args .s))
     arguments-fit told =

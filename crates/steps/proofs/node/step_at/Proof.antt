@@ -14,7 +14,7 @@ use Rattle.graph.specs.views.NodeRecord.{nodeHead}
 use Rattle.node_check.proofs.CopiedNodes.{node-there}
 use Rattle.pairs.specs.views.KeptPairs.{pairCode}
 use Rattle.steps.specs.declared.Step.the-variants.{Stop}
-use Rattle.steps.specs.views.CodeSteps.{stepMade, nodeStep, NearNode, CodesAscend, OrderedNode, codeStep}
+use Rattle.steps.specs.views.CodeSteps.{stepMade, nodeStep, NearNode, CodesAscend, OrderedNode, runStep}
 use Rattle.steps.proofs.StepsMade.{leaf-back}
 use Rattle.steps.proofs.NodeSteps.{leaf-node, pair-node, switch-node, cases-inside, cases-begin, cases-read}
 use borrow.Author.Needs.{needs}
@@ -107,7 +107,7 @@ returns-3 c =
     let read = ap nodeHead (sym (rest s (a .at))) ∙ sym (c .before .before .before .before .before .before .before .node-head .ensures) in
     let switching : nodeHead (drop (a .at) s) ≡ Whole (Switch (c .before .before .node2 .given .0 .0) (c .before .before .node2 .given .0 .1 .0) (c .before .before .node2 .given .0 .1 .1 .0) (c .before .before .node2 .given .0 .1 .1 .1 .0)) = read ∙ c .before .before .before .before .before .head .given .1 ∙ ap Whole (c .before .before .node2 .given .1) in
     let node = switch-node (drop (a .at) s) switching (c .before .before .before .before .before .before .before .before .before .before .pre .0 .whole) in
-    let same = ap (λ (l : List ℕ). codeStep (readOr [] (readCases (c .before .before .node2 .given .0 .1 .0) l)) (c .before .before .node2 .given .0 .1 .1 .0) (c .before .before .node2 .given .0 .1 .1 .1 .0) (look cells (c .before .before .node2 .given .0 .0))) (sym (cases-begin s (a .at) (c .before .before .before .before .before .before .before .before .before .before .pre .0 .begins) switching)) in
+    let same = ap (λ (l : List ℕ). runStep (readOr [] (readCases (c .before .before .node2 .given .0 .1 .0) l)) (c .before .before .node2 .given .0 .1 .1 .0) (c .before .before .node2 .given .0 .1 .1 .1 .0) (look cells (c .before .before .node2 .given .0 .0))) (sym (cases-begin s (a .at) (c .before .before .before .before .before .before .before .before .before .before .pre .0 .begins) switching)) in
     c .switch-step .ensures ∙ ap (stepMade (pairCode (c .before .before .node2 .given .0 .0) (c .before .before .node2 .given .0 .0))) same ∙ ap (nodeStep cells) node
 
 returns-4 : tie.Need-returns-4
