@@ -16,7 +16,6 @@ use Rattle.basics.proofs.Booleans.{by-test, same-truth, is-true}
 use Rattle.basics.proofs.Filters.{mem-map}
 use Rattle.basics.proofs.ListLaws.{all-at, all-from, mem-none}
 use Rattle.basics.proofs.Numbers.{both-le}
-use Rattle.basics.proofs.Sorted.{AscendingBy}
 use Rattle.masks.specs.Mask.{has}
 use Rattle.masks.proofs.Extensionality.{maskOf-same}
 use Rattle.terms.specs.Pattern.{Patterns}
@@ -27,8 +26,7 @@ use Rattle.decision.specs.Edges.{liveWants}
 use Rattle.decision.specs.Rules.{wantAt, rulesWhere}
 use Rattle.decision.specs.Runs.{cuts as rangeCuts, between, covers}
 use Rattle.decision.specs.views.CaseCodes.{caseLow, caseHigh}
-use Rattle.decision.proofs.cases.FramedRuns.{frame, framed, meets, framed-filled, framed-uncut, framed-meets}
-use Rattle.decision.proofs.cases.Insertion.{number-inserted}
+use Rattle.decision.proofs.cases.FramedRuns.{frame, framed, meets, frame-ascends, framed-filled, framed-uncut, framed-meets}
 use Rattle.decision.proofs.cases.Intervals.{Contains}
 use Rattle.decision.proofs.cases.PairCases.{meetsWant}
 use Rattle.decision.proofs.cases.RangeOrder.{Filled}
@@ -47,12 +45,6 @@ use Rattle.cuts.proofs.SwitchCases.{holdsAt, map-same}
 abbrev pub numberFrames : List Range → List Range
 numberFrames [] = []
 numberFrames (w ∷ ws) = framed 0 65536 (w ∷ ws)
-
--- The frame's cuts ascend.
-pub frames-ascend : (ws : List Range) → AscendingBy _<_ (frame 0 65536 ws)
-frames-ascend ws =
-    number-inserted 0 (insertBy ltb 65536 (rangeCuts ws)) .ascends
-    (number-inserted 65536 (rangeCuts ws) .ascends (ranges.cuts-ascend ws))
 
 -- A case as a run, with the live rules that want something that it takes.
 module _ (rules : List Patterns) (n : ℕ) where
@@ -154,7 +146,7 @@ module _ (rules : List Patterns) (n live : ℕ) (fits : live < 2 ^ length rules)
           some-frame (map numberCode inner) (mem-map numberCode (ranges.wanted-cut (here {xs = ws}) (w .low) (inl refl)))
           ∙ ap (λ (l : List ℕ). map (runOf reached) (between l))
           (ap (insertBy ltb base) (insert-code 65536 inner) ∙ insert-code 0 (insertBy ltb 65536 inner))
-          ∙ ap (map (runOf reached)) (between-codes (frame 0 65536 (w ∷ ws)) (frames-ascend (w ∷ ws)))
+          ∙ ap (map (runOf reached)) (between-codes (frame 0 65536 (w ∷ ws)) (frame-ascends 0 65536 (w ∷ ws)))
           ∙ map-same codeRange (runOf reached) asRun (framed 0 65536 (w ∷ ws))
           (all-from (λ (r : Range). runOf reached (codeRange r) ≡ asRun r) (framed 0 65536 (w ∷ ws))
           (λ r m. number-set r (subst (λ (l : List Range). Mem r (framed 0 65536 l)) (sym e) m)))

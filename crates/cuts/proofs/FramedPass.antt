@@ -10,8 +10,7 @@ use borrow.Author.Tests.{eq-eqb, ne-eqb, lt-ltb, le-ltb}
 use Rattle.basics.specs.Lists.{countFrom}
 use Rattle.basics.proofs.Booleans.{by-test}
 use Rattle.basics.proofs.Counting.{count-length}
-use Rattle.basics.proofs.Filters.{filter-length}
-use Rattle.sheet_tests.proofs.NumberLists.{filter-append}
+use Rattle.basics.proofs.Filters.{filter-length, filter-join}
 use Rattle.cuts.specs.views.Cuts.{Cut, cutAt}
 use Rattle.cuts.specs.views.Runs.{Run, runAt, runsIn, withRun}
 use Rattle.cuts.specs.views.FramedRuns.{framedRun, framedFrom, isPoint, pointRuns}
@@ -78,7 +77,7 @@ points-more base points more written all rs e f g =
     let both = length-append (pointRuns base written) (pointRuns base rs) in
     let whole : length (pointRuns base written ++ pointRuns base rs) ≡ more = omega arith in
     sym whole
-    ∙ ap (λ (l : List Run). length l) (sym (filter-append (isPoint base) written rs))
+    ∙ ap (λ (l : List Run). length l) (sym (filter-join (isPoint base) written rs))
     ∙ ap (λ (l : List Run). length (pointRuns base l)) (sym g)
 
 -- What comes behind a run that is over.

@@ -24,7 +24,7 @@ use Rattle.codes.specs.views.Codes.{numberCode, SoundWant}
 use Rattle.decision.specs.Cases.{rangesOf, numbersIn}
 use Rattle.decision.specs.Edges.{liveWants}
 use Rattle.decision.specs.Rules.{wantAt}
-use Rattle.decision.proofs.cases.FramedRuns.{frame, framed}
+use Rattle.decision.proofs.cases.FramedRuns.{frame, framed, frame-ascends}
 use Rattle.decision.proofs.cases.NumberPairs.{numberPairs}
 use Rattle.decision.proofs.cases.PairCases.{pairCases}
 use Rattle.decision.proofs.cases.RangeOrder.{Filled}
@@ -33,7 +33,7 @@ use Rattle.cuts.specs.views.Runs.{Run}
 use Rattle.cuts.specs.views.FramedRuns.{framedRuns, isPoint, pointRuns}
 use Rattle.cuts.specs.views.CutsOf.{cutsTo}
 use Rattle.cuts.proofs.FramedCases.{pointCases, runs-of-numbers, runs-of-points, runs-are-framed}
-use Rattle.cuts.proofs.FramedNumbers.{numberFrames, frames-ascend, meetsFor, pairRun, numberRun}
+use Rattle.cuts.proofs.FramedNumbers.{numberFrames, meetsFor, pairRun, numberRun}
 use Rattle.cuts.proofs.FramedSwitch.{base}
 use Rattle.cuts.proofs.Parts.{left-part, right-part}
 use Rattle.cuts.proofs.SwitchCases.{map-same}
@@ -106,7 +106,7 @@ module _ (rules : List Patterns) (n live : ℕ) (fits : live < 2 ^ length rules)
   numbers-paired (w ∷ ws) =
       sym
       (pairs-union numberCode (λ r. asRun r .set) sets-join (framed 0 65536 (w ∷ ws))
-      (between-unbroken (frame 0 65536 (w ∷ ws)) (frames-ascend (w ∷ ws))))
+      (between-unbroken (frame 0 65536 (w ∷ ws)) (frame-ascends 0 65536 (w ∷ ws))))
 
   abbrev runs : List Run
   runs = framedRuns live (cutsTo rules n (length rules))

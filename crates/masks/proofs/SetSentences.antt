@@ -11,7 +11,7 @@ use lib.Dec.{T, ltb}
 use Rattle.basics.specs.Lists.{Mem, filter, countFrom}
 use Rattle.basics.proofs.Booleans.{true-is, is-true}
 use Rattle.basics.proofs.Counting.{mem-count, count-mem, count-ascends, count-append}
-use Rattle.basics.proofs.Filters.{mem-filter, filter-mem}
+use Rattle.basics.proofs.Filters.{mem-filter, filter-mem, filter-join}
 use Rattle.basics.proofs.Ascent.{ascending-filter}
 use Rattle.basics.proofs.Sorted.{Ascending}
 use Rattle.masks.specs.Mask.{has, maskOf, members}
@@ -54,16 +54,6 @@ sumOfPowers (i ∷ is) = 2 ^ i + sumOfPowers is
 sum-join : (is js : List ℕ) → sumOfPowers (is ++ js) ≡ sumOfPowers is + sumOfPowers js
 sum-join [] js = omega arith
 sum-join (i ∷ is) js = omega (arith, sum-join is js)
-
-filter-join : (p : ℕ → Bool) (is js : List ℕ) → filter p (is ++ js) ≡ filter p is ++ filter p js
-filter-join p [] js = refl
-filter-join p (i ∷ is) js = go (p i) (filter-join p is js)
-  where
-    go
-        : (b : Bool) → filter p (is ++ js) ≡ filter p is ++ filter p js
-        → cond b (i ∷ filter p (is ++ js)) (filter p (is ++ js)) ≡ cond b (i ∷ filter p is) (filter p is) ++ filter p js
-    go true e = ap (λ (l : List ℕ). i ∷ l) e
-    go false e = e
 
 -- One digit more.
 sum-last : (p : ℕ → Bool) (k : ℕ) → sumOfPowers (filter p (k ∷ [])) ≡ cond (p k) (2 ^ k) 0

@@ -13,55 +13,6 @@ use Rattle.basics.proofs.ListLaws.{mem-cases, mem-none}
 use Rattle.basics.proofs.Sorted.{Ascending, insert-has, insert-keeps, insert-mem, insert-ascends, same-members, number-order}
 use Rattle.sheet_tests.specs.views.TestedPlaces.{insertAll}
 use Rattle.masks.proofs.Listed.{consIf, listFrom}
-use Rattle.basics.proofs.Filters.{all-filter}
-
-module _ {A : Type 0} (f : A → Bool) where
-  abbrev consWhere : Bool → A → List A → List A
-  consWhere b x l = cond b (x ∷ l) l
-
-  -- What passed the test is in the list and passes.
-  pub filter-mem : (xs : List A) {x : A} → Mem x (filter f xs) → Mem x xs × (f x ≡ true)
-  filter-mem [] m = absurd (mem-none m)
-  filter-mem (y ∷ xs) {x} m = go (f y) refl (λ k. filter-mem xs k) m
-    where
-      go : (b : Bool) → f y ≡ b → (Mem x (filter f xs) → Mem x xs × (f x ≡ true)) → Mem x (consWhere b y (filter f xs))
-          → Mem x (y ∷ xs) × (f x ≡ true)
-      go true e h k =
-          elim (mem-cases k) [
-            | inl d ↦ (subst (λ (z : A). Mem z (y ∷ xs)) (sym d) here, ap f d ∙ e)
-            | inr l ↦ (there (h l .0), h l .1)
-          ]
-      go false e h k = (there (h k .0), h k .1)
-
-  -- What is in the list and passes is among those that passed.
-  pub mem-filter : (xs : List A) {x : A} → Mem x xs → f x ≡ true → Mem x (filter f xs)
-  mem-filter [] m e = absurd (mem-none m)
-  mem-filter (y ∷ xs) {x} m e = go (f y) refl (mem-cases m) (λ k. mem-filter xs k e)
-    where
-      go : (b : Bool) → f y ≡ b → (x ≡ y) ⊎ Mem x xs → (Mem x xs → Mem x (filter f xs)) → Mem x (consWhere b y (filter f xs))
-      go true d (inl p) h = subst (λ (z : A). Mem z (y ∷ filter f xs)) (sym p) here
-      go true d (inr k) h = there (h k)
-      go false d (inl p) h = absurd (subst T (sym e ∙ ap f p ∙ d) tt)
-      go false d (inr k) h = h k
-
-  -- Of a list that ascends, those that passed ascend.
-  pub filter-ascends : (before : A → A → Bool) (xs : List A) → Ascending before xs → Ascending before (filter f xs)
-  filter-ascends before [] a = tt
-  filter-ascends before (y ∷ xs) a = go (f y) (filter-ascends before xs (a .1))
-    where
-      go : (b : Bool) → Ascending before (filter f xs) → Ascending before (consWhere b y (filter f xs))
-      go true k = (all-filter f (λ (z : A). T (before y z)) xs (a .0), k)
-      go false k = k
-
-  -- Those of two lists joined.
-  pub filter-append : (xs ys : List A) → filter f (xs ++ ys) ≡ filter f xs ++ filter f ys
-  filter-append [] ys = refl
-  filter-append (x ∷ xs) ys = go (f x) (filter-append xs ys)
-    where
-      go : (b : Bool) → filter f (xs ++ ys) ≡ filter f xs ++ filter f ys
-          → consWhere b x (filter f (xs ++ ys)) ≡ consWhere b x (filter f xs) ++ filter f ys
-      go true e = ap (λ (l : List A). x ∷ l) e
-      go false e = e
 
 -- As many of one row pass a test as of another where the tests agree.
 pub filter-listed

@@ -6,7 +6,7 @@ use mathlib.Core.Logic.{inl, inr, by-cases}
 use mathlib.Core.List.{List, []}
 use native.Mathlib.Decide.{ℕ-discrete}
 use native.Mathlib.Omega.{arith}
-use lib.Dec.{ltb, eqb}
+use lib.Dec.{T, ltb, eqb}
 use lib.ListN.{length, getD, set, length-set, length-append, replicate}
 use lib.Seq.{getD-set-same, getD-set-other}
 use borrow.Author.Tests.{eq-eqb, ne-eqb}
@@ -16,14 +16,19 @@ use Rattle.basics.specs.Lists.{Mem, filter, countFrom}
 use Rattle.basics.specs.Order.{insertBy}
 use Rattle.basics.proofs.Sorted.{Ascending, insert-has, insert-keeps, insert-mem, insert-ascends, same-members, number-order}
 use Rattle.sheet_tests.specs.views.TestedPlaces.{hasPlace, placesIn}
-use Rattle.sheet_tests.proofs.NumberLists.{filter-mem, mem-filter, filter-ascends, filter-append, filter-listed}
+use Rattle.sheet_tests.proofs.NumberLists.{filter-listed}
+use Rattle.basics.proofs.Booleans.{true-is, is-true}
+use Rattle.basics.proofs.Filters.{mem-filter, filter-mem, filter-join}
+use Rattle.basics.proofs.Ascent.{ascending-filter}
 use Rattle.basics.proofs.Counting.{count-mem, mem-count, count-ascends, count-append, filter-count}
 
 module _ (words : List ℕ) where
   -- The places of a set ascend.
   pub places-ascend : Ascending ltb (placesIn words)
   unfolding placesIn
-  places-ascend = filter-ascends (hasPlace words) ltb (countFrom 0 (64 * length words)) (count-ascends 0 (64 * length words))
+  places-ascend =
+      ascending-filter (λ (x y : ℕ). T (ltb x y)) (hasPlace words) (countFrom 0 (64 * length words))
+      (count-ascends 0 (64 * length words))
 
   -- What stands in the list of places is in the set.
   places-mem : {n : ℕ} → Mem n (placesIn words) → (n < 64 * length words) × (hasPlace words n ≡ true)
@@ -31,13 +36,13 @@ module _ (words : List ℕ) where
   places-mem {n} m =
       let h = filter-mem (hasPlace words) (countFrom 0 (64 * length words)) m in
       let k = count-mem 0 (64 * length words) n (h .0) in
-      (omega arith, h .1)
+      (omega arith, true-is (hasPlace words n) (h .1))
 
   -- What is in the set stands in the list.
   mem-places : {n : ℕ} → n < 64 * length words → hasPlace words n ≡ true → Mem n (placesIn words)
   unfolding placesIn
   mem-places {n} h e =
-      mem-filter (hasPlace words) (countFrom 0 (64 * length words)) (mem-count 0 (64 * length words) n (omega arith) (omega arith)) e
+      mem-filter (hasPlace words) (mem-count 0 (64 * length words) n (omega arith) (omega arith)) (is-true e)
 
 -- A word with a bit more: the set with a place more.
 module _ (words : List ℕ) (place word : ℕ) (within : place < 64 * length words)
@@ -112,7 +117,7 @@ places-next words i =
     sym
     (ap (λ (m : ℕ). length (filter p (countFrom 0 m))) e
     ∙ ap (λ (l : List ℕ). length (filter p l)) (count-append 0 n 64)
-    ∙ ap length (filter-append p (countFrom 0 n) (countFrom (0 + n) 64))
+    ∙ ap length (filter-join p (countFrom 0 n) (countFrom (0 + n) 64))
     ∙ length-append (filter p (countFrom 0 n)) (filter p (countFrom (0 + n) 64))
     ∙ ap (λ (m : ℕ). placesBelow words i + m)
     (filter-listed p (has (getD words i 0)) (0 + n) 0 64

@@ -15,7 +15,7 @@ use Rattle.masks.proofs.Members.{members-next, members-none}
 use Rattle.masks.proofs.Operations.{and-fits}
 use Rattle.basics.specs.Lists.{filter, countFrom}
 use Rattle.sheet_tests.specs.views.TestedPlaces.{hasPlace, placesIn}
-use Rattle.sheet_tests.proofs.NumberLists.{filter-append}
+use Rattle.basics.proofs.Filters.{filter-join}
 use Rattle.sheet_tests.proofs.PlaceSets.{placesBelow}
 use Rattle.basics.proofs.Counting.{count-append}
 use Rattle.masks.proofs.Listed.{consIf, listFrom}
@@ -116,7 +116,7 @@ places-word words i =
     sym
     (ap (λ (m : ℕ). filter p (countFrom 0 m)) e
     ∙ ap (filter p) (count-append 0 n 64)
-    ∙ filter-append p (countFrom 0 n) (countFrom (0 + n) 64)
+    ∙ filter-join p (countFrom 0 n) (countFrom (0 + n) 64)
     ∙ ap (λ (a : ℕ). placesTo words i ++ filter p (countFrom a 64)) shift
     ∙ ap (λ (t : List ℕ). placesTo words i ++ t)
     (filter-shifted p (has (getD words i 0)) n 0 64
@@ -132,7 +132,7 @@ places-part words i h =
     let split =
     ap (λ (m : ℕ). length (filter p (countFrom 0 m))) e
     ∙ ap (λ (l : List ℕ). length (filter p l)) (count-append 0 (64 * i) rest)
-    ∙ ap length (filter-append p (countFrom 0 (64 * i)) (countFrom (0 + 64 * i) rest))
+    ∙ ap length (filter-join p (countFrom 0 (64 * i)) (countFrom (0 + 64 * i) rest))
     ∙ length-append (filter p (countFrom 0 (64 * i))) (filter p (countFrom (0 + 64 * i) rest)) in
     omega arith
 

@@ -12,11 +12,10 @@ use Rattle.basics.specs.Lists.{Mem, here, there, filter, anyOf}
 use Rattle.basics.proofs.Booleans.{both-true, true-both, cond-true, cond-false, same-truth}
 use Rattle.basics.proofs.Numbers.{eq-true}
 use Rattle.basics.proofs.ListLaws.{mem-cases, mem-join, mem-none}
-use Rattle.basics.proofs.Filters.{mem-left, mem-right, filter-mem, mem-any, any-mem}
+use Rattle.basics.proofs.Filters.{mem-left, mem-right, filter-mem, mem-any, any-mem, filter-join}
 use Rattle.terms.specs.RuleTests.{Occurrence}
 use Rattle.terms.proofs.Ascending.{Ascends}
 use Rattle.terms.proofs.PairTests.{variablePlace}
-use Rattle.sheet_tests.proofs.NumberLists.{filter-append}
 use Rattle.tidy.specs.TidyRule.{isNamed, isLater, isEarlier, positionOf, standsAgain, stoodBefore, isAgain, isRepeated}
 use Rattle.tidy.specs.TidyRule.{appearsFirst, newNumber, repeated}
 use Rattle.tidy.proofs.Occurrences.{stands-from, later, is-later, earlier, is-earlier}
@@ -130,7 +129,7 @@ pub number-next
     → newNumber (xs ++ o ∷ ys) (o .name) ≡ length (filter (appearsFirst (xs ++ o ∷ ys)) xs)
 number-next b e xs o ys up first =
     ap (positionOf (isNamed (o .name)))
-    (filter-append f xs (o ∷ ys) ∙ ap (filter f xs ++_) (cond-true (f o) (o ∷ filter f ys) (filter f ys) first))
+    (filter-join f xs (o ∷ ys) ∙ ap (filter f xs ++_) (cond-true (f o) (o ∷ filter f ys) (filter f ys) first))
     ∙ position-after (isNamed (o .name)) (filter f xs) o (filter f ys) none (eqb-refl (o .name))
   where
     f : Occurrence → Bool

@@ -7,7 +7,7 @@ use mathlib.Core.Option.{Option, some, none}
 use lib.Dec.{T}
 use Rattle.places.specs.Numbering.{stride}
 use Rattle.basics.specs.Lists.{Mem, filter}
-use Rattle.basics.proofs.Filters.{mem-map, map-mem, mem-filter, filter-mem, map-join}
+use Rattle.basics.proofs.Filters.{mem-map, map-mem, mem-filter, filter-mem, map-join, filter-join}
 use Rattle.basics.proofs.Sorted.{same-members}
 use Rattle.terms.specs.Pattern.{Pattern, Patterns, pnil, pcons}
 use Rattle.terms.specs.Pattern.{anything, theSymbol, theRange, theCompound, variable, rangedVariable}
@@ -17,7 +17,6 @@ use Rattle.terms.specs.RuleTests.{pairsOf}
 use Rattle.terms.proofs.Ascending.{Ascends}
 use Rattle.terms.proofs.PairTests.{variablePlace}
 use Rattle.terms.proofs.VariableSentences.{standing, pairs-of-are}
-use Rattle.sheet_tests.proofs.NumberLists.{filter-append}
 use Rattle.tidy.specs.TidyRule.{isRepeated}
 use Rattle.tidy.specs.TidyRule.{newNumber, single, repeated, tidyVariable, tidyPattern, tidyPatterns}
 use Rattle.tidy.proofs.Occurrences.{ascends-filter}
@@ -40,7 +39,7 @@ module _ (os : List Occurrence) where
 
   kept-join : (xs ys : List Occurrence) → kept (xs ++ ys) ≡ kept xs ++ kept ys
   kept-join xs ys =
-      ap (map renumbered) (filter-append isKept xs ys) ∙ map-join renumbered (filter isKept xs) (filter isKept ys)
+      ap (map renumbered) (filter-join isKept xs ys) ∙ map-join renumbered (filter isKept xs) (filter isKept ys)
 
   -- They stand where they stood.
   kept-ascends : (b e : ℕ) (xs : List Occurrence) → Ascends variablePlace b e xs → Ascends variablePlace b e (kept xs)

@@ -11,13 +11,12 @@ use lib.ListN.{length, getD, set, length-append}
 use borrow.Author.Tests.{eq-eqb, ne-eqb, leb-true, leb-false}
 use Rattle.basics.specs.Lists.{All, filter, anyOf}
 use Rattle.basics.proofs.Booleans.{is-true}
-use Rattle.basics.proofs.Filters.{any-join}
+use Rattle.basics.proofs.Filters.{any-join, filter-join}
 use Rattle.terms.specs.RuleTests.{Occurrence, Range}
 use Rattle.terms.proofs.Ascending.{Ascends}
 use Rattle.terms.proofs.PairTests.{variablePlace}
 use Rattle.sheet.specs.views.NoteRanges.{lowEnd, highEnd, forVariables}
 use Rattle.sheet.proofs.RangeArrays.{variable-at, variables-same, variable-set}
-use Rattle.sheet_tests.proofs.NumberLists.{filter-append}
 use Rattle.tidy.specs.TidyRule.{isNamed, isRepeated, appearsFirst, newNumber}
 use Rattle.tidy.proofs.InOrder.{appears-next, number-next}
 use Rattle.tidy.proofs.Uses.{uses, repeated-uses}
@@ -117,7 +116,7 @@ module _ (b e : ℕ) (os : List Occurrence) (up : Ascends variablePlace b e os) 
         : {c : Bool} → appearsFirst os o ≡ c
         → length (filter (appearsFirst os) more) ≡ length (filter (appearsFirst os) xs) + cond c 1 0
     counted {c} h =
-        ap length (filter-append (appearsFirst os) xs (o ∷ []))
+        ap length (filter-join (appearsFirst os) xs (o ∷ []))
         ∙ length-append (filter (appearsFirst os) xs) (filter (appearsFirst os) (o ∷ []))
         ∙ ap (λ (d : Bool). length (filter (appearsFirst os) xs) + length (cond d (o ∷ []) [])) h
         ∙ ap (λ (k : ℕ). length (filter (appearsFirst os) xs) + k) (one c)

@@ -44,7 +44,8 @@ module _ (base top : ℕ) (ws : List Range) where
         λ d. first .1 (elim d [ inl e ↦ inl e | inr k ↦ inr (last .1 k) ]),
       )
 
-  frame-ascends : Ascending _<_ (frame base top ws)
+  -- The cuts of the frame ascend.
+  pub frame-ascends : Ascending _<_ (frame base top ws)
   frame-ascends =
       number-inserted base (insertBy ltb top (cuts ws)) .ascends (number-inserted top (cuts ws) .ascends (cuts-ascend ws))
 
