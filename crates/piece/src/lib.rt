@@ -6,12 +6,12 @@ use codes::run_of;
 use codes::symbol_code;
 ghost use mathlib.Core.Path.{_≡_};
 ghost use Prim.Native.Nat.{suc, _+_, _*_, _≤_, _<_};
-ghost use lib.ListN.{length};
+ghost use lib.ListN.{length, replicate};
 ghost use Rattle.places.specs.Numbering.{stride};
 ghost use Rattle.records.specs.Reading.{mapReading};
 ghost use Rattle.piece.specs.views.TermRecord.{termHead, headRefusal};
 ghost use Rattle.piece.specs.ReadPiece.{readArity, readPrefix, readPiece};
-ghost use Rattle.piece.specs.views.LaidOut.{tookCells, termCells, termsCells, layOut};
+ghost use Rattle.piece.specs.views.LaidOut.{tookCells, termCells, termsCells, emptyCells, UsedTo, layOut};
 ghost use Rattle.piece.specs.views.LaidOut.{arityRead, prefixRead, prefixBytes, pieceRead};
 ghost use Rattle.piece.specs.CheckPiece.{pieceCheckValues, pieceValues};
 
@@ -174,8 +174,21 @@ fn piece_head(s: &[u8]) -> Prefix
     Prefix::Read(arity, 2)
 }
 
-// Reads the piece that the input begins with. Bytes may follow it.
-pub fn read_prefix(s: &[u8], cells: &mut Cells) -> Prefix
+// Empties the cells before a place, where those from there on are empty.
+fn empty(cells: &mut Cells, used: usize)
+    requires { ⌜ (used ≤ 680) × UsedTo used (now cells) ⌝ }
+    ensures { λ _. ⌜ now (cells .exit) ≡ emptyCells ⌝ }
+{
+    let mut place: usize = 0;
+    while place < used {
+        cells[place] = 0;
+        place += 1;
+    }
+}
+
+// Reads the piece that the input begins with into cells of which those before a place may be used. Bytes may follow it.
+pub fn read_prefix(s: &[u8], cells: &mut Cells, used: usize) -> Prefix
+    requires { ⌜ (used ≤ 680) × UsedTo used (now cells) ⌝ }
     ensures { λ r. ⌜ (prefixRead (now (cells .exit)) r ≡ mapReading layOut (readPrefix (now (s .entry))))
         × (prefixBytes r ≤ length (now (s .entry))) ⌝ }
 {
@@ -183,7 +196,7 @@ pub fn read_prefix(s: &[u8], cells: &mut Cells) -> Prefix
     let Prefix::Read(arity, _) = head else {
         return head;
     };
-    *cells = [0; 680];
+    empty(cells, used);
     let taken = terms(&s[2..], 3, arity as usize, 0, cells);
     match taken {
         Taken::Bytes(bytes) => Prefix::Read(arity, 2 + bytes),
@@ -191,11 +204,12 @@ pub fn read_prefix(s: &[u8], cells: &mut Cells) -> Prefix
     }
 }
 
-// Reads a piece that is the whole input.
+// Reads a piece that is the whole input into empty cells.
 pub fn read_piece(s: &[u8], cells: &mut Cells) -> PieceCheck
+    requires { ⌜ now cells ≡ replicate 680 0 ⌝ }
     ensures { λ r. ⌜ pieceRead (length (now (s .entry))) (now (cells .exit)) r ≡ mapReading layOut (readPiece (now (s .entry))) ⌝ }
 {
-    let prefix = read_prefix(s, cells);
+    let prefix = read_prefix(s, cells, 0);
     match prefix {
         Prefix::Read(arity, bytes) => {
             if bytes != s.len() {

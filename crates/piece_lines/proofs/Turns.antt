@@ -7,6 +7,8 @@ use lib.ListN.{length, take}
 use Rattle.records.specs.Reading.{Reading, took, refused, andThen}
 use Rattle.records.specs.Writing.{splice}
 use Rattle.piece.specs.Piece.{Piece}
+use Rattle.piece.specs.declared.Prefix.{Prefix}
+use Rattle.piece.specs.declared.Prefix.the-variants as prefix
 use Rattle.piece.specs.ReadPiece.{readPrefix}
 use Rattle.decision.specs.Walk.{Walk}
 use Rattle.lines.specs.Lines.{refusedLine}
@@ -14,7 +16,8 @@ use Rattle.lines.proofs.Wrote.{Wrote}
 use Rattle.piece_lines.specs.BuiltLines.{firstWalk}
 use Rattle.piece_lines.specs.declared.Turn.{Turn}
 use Rattle.piece_lines.specs.declared.Turn.the-variants.{More, Last}
-use Rattle.walk_all.specs.views.FirstPiece.{firstReply}
+use Rattle.walk.specs.declared.Walked.{Walked}
+use Rattle.walk_all.specs.views.FirstPiece.{firstReply, firstOf, firstMade}
 use Rattle.piece_lines.specs.views.Turned.{Turned, answered, turned, walkLine}
 
 -- The first walk, from the reply of the first piece.
@@ -70,6 +73,16 @@ told-more xs at number (took j w) {k} {end} {ys} e =
     let where-ended : end ≡ at + length (walkLine number w) = cc in
     (w, ap (λ (i : ℕ). took i w) bytes, (where-ended, ap (λ x. x .buffer) e))
 told-more xs at number (refused q) {k} {end} e =
+    let turn : More k end ≡ Last (at + length (refusedLine q)) = ap (λ x. x .turn) e in
+    let z : _≡_ {A = ℕ} 0 1 = cc in absurd (omega arith)
+
+-- A turn that takes bytes takes those of a piece that was read.
+pub more-read
+    : (xs : List ℕ) (at number : ℕ) {k end : ℕ} {ys : List ℕ} (r : Prefix) (w : Walked)
+    → _≡_ {A = Turned} (record { turn = More k end; buffer = ys }) (turned xs at number (answered (firstOf (firstMade r w))))
+    → (n : ℕ) × (j : ℕ) × (r ≡ prefix.Read n j)
+more-read xs at number (prefix.Read n j) w e = (n, j, refl)
+more-read xs at number {k = k} {end = end} (prefix.Refused q) w e =
     let turn : More k end ≡ Last (at + length (refusedLine q)) = ap (λ x. x .turn) e in
     let z : _≡_ {A = ℕ} 0 1 = cc in absurd (omega arith)
 

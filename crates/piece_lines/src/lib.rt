@@ -1,7 +1,12 @@
 // The lines of a sheet and its pieces: the sheet and its graph are read and checked once, then each piece is.
+use piece::read_prefix;
+use walk::Walked;
+use walk::call::walk_checked;
 use walk_all::First;
 use walk_all::Opened;
-use walk_all::first_piece::walk_first;
+use walk_all::first_piece::first_of;
+use walk_all::first_piece::has_arity;
+use walk_all::first_piece::used_by;
 use walk_all::open::open_graph;
 ghost use Prim.Native.Nat.{ℕ, _+_, _≤_};
 ghost use mathlib.Core.Path.{_≡_};
@@ -55,15 +60,22 @@ pub fn put_built(sheet: &[u8], graph: &[u8], nodes: u16, input: &[u8], out: &mut
         Opened::Ready(sizes) => {
             let tests = tables::tests(&kept) as u8;
             let mut end = lines::put_sheet_line(out, 0, sizes.arity, sizes.rules, tests, nodes);
+            let mut cells = [0u64; 680];
+            let mut used: usize = 0;
             let mut from: usize = 0;
             let mut n: u32 = 1;
             while from < input.len() {
-                let rest = &input[from..];
-                let first = walk_first(sheet, graph, &starts, &kept, sizes, &mut notes, rest);
+                let prefix = read_prefix(&input[from..], &mut cells, used);
+                let mut walked = Walked::Refused(20);
+                if has_arity(prefix, sizes.arity) {
+                    walked = walk_checked(sheet, graph, &starts, &kept, sizes, &mut notes, &cells);
+                }
+                let first = first_of(prefix, walked);
                 let turn = put_first(first, n, out, end);
                 match turn {
                     Turn::Last(last) => return last,
                     Turn::More(bytes, next) => {
+                        used = used_by(prefix);
                         from += bytes;
                         n += 1;
                         end = next;

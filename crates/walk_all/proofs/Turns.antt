@@ -9,16 +9,19 @@ use lib.ListN.{take}
 use borrow.Author.Tests.{leb-true, le-leb, lt-leb}
 use Rattle.records.specs.Reading.{Reading, took, refused, andThen}
 use Rattle.records.specs.Writing.{splice}
+use Rattle.piece.specs.declared.Prefix.{Prefix}
+use Rattle.piece.specs.declared.Prefix.the-variants as prefix
 use Rattle.piece.specs.Piece.{Piece}
 use Rattle.piece.specs.ReadPiece.{readPrefix}
 use Rattle.decision.specs.Walk.{Walk}
+use Rattle.walk.specs.declared.Walked.{Walked}
 use Rattle.walk.specs.Walking.{replyValues, walkRefusalValues, walkValues, walkOf}
 use Rattle.walk_all.specs.WalkAll.{resultBytes, pieceThen}
 use Rattle.walk_all.specs.declared.Turn.{Turn}
 use Rattle.walk_all.specs.declared.Turn.the-variants.{More, Last, Full}
 use Rattle.walk_all.specs.declared.First.{First}
 use Rattle.walk_all.specs.declared.First.the-variants.{Unread, Refused, Answered}
-use Rattle.walk_all.specs.views.FirstPiece.{firstReply, firstOf, PieceWithin}
+use Rattle.walk_all.specs.views.FirstPiece.{firstReply, firstOf, firstMade, PieceWithin}
 use Rattle.walk_all.specs.views.Turns.{Turned, turned}
 
 abbrev pub told : Turn → List ℕ → Turned
@@ -142,3 +145,12 @@ module _ (ys : List ℕ) (at left : ℕ) {zs : List ℕ} {k bytes : ℕ} where
       let z : _≡_ {A = ℕ} 0 1 = cc in absurd (omega arith)
   within-more (Refused j q) h e = within-fits j (splice ys at (resultBytes (walkRefusalValues q))) (leb j left) h e
   within-more (Answered j w) h e = within-fits j (splice ys at (resultBytes (walkValues (walkOf w)))) (leb j left) h e
+
+-- So it was read.
+pub more-read
+    : (ys : List ℕ) (at left : ℕ) {zs : List ℕ} {k : ℕ} (r : Prefix) (w : Walked)
+    → told (More k) zs ≡ turned ys at left (firstOf (firstMade r w)) → (n : ℕ) × (j : ℕ) × (r ≡ prefix.Read n j)
+more-read ys at left (prefix.Read n j) w e = (n, j, refl)
+more-read ys at left {k = k} (prefix.Refused q) w e =
+    let turn : More k ≡ Last = ap (λ (x : Turned). x .turn) e in
+    let z : _≡_ {A = ℕ} 0 1 = cc in absurd (omega arith)

@@ -1,45 +1,40 @@
-// The walk of the piece that the input begins with, over a graph that was accepted for its sheet.
+// What came of the piece that the input begins with, by how it was read and how its walk ended.
 use crate::First;
 use piece::Prefix;
-use piece::read_prefix;
-use tables::Tables;
-use walk::Sizes;
 use walk::Walked;
-use walk::call::walk_checked;
 ghost use mathlib.Core.Path.{_≡_};
-ghost use lib.ListN.{length};
-ghost use Rattle.walk.specs.Walking.{walkReply};
-ghost use Rattle.walk_all.specs.views.Known.{Known};
-ghost use Rattle.walk_all.specs.views.FirstPiece.{firstOf, firstReply, PieceWithin};
+ghost use Rattle.piece.specs.views.LaidOut.{usedBy};
+ghost use Rattle.walk_all.specs.views.FirstPiece.{hasArity, firstMade};
 
-// The walk of the first piece: its questions, 20, then 26 and 27 on the way. Bytes may follow it. Not 20 for a piece of the sheet's
-// arity, nor the bytes of the whole input for those of the piece.
-pub fn walk_first(
-    sheet: &[u8],
-    graph: &[u8],
-    starts: &[u32; 1024],
-    kept: &Tables,
-    sizes: Sizes,
-    notes: &mut [u64; 680],
-    input: &[u8],
-) -> First
-    requires { ⌜ Known (now sheet) (now graph) (now starts) (now kept) sizes × (length (now notes) ≡ 680) ⌝ }
-    ensures { λ r. ⌜ firstOf r ≡ firstReply (walkReply (now (sheet .entry)) (now (graph .entry))) (now (input .entry)) ⌝ }
-    ensures { λ r. ⌜ PieceWithin (length (now (input .entry))) r × (length (now (notes .exit)) ≡ 680) ⌝ }
+// Whether a piece was read that has so many arguments. Not where it was refused.
+pub fn has_arity(prefix: Prefix, arity: u8) -> bool
+    ensures { λ r. ⌜ r ≡ hasArity prefix arity ⌝ }
 {
-    let mut cells = [0u64; 680];
-    let prefix = read_prefix(input, &mut cells);
+    match prefix {
+        Prefix::Read(n, _) => n == arity,
+        Prefix::Refused(_) => false,
+    }
+}
+
+// The place from which on the cells of a piece are empty. Not one within its last argument.
+pub fn used_by(prefix: Prefix) -> usize
+    ensures { λ r. ⌜ r ≡ usedBy prefix ⌝ }
+{
+    match prefix {
+        Prefix::Read(n, _) => 85 * (n as usize),
+        Prefix::Refused(_) => 680,
+    }
+}
+
+// What came of a piece. Not a refusal of its walk where the piece itself could not be read.
+pub fn first_of(prefix: Prefix, walked: Walked) -> First
+    ensures { λ r. ⌜ r ≡ firstMade prefix walked ⌝ }
+{
     match prefix {
         Prefix::Refused(q) => First::Unread(q),
-        Prefix::Read(arity, bytes) => {
-            if arity != sizes.arity {
-                return First::Refused(bytes, 20);
-            }
-            let walked = walk_checked(sheet, graph, starts, kept, sizes, notes, &cells);
-            match walked {
-                Walked::Refused(q) => First::Refused(bytes, q),
-                Walked::Answered(w) => First::Answered(bytes, w),
-            }
-        }
+        Prefix::Read(_, bytes) => match walked {
+            Walked::Refused(q) => First::Refused(bytes, q),
+            Walked::Answered(w) => First::Answered(bytes, w),
+        },
     }
 }

@@ -1,15 +1,20 @@
 // Many pieces walked over a graph, for one check of sheet and graph: a result of 16 bytes for each, in a lent buffer.
-pub mod first_piece; // the walk of the piece that the input begins with
+pub mod first_piece; // what came of the piece that the input begins with
 pub mod open; // the sheet and the graph, read once
 pub mod result; // the bytes of a result
 
-use first_piece::walk_first;
+use first_piece::first_of;
+use first_piece::has_arity;
+use first_piece::used_by;
 use open::open_graph;
+use piece::read_prefix;
 use result::put_result;
 use result::rule;
 use result::word;
 use walk::Sizes;
 use walk::Walk;
+use walk::Walked;
+use walk::call::walk_checked;
 ghost use Prim.Native.Nat.{_+_, _/_, _≤_, min};
 ghost use mathlib.Core.Path.{_≡_};
 ghost use lib.ListN.{length};
@@ -100,19 +105,26 @@ pub fn walk_all(sheet: &[u8], graph: &[u8], pieces: &[u8], results: &mut [u8]) -
         Opened::Refused(q) => WalkedAll::Refused(q),
         Opened::Ready(sizes) => {
             let room = room_for(results.len());
+            let mut cells = [0u64; 680];
+            let mut used: usize = 0;
             let mut n: usize = 0;
             let mut from: usize = 0;
             while n < room {
                 if from == pieces.len() {
                     return WalkedAll::Walked(n as u32, from as u32);
                 }
-                let rest = &pieces[from..];
-                let first = walk_first(sheet, graph, &starts, &kept, sizes, &mut notes, rest);
+                let prefix = read_prefix(&pieces[from..], &mut cells, used);
+                let mut walked = Walked::Refused(20);
+                if has_arity(prefix, sizes.arity) {
+                    walked = walk_checked(sheet, graph, &starts, &kept, sizes, &mut notes, &cells);
+                }
+                let first = first_of(prefix, walked);
                 let turn = put_first(results, 16 * n, 0xFFFF_FFFF - from, first);
                 match turn {
                     Turn::Full => return WalkedAll::Walked(n as u32, from as u32),
                     Turn::Last => return WalkedAll::Walked((n + 1) as u32, from as u32),
                     Turn::More(bytes) => {
+                        used = used_by(prefix);
                         from += bytes;
                         n += 1;
                     }

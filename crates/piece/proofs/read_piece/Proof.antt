@@ -1,6 +1,8 @@
 -- `read_piece` meets its contract: the piece that the input begins with, and whether bytes are left.
 use denote.Ref.{now}
+use native.Mathlib.Omega.{arith}
 use borrow.Author.Needs.{needs}
+use Rattle.piece.proofs.Emptying.{none-used}
 use Rattle.piece.proofs.PiecesRead.{bytes-left, piece-took, piece-refused}
 use Rattle.piece.proofs.read_piece.Statement.{statement}
 use Rattle.piece.proofs.read_piece.Tie as tie
@@ -27,7 +29,7 @@ pub read-piece-spec : {M : Type 1} → statement M
 read-piece-spec =
     tie.close
     (tie.spec
-    (λ c κs. search needs)
+    (λ c κs. (omega arith, none-used (c .before .before .pre)))
     (λ c. search needs)
     returns
     (λ c. search needs)

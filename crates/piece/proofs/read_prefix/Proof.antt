@@ -1,6 +1,6 @@
 -- `read_prefix` meets its contract: the record that the piece begins with, then its terms read into empty cells.
 use Prim.Native.Nat.{ℕ, _+_, _≤_}
-use mathlib.Core.Path.{_≡_, ap, sym, _∙_}
+use mathlib.Core.Path.{_≡_, ap, ap₂, sym, _∙_}
 use mathlib.Core.List.{List}
 use native.Mathlib.Omega.{arith}
 use lib.ListN.{length}
@@ -11,7 +11,7 @@ use Rattle.records.proofs.Parts.{rest, rest-length}
 use Rattle.piece.specs.declared.Taken.{Taken}
 use Rattle.piece.specs.declared.Taken.the-variants.{Bytes}
 use Rattle.piece.specs.ReadPiece.{readPrefix}
-use Rattle.piece.specs.views.LaidOut.{LaidOut, tookCells, termsCells, emptyCells, layOut, prefixBytes}
+use Rattle.piece.specs.views.LaidOut.{LaidOut, tookCells, termsCells, layOut, prefixBytes}
 use Rattle.piece.proofs.TermCells.{terms-fit}
 use Rattle.piece.proofs.PiecesRead.{ArityRead, arity-known, arity-refused, terms-laid}
 use Rattle.piece.proofs.read_prefix.Statement.{statement}
@@ -33,19 +33,17 @@ module _ (c : tie.After-known-told) where
 -- Where the terms were read or refused.
 module _ (c : tie.After-terms) where
   abbrev start : tie.After-known-told
-  start = c .before .before .before .before
+  start = c .before .before .before .before .before
 
   abbrev laid : Taken → Reading LaidOut
   laid r =
       after 2 (λ cells. record { arity = arity start; cells = cells }) (tookCells (c .terms .last .1 .1 .1 .1 .0) r)
 
   laid-out : laid (c .terms .result) ≡ mapReading layOut (readPrefix (bytes start))
-  unfolding emptyCells
   laid-out =
-      terms-laid (bytes start) (c .before .before .before .before .before .before .before .piece-head .result)
-      (c .before .before .before .before .before .before .before .piece-head .ensures)
-      (c .before .before .before .before .before .head .given .1)
-      (c .terms .ensures ∙ ap (termsCells 3 (arity start) 0 emptyCells) (rest (bytes start) 2))
+      let head = start .before .before .before .piece-head in
+      terms-laid (bytes start) (head .result) (head .ensures) (start .before .head .given .1)
+      (c .terms .ensures ∙ ap₂ (termsCells 3 (arity start) 0) (c .before .before .before .empty .ensures) (rest (bytes start) 2))
 
   within : {b : ℕ} → c .terms .result ≡ Bytes b → 2 + b ≤ length (bytes start)
   within told =
@@ -61,16 +59,16 @@ returns c =
     )
 
 sub-terms : tie.Need-sub-terms
-sub-terms c = omega (arith, known (c .before) .there)
+sub-terms c = omega (arith, known (c .before .before) .there)
 
 part-terms-start : tie.Need-part-terms-start
-part-terms-start c = omega (arith, known (c .before) .there)
+part-terms-start c = omega (arith, known (c .before .before) .there)
 
 terms-requires : tie.Need-terms-requires
-terms-requires c κs = omega (arith, known (c .before .before .before) .most)
+terms-requires c κs = omega (arith, known (c .before .before .before .before) .most)
 
-add-t15 : tie.Need-add-t15
-add-t15 c =
+add-t18 : tie.Need-add-t18
+add-t18 c =
     let m = c .before .before .before in omega (arith, within m (c .before .taken .given .1), start m .before .before .before .before .before .good .0 .0)
 
 returns-2 : tie.Need-returns-2
@@ -91,13 +89,14 @@ read-prefix-spec =
     (λ c. search needs)
     (λ c. search needs)
     returns
+    (λ c κs. search needs)
     sub-terms
     part-terms-start
     (λ c. search needs)
     (λ c. search needs)
     terms-requires
     (λ c. search needs)
-    add-t15
+    add-t18
     (λ c. search needs)
     returns-2
     returns-3)

@@ -1,7 +1,8 @@
 -- Pieces laid out by place, and what is read into the cells.
-use Prim.Native.Nat.{ℕ}
+use Prim.Native.Nat.{ℕ, _*_, _≤_}
+use mathlib.Core.Path.{_≡_}
 use mathlib.Core.List.{List}
-use lib.ListN.{replicate}
+use lib.ListN.{length, getD, replicate}
 use Rattle.records.specs.Reading.{Reading, took, refused, mapReading}
 use Rattle.terms.specs.Term.{Terms}
 use Rattle.piece.specs.declared.Taken.{Taken}
@@ -31,6 +32,11 @@ termsCells below n p cells s = mapReading (λ ts. storeTerms ts below p cells) (
 unfoldable pub emptyCells : List ℕ
 emptyCells = replicate 680 0
 
+-- Nothing stands from place k on.
+pub record UsedTo (k : ℕ) (cells : List ℕ) : Type 0 where
+  pub size : length cells ≡ 680
+  pub behind : (i : ℕ) → k ≤ i → getD cells i 0 ≡ 0
+
 -- The cells of a piece: its terms have 3 levels below them and stand from place 0 on.
 abbrev pub pieceCells : Terms → List ℕ
 pieceCells piece = storeTerms piece 3 0 emptyCells
@@ -56,6 +62,11 @@ prefixRead cells (prefix.Refused q) = refused q
 abbrev pub prefixBytes : Prefix → ℕ
 prefixBytes (prefix.Read n a) = a
 prefixBytes (prefix.Refused q) = 0
+
+-- A piece of n arguments uses the 85 places of each. After a refusal nothing is known of the cells.
+abbrev pub usedBy : Prefix → ℕ
+usedBy (prefix.Read n a) = 85 * n
+usedBy (prefix.Refused q) = 680
 
 -- What reading a piece that is the whole input, of so many bytes, says.
 abbrev pub pieceRead : ℕ → List ℕ → PieceCheck → Reading LaidOut

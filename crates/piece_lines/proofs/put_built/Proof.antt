@@ -1,101 +1,26 @@
 -- `put_built` meets its contract: the line of the sheet, then in each turn what was printed so far stands behind it.
-use Prim.Native.Nat.{ℕ, _+_, _-_, _*_, _≤_}
-use mathlib.Core.Path.{_≡_, refl, ap, subst, _∙_}
-use mathlib.Core.List.{List, _++_}
+mod Places
+use Prim.Native.Nat.{ℕ, _≤_}
+use mathlib.Core.Path.{refl, sym, ap, subst, _∙_}
+use mathlib.Core.Logic.{⊎-elim}
 use native.Mathlib.Omega.{arith}
-use lib.ListN.{length, drop, length-replicate}
+use lib.ListN.{length, length-replicate}
 use denote.Ref.{now}
-use Rattle.records.specs.Reading.{Reading}
-use Rattle.records.specs.Writing.{splice}
-use Rattle.records.proofs.Parts.{rest, rest-length}
-use Rattle.sheet_tests.specs.CheckSheet.{SheetValues}
-use Rattle.lines.specs.Lines.{sheetLine, refusedLine}
-use Rattle.lines.proofs.Wrote.{Wrote, wrote-as, wrote-behind}
-use Rattle.decision.specs.Walk.{Walk}
-use Rattle.walk.specs.Walking.{walkReply}
-use Rattle.walk_all.specs.views.Known.{OpenedAs, ReadyAs}
-use Rattle.piece_lines.specs.BuiltLines.{firstWalk, pieceLines, builtLines}
-use Rattle.piece_lines.specs.declared.Turn.{Turn}
-use Rattle.piece_lines.specs.views.Turned.{Turned, turned, Within, walkLine, answered}
-use Rattle.piece_lines.proofs.Progress.{Progress, at-start, at-end, at-refusal, at-piece}
-use Rattle.piece_lines.proofs.SheetLine.{known-values, graph-opened}
-use Rattle.piece_lines.proofs.Turns.{first-answered, told-as, told-last, told-more, from-start}
+use Rattle.piece.specs.views.LaidOut.{UsedTo}
+use Rattle.piece.proofs.Emptying.{none-used}
+use Rattle.lines.specs.Lines.{refusedLine}
+use Rattle.walk_all.specs.views.Known.{OpenedAs}
+use Rattle.walk_all.proofs.FirstMade.{used-read, some-piece}
+use Rattle.piece_lines.specs.BuiltLines.{firstWalk}
+use Rattle.piece_lines.specs.views.Turned.{walkLine}
+use Rattle.piece_lines.proofs.Progress.{at-start, at-end, at-refusal, at-piece}
+use Rattle.piece_lines.proofs.SheetLine.{graph-opened}
+use Rattle.piece_lines.proofs.Turns.{told-last, told-more, more-read}
 use borrow.Author.Needs.{needs}
 use Rattle.piece_lines.proofs.put_built.Statement.{statement}
 use Rattle.piece_lines.proofs.put_built.Tie as tie
-
-abbrev Inv-loop : tie.InvT-loop
-Inv-loop sheet graph nodes input out₀ starts notes₀ kept sizes tests end₀ from₀ n₀ out notes end from n =
-    (from ≤ length input) × (1 ≤ n) × (3 * n ≤ from + 3) × (end + 44 ≤ end₀ + 44 * n) × (length out ≡ length out₀)
-    × Progress (walkReply sheet graph) input out₀ end₀ from n end out × (length notes ≡ 680)
-
-abbrev μ-loop : tie.MeasureT-loop
-μ-loop sheet graph nodes input out₀ starts notes₀ kept sizes tests end₀ from₀ n₀ out notes end from n = length input - from
-
--- Where the graph is accepted for the sheet.
-ready
-    : (c : tie.After-opened2 Inv-loop μ-loop)
-    → ReadyAs (now (c .before .before .before .before .before .before .before .before .before .before .args .sheet)) (now (c .before .before .before .before .before .before .before .before .before .before .args .graph)) (c .before .before .open-graph .last .1 .1 .0)
-    (c .before .before .open-graph .last .1 .1 .1 .1 .0) (c .opened2 .given .0 .0)
-ready c = subst (OpenedAs _ _ _ _) (c .opened2 .given .1) (c .before .before .open-graph .ensures .0)
-
--- Where the line of the sheet stands at the front: the lines of the pieces behind it are all that is to be printed.
-module _ (c : tie.After-slice-known3 Inv-loop μ-loop) where
-  abbrev input : List ℕ
-  input = now (c .before .before .before .before .before .before .before .before .before .before .before .before .before .before .before .before .before .args .input)
-
-  abbrev buffer : List ℕ
-  buffer = now (c .before .before .before .before .before .before .before .before .before .before .before .before .before .before .before .before .before .args .out)
-
-  abbrev reply : List ℕ → Reading Walk
-  reply = walkReply (now (c .before .before .before .before .before .before .before .before .before .before .before .before .before .before .before .before .before .args .sheet)) (now (c .before .before .before .before .before .before .before .before .before .before .before .before .before .before .before .before .before .args .graph))
-
-  abbrev all : List ℕ
-  all = builtLines (now (c .before .before .before .before .before .before .before .before .before .before .before .before .before .before .before .before .before .args .sheet)) (now (c .before .before .before .before .before .before .before .before .before .before .before .before .before .before .before .before .before .args .graph)) (c .before .before .before .before .before .before .before .before .before .before .before .before .before .before .before .before .before .args .nodes) input
-
-  room : (c .before .before .put-sheet-line .result ≤ 24) × (961248 ≤ length (c .before .before .put-sheet-line .last .0)) × (length input ≤ 65536)
-  room =
-      let kept : length (c .before .before .put-sheet-line .last .0) ≡ length buffer = search needs in
-      (omega (arith, c .before .before .put-sheet-line .ensures .0 .0, c .before .before .put-sheet-line .ensures .1), omega (arith, kept, c .before .before .before .before .before .before .before .before .before .before .before .before .before .before .before .before .before .pre .1 .1), c .before .before .before .before .before .before .before .before .before .before .before .before .before .before .before .before .before .pre .1 .0)
-
-  all-printed
-      : {end : ℕ} {ys : List ℕ}
-      → Wrote (c .before .before .put-sheet-line .last .0) (c .before .before .put-sheet-line .result) (pieceLines reply (length input) 1 input) end ys
-      → (end ≡ length all) × (ys ≡ splice buffer 0 all)
-  all-printed w =
-      let known = ready (c .before .before .before .before .before .before .before) .known in
-      let sizes = c .before .before .before .before .before .before .before .opened2 .given .0 .0 in
-      let tests = c .before .before .before .before .tests in
-      let values = known-values (known .checked .sheet) (tests .ensures) in
-      let lines = pieceLines reply (length input) 1 input in
-      let is = ap (λ (x : SheetValues). sheetLine (x .arity) (x .rules) (x .tests) (c .before .before .before .before .before .before .before .before .before .before .before .before .before .before .before .before .before .args .nodes) ++ lines) values in
-      let first = c .before .before .put-sheet-line in
-      from-start buffer all
-      (wrote-as buffer 0 is
-      (wrote-behind buffer 0 (sheetLine (sizes .arity) (sizes .rules) (tests .result) (c .before .before .before .before .before .before .before .before .before .before .before .before .before .before .before .before .before .args .nodes)) lines
-      (omega (arith, first .ensures .0 .0, first .ensures .1, c .before .before .before .before .before .before .before .before .before .before .before .before .before .before .before .before .before .pre .1 .1)) (first .ensures .0) w))
-
--- The turn of the piece that comes next.
-module _ (c : tie.After-slice-known4 Inv-loop μ-loop) where
-  abbrev state : tie.After-slice-known3 Inv-loop μ-loop
-  state = c .before .before .before .before .before .before .before .before .before .before .before
-
-  turn-told
-      : {t : Turn} → c .before .before .put-first .result ≡ t
-      → _≡_ {A = Turned} (record { turn = t; buffer = c .before .before .put-first .last .1 .1 .0 })
-      (turned (c .before .before .before .before .before .before .before .before .before .before .loop .out) (c .before .before .before .before .before .before .before .before .before .before .loop .end) (c .before .before .before .before .before .before .before .before .before .before .loop .n) (firstWalk (reply state) (drop (c .before .before .before .before .before .before .before .before .before .before .loop .from) (input state))))
-  turn-told e =
-      told-as (c .before .before .before .before .before .before .before .before .before .before .loop .n) (c .before .before .before .before .before .before .before .before .before .before .loop .out) (c .before .before .before .before .before .before .before .before .before .before .loop .end) e
-      (ap answered (c .before .before .before .before .walk-first .ensures .0)
-      ∙ first-answered (reply state) _
-      ∙ ap (firstWalk (reply state)) (rest (input state) (c .before .before .before .before .before .before .before .before .before .before .loop .from)))
-      (c .before .before .put-first .ensures .0)
-
-  turn-within
-      : {t : Turn} → c .before .before .put-first .result ≡ t → Within (length (input state) - c .before .before .before .before .before .before .before .before .before .before .loop .from) (c .before .before .before .before .before .before .before .before .before .before .loop .end) t
-  turn-within {t = t} e =
-      subst (λ (k : ℕ). Within k (c .before .before .before .before .before .before .before .before .before .before .loop .end) t) (rest-length (input state) (c .before .before .before .before .before .before .before .before .before .before .loop .from))
-      (subst (Within _ (c .before .before .before .before .before .before .before .before .before .before .loop .end)) e (c .before .before .put-first .ensures .1 _ (c .before .before .before .before .walk-first .ensures .1 .0)))
+use Rattle.piece_lines.proofs.put_built.Proof.Places.{Inv-loop, μ-loop, ready, input, reply, room, all-printed, around, pieces}
+use Rattle.piece_lines.proofs.put_built.Proof.Places.{cells, piece-bytes, prefix-told, joined, read, state, put-told, turn-told, turn-within}
 
 open-graph-requires : tie.Need-open-graph-requires Inv-loop μ-loop
 open-graph-requires c κs = (length-replicate {A = ℕ} 1024 0, length-replicate {A = ℕ} 680 0, refl)
@@ -129,25 +54,49 @@ loop-holds c =
       refl,
       at-start (reply state) (input state) (print .last .0) (print .result),
       c .before .before .before .before .before .before .before .before .before .open-graph .ensures .1,
+      omega arith,
+      none-used refl,
     )
 
-sub-rest : tie.Need-sub-rest Inv-loop μ-loop
-sub-rest c = search needs
+sub-read-prefix : tie.Need-sub-read-prefix Inv-loop μ-loop
+sub-read-prefix c = search needs
 
-part-rest-start : tie.Need-part-rest-start Inv-loop μ-loop
-part-rest-start c = search needs
+part-read-prefix-start : tie.Need-part-read-prefix-start Inv-loop μ-loop
+part-read-prefix-start c = search needs
 
-part-rest-end : tie.Need-part-rest-end Inv-loop μ-loop
-part-rest-end c = search needs
+part-read-prefix-end : tie.Need-part-read-prefix-end Inv-loop μ-loop
+part-read-prefix-end c = search needs
 
-walk-first-requires : tie.Need-walk-first-requires Inv-loop μ-loop
-walk-first-requires c κs = (ready (c .before .before .before .before .before .before .before .before .before .before .before .before .before) .known, c .before .before .before .before .before .loop .inv .6)
+read-prefix-requires : tie.Need-read-prefix-requires Inv-loop μ-loop
+read-prefix-requires c κs = let inv = c .before .before .before .loop .inv in (inv .7, inv .8)
+
+has-arity-requires : tie.Need-has-arity-requires Inv-loop μ-loop
+has-arity-requires c κs = search needs
+
+walk-checked-requires : tie.Need-walk-checked-requires Inv-loop μ-loop
+walk-checked-requires c κs =
+    let taken = c .before .before .before .before in
+    let read = taken .before .before in
+    let known = ready (around read .before .before .before .before .before .before .before .before) .known in (
+      (
+        known .allStarts,
+        some-piece (pieces read) (cells read) (piece-bytes read) (read .read-prefix .result) _ (prefix-told read)
+            (sym (taken .before .has-arity .ensures) ∙ taken .if1 .taken),
+        known .begins,
+        around read .loop .inv .6,
+      ),
+      known .checked,
+    )
+
+first-of-requires : tie.Need-first-of-requires Inv-loop μ-loop
+first-of-requires c κs = search needs
 
 put-first-requires : tie.Need-put-first-requires Inv-loop μ-loop
 put-first-requires c κs =
-    let inv = c .before .before .before .before .before .before .before .loop .inv in
-    let few = room (c .before .before .before .before .before .before .before .before) in
-    omega (arith, inv .2, inv .3, inv .4, few .0, few .1, few .2, c .before .before .before .before .before .before .loop-test .taken)
+    let read = c .before .before .before .before in
+    let inv = around read .loop .inv in
+    let few = room (around read .before) in
+    omega (arith, inv .2, inv .3, inv .4, few .0, few .1, few .2, read .before .before .before .loop-test .taken)
 
 enum-known-turn : tie.Need-enum-known-turn Inv-loop μ-loop
 enum-known-turn c = search needs
@@ -158,47 +107,65 @@ same-length c = search needs
 returns : tie.Need-returns Inv-loop μ-loop
 returns c =
     let step = c .before .before .before in
-    let state = c .before .before .before .before .before .before .before .before .before .before .before .before .before .before in
-    let loop = c .before .before .before .before .before .before .before .before .before .before .before .before .before .loop in
-    let print = c .before .before .before .before .before .before .before .before .before .before .before .before .before .before .before .before .put-sheet-line in
-    let line = firstWalk (reply state) (drop (loop .from) (input state)) in
+    let now = state step in
+    let loop = around (read step) .loop in
+    let print = now .before .before .put-sheet-line in
+    let line = firstWalk (reply now) (pieces (read step)) in
     let (q, is, wrote) = told-last (loop .out) (loop .end) (loop .n) line (turn-told step (c .before .turn .given .1)) in
-    let few = room state in
+    let few = room now in
     let inside : _ = turn-within step (c .before .turn .given .1) in
-    all-printed state
-    (at-refusal (reply state) (input state) (print .last .0) (print .result) (loop .inv .5) (omega arith) (c .before .before .before .before .before .before .before .before .before .before .before .before .loop-test .taken) (refusedLine q)
+    all-printed now
+    (at-refusal (reply now) (input now) (print .last .0) (print .result) (loop .inv .5) (omega arith) (read step .before .before .before .loop-test .taken) (refusedLine q)
     (omega (arith, few .0, few .1, few .2, inside)) wrote is refl)
 
 enum-known-turn-2 : tie.Need-enum-known-turn-2 Inv-loop μ-loop
 enum-known-turn-2 c = search needs
 
+used-by-requires : tie.Need-used-by-requires Inv-loop μ-loop
+used-by-requires c κs = search needs
+
 add-from : tie.Need-add-from Inv-loop μ-loop
-add-from c = omega (arith, room (c .before .before .before .before .before .before .before .before .before .before .before .before .before .before) .2, c .before .before .before .before .before .before .before .before .before .before .before .before .loop-test .taken, turn-within (c .before .before .before) (c .before .turn2 .given .1) .1)
+add-from c =
+    let made = c .before .before in
+    let step = made .before .before in
+    omega (arith, room (state step) .2, read step .before .before .before .loop-test .taken, turn-within step (made .turn2 .given .1) .1)
 
 add-n : tie.Need-add-n Inv-loop μ-loop
-add-n c = let few = room (c .before .before .before .before .before .before .before .before .before .before .before .before .before .before) in omega (arith, c .before .before .before .before .before .before .before .before .before .before .before .before .before .loop .inv .2, few .2, c .before .before .before .before .before .before .before .before .before .before .before .before .loop-test .taken)
+add-n c =
+    let step = c .before .before .before .before in
+    let few = room (state step) in
+    omega (arith, around (read step) .loop .inv .2, few .2, read step .before .before .before .loop-test .taken)
 
 loop-less : tie.Need-loop-less Inv-loop μ-loop
-loop-less c = let inside = turn-within (c .before .before .before) (c .before .turn2 .given .1) in omega (arith, inside .0, inside .1)
+loop-less c =
+    let made = c .before .before in
+    let inside = turn-within (made .before .before) (made .turn2 .given .1) in omega (arith, inside .0, inside .1)
 
 loop-again : tie.Need-loop-again Inv-loop μ-loop
 loop-again c =
-    let step = c .before .before .before in
-    let state = c .before .before .before .before .before .before .before .before .before .before .before .before .before .before in
-    let loop = c .before .before .before .before .before .before .before .before .before .before .before .before .before .loop in
-    let print = c .before .before .before .before .before .before .before .before .before .before .before .before .before .before .before .before .put-sheet-line in
-    let line = firstWalk (reply state) (drop (loop .from) (input state)) in
-    let (w, is, wrote) = told-more (loop .out) (loop .end) (loop .n) line (turn-told step (c .before .turn2 .given .1)) in
-    let few = room state in
-    let inside = turn-within step (c .before .turn2 .given .1) in (
+    let made = c .before .before in
+    let step = made .before .before in
+    let now = state step in
+    let loop = around (read step) .loop in
+    let print = now .before .before .put-sheet-line in
+    let line = firstWalk (reply now) (pieces (read step)) in
+    let (w, is, wrote) = told-more (loop .out) (loop .end) (loop .n) line (turn-told step (made .turn2 .given .1)) in
+    let few = room now in
+    let inside = turn-within step (made .turn2 .given .1) in
+    let prefix = read step .read-prefix .result in
+    let (m, k, e) = more-read (loop .out) (loop .end) (loop .n) prefix (joined step .if1 .walked) (put-told step (made .turn2 .given .1)) in
+    let next = used-read (pieces (read step)) (cells (read step)) (piece-bytes (read step)) prefix (prefix-told (read step)) e in
+    let used = sym (c .used-by .ensures) in (
       omega (arith, inside .1),
       omega arith,
       omega (arith, inside .0),
       omega (arith, inside .2),
       search needs,
-      at-piece (reply state) (input state) (print .last .0) (print .result) (loop .inv .5) (omega arith) (c .before .before .before .before .before .before .before .before .before .before .before .before .loop-test .taken) (walkLine (loop .n) w)
+      at-piece (reply now) (input now) (print .last .0) (print .result) (loop .inv .5) (omega arith) (read step .before .before .before .loop-test .taken) (walkLine (loop .n) w)
           (omega (arith, few .0, few .1, few .2, inside .2)) wrote is refl,
-      c .before .before .before .before .before .before .before .walk-first .ensures .1 .1,
+      ⊎-elim (λ w. ap length (w .6) ∙ w .5 .ensures .1) (λ w. ap length (w .1) ∙ loop .inv .6) (joined step .if1 .came),
+      subst (λ (k : ℕ). k ≤ 680) used (next .0),
+      subst (λ (k : ℕ). UsedTo k (cells (read step))) used (next .1),
     )
 
 same-length-2 : tie.Need-same-length-2 Inv-loop μ-loop
@@ -232,15 +199,19 @@ put-built-spec =
     cast-tests
     put-sheet-line-requires
     loop-holds
-    sub-rest
-    part-rest-start
-    part-rest-end
-    walk-first-requires
+    sub-read-prefix
+    part-read-prefix-start
+    part-read-prefix-end
+    read-prefix-requires
+    has-arity-requires
+    walk-checked-requires
+    first-of-requires
     put-first-requires
     enum-known-turn
     same-length
     returns
     enum-known-turn-2
+    used-by-requires
     add-from
     add-n
     loop-less
