@@ -5,7 +5,7 @@ use mathlib.Core.Bool.{true, false}
 use native.Mathlib.Omega.{arith}
 use lib.Dec.{T, eqb}
 use borrow.Author.Tests.{le-leb, lt-leb, le-ltb, lt-ltb, ne-eqb}
-use Rattle.terms.specs.Term.{Term, count, unknown, symbol, numbers, compound, Wide}
+use Rattle.terms.specs.Term.{Term, unknown, symbol, numbers, compound, Wide}
 use Rattle.terms.specs.Lookup.{Found, lacking, found}
 use Rattle.terms.specs.Filling.{WellFormed}
 use Rattle.terms.proofs.TermPlaces.{IfFound}

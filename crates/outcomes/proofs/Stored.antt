@@ -1,22 +1,22 @@
 -- What the cells hold after terms are stored in them, for any number of levels below the terms and of terms in a row:
 -- at each place the run of what stands there, and nothing below an unknown.
 use Prim.Native.Nat.{ℕ, zero, suc, pred, _+_, _-_, _*_, _≤_, _<_}
-use mathlib.Core.Path.{_≡_, refl, ap, sym, _∙_}
+use mathlib.Core.Path.{_≡_, ap, sym, _∙_}
 use mathlib.Core.List.{List}
 use native.Mathlib.Nat.{add-zero}
 use native.Mathlib.Decide.{decLt}
 use native.Mathlib.Omega.{arith}
 use lib.ListN.{length, getD, set, length-set}
-use lib.Seq.{getD-set-same, getD-set-other}
+use lib.Seq.{getD-set-other}
 use Rattle.places.specs.Numbering.{stride}
 use Rattle.terms.specs.Term.{Term, Terms, count, unknown, symbol, numbers, compound, nil, cons}
-use Rattle.terms.specs.Lookup.{found, lacking}
+use Rattle.terms.specs.Lookup.{lacking}
 use Rattle.terms.specs.Filling.{WellFormed, WellFormeds}
 use Rattle.terms.specs.Accepted.{Shallow, Shallows}
 use Rattle.terms.proofs.TermPlaces.{extent}
 use Rattle.codes.specs.views.Codes.{termRun}
 use Rattle.piece.specs.views.Cells.{foundRun, storeTerm, storeTerms}
-use Rattle.piece.proofs.StoredCells.{term-length, term-before, terms-before, term-here, term-after, extent-four}
+use Rattle.piece.proofs.StoredCells.{term-length, terms-before, term-here, term-after, extent-four}
 use Rattle.outcomes.proofs.FindWith.{findWith, findsWith, with-zero, with-here, with-there}
 
 -- The k cells from place p on are there and empty.
