@@ -1,5 +1,5 @@
 -- The pass that cuts a switch into runs, one law a turn: the runs that are written and those before the cuts to come are the whole.
-use Prim.Native.Nat.{ℕ, pred, max, _+_, _*_, _-_, _≤_, _<_}
+use Prim.Native.Nat.{ℕ, pred, max, _+_, _-_, _≤_, _<_}
 use mathlib.Core.Path.{_≡_, sym, ap, _∙_}
 use mathlib.Core.List.{List, [], _∷_, _++_, append-nil, append-assoc}
 use native.Mathlib.Omega.{arith}
@@ -14,7 +14,7 @@ use Rattle.basics.proofs.Filters.{filter-length, filter-join}
 use Rattle.cuts.specs.views.Cuts.{Cut, cutAt}
 use Rattle.cuts.specs.views.Runs.{Run, runAt, runsIn, withRun}
 use Rattle.cuts.specs.views.FramedRuns.{framedRun, framedFrom, isPoint, pointRuns}
-use Rattle.cuts.proofs.Cutting.{cutsFrom, cuts-next, cuts-done, run-more}
+use Rattle.cuts.proofs.Cutting.{cutsFrom, cuts-next, cuts-done, run-more, with-length}
 
 -- A run that is over, as a list of one or none.
 module _ (base start next set : ℕ) where
@@ -35,26 +35,34 @@ module _ (base start next set : ℕ) where
       let last : pred next ≡ next - 1 = omega arith in
       rw (ne-eqb set 0 e, last)
 
-  -- What is said of the runs that are written, and of those of them below the base.
+  -- What is said of the runs that are written, and of those of them below the base: one more run at most.
   abbrev pub Ended : List ℕ → ℕ → ℕ → List ℕ → ℕ → ℕ → Type 0
   Ended runs n points after m more =
       (runsIn after m ≡ runsIn runs n ++ framedRun base start next set [])
       × (more ≡ points + length (pointRuns base (framedRun base start next set [])))
+      × (m ≤ n + 1) × (length after ≡ 390)
 
-  pub ended-none : (runs : List ℕ) (n points : ℕ) → framedRun base start next set [] ≡ [] → Ended runs n points runs n points
-  ended-none runs n points e = (
-    sym (append-nil (runsIn runs n)) ∙ ap (λ (l : List Run). runsIn runs n ++ l) (sym e),
-    (let same : points ≡ points + 0 = omega arith in same)
-        ∙ ap (λ (l : List Run). points + length (pointRuns base l)) (sym e),
-  )
+  module _ (runs : List ℕ) (n points : ℕ) (size : length runs ≡ 390) where
+    pub ended-none : framedRun base start next set [] ≡ [] → Ended runs n points runs n points
+    ended-none e = (
+      sym (append-nil (runsIn runs n)) ∙ ap (λ (l : List Run). runsIn runs n ++ l) (sym e),
+      (let same : points ≡ points + 0 = omega arith in same)
+          ∙ ap (λ (l : List Run). points + length (pointRuns base l)) (sym e),
+      omega arith,
+      size,
+    )
 
-  pub ended-one
-      : (runs : List ℕ) (n points more : ℕ) (r : Run) → framedRun base start next set [] ≡ r ∷ [] → 3 * n + 2 < length runs
-      → more ≡ points + length (pointRuns base (r ∷ [])) → Ended runs n points (withRun runs n r) (n + 1) more
-  ended-one runs n points more r e room f = (
-    run-more runs n r room ∙ ap (λ (l : List Run). runsIn runs n ++ l) (sym e),
-    f ∙ ap (λ (l : List Run). points + length (pointRuns base l)) (sym e),
-  )
+    pub ended-one
+        : (more : ℕ) (r : Run) (after : List ℕ) → framedRun base start next set [] ≡ r ∷ [] → n < 130
+        → after ≡ withRun runs n r → more ≡ points + length (pointRuns base (r ∷ [])) → Ended runs n points after (n + 1) more
+    ended-one more r after e room written f = (
+      ap (λ (l : List ℕ). runsIn l (n + 1)) written
+          ∙ run-more runs n r (omega (arith, size))
+          ∙ ap (λ (l : List Run). runsIn runs n ++ l) (sym e),
+      f ∙ ap (λ (l : List Run). points + length (pointRuns base l)) (sym e),
+      omega arith,
+      ap (λ (l : List ℕ). length l) written ∙ with-length runs n r ∙ size,
+    )
 
 -- One run is below the base, or it is not.
 pub point-one : (base : ℕ) (r : Run) → r .low < base → length (pointRuns base (r ∷ [])) ≡ 1

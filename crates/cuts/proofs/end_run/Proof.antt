@@ -1,12 +1,9 @@
 -- `cuts::end_run` meets its contract: a run is written, or there is none.
 use Prim.Native.Nat.{ℕ, max, _+_, _-_, _<_}
-use mathlib.Core.Path.{_≡_, ap, _∙_}
-use mathlib.Core.List.{List}
+use mathlib.Core.Path.{ap, _∙_}
 use native.Mathlib.Omega.{arith}
 use denote.Ref.{now}
-use lib.ListN.{length}
-use Rattle.cuts.specs.views.Runs.{Run, runsIn, withRun}
-use Rattle.cuts.proofs.Cutting.{with-length}
+use Rattle.cuts.specs.views.Runs.{Run, withRun}
 use Rattle.cuts.proofs.FramedPass.{gap-none, gap-some, wanted-some, ended-none, ended-one, point-one, point-none}
 use borrow.Author.Needs.{needs}
 use Rattle.cuts.proofs.end_run.Statement.{statement}
@@ -20,9 +17,8 @@ returns c =
     let start = c .before .before .before in
     let a = start .args in
     let low = c .before .higher .ensures in
-    let none = gap-none (a .base) (a .start) (a .next) (a .set) (c .before .before .if1 .taken) (omega (arith, c .if2 .taken)) in
-    let end = ended-none (a .base) (a .start) (a .next) (a .set) (now (a .runs)) (a .done .count) (a .done .points) none in
-    (end .0, end .1, omega arith, start .pre .0)
+    ended-none (a .base) (a .start) (a .next) (a .set) (now (a .runs)) (a .done .count) (a .done .points) (start .pre .0)
+    (gap-none (a .base) (a .start) (a .next) (a .set) (c .before .before .if1 .taken) (omega (arith, c .if2 .taken)))
 
 sub-put-run : tie.Need-sub-put-run
 sub-put-run c = search needs
@@ -39,20 +35,14 @@ returns-2 c =
     let a = start .args in
     let low = c .before .before .before .higher .ensures in
     let above : max (a .start) (a .base) < a .next = omega (arith, c .before .before .if2 .left) in
-    let some = gap-some (a .base) (a .start) (a .next) (a .set) (c .before .before .before .before .if1 .taken) above in
     let run : Run = record { low = max (a .start) (a .base); high = a .next - 1; set = 0 } in
-    let written : c .put-run .last .0 ≡ withRun (now (a .runs)) (a .done .count) run =
-    c .put-run .ensures
-    ∙ ap (λ (l : ℕ). withRun (now (a .runs)) (a .done .count) (record { low = l; high = a .next - 1; set = 0 })) low in
     let none = point-none (a .base) run (omega arith) in
-    let end =
-    ended-one (a .base) (a .start) (a .next) (a .set) (now (a .runs)) (a .done .count) (a .done .points) (a .done .points) run some
-    (omega (arith, start .pre .0, start .pre .1)) (omega arith) in (
-      ap (λ (l : List ℕ). runsIn l (a .done .count + 1)) written ∙ end .0,
-      end .1,
-      omega arith,
-      ap (λ (l : List ℕ). length l) written ∙ with-length (now (a .runs)) (a .done .count) run ∙ start .pre .0,
-    )
+    ended-one (a .base) (a .start) (a .next) (a .set) (now (a .runs)) (a .done .count) (a .done .points) (start .pre .0)
+    (a .done .points) run _
+    (gap-some (a .base) (a .start) (a .next) (a .set) (c .before .before .before .before .if1 .taken) above) (start .pre .1)
+    (c .put-run .ensures
+    ∙ ap (λ (l : ℕ). withRun (now (a .runs)) (a .done .count) (record { low = l; high = a .next - 1; set = 0 })) low)
+    (omega arith)
 
 sub-put-run-2 : tie.Need-sub-put-run-2
 sub-put-run-2 c = search needs
@@ -70,19 +60,11 @@ returns-3 : tie.Need-returns-3
 returns-3 c =
     let start = c .before .before .before .before in
     let a = start .args in
-    let some = wanted-some (a .base) (a .start) (a .next) (a .set) (c .before .before .before .if1 .left) in
     let run : Run = record { low = a .start; high = a .next - 1; set = a .set } in
-    let written : c .before .put-run2 .last .0 ≡ withRun (now (a .runs)) (a .done .count) run = c .before .put-run2 .ensures in
     let point = point-one (a .base) run (c .if3 .taken) in
-    let end =
-    ended-one (a .base) (a .start) (a .next) (a .set) (now (a .runs)) (a .done .count) (a .done .points) (a .done .points + 1) run
-    some
-    (omega (arith, start .pre .0, start .pre .1)) (omega arith) in (
-      ap (λ (l : List ℕ). runsIn l (a .done .count + 1)) written ∙ end .0,
-      end .1,
-      omega arith,
-      ap (λ (l : List ℕ). length l) written ∙ with-length (now (a .runs)) (a .done .count) run ∙ start .pre .0,
-    )
+    ended-one (a .base) (a .start) (a .next) (a .set) (now (a .runs)) (a .done .count) (a .done .points) (start .pre .0)
+    (a .done .points + 1) run _ (wanted-some (a .base) (a .start) (a .next) (a .set) (c .before .before .before .if1 .left)) (start .pre .1)
+    (c .before .put-run2 .ensures) (omega arith)
 
 add-t21 : tie.Need-add-t21
 add-t21 c = search needs
@@ -91,18 +73,11 @@ returns-4 : tie.Need-returns-4
 returns-4 c =
     let start = c .before .before .before .before in
     let a = start .args in
-    let some = wanted-some (a .base) (a .start) (a .next) (a .set) (c .before .before .before .if1 .left) in
     let run : Run = record { low = a .start; high = a .next - 1; set = a .set } in
-    let written : c .before .put-run2 .last .0 ≡ withRun (now (a .runs)) (a .done .count) run = c .before .put-run2 .ensures in
     let point = point-none (a .base) run (c .if3 .left) in
-    let end =
-    ended-one (a .base) (a .start) (a .next) (a .set) (now (a .runs)) (a .done .count) (a .done .points) (a .done .points) run some
-    (omega (arith, start .pre .0, start .pre .1)) (omega arith) in (
-      ap (λ (l : List ℕ). runsIn l (a .done .count + 1)) written ∙ end .0,
-      end .1,
-      omega arith,
-      ap (λ (l : List ℕ). length l) written ∙ with-length (now (a .runs)) (a .done .count) run ∙ start .pre .0,
-    )
+    ended-one (a .base) (a .start) (a .next) (a .set) (now (a .runs)) (a .done .count) (a .done .points) (start .pre .0)
+    (a .done .points) run _ (wanted-some (a .base) (a .start) (a .next) (a .set) (c .before .before .before .if1 .left)) (start .pre .1)
+    (c .before .put-run2 .ensures) (omega arith)
 
 pub end-run-spec : {M : Type 1} → statement M
 end-run-spec =
