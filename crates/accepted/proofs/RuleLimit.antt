@@ -12,12 +12,8 @@ use Rattle.records.specs.Fields.{byteAt}
 use Rattle.records.specs.Reading.{Reading, took, refused, ask}
 use Rattle.records.proofs.Rows.{ask-holds}
 use Rattle.sheet.specs.Sheet.{Sheet, SheetHead, mostRules}
-use Rattle.sheet.specs.ReadSheet.{readHeader, readHeaderUpTo, afterHeader, readSheet}
-use Rattle.sheet_tests.specs.CheckSheet.{askTests, acceptSheet}
-
--- How bytes are read as a sheet that may have so many rules.
-abbrev pub acceptUpTo : ℕ → List ℕ → Reading Sheet
-acceptUpTo most s = askTests (afterHeader (readHeaderUpTo most s) s)
+use Rattle.sheet.specs.ReadSheet.{readHeader, afterHeader, readSheet}
+use Rattle.sheet_tests.specs.CheckSheet.{askTests, acceptSheet, acceptUpTo}
 
 -- Sheets are accepted so.
 pub accepted-up-to : (s : List ℕ) → acceptSheet s ≡ acceptUpTo mostRules s

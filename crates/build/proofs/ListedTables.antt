@@ -39,11 +39,11 @@ module _ {arity : ℕ} {b numbers s order : List ℕ} {all : List Patterns} (g :
   small-compiling size rules tests part h =
       listed-compiling size (subst (λ (x : ℕ). x ≤ size) (part ∙ (λ j. partAt (rules j) (tests j))) h)
 
-  -- and for every sheet in 8,256.
-  pub large-compiling : Compiling arity b numbers s (replicate 8256 0) order all
+  -- and for every sheet in 16,448.
+  pub large-compiling : Compiling arity b numbers s (replicate 16448 0) order all
   large-compiling =
-      listed-compiling 8256
-      (mul-le-mul {n₁ = 1 + 4 * rulesIn s} {m₁ = placeTestsIn s} {n₂ = 129} {m₂ = 64} (omega (arith, g .fewRules))
+      listed-compiling 16448
+      (mul-le-mul {n₁ = 1 + 4 * rulesIn s} {m₁ = placeTestsIn s} {n₂ = 257} {m₂ = 64} (omega (arith, g .fewRules))
       (omega (arith, g .listed .counted .places, g .listed .counted .few)))
 
   -- How many entries the tables have, and that each number is a test's.

@@ -54,8 +54,8 @@ fn build_cut(
     build_tables(arity, s, c, buf)
 }
 
-// The same in room for the cuts of a small sheet, and of every sheet: a large array takes longer to clear than a small graph to
-// build.
+// The same in room for the cuts of a small sheet, of every sheet with up to 32 rules, and of every sheet: a large array takes longer
+// to clear than a small graph to build.
 fn build_small(b: &[u8], arity: u8, numbers: &[u8; 680], s: &mut Tables, buf: &mut [u8]) -> Built
     requires { ⌜ ((order : List ℕ) × (all : List Patterns)
         × Compiling arity (now b) (now numbers) (now s) (replicate 320 0) order all) ⌝ }
@@ -67,7 +67,7 @@ fn build_small(b: &[u8], arity: u8, numbers: &[u8; 680], s: &mut Tables, buf: &m
     build_cut(b, arity, numbers, s, &mut c, buf)
 }
 
-fn build_large(b: &[u8], arity: u8, numbers: &[u8; 680], s: &mut Tables, buf: &mut [u8]) -> Built
+fn build_middle(b: &[u8], arity: u8, numbers: &[u8; 680], s: &mut Tables, buf: &mut [u8]) -> Built
     requires { ⌜ ((order : List ℕ) × (all : List Patterns)
         × Compiling arity (now b) (now numbers) (now s) (replicate 8256 0) order all) ⌝ }
     ensures { λ r. ⌜ ((order : List ℕ) (all : List Patterns)
@@ -75,6 +75,17 @@ fn build_large(b: &[u8], arity: u8, numbers: &[u8; 680], s: &mut Tables, buf: &m
         → leftBy r (now (buf .exit)) ≡ graphWritten arity (length all) (graphIn all order) (now (buf .entry))) ⌝ }
 {
     let mut c = [0u64; 8256];
+    build_cut(b, arity, numbers, s, &mut c, buf)
+}
+
+fn build_large(b: &[u8], arity: u8, numbers: &[u8; 680], s: &mut Tables, buf: &mut [u8]) -> Built
+    requires { ⌜ ((order : List ℕ) × (all : List Patterns)
+        × Compiling arity (now b) (now numbers) (now s) (replicate 16448 0) order all) ⌝ }
+    ensures { λ r. ⌜ ((order : List ℕ) (all : List Patterns)
+        → Compiling arity (now (b .entry)) (now (numbers .entry)) (now (s .entry)) (replicate 16448 0) order all
+        → leftBy r (now (buf .exit)) ≡ graphWritten arity (length all) (graphIn all order) (now (buf .entry))) ⌝ }
+{
+    let mut c = [0u64; 16448];
     build_cut(b, arity, numbers, s, &mut c, buf)
 }
 
@@ -92,8 +103,12 @@ pub fn build_listed(
         → Listed arity (now (b .entry)) (now (numbers .entry)) (now (s .entry)) order all
         → leftBy r (now (buf .exit)) ≡ graphWritten arity (length all) (graphIn all order) (now (buf .entry))) ⌝ }
 {
-    if cuts::part(tables::rules(s), tables::place_tests(s)) <= 320 {
+    let words = cuts::part(tables::rules(s), tables::place_tests(s));
+    if words <= 320 {
         return build_small(b, arity, numbers, s, buf);
+    }
+    if words <= 8256 {
+        return build_middle(b, arity, numbers, s, buf);
     }
     build_large(b, arity, numbers, s, buf)
 }

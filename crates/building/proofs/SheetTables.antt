@@ -12,7 +12,7 @@ use Rattle.basics.specs.Lists.{All, countFrom}
 use Rattle.basics.proofs.Counting.{mem-count}
 use Rattle.terms.specs.Pattern.{Patterns}
 use Rattle.terms.specs.Accepted.{AcceptedRule}
-use Rattle.sheet.specs.Sheet.{Sheet}
+use Rattle.sheet.specs.Sheet.{Sheet, mostRules}
 use Rattle.sheet.specs.ReadSheet.{readRules}
 use Rattle.sheet_tests.specs.SheetTests.{sheetTests}
 use Rattle.sheet_tests.specs.views.TestedPlaces.{placesIn}
@@ -63,7 +63,7 @@ module _ {s words codes : List ℕ} {arity count pairs : ℕ} {sheet : Sheet} (k
   accepted-rules =
       subst (λ (n : ℕ). All (AcceptedRule n) (sheet .rules)) (k .known .arityIs) (k .known .accepted .sound .acceptedRules)
 
-  pub small-sheet : (arity ≤ 8) × (count ≤ 32)
+  pub small-sheet : (arity ≤ 8) × (count ≤ mostRules)
   small-sheet =
       let sound = k .known .accepted .sound in
       (omega (arith, sound .fewArguments, k .known .arityIs), omega (arith, sound .fewRules, k .known .countIs))

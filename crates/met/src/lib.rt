@@ -41,7 +41,7 @@ pub fn key_at(t: &Keys, i: usize) -> Key
 fn hash(live: u64, pending: u64) -> usize
     ensures { λ r. ⌜ (r ≡ hashOf (keyWith live pending)) × (r < 1024) ⌝ }
 {
-    ((live % 0x1_0000_0000 * 5 + pending % 0x4000_0000_0000_0000) % 1021) as usize
+    ((live % 0x4000_0000_0000_0000 * 3 + pending % 0x4000_0000_0000_0000) % 1021) as usize
 }
 
 // The number after that of the last key on a chain. Not that key's own number, nor that of the first.

@@ -19,6 +19,8 @@ pub mod Request1
 pub mod SameSheets
 pub mod TidyBytes
 pub mod Request2
+-- Request 9:
+pub mod Request9
 -- The cases that document 01 gives, its fakes, and its example by a table:
 pub mod Marked
 pub mod Example

@@ -134,7 +134,7 @@ module _ {s buffer w : List ℕ} (written : TidyWritten s buffer w) {k : ℕ} {s
   pub tidy-rest-stays : tidied s buffer .buffer ≡ splice buffer 0 w
   tidy-rest-stays = ap (λ (x : Result). x .buffer) tidy-left ∙ ap (splice buffer 0) (sym written-is)
 
--- A buffer of 3 + 656 × 32 bytes, 20,995, is enough for every sheet: no more are written,
+-- A buffer of 3 + 656 × 64 bytes, 41,987, is enough for every sheet: no more are written,
 module _ (s buffer : List ℕ) (areBytes : AreBytes s) where
   short : {k : ℕ} {sheet : Sheet} → acceptSheet s ≡ took k sheet → length (tidyBytes sheet) ≤ 3 + 656 * mostRules
   short {k} {sheet} e = tidy-short sheet (sheet-accepted s areBytes k sheet .0 e .0)

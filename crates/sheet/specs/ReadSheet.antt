@@ -16,7 +16,7 @@ use Rattle.sheet.specs.Sheet.{Sheet, SheetHead, mostRules}
 use Rattle.basics.specs.Lists.{allBelow}
 
 -- "1 Does it begin with a whole 10 record?" "2 Is its arity 1 to 8?" "3 Has it at most 32 rules (0 is allowed)?" How many it may
--- have is given.
+-- have is given; document 02, request 9: "Question 3 then reads 64".
 abbrev pub readHeaderUpTo : ℕ → List ℕ → Reading SheetHead
 readHeaderUpTo most s =
     ask 1 (beginsWith 0x10 s)

@@ -4,10 +4,10 @@ ghost use mathlib.Core.Path.{_≡_};
 ghost use Rattle.sheet.specs.ReadSheet.{readHeader};
 ghost use Rattle.sheet.specs.views.HeaderRead.{headerRead, headerRefusal};
 
-// "At most 32 rules".
-const MOST_RULES: u8 = 32;
+// "Question 3 then reads 64".
+const MOST_RULES: u8 = 64;
 
-// The record that a sheet begins with; its rules begin behind its 3 bytes. Arity 9 is refused by 2 and 33 rules by 3,
+// The record that a sheet begins with; its rules begin behind its 3 bytes. Arity 9 is refused by 2 and 65 rules by 3,
 // and no arity or count is made up.
 pub fn read_header(s: &[u8]) -> Header
     ensures { λ r. ⌜ headerRead r ≡ readHeader (now (s .entry)) ⌝ }

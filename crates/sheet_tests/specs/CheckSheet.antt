@@ -5,7 +5,7 @@ use lib.Dec.{leb}
 use lib.ListN.{length}
 use Rattle.records.specs.Reading.{Reading, took, refused, ask, andThen}
 use Rattle.sheet.specs.Sheet.{Sheet, SoundSheet}
-use Rattle.sheet.specs.ReadSheet.{readSheet}
+use Rattle.sheet.specs.ReadSheet.{readHeaderUpTo, afterHeader, readSheet}
 use Rattle.sheet_tests.specs.SheetTests.{sheetTests}
 use Rattle.sheet_tests.specs.declared.SheetCheck.{SheetCheck}
 use Rattle.sheet_tests.specs.declared.SheetCheck.the-variants.{Accepted, Refused}
@@ -20,6 +20,10 @@ askTests read = andThen read (λ a sheet. ask 11 (leb (length (sheetTests (sheet
 -- How bytes are read as a sheet, all questions of the sheet asked.
 unfoldable pub acceptSheet : List ℕ → Reading Sheet
 acceptSheet s = askTests (readSheet s)
+
+-- The same of a sheet that may have so many rules.
+abbrev pub acceptUpTo : ℕ → List ℕ → Reading Sheet
+acceptUpTo most s = askTests (afterHeader (readHeaderUpTo most s) s)
 
 -- "A sheet .. is accepted when none of its own questions gets a no."
 pub record AcceptedSheet (sheet : Sheet) : Type 0 where

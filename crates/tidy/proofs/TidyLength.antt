@@ -126,7 +126,7 @@ rules-short arity all (rule ∷ rules) small few within accepted =
       rules-short arity all rules small few (λ r m. within r (there m)) others,
     )
 
--- as the tidy sheet is: at most 20,995 bytes for 32 rules.
+-- as the tidy sheet is: at most 41,987 bytes for 64 rules.
 pub tidy-short : (sheet : Sheet) → AcceptedSheet sheet → length (tidyBytes sheet) ≤ 3 + 656 * mostRules
 tidy-short sheet accepted =
     let sound = accepted .sound in

@@ -8,7 +8,7 @@ use Rattle.basics.specs.Lists.{All, Mem, countFrom}
 use Rattle.records.specs.Reading.{took}
 use Rattle.terms.specs.Pattern.{Patterns}
 use Rattle.terms.specs.Accepted.{AcceptedRule}
-use Rattle.sheet.specs.Sheet.{Sheet}
+use Rattle.sheet.specs.Sheet.{Sheet, mostRules}
 use Rattle.sheet.specs.ReadSheet.{readRules}
 use Rattle.sheet_tests.specs.SheetTests.{sheetTests}
 use Rattle.sheet_tests.specs.CheckSheet.{AcceptedSheet}
@@ -47,7 +47,7 @@ pub record Listed (arity : ℕ) (b numbers s order : List ℕ) (all : List Patte
   pub bytes : ℕ
   pub read : readRules arity (rulesIn s) b ≡ took bytes all
   pub accepted : All (AcceptedRule arity) all
-  pub fewRules : rulesIn s ≤ 32
+  pub fewRules : rulesIn s ≤ mostRules
   pub listed : TestsOf all numbers s
   pub turns : Turns s order
   pub asked : (t : ℕ) → t < length (sheetTests all) → Mem t order

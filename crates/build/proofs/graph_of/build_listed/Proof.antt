@@ -32,16 +32,29 @@ returns c order all g =
     c .before .before .build-small .ensures order all
     (small-compiling g 320 (c .before .before .before .before .before .before .before .before .before .rules .ensures) (c .before .before .before .before .before .before .before .place-tests .ensures) (c .before .before .before .before .before .before .part .ensures) (c .before .before .before .before .before .if1 .taken))
 
-build-large-requires : tie.Need-build-large-requires
-build-large-requires c κs =
-    let (order, all, g) = c .before .before .before .before .before .before .before .before .before .before .pre in
-    (order, all, large-compiling g)
+build-middle-requires : tie.Need-build-middle-requires
+build-middle-requires c κs =
+    let (order, all, g) = c .before .before .before .before .before .before .before .before .before .before .before .pre in
+    (order, all, small-compiling g 8256 (c .before .before .before .before .before .before .before .rules .ensures) (c .before .before .before .before .before .place-tests .ensures) (c .before .before .before .before .part .ensures) (c .before .before .if2 .taken))
 
 same-length-2 : tie.Need-same-length-2
 same-length-2 c = search needs
 
 returns-2 : tie.Need-returns-2
-returns-2 c order all g = c .before .before .build-large .ensures order all (large-compiling g)
+returns-2 c order all g =
+    c .before .before .build-middle .ensures order all
+    (small-compiling g 8256 (c .before .before .before .before .before .before .before .before .before .before .rules .ensures) (c .before .before .before .before .before .before .before .before .place-tests .ensures) (c .before .before .before .before .before .before .before .part .ensures) (c .before .before .before .before .before .if2 .taken))
+
+build-large-requires : tie.Need-build-large-requires
+build-large-requires c κs =
+    let (order, all, g) = c .before .before .before .before .before .before .before .before .before .before .before .pre in
+    (order, all, large-compiling g)
+
+same-length-3 : tie.Need-same-length-3
+same-length-3 c = search needs
+
+returns-3 : tie.Need-returns-3
+returns-3 c order all g = c .before .before .build-large .ensures order all (large-compiling g)
 
 pub build-listed-spec : {M : Type 1} → statement M
 build-listed-spec =
@@ -53,6 +66,9 @@ build-listed-spec =
     build-small-requires
     same-length
     returns
-    build-large-requires
+    build-middle-requires
     same-length-2
-    returns-2)
+    returns-2
+    build-large-requires
+    same-length-3
+    returns-3)
