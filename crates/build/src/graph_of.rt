@@ -54,8 +54,8 @@ fn build_cut(
     build_tables(arity, s, c, buf)
 }
 
-// The same in room for the cuts of a small sheet, of every sheet with up to 32 rules, and of every sheet: a large array takes longer
-// to clear than a small graph to build.
+// The same in room for the cuts of a small sheet, of every sheet with up to 32 rules, and of every sheet: a large array takes
+// longer to clear than a small graph to build.
 fn build_small(b: &[u8], arity: u8, numbers: &[u8; 680], s: &mut Tables, buf: &mut [u8]) -> Built
     requires { ⌜ ((order : List ℕ) × (all : List Patterns)
         × Compiling arity (now b) (now numbers) (now s) (replicate 320 0) order all) ⌝ }
