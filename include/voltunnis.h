@@ -13,7 +13,7 @@
  *
  *   sheet        1  begins with a whole 10 record
  *                2  arity 1 to 8
- *                3  at most 32 rules
+ *                3  at most 64 rules
  *   each         4  whole record of kinds 20 to 25
  *   pattern      5  a compound's depth is at most 3
  *                6  a compound's arity is 1 to 4
@@ -122,7 +122,7 @@ uint64_t vt_order(const uint8_t *positions, size_t positions_len, uint8_t *buffe
 
 /* Writes a sheet in its tidy form, at the start of the buffer: questions 1 to 11, then 31. Two accepted sheets get equal bytes
  * exactly when they have the same arity and, rule for rule, the same tests. The tidy form may be longer than the sheet. The bytes
- * after it stay as they are, and all do on a refusal. At most 20,995 bytes are written.
+ * after it stay as they are, and all do on a refusal. At most 41,987 bytes are written.
  * Fields: bytes written (bits 8 to 39). */
 uint64_t vt_tidy(const uint8_t *sheet, size_t sheet_len, uint8_t *buffer, size_t buffer_len);
 

@@ -52,19 +52,14 @@ fn variant(random: &mut Random, rule: &[Pattern]) -> Vec<Pattern> {
         .collect()
 }
 
-/// How many rules, up to this many.
-fn rule_count(random: &mut Random, most: u8) -> u8 {
-    let counts = [1, 2, 3, 8, 32, most];
-    random.pick(if most > 32 { &counts } else { &counts[..5] })
+/// How many rules: 2 of 7 times more than 32.
+fn rule_count(random: &mut Random) -> usize {
+    let many = random.between(33, MOST_RULES.into());
+    random.pick(&[1, 2, 3, 8, 32, many, MOST_RULES.into()])
 }
 
 /// A sheet whose first rule alone has close to 64 tests, some fewer or some more.
 pub fn crowded(random: &mut Random) -> SheetTree {
-    crowded_up_to(random, MOST_RULES)
-}
-
-/// Such a sheet with up to so many rules, 32 or more.
-pub fn crowded_up_to(random: &mut Random, most: u8) -> SheetTree {
     let arity = random.between(4, 8);
     let mut first: Vec<Pattern> = (0..arity).map(|_| skeleton(random, 1)).collect();
     let wanted = random.pick(&[60, 62, 63, 64, 64, 64]);
@@ -79,7 +74,7 @@ pub fn crowded_up_to(random: &mut Random, most: u8) -> SheetTree {
         *open[at] = asking(random);
     }
     let mut rules = vec![first];
-    for _ in 1..rule_count(random, most) {
+    for _ in 1..rule_count(random) {
         rules.push(variant(random, &rules[0]));
     }
     SheetTree { arity: arity as u8, rules }

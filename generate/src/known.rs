@@ -36,7 +36,7 @@ pub fn three_alike() -> Vec<u8> {
 }
 
 /// Rules of 4 readings, alloy, diameter, thickness and weight, each a little above the last, so that
-/// it overlaps with the next two: 52 nodes for 8 rules, 172 for 32.
+/// it overlaps with the next two: 52 nodes for 8 rules, 172 for 32, 332 for 64.
 pub fn coins(count: u16) -> Vec<u8> {
     let range = |at: u16, step: u16, width: u16| Pattern::Range(at * step, at * step + width);
     let coin =
@@ -66,7 +66,7 @@ pub fn nested_1(count: u16) -> Vec<u8> {
     nested(count, |low, high| vec![Pattern::Range(low, high)])
 }
 
-/// Nested ranges at 8 places: 221 nodes in 52,321 bytes for 32 rules.
+/// Nested ranges at 8 places: 221 nodes in 52,321 bytes for 32 rules, 445 in 205,089 for 64.
 pub fn nested_8(count: u16) -> Vec<u8> {
     nested(count, |low, high| vec![Pattern::Range(low, high); 8])
 }
@@ -76,19 +76,31 @@ pub fn nested_16(count: u16) -> Vec<u8> {
     nested(count, |low, high| vec![Pattern::Compound(1, vec![Pattern::Range(low, high); 2]); 8])
 }
 
-/// Nested ranges at 9 places, some of which a variable ties in the last three rules. An unknown at such a
-/// place settles pairs, so that many keys have all rules live and 63 cases: 1,023 nodes in 400,448 bytes.
-pub fn longest() -> Vec<u8> {
-    const TIED: [u16; 3] = [0b1_1001_0111, 0b1_1001_1011, 0b1_1111_1110];
-    nested(32, |low, high| {
-        let tied = if low < 29 { 0 } else { TIED[usize::from(low) - 29] };
-        let pattern = |place: u16| match tied >> place & 1 {
+/// Nested ranges at so many places, which a variable ties in the last rules: each of these sets is one rule's. An
+/// unknown at such a place settles pairs, so that many keys have all rules live and as many cases as there may be.
+fn tied(rules: u16, places: u16, sets: &[u16], rule: impl Fn(Vec<Pattern>) -> Vec<Pattern>) -> Vec<u8> {
+    let first = rules - sets.len() as u16;
+    nested(rules, |low, high| {
+        let set = low.checked_sub(first).map_or(0, |at| sets[usize::from(at)]);
+        let pattern = |place: u16| match set >> place & 1 {
             1 => Pattern::Ranged(0, low, high),
             _ => Pattern::Range(low, high),
         };
-        let first = Pattern::Compound(1, vec![pattern(0), pattern(1)]);
-        [first].into_iter().chain((2..9).map(pattern)).collect()
+        rule((0..places).map(pattern).collect())
     })
+}
+
+/// 32 rules with a long graph, the first two of their 9 places inside a compound: 1,023 nodes in 400,448 bytes.
+pub fn longest_32() -> Vec<u8> {
+    tied(32, 9, &[0b1_1001_0111, 0b1_1001_1011, 0b1_1111_1110], |mut patterns| {
+        let others = patterns.split_off(2);
+        [vec![Pattern::Compound(1, patterns)], others].concat()
+    })
+}
+
+/// 64 rules with a long graph: 1,024 nodes in 718,292 bytes.
+pub fn longest_64() -> Vec<u8> {
+    tied(64, 8, &[0b10_0100, 0b111_0011, 0b1101_1101, 0b101_1111], |patterns| patterns)
 }
 
 /// A small sheet with exactly 1,024 nodes.

@@ -5,7 +5,7 @@ use crate::stock::Stock;
 use crate::trees::{Pattern, SheetTree};
 
 /// The most rules that a sheet may have.
-pub const MOST_RULES: u8 = 32;
+pub const MOST_RULES: u8 = 64;
 
 /// Numbers of variables, the lowest and the highest among them.
 const VARIABLES: [u8; 4] = [0, 1, 7, 15];
@@ -85,9 +85,9 @@ impl Style {
     }
 }
 
-/// How many rules, up to this many: mostly few, now and then 32; of 26 times 6 times more, where more are allowed.
-fn rule_count(random: &mut Random, most: usize) -> usize {
-    match random.below(if most > 32 { 26 } else { 20 }) {
+/// How many rules: mostly few, 6 of 26 times more than 32, now and then as many as there may be.
+fn rule_count(random: &mut Random) -> usize {
+    match random.below(26) {
         0 => 0,
         1..=4 => 1,
         5..=9 => 2,
@@ -95,8 +95,8 @@ fn rule_count(random: &mut Random, most: usize) -> usize {
         15..=17 => random.between(7, 16),
         18 => random.between(17, 31),
         19 => 32,
-        20..=24 => random.between(33, most),
-        _ => most,
+        20..=24 => random.between(33, MOST_RULES.into()),
+        _ => MOST_RULES.into(),
     }
 }
 
@@ -122,14 +122,9 @@ fn sheet_of(random: &mut Random, style: &Style, arity: usize, count: usize) -> S
 
 /// A sheet at random.
 pub fn sheet(random: &mut Random) -> SheetTree {
-    sheet_up_to(random, MOST_RULES)
-}
-
-/// A sheet at random with up to so many rules, 32 or more.
-pub fn sheet_up_to(random: &mut Random, most: u8) -> SheetTree {
     let stock = Stock::random(random);
     let style = Style::random(random, stock);
-    let (arity, count) = (random.between(1, 8), rule_count(random, usize::from(most)));
+    let (arity, count) = (random.between(1, 8), rule_count(random));
     sheet_of(random, &style, arity, count)
 }
 

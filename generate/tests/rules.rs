@@ -1,36 +1,54 @@
-//! How many rules random sheets have: more than 32 where more are allowed, and then often enough.
+//! How many rules random sheets have: 33 to 64 often enough, in every generator of whole sheets.
 
-use voltunnis_generate::crowded::crowded_up_to;
+use voltunnis_generate::calls::{Name, Role};
+use voltunnis_generate::crowded::crowded;
 use voltunnis_generate::random::Random;
-use voltunnis_generate::sheets::sheet_up_to;
+use voltunnis_generate::sheets::sheet;
+use voltunnis_generate::stream::Stream;
 use voltunnis_generate::trees::SheetTree;
 
 const SHEETS: usize = 4_000;
 
-/// How many of the sheets of a seed have each number of rules up to this one.
-fn counts(make: fn(&mut Random, u8) -> SheetTree, most: u8) -> Vec<usize> {
-    let mut random = Random::new(9);
-    let mut counts = vec![0; usize::from(most) + 1];
-    (0..SHEETS).for_each(|_| counts[make(&mut random, most).rules.len()] += 1);
+/// How many sheets there are of each number of rules, up to 64.
+fn counts(sheets: impl Iterator<Item = SheetTree>) -> Vec<usize> {
+    let mut counts = vec![0; 65];
+    sheets.take(SHEETS).for_each(|sheet| counts[sheet.rules.len()] += 1);
     counts
 }
 
+/// The sheets of a generator.
+fn made(make: fn(&mut Random) -> SheetTree) -> impl Iterator<Item = SheetTree> {
+    let mut random = Random::new(9);
+    std::iter::from_fn(move || Some(make(&mut random)))
+}
+
+/// The sheets of the stream of calls that have at most 64 rules and nothing behind them.
+fn streamed() -> impl Iterator<Item = SheetTree> {
+    Stream::new(9, |_, _| None).filter(|call| call.name() == Name::CheckSheet).filter_map(|call| {
+        let (tree, behind) = SheetTree::read(call.argument(Role::Sheet)?)?;
+        (tree.rules.len() <= 64 && behind.is_empty()).then_some(tree)
+    })
+}
+
 #[test]
-fn more_than_32_rules_come_where_they_are_allowed() {
-    for make in [sheet_up_to, crowded_up_to] {
-        let up_to_64 = counts(make, 64);
-        let many: usize = up_to_64[33..].iter().sum();
-        println!("{many} of {SHEETS} sheets have 33 to 64 rules, {} of them 64", up_to_64[64]);
-        assert!(100 * many >= 15 * SHEETS, "{many} sheets of 33 to 64 rules");
-        assert!(up_to_64[64] >= 100, "{} sheets of 64 rules", up_to_64[64]);
-        let up_to_32 = counts(make, 32);
-        assert!(up_to_32[32] >= 100, "{} sheets of 32 rules", up_to_32[32]);
+fn more_than_32_rules_come_often() {
+    for (name, counts) in [
+        ("sheets", counts(made(sheet))),
+        ("crowded sheets", counts(made(crowded))),
+        ("sheets of the stream", counts(streamed())),
+    ] {
+        let many: usize = counts[33..].iter().sum();
+        println!("{many} of {SHEETS} {name} have 33 to 64 rules, {} of them 64", counts[64]);
+        assert!(100 * many >= 15 * SHEETS, "{many} {name} of 33 to 64 rules");
+        for rules in [32, 64] {
+            assert!(counts[rules] >= 100, "{} {name} of {rules} rules", counts[rules]);
+        }
+        assert_eq!(counts.iter().sum::<usize>(), SHEETS, "{name}");
     }
 }
 
 #[test]
 fn every_number_of_rules_comes() {
-    for most in [32, 64] {
-        assert!(counts(sheet_up_to, most).iter().all(|sheets| *sheets > 0), "up to {most} rules");
-    }
+    assert!(counts(made(sheet)).iter().all(|sheets| *sheets > 0));
+    assert!(counts(made(crowded))[33..].iter().all(|sheets| *sheets > 0));
 }

@@ -104,19 +104,23 @@ fn question_18_comes_after_the_sheets() {
 }
 
 #[test]
-fn a_switch_of_a_built_graph_has_up_to_63_cases() {
-    let graph = has_size(&known::nested_1(32), 4, 5 + 8 + 63 * 7 + 2 + 1 + 1);
-    assert_eq!(graph[8], 63);
-    let all = nodes(&Sheet::read(&known::nested_8(32)).expect("a sheet")).expect("a graph");
-    let most = |node: &Node| matches!(node, Node::Switch { cases, .. } if cases.len() == 63);
-    assert_eq!(all.iter().filter(|node| most(node)).count(), 8);
+fn a_switch_of_a_built_graph_has_up_to_127_cases() {
+    for (rules, count) in [(32, 63), (64, 127)] {
+        let graph = has_size(&known::nested_1(rules), 4, 5 + 8 + count * 7 + 2 + 1 + 1);
+        assert_eq!(u32::from(graph[8]), count);
+        let all = nodes(&Sheet::read(&known::nested_8(rules)).expect("a sheet")).expect("a graph");
+        let most = |node: &Node| matches!(node, Node::Switch { cases, .. } if cases.len() == count as usize);
+        assert_eq!(all.iter().filter(|node| most(node)).count(), 8);
+    }
 }
 
 #[test]
 fn a_graph_may_have_more_bytes_than_a_wide_field_counts() {
     has_size(&known::nested_8(32), 221, 52_321);
     has_size(&known::nested_16(32), 687, 114_645);
-    has_size(&known::longest(), 1023, 400_448);
+    has_size(&known::longest_32(), 1023, 400_448);
+    has_size(&known::nested_8(64), 445, 205_089);
+    has_size(&known::longest_64(), 1024, 718_292);
 }
 
 #[test]
@@ -124,5 +128,6 @@ fn sheets_have_graphs_of_the_known_size() {
     has_size(&known::example(), 7, 58);
     has_size(&known::coins(8), 52, 1_296);
     has_size(&known::coins(32), 172, 5_304);
+    has_size(&known::coins(64), 332, 10_648);
     has_size(&known::zeros_and_ones(32), 907, 18_494);
 }

@@ -25,11 +25,12 @@ fn lengths(random: &mut Random, fits: usize) -> Vec<usize> {
     lengths
 }
 
-/// What was tried: calls by refusal, and graphs by the power of 2 that their nodes reach.
+/// What was tried: calls by refusal, graphs by the power of 2 that their nodes reach, and those of more than 32 rules.
 #[derive(Default)]
 struct Tried {
     refusals: [usize; 28],
     sizes: [usize; 11],
+    many_rules: usize,
 }
 
 impl Tried {
@@ -48,16 +49,17 @@ impl Tried {
             assert_eq!(check_graph(sheet, graph), Ok(GraphSize { nodes }));
             assert!(rewrite(sheet, graph, fits) == (Ok(Written { bytes }), graph.to_vec()));
             self.sizes[nodes.ilog2() as usize] += 1;
+            self.many_rules += usize::from(sheet[2] > 32);
         }
     }
 }
 
-/// Tries 13,000 random sheets, of which more than 10,000 have a graph.
+/// Tries 14,500 random sheets, of which more than 10,000 have a graph.
 fn try_sheets(seed: u64) {
     let mut random = Random::new(seed);
     let mut tried = Tried::default();
     let mut enough = vec![0; ENOUGH];
-    for _ in 0..13_000 {
+    for _ in 0..14_500 {
         let tree = if random.percent(10) { crowded(&mut random) } else { sheet(&mut random) };
         let mut bytes = tree.bytes();
         if random.percent(3) {
@@ -65,10 +67,12 @@ fn try_sheets(seed: u64) {
         }
         tried.sheet(&mut random, &bytes, &mut enough);
     }
-    let Tried { refusals, sizes } = tried;
+    let Tried { refusals, sizes, many_rules } = tried;
     let graphs: usize = sizes.iter().sum();
-    println!("{graphs} graphs, by refusal {refusals:?}, by nodes from 1, 2, 4, .. {sizes:?}");
+    println!("{graphs} graphs, {many_rules} of more than 32 rules");
+    println!("by refusal {refusals:?}, by nodes from 1, 2, 4, .. {sizes:?}");
     assert!(graphs >= 10_000, "{graphs} graphs");
+    assert!(many_rules >= 1_000, "{many_rules} graphs of more than 32 rules");
     for refusal in [0, 1, 4, 10, 11, 18, 19] {
         assert!(refusals[refusal] >= 30, "{refusal}: {} calls", refusals[refusal]);
     }

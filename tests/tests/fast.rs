@@ -214,7 +214,13 @@ fn the_fast_code_builds_the_same_graphs() {
 #[test]
 fn the_fast_code_stops_at_the_most_nodes() {
     let mut count = Count::default();
-    let known = [known::nodes_1024(), known::nodes_1025(), known::nodes_1027(), known::longest()];
+    let known = [
+        known::nodes_1024(),
+        known::nodes_1025(),
+        known::nodes_1027(),
+        known::longest_32(),
+        known::longest_64(),
+    ];
     let built = known.map(|sheet| count.build(&sheet, ENOUGH).map(|built| built.nodes));
-    assert_eq!(built, [Some(1024), None, None, Some(1023)]);
+    assert_eq!(built, [Some(1024), None, None, Some(1023), Some(1024)]);
 }

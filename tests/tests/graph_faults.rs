@@ -23,7 +23,7 @@ struct Made {
 fn graphs() -> Vec<Made> {
     let mut random = Random::new(0x6661_756c);
     let mut sheets: Vec<Vec<u8>> = vectors::all().into_iter().map(|vector| vector.sheet).collect();
-    sheets.extend((0..60).map(|_| sheet(&mut random).bytes()));
+    sheets.extend((0..80).map(|_| sheet(&mut random).bytes()));
     let mut graphs = Vec::new();
     for bytes in sheets {
         let Ok(sheet) = Sheet::read(&bytes).map(Rc::new) else { continue };

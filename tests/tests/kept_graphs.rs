@@ -1,5 +1,5 @@
-//! Sheets of up to 32 rules keep their graph (document 02, request 9): what the library of 32 rules wrote for them, in document
-//! 01's order and with the arguments backwards, and by which numbers it refused others.
+//! Sheets of up to 32 rules keep their graph (document 02, request 9): what the library of 32 rules wrote for
+//! them, in document 01's order and with the arguments backwards, and by which numbers it refused others.
 
 use std::collections::BTreeMap;
 use voltunnis_tests::both::{build, build_ordered};

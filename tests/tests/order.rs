@@ -120,7 +120,9 @@ fn all_places_in_turn_give_the_plain_graph() {
         known::nodes_1024(),
         known::nodes_1025(),
         known::nodes_1027(),
-        known::longest(),
+        known::longest_32(),
+        known::longest_64(),
+        known::coins(64),
         from_hex("10 03 00"),
     ] {
         for len in [0, 5, 58, ENOUGH] {

@@ -87,7 +87,7 @@ fn question_19_comes_after_the_graphs_questions() {
         100,
         24,
     );
-    refused(&from_hex("10 01 21"), &from_hex("12 01 01 00 01 41"), 0, 3);
+    refused(&from_hex("10 01 41"), &from_hex("12 01 01 00 01 41"), 0, 3);
 }
 
 #[test]

@@ -47,9 +47,13 @@ fn question_2_asks_for_an_arity_of_1_to_8() {
 }
 
 #[test]
-fn question_3_asks_for_at_most_32_rules() {
-    accepted(&format!("10 01 20 {}", "20".repeat(32)), 1, 32, 0);
-    refused(&format!("10 01 21 {}", "20".repeat(33)), 3);
+fn question_3_asks_for_at_most_64_rules() {
+    for rules in [32, 33, 63, 64] {
+        accepted(&format!("10 01 {rules:02x} {}", "20".repeat(rules)), 1, rules as u8, 0);
+    }
+    refused(&format!("10 01 41 {}", "20".repeat(65)), 3);
+    refused("10 01 41", 3);
+    refused("10 01 40", 4);
     refused("10 01 ff", 3);
 }
 

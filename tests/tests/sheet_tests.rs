@@ -35,7 +35,7 @@ fn leaves(count: usize, leaf: Pattern) -> Vec<Pattern> {
 
 #[test]
 fn a_test_is_a_place_or_a_pair_whatever_is_wanted_there() {
-    let wants: Vec<Vec<Pattern>> = (0..32).map(|id| vec![Symbol(id)]).collect();
+    let wants: Vec<Vec<Pattern>> = (0..64).map(|id| vec![Symbol(id)]).collect();
     assert_eq!(tests(&wants), Ok(1));
     assert_eq!(tests(&[vec![Symbol(1), Anything], vec![Anything, Range(1, 2)]]), Ok(2));
     assert_eq!(tests(&[vec![Variable(0), Variable(0)], vec![Variable(9), Variable(9)]]), Ok(1));
@@ -67,7 +67,7 @@ fn sixty_four_tests_are_accepted_and_sixty_five_are_not() {
     };
     assert_eq!(tests(&[crowd(2)]), Ok(64));
     assert_eq!(tests(&[crowd(3)]), Err(11));
-    assert_eq!(tests(&vec![crowd(2); 32]), Ok(64));
+    assert_eq!(tests(&vec![crowd(2); 64]), Ok(64));
     assert_eq!(tests(&[crowd(2), crowd(3)]), Err(11));
     // The 65th test is a place, after 66 pairs, and a pair, after 64 places.
     assert_eq!(tests(&[leaves(12, Variable(0))]), Err(11));
@@ -102,9 +102,9 @@ fn quickest<T>(call: impl Fn() -> T) -> Duration {
 }
 
 #[test]
-fn a_sheet_of_4_million_pairs_is_refused_fast() {
+fn a_sheet_of_8_million_pairs_is_refused_fast() {
     for leaf in [Variable(0), Ranged(0, 1, 9), Symbol(1)] {
-        let sheet = SheetTree { arity: 8, rules: vec![full(8, &leaf); 32] }.bytes();
+        let sheet = SheetTree { arity: 8, rules: vec![full(8, &leaf); 64] }.bytes();
         assert_eq!(check_sheet(&sheet), Err(11));
         let limit = Duration::from_millis(20);
         let library = quickest(|| voltunnis::check_sheet(&sheet));

@@ -31,7 +31,7 @@ fn refusal(call: &Call) -> u8 {
 const SMALLEST: [(u8, &[&str]); 27] = [
     (1, &["check_sheet -"]),
     (2, &["check_sheet 100000"]),
-    (3, &["check_sheet 100121"]),
+    (3, &["check_sheet 100141"]),
     (4, &["check_sheet 100101"]),
     (5, &["check_sheet 10010123000001230000012300000123000000"]),
     (6, &["check_sheet 10010123000000"]),
@@ -50,7 +50,13 @@ const SMALLEST: [(u8, &[&str]); 27] = [
     (21, &["check_graph 100100 -"]),
     (22, &["check_graph 100100 1201000001", "check_graph 100100 1201000100"]),
     (23, &["check_graph 100100 12010000014200"]),
-    (24, &["check_graph 100101210000 1201010001430000020000000044000000004400000000"]),
+    (
+        24,
+        &[
+            "check_graph 100101210000 1201010001430000020000000044000000004400000000",
+            "check_graph 100101210000 1201010001430000010000000046010000000000",
+        ],
+    ),
     (25, &["check_graph 100100 12010000014000"]),
     (
         26,
@@ -140,9 +146,9 @@ fn an_order_that_matters_comes_down_to_what_matters() {
     }
 }
 
-/// The positions of a call.
+/// The positions of a call, none if they are not whole.
 fn positions(call: &Call) -> Vec<u16> {
-    let bytes = call.argument(Role::Positions).unwrap_or_default();
+    let bytes = call.argument(Role::Positions).filter(|bytes| bytes.len() % 2 == 0).unwrap_or_default();
     bytes.chunks_exact(2).map(|two| u16::from_be_bytes([two[0], two[1]])).collect()
 }
 

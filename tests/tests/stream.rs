@@ -43,7 +43,7 @@ fn outcome(call: &Call) -> String {
 fn every_refusal_and_every_word_is_met_whatever_the_seed() {
     for seed in 1..=4 {
         let mut counts = BTreeMap::new();
-        for call in Stream::new(seed, graph_in).take(10_000) {
+        for call in Stream::new(seed, graph_in).take(15_000) {
             *counts.entry(outcome(&call)).or_insert(0) += 1;
         }
         println!("seed {seed}: {counts:?}");

@@ -97,26 +97,26 @@ fn all_sixteen_variables_take_numbers() {
     assert_eq!(numbers, (0..16).chain(0..16).collect::<Vec<u8>>());
 }
 
-/// The longest tidy sheet: 64 compounds of 4 arguments in each of 32 rules. A test of any other sort adds fewer
+/// The longest tidy sheet: 64 compounds of 4 arguments in each of 64 rules. A test of any other sort adds fewer
 /// bytes than a compound's 7.
 fn longest() -> SheetTree {
     let four = |first: Pattern| Pattern::Compound(0xffff, [vec![first], vec![Pattern::Anything; 3]].concat());
     let deepest = four(Pattern::Anything);
     let second = |at: usize| if at < 24 { four(deepest.clone()) } else { deepest.clone() };
     let argument = |a: usize| Pattern::Compound(1, (0..4).map(|j| second(4 * a + j)).collect());
-    SheetTree { arity: 8, rules: vec![(0..8).map(argument).collect(); 32] }
+    SheetTree { arity: 8, rules: vec![(0..8).map(argument).collect(); 64] }
 }
 
 #[test]
 fn the_longest_sheet_is_tidied() {
     let bytes = longest().bytes();
     assert_eq!(both::check_sheet(&bytes).map(|size| size.tests), Ok(64));
-    assert_eq!(bytes.len(), 3 + 32 * 456);
+    assert_eq!(bytes.len(), 3 + 64 * 456);
     fits(&bytes, &bytes, 0);
     refused(&bytes, bytes.len() - 1, 31);
     let mut random = Random::new(0x6c6f_6e67);
     let disguised = disguise(&mut random, &longest()).bytes();
-    assert!(disguised.len() > bytes.len() + 32 * 10);
+    assert!(disguised.len() > bytes.len() + 64 * 10);
     fits(&disguised, &bytes, 9);
     refused(&disguised, bytes.len() - 1, 31);
 }
@@ -132,7 +132,7 @@ fn question_31_comes_after_the_sheets_questions() {
     for (sheet, refusal) in [
         (from_hex("11 01 00"), 1),
         (from_hex("10 09 00"), 2),
-        (from_hex("10 01 21"), 3),
+        (from_hex("10 01 41"), 3),
         (from_hex("10 01 01 26"), 4),
         (from_hex(&deep), 5),
         (from_hex("10 01 01 23 00 01 05"), 6),

@@ -159,11 +159,12 @@ fn a_built_graph_may_take_64_edges() {
     assert_eq!(answer.to_string(), "suspend 0 64 8000000000000000");
 }
 
-/// How often walks were refused by each question, and answered by each word.
+/// How often walks were refused by each question, answered by each word, and by a rule above 32.
 #[derive(Default)]
 struct Seen {
     refusals: [usize; 28],
     words: [usize; 5],
+    above_32: usize,
 }
 
 impl Seen {
@@ -177,7 +178,10 @@ impl Seen {
             bytes = damaged(random, &bytes);
         }
         match walk(&bytes, graph, &piece) {
-            Ok(answer) => self.words[answer.walk.word as usize] += 1,
+            Ok(answer) => {
+                self.words[answer.walk.word as usize] += 1;
+                self.above_32 += usize::from(answer.walk.rule > 32);
+            }
             Err(refusal) => self.refusals[usize::from(refusal)] += 1,
         }
     }
@@ -197,9 +201,9 @@ fn library_and_reference_agree_on_random_walks() {
             seen.walk(&mut random, &tree, &graph);
         }
     }
-    let Seen { refusals, words } = seen;
+    let Seen { refusals, words, above_32 } = seen;
     let walks = refusals.iter().sum::<usize>() + words.iter().sum::<usize>();
-    println!("{walks} walks, by refusal {refusals:?}, by word {words:?}");
+    println!("{walks} walks, by refusal {refusals:?}, by word {words:?}, {above_32} by a rule above 32");
     assert!(walks >= 100_000, "{walks} walks");
     for (refusal, calls) in refusals.iter().enumerate().skip(20) {
         assert!(*calls >= 50, "{refusal}: {calls} calls");
@@ -207,4 +211,5 @@ fn library_and_reference_agree_on_random_walks() {
     for word in [Word::Commit, Word::Execute, Word::Suspend, Word::Fail] {
         assert!(words[word as usize] >= 300, "{}: {} answers", word.name(), words[word as usize]);
     }
+    assert!(above_32 >= 150, "{above_32} answers by a rule above 32");
 }

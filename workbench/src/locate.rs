@@ -177,8 +177,8 @@ mod tests {
         assert_eq!(sheet(&apart), (9, Where::Record { index: 1, rule: 1, at: at(9, 15) }));
         assert_eq!(sheet(&[0x10, 1, 2, 0x20, 0x21, 0]), (4, Where::Rest(4)));
         assert_eq!(sheet(&[0x10, 1, 1, 0x20, 0x20]), (10, Where::Rest(4)));
-        let many: Vec<u8> = [0x10, 1, 33].into_iter().chain([0x20; 33]).collect();
-        assert_eq!(sheet(&many), (3, Where::Record { index: 32, rule: 33, at: at(35, 36) }));
+        let many: Vec<u8> = [0x10, 1, 65].into_iter().chain([0x20; 65]).collect();
+        assert_eq!(sheet(&many), (3, Where::Record { index: 64, rule: 65, at: at(67, 68) }));
         // 12 places of one variable are 66 pairs: the twelfth is meant.
         let twelve: Vec<u8> = [0x10, 3, 1]
             .into_iter()

@@ -97,11 +97,11 @@ fn large_graphs_are_drawn() {
     let folder = Folder::new("large");
     folder.write("coins.bin", known::coins(32));
     drawn(folder.says(&["draw", "coins.bin"]).as_bytes());
-    // 1,023 nodes and 400,448 bytes: the text for Graphviz is made.
-    folder.write("longest.bin", known::longest());
+    // 1,024 nodes and 718,292 bytes: the text for Graphviz is made.
+    folder.write("longest.bin", known::longest_64());
     let dot = folder.says(&["draw", "longest.bin"]);
-    assert!(dot.matches("\n  n").count() > 1_023 && dot.contains("… "), "{} bytes", dot.len());
-    let said = folder.says(&["explain", "longest.bin", "(#1(5, ?), ?, 7, 8, 9, 1, 2, 3)"]);
+    assert!(dot.matches("\n  n").count() > 1_024 && dot.contains("… "), "{} bytes", dot.len());
+    let said = folder.says(&["explain", "longest.bin", "(5, ?, 7, 8, 9, 1, 2, 3)"]);
     assert!(said.contains("suspend after"), "{said}");
 }
 

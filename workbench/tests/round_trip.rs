@@ -107,7 +107,13 @@ fn graphs_come_back_as_they_were() {
             graph_again(&graph);
         }
     }
-    for sheet in [known::nodes_1024(), known::longest(), known::zeros_and_ones(32), known::coins(32)] {
+    for sheet in [
+        known::nodes_1024(),
+        known::longest_32(),
+        known::longest_64(),
+        known::zeros_and_ones(32),
+        known::coins(64),
+    ] {
         graph_again(&voltunnis::graph(&sheet).expect("a graph"));
     }
 }

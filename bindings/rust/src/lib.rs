@@ -42,5 +42,5 @@ pub const MOST_BYTES: usize = 1_836_037;
 /// The bytes of a reading order, 680 wide places, and those of as many track positions.
 pub const ORDER_BYTES: usize = 1_360;
 
-/// No tidy sheet has more bytes: 3, and 656 for each of 32 rules.
-pub const MOST_TIDY_BYTES: usize = 20_995;
+/// No tidy sheet has more bytes: 3, and 656 for each of 64 rules.
+pub const MOST_TIDY_BYTES: usize = 41_987;

@@ -136,12 +136,12 @@ mod tests {
 
     #[test]
     fn fields_stand_at_their_bits() {
-        let sheet = SheetSize { arity: 2, rules: 3, tests: 64 };
-        assert_eq!(pack(&Ok(sheet)), 0x4003_0200);
-        assert_eq!(unpack(0x4003_0200), Ok(sheet));
-        let plain = Plain { word: Word::Execute, rule: 32 };
-        assert_eq!(pack(&Ok(plain)), 0x20_0200);
-        assert_eq!(unpack(0x20_0200), Ok(plain));
+        let sheet = SheetSize { arity: 2, rules: 64, tests: 64 };
+        assert_eq!(pack(&Ok(sheet)), 0x4040_0200);
+        assert_eq!(unpack(0x4040_0200), Ok(sheet));
+        let plain = Plain { word: Word::Execute, rule: 64 };
+        assert_eq!(pack(&Ok(plain)), 0x40_0200);
+        assert_eq!(unpack(0x40_0200), Ok(plain));
         let refusal = Refusal::from_number(17).expect("a question");
         assert_eq!(unpack::<PieceSize>(17), Err(refusal));
         let built = Built { nodes: 1024, bytes: 459_781 };

@@ -1,4 +1,5 @@
-//! Refusals: the questions of document 01, each in its words, and of requests of document 02.
+//! Refusals: the questions of document 01, each in its words, and of requests of document 02. Question 3
+//! reads 64 by request 9.
 
 use std::error::Error;
 use std::fmt;
@@ -18,7 +19,7 @@ pub struct Refusal(u8);
 const QUESTIONS: [(u8, &str, &str); 34] = [
     (1, SHEET, "Does it begin with a whole 10 record?"),
     (2, SHEET, "Is its arity 1 to 8?"),
-    (3, SHEET, "Has it at most 32 rules (0 is allowed)?"),
+    (3, SHEET, "Has it at most 64 rules (0 is allowed)?"),
     (4, PATTERN, "Is it a whole record of kinds 20 to 25?"),
     (5, PATTERN, "If compound, is its depth at most 3?"),
     (6, PATTERN, "Is its arity 1 to 4?"),

@@ -7,7 +7,7 @@ use super::variables::{Variables, MOST_PLACES};
 use crate::results::Refusal;
 
 /// The most rules that a sheet may have.
-pub const MOST_RULES: usize = 32;
+pub const MOST_RULES: usize = 64;
 
 /// The first byte of each rule.
 pub type RuleStarts = [u32; MOST_RULES];

@@ -7,7 +7,7 @@ use crate::results::Refusal;
 use voltunnis_generate::asked::Asked;
 
 /// The most rules that a sheet may have.
-pub const MOST_RULES: u8 = 32;
+pub const MOST_RULES: u8 = 64;
 
 /// The most tests that a sheet may have.
 pub const MOST_TESTS: usize = 64;

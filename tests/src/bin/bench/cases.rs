@@ -108,6 +108,7 @@ pub fn for_graphs() -> Vec<Case> {
         example(),
         case("8 rules of 4 readings", coins(8), coin(8)),
         case("32 rules of 4 readings", coins(32), coin(32)),
+        case("64 rules of 4 readings", coins(64), coin(64)),
         random_bits("8 rules of zeros and ones", 8),
         random_bits("16 rules of zeros and ones", 16),
         open("32 rules of zeros and ones", known::zeros_and_ones(32)),
@@ -116,9 +117,12 @@ pub fn for_graphs() -> Vec<Case> {
         random_ranges("32 rules of random ranges", 32, 4, 300),
         open("nested ranges at 8 places", known::nested_8(32)),
         open("nested ranges at 16 places", known::nested_16(32)),
+        case("64 nested ranges", known::nested_1(64), piece_bytes(&[Term::Number(500)])),
+        open("64 nested ranges at 8 places", known::nested_8(64)),
         open("most nodes", known::nodes_1024()),
         open("too many nodes", known::nodes_1027()),
-        open("longest graph", known::longest()),
+        open("longest graph", known::longest_32()),
+        open("longest graph of 64 rules", known::longest_64()),
     ]
 }
 
@@ -134,7 +138,9 @@ pub fn all() -> Vec<Case> {
         example(),
         case("8 rules of 4 readings", coins(8), coin(8)),
         case("32 rules of 4 readings", coins(32), coin(32)),
+        case("64 rules of 4 readings", coins(64), coin(64)),
         case("32 equal rules of 64 places", places_64(32).bytes(), piece_bytes(&open)),
+        case("64 equal rules of 64 places", places_64(64).bytes(), piece_bytes(&open)),
         case("32 equal rules of 55 pairs", pairs_64(32).bytes(), piece_bytes(&paired)),
         case("full depth piece", places_64(32).bytes(), full_piece()),
         case("512 variables a rule", hostile(Pattern::Variable(0)), full_piece()),
