@@ -87,6 +87,28 @@ fn refusals_end_the_run_and_leave_the_lines_before() {
 }
 
 #[test]
+fn sheets_of_64_rules_are_listed() {
+    let folder = folder("many");
+    let coin = |weight| {
+        let readings = [Term::Symbol(3), Term::Number(63 * 40 + 85), Term::Number(31 * 9 + 4), weight];
+        piece_bytes(&readings)
+    };
+    let pieces = [coin(Term::Number(63 * 25 + 40)), coin(Term::Unknown), coin(Term::Number(0))].concat();
+    let listed = "sheet 4 64 4 332\n\
+                  1 commit 64 2 0000000000000000\n\
+                  2 execute 64 2 0000000000000008\n\
+                  3 fail 0 2 0000000000000000\n";
+    assert_eq!(lines(&folder, &known::coins(64), &pieces), listed);
+    assert_eq!(
+        lines(&folder, &known::nested_1(64), &from_hex("11 01 30")),
+        "sheet 1 64 1 4\n1 suspend 0 1 0000000000000001\n"
+    );
+    assert_eq!(lines(&folder, &known::nested_8(64), &[]), "refused 19\n");
+    assert_eq!(lines(&folder, &from_hex(&format!("10 01 40 {}", "20".repeat(64))), &[]), "sheet 1 64 0 1\n");
+    assert_eq!(lines(&folder, &from_hex(&format!("10 01 41 {}", "20".repeat(65))), &[]), "refused 3\n");
+}
+
+#[test]
 fn inputs_are_cut_after_65536_bytes() {
     let folder = folder("cut");
     let sheet = from_hex(EXAMPLE);
