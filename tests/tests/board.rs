@@ -93,6 +93,14 @@ fn full(compound: u8, deepest: &[u8], depth: usize, to: &mut Vec<u8>) {
     (0..4).for_each(|_| full(compound, deepest, depth + 1, to));
 }
 
+/// 64 rules of 64 places each: three arguments of full depth, and a symbol.
+fn most_places() -> Vec<u8> {
+    let mut rule = Vec::new();
+    (0..3).for_each(|_| full(0x23, &[0x20], 1, &mut rule));
+    rule.extend([0x21, 0, 1]);
+    [vec![0x10, 4, 64], rule.repeat(64)].concat()
+}
+
 /// Sheets, their graphs (empty where none is built) and pieces: of document 01, large ones, and ones of full depth.
 fn inputs() -> Vec<(Vec<u8>, Vec<u8>, Vec<u8>)> {
     let mut deep_sheet = vec![0x10, 2, 2, 0x24, 0, 0x24, 0];
@@ -102,8 +110,9 @@ fn inputs() -> Vec<(Vec<u8>, Vec<u8>, Vec<u8>)> {
     let mut inputs = vec![(known::example(), deep_piece.clone()), (deep_sheet, deep_piece)];
     inputs.extend(known::example_pieces().into_iter().map(|piece| (known::example(), piece)));
     for sheet in [
-        known::coins(32),
-        known::nested_8(32),
+        most_places(),
+        known::coins(64),
+        known::nested_8(64),
         known::zeros_and_ones(32),
         known::nodes_1024(),
         known::nodes_1027(),
