@@ -89,6 +89,35 @@ fn build_large(b: &[u8], arity: u8, numbers: &[u8; 680], s: &mut Tables, buf: &m
     build_cut(b, arity, numbers, s, &mut c, buf)
 }
 
+// The graph of the rules that the input begins with, whose tests are listed, in the first room, or in one of the larger ones where
+// their cuts do not fit it. A function that calls itself takes no other's large arrays into its frame, so the stack of a build holds
+// the one room that is used.
+fn build_in(
+    room: u8,
+    b: &[u8],
+    arity: u8,
+    numbers: &[u8; 680],
+    s: &mut Tables,
+    buf: &mut [u8],
+) -> Built
+    requires { ⌜ ((order : List ℕ) × (all : List Patterns) × Listed arity (now b) (now numbers) (now s) order all) ⌝ }
+    ensures { λ r. ⌜ ((order : List ℕ) (all : List Patterns)
+        → Listed arity (now (b .entry)) (now (numbers .entry)) (now (s .entry)) order all
+        → leftBy r (now (buf .exit)) ≡ graphWritten arity (length all) (graphIn all order) (now (buf .entry))) ⌝ }
+{
+    let words = cuts::part(tables::rules(s), tables::place_tests(s));
+    if room == 0 {
+        if 320 < words {
+            return build_in(1, b, arity, numbers, s, buf);
+        }
+        return build_small(b, arity, numbers, s, buf);
+    }
+    if words <= 8256 {
+        return build_middle(b, arity, numbers, s, buf);
+    }
+    build_large(b, arity, numbers, s, buf)
+}
+
 // The graph of the rules that the input begins with, whose tests are listed, asked in the order that the tables have. Not the graph
 // of all rules but the last, nor tests asked in another order.
 pub fn build_listed(
@@ -103,12 +132,5 @@ pub fn build_listed(
         → Listed arity (now (b .entry)) (now (numbers .entry)) (now (s .entry)) order all
         → leftBy r (now (buf .exit)) ≡ graphWritten arity (length all) (graphIn all order) (now (buf .entry))) ⌝ }
 {
-    let words = cuts::part(tables::rules(s), tables::place_tests(s));
-    if words <= 320 {
-        return build_small(b, arity, numbers, s, buf);
-    }
-    if words <= 8256 {
-        return build_middle(b, arity, numbers, s, buf);
-    }
-    build_large(b, arity, numbers, s, buf)
+    build_in(0, b, arity, numbers, s, buf)
 }

@@ -1,5 +1,6 @@
 // The keys met so far, each at its node's number, and the search for one along the chain of the keys that have its hash.
 use edges::Key;
+use std::num::wrapping_add_u64;
 ghost use mathlib.Core.Path.{_≡_};
 ghost use mathlib.Core.List.{[], _∷_, _++_};
 ghost use Prim.Native.Nat.{_≤_, _<_};
@@ -41,7 +42,10 @@ pub fn key_at(t: &Keys, i: usize) -> Key
 fn hash(live: u64, pending: u64) -> usize
     ensures { λ r. ⌜ (r ≡ hashOf (keyWith live pending)) × (r < 1024) ⌝ }
 {
-    ((live % 0x4000_0000_0000_0000 * 3 + pending % 0x4000_0000_0000_0000) % 1021) as usize
+    let twice = wrapping_add_u64(live, live);
+    let four = wrapping_add_u64(twice, twice);
+    let five = wrapping_add_u64(four, live);
+    (wrapping_add_u64(five, pending) % 1021) as usize
 }
 
 // The number after that of the last key on a chain. Not that key's own number, nor that of the first.

@@ -25,9 +25,9 @@ abbrev pub meetAll : List Key → List Key → List Key
 meetAll keys [] = keys
 meetAll keys (k ∷ ks) = meetAll (meet keys k) ks
 
--- Keys are spread by all their rules and tests but the two highest of each, so that no sum is above 64 bits.
+-- Keys are spread by all their rules and tests.
 unfoldable pub hashOf : Key → ℕ
-hashOf key = (key .live % 0x4000_0000_0000_0000 * 3 + key .pending % 0x4000_0000_0000_0000) % 1021
+hashOf key = (5 * key .live + key .pending) % 0x1_0000_0000_0000_0000 % 1021
 
 module _ (t : List ℕ) where
   abbrev pub keyAt : ℕ → Key
