@@ -13,9 +13,9 @@ use Rattle.test_list.proofs.PlaceNumbers.{number-length}
 use Rattle.rows.proofs.SheetRows.{zeros}
 use Rattle.rows.proofs.TestsRight.{numbers-small}
 use Rattle.compiled.specs.views.Compiling.{Compiling}
-use Rattle.build.specs.views.Tabled.{Listed}
+use Rattle.build.specs.views.Tabled.{ListedRules}
 
-module _ {arity : ℕ} {b numbers s order : List ℕ} {all : List Patterns} (g : Listed arity b numbers s order all) where
+module _ {arity : ℕ} {b numbers s order : List ℕ} {all : List Patterns} (g : ListedRules arity b numbers s order all) where
   listed-compiling
       : (size : ℕ) → partAt (rulesIn s) (placeTestsIn s) ≤ size → Compiling arity b numbers s (replicate size 0) order all
   listed-compiling size room = record {

@@ -15,7 +15,7 @@ ghost use Rattle.tables.specs.views.Planes.{rulesIn, placeTestsIn};
 ghost use Rattle.cuts.specs.views.Cuts.{Parted};
 ghost use Rattle.compiled.specs.views.Compiling.{Compiling};
 ghost use Rattle.build.specs.BuildOutcome.{graphWritten, leftBy};
-ghost use Rattle.build.specs.views.Tabled.{Listed, grownIn};
+ghost use Rattle.build.specs.views.Tabled.{ListedRules, grownIn};
 
 // The graph that is grown from tables and cuts: questions 18 and 19. Not a graph of other tables, nor a byte changed behind it.
 fn build_tables(arity: u8, s: &Tables, c: &[u64], buf: &mut [u8]) -> Built
@@ -100,9 +100,9 @@ fn build_in(
     s: &mut Tables,
     buf: &mut [u8],
 ) -> Built
-    requires { ⌜ ((order : List ℕ) × (all : List Patterns) × Listed arity (now b) (now numbers) (now s) order all) ⌝ }
+    requires { ⌜ ((order : List ℕ) × (all : List Patterns) × ListedRules arity (now b) (now numbers) (now s) order all) ⌝ }
     ensures { λ r. ⌜ ((order : List ℕ) (all : List Patterns)
-        → Listed arity (now (b .entry)) (now (numbers .entry)) (now (s .entry)) order all
+        → ListedRules arity (now (b .entry)) (now (numbers .entry)) (now (s .entry)) order all
         → leftBy r (now (buf .exit)) ≡ graphWritten arity (length all) (graphIn all order) (now (buf .entry))) ⌝ }
 {
     let words = cuts::part(tables::rules(s), tables::place_tests(s));
@@ -127,9 +127,9 @@ pub fn build_listed(
     s: &mut Tables,
     buf: &mut [u8],
 ) -> Built
-    requires { ⌜ ((order : List ℕ) × (all : List Patterns) × Listed arity (now b) (now numbers) (now s) order all) ⌝ }
+    requires { ⌜ ((order : List ℕ) × (all : List Patterns) × ListedRules arity (now b) (now numbers) (now s) order all) ⌝ }
     ensures { λ r. ⌜ ((order : List ℕ) (all : List Patterns)
-        → Listed arity (now (b .entry)) (now (numbers .entry)) (now (s .entry)) order all
+        → ListedRules arity (now (b .entry)) (now (numbers .entry)) (now (s .entry)) order all
         → leftBy r (now (buf .exit)) ≡ graphWritten arity (length all) (graphIn all order) (now (buf .entry))) ⌝ }
 {
     build_in(0, b, arity, numbers, s, buf)

@@ -31,7 +31,7 @@ use Rattle.order.proofs.TableAsks.{table-ordering, table-asks}
 use Rattle.tables.specs.views.Planes.{rulesIn, testsIn, placeTestsIn}
 use Rattle.tables.specs.views.Turns.{Turns}
 use Rattle.test_list.specs.views.Numbers.{numberAll}
-use Rattle.test_list.specs.views.Tests.{putAll, testsPut, Counted, settledIn, underPut}
+use Rattle.test_list.specs.views.Tests.{putAll, testsPut, Counted, settledBelow, underPut}
 use Rattle.test_list.proofs.PutLists.{put-length, put-other}
 use Rattle.test_list.proofs.SameTests.{same-counted}
 use Rattle.rows.specs.views.TestsOf.{TestsOf}
@@ -46,7 +46,7 @@ use Rattle.turns.proofs.OrderTurns.{order-turns}
 use Rattle.build.specs.declared.Built.the-variants.{Refused}
 use Rattle.order.specs.Asking.{Asking, byTable, readAsking}
 use Rattle.build.specs.BuildOutcome.{graphWritten, sheetBuilt, outcomeIn, orderedOutcome, leftBy}
-use Rattle.build.specs.views.Tabled.{SheetHeld, testsFor, Listed}
+use Rattle.build.specs.views.Tabled.{SheetHeld, testsFor, ListedRules}
 
 -- Tables with listed tests say how many there are.
 pub under-counted
@@ -54,7 +54,7 @@ pub under-counted
 unfolding underPut
 under-counted places pairs s long few =
     let put = testsPut places pairs s in
-    let sets = map (settledIn put) (countFrom 0 (placeTestsIn put)) in
+    let sets = map (settledBelow put) (countFrom 0 (placeTestsIn put)) in
     same-counted put (putAll 196 sets put) (put-length sets 196 put) (λ k h. put-other sets 196 put k (inl (omega arith)))
     (listed-counted places pairs s long few)
 
@@ -112,7 +112,7 @@ module _ {s words codes : List ℕ} {arity count pairs : ℕ} {sheet : Sheet} (k
           (subst (λ (l : List ℕ). Lower l (testsIn tests)) (sym listed)
           (lowered-lower tests (first-listed .counted .entries) few-in))
 
-      pub lowest-listed : Listed arity s numbers s′ (lowestFirst (sheet .rules)) (sheet .rules)
+      pub lowest-listed : ListedRules arity s numbers s′ (lowestFirst (sheet .rules)) (sheet .rules)
       lowest-listed =
           let l = listed-stays same first-listed in
           let rules : rulesIn s′ ≡ count = l .rulesAre ∙ k .known .countIs in
@@ -135,7 +135,7 @@ module _ {s words codes : List ℕ} {arity count pairs : ℕ} {sheet : Sheet} (k
       -- By the places of an accepted table they are asked in its order.
       pub ordered-listed
           : (table : List ℕ) {places s″ : List ℕ} {n : ℕ} → readTable table ≡ took n places → s″ ≡ turnedBy numbers places 0 s′
-          → Listed arity s numbers s″ (orderBy places (sheet .rules)) (sheet .rules)
+          → ListedRules arity s numbers s″ (orderBy places (sheet .rules)) (sheet .rules)
       ordered-listed table {places} read turned =
           let g = lowest-listed in
           let t = table-ordering table places read in

@@ -16,15 +16,15 @@ use Rattle.basics.proofs.Counting.{count-append}
 use Rattle.basics.proofs.Filters.{map-join}
 use Rattle.decision.specs.Key.{Key, sameKey}
 use Rattle.edges.specs.views.VertexKey.{keyWith}
-use Rattle.met.specs.views.KeysMet.{hashOf, keyAt, countIn, keysIn, keyNumber, linkAt, headAt, lastOf, Chained}
+use Rattle.met.specs.views.KeysMet.{hashOf, keyAt, countIn, keysIn, keyNumber, linkAt, headAt, lastWith, Chained}
 use Rattle.met.proofs.Numbers.{same-equal, number-all}
 
 -- Keys that agree have the same last one.
 last-same
-    : (f g : ℕ → Key) (h n : ℕ) → ((i : ℕ) → i < n → f i ≡ g i) → lastOf f h n ≡ lastOf g h n
+    : (f g : ℕ → Key) (h n : ℕ) → ((i : ℕ) → i < n → f i ≡ g i) → lastWith f h n ≡ lastWith g h n
 last-same f g h zero same = refl
 last-same f g h (suc n) same =
-    ap (λ (k : Key). cond (eqb (hashOf k) h) (suc n) (lastOf f h n)) (same n (omega arith))
+    ap (λ (k : Key). cond (eqb (hashOf k) h) (suc n) (lastWith f h n)) (same n (omega arith))
     ∙ ap (λ (x : ℕ). cond (eqb (hashOf (g n)) h) (suc n) x) (last-same f g h n (λ i l. same i (omega arith)))
 
 -- Keys that agree are listed alike.
@@ -136,36 +136,36 @@ module _ (t : List ℕ) (n h live pending : ℕ) (size : length t ≡ 4097) (roo
         ∙ (λ j. same j ++ key-is j ∷ [])
         ∙ ap (λ (k : ℕ). map (keyAt t) (countFrom 0 k) ++ keyWith live pending ∷ []) count
 
-    last-kept : (g m : ℕ) → m ≤ n → lastOf (keyAt t) g m ≡ lastOf (keyAt t₅) g m
+    last-kept : (g m : ℕ) → m ≤ n → lastWith (keyAt t) g m ≡ lastWith (keyAt t₅) g m
     last-kept g m l = last-same (keyAt t) (keyAt t₅) g m (λ i k. sym (key-stays i (omega arith)))
 
     hash-new : hashOf (keyAt t₅ n) ≡ h
     hash-new = ap hashOf key-is ∙ sym hash
 
     -- The last one with a hash, now that there is one key more.
-    last-more : (g : ℕ) → lastOf (keyAt t₅) g (countIn t₅) ≡ cond (eqb h g) (n + 1) (lastOf (keyAt t) g (countIn t))
+    last-more : (g : ℕ) → lastWith (keyAt t₅) g (countIn t₅) ≡ cond (eqb h g) (n + 1) (lastWith (keyAt t) g (countIn t))
     last-more g =
         let e : n + 1 ≡ suc n = omega arith in
-        ap (lastOf (keyAt t₅) g) (count-is ∙ e)
-        ∙ ap (λ (x : ℕ). cond (eqb x g) (suc n) (lastOf (keyAt t₅) g n)) hash-new
-        ∙ ap (λ (x : ℕ). cond (eqb h g) (suc n) x) (sym (last-kept g n (omega arith)) ∙ ap (lastOf (keyAt t) g) count)
-        ∙ ap (λ (x : ℕ). cond (eqb h g) x (lastOf (keyAt t) g (countIn t))) (sym e)
+        ap (lastWith (keyAt t₅) g) (count-is ∙ e)
+        ∙ ap (λ (x : ℕ). cond (eqb x g) (suc n) (lastWith (keyAt t₅) g n)) hash-new
+        ∙ ap (λ (x : ℕ). cond (eqb h g) (suc n) x) (sym (last-kept g n (omega arith)) ∙ ap (lastWith (keyAt t) g) count)
+        ∙ ap (λ (x : ℕ). cond (eqb h g) x (lastWith (keyAt t) g (countIn t))) (sym e)
 
-    heads : (g : ℕ) → g < 1024 → headAt t₅ g ≡ lastOf (keyAt t₅) g (countIn t₅)
+    heads : (g : ℕ) → g < 1024 → headAt t₅ g ≡ lastWith (keyAt t₅) g (countIn t₅)
     heads g l =
         by-cases (ℕ-discrete g h)
         (λ (d : g ≡ h).
         ap (headAt t₅) d
         ∙ head-is
-        ∙ ap (λ (b : Bool). cond b (n + 1) (lastOf (keyAt t) g (countIn t))) (sym (eq-eqb h g (sym d)))
+        ∙ ap (λ (b : Bool). cond b (n + 1) (lastWith (keyAt t) g (countIn t))) (sym (eq-eqb h g (sym d)))
         ∙ sym (last-more g))
         (λ (d : ¬ (g ≡ h)).
         head-stays g l d
         ∙ c .heads g l
-        ∙ ap (λ (b : Bool). cond b (n + 1) (lastOf (keyAt t) g (countIn t))) (sym (ne-eqb h g (λ e. d (sym e))))
+        ∙ ap (λ (b : Bool). cond b (n + 1) (lastWith (keyAt t) g (countIn t))) (sym (ne-eqb h g (λ e. d (sym e))))
         ∙ sym (last-more g))
 
-    links : (i : ℕ) → i < countIn t₅ → linkAt t₅ i ≡ lastOf (keyAt t₅) (hashOf (keyAt t₅ i)) i
+    links : (i : ℕ) → i < countIn t₅ → linkAt t₅ i ≡ lastWith (keyAt t₅) (hashOf (keyAt t₅ i)) i
     links i l =
         let below : i < n + 1 = omega (arith, count-is) in
         by-cases (ℕ-discrete i n)
@@ -173,16 +173,16 @@ module _ (t : List ℕ) (n h live pending : ℕ) (size : length t ≡ 4097) (roo
         ap (linkAt t₅) d
         ∙ link-is
         ∙ c .heads h fits
-        ∙ ap (lastOf (keyAt t) h) (sym count)
+        ∙ ap (lastWith (keyAt t) h) (sym count)
         ∙ last-kept h n (omega arith)
-        ∙ ap (λ (g : ℕ). lastOf (keyAt t₅) g n) (sym hash-new)
-        ∙ ap (λ (x : ℕ). lastOf (keyAt t₅) (hashOf (keyAt t₅ x)) x) (sym d))
+        ∙ ap (λ (g : ℕ). lastWith (keyAt t₅) g n) (sym hash-new)
+        ∙ ap (λ (x : ℕ). lastWith (keyAt t₅) (hashOf (keyAt t₅ x)) x) (sym d))
         (λ (d : ¬ (i ≡ n)).
         let low : i < n = omega arith in
         link-stays i low
         ∙ c .links i (omega arith)
         ∙ last-kept (hashOf (keyAt t i)) i (omega arith)
-        ∙ ap (λ (k : Key). lastOf (keyAt t₅) (hashOf k) i) (sym (key-stays i low)))
+        ∙ ap (λ (k : Key). lastWith (keyAt t₅) (hashOf k) i) (sym (key-stays i low)))
 
     -- and every key is on its chain, once, if it was not there.
     pub chained-added : keyNumber (keysIn t) (keyWith live pending) ≡ countIn t → Chained t₅

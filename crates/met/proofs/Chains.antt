@@ -11,38 +11,38 @@ use lib.ListN.{length, getD, replicate, length-replicate, getD-replicate}
 use borrow.Author.Tests.{eqb-true, eqb-false}
 use Rattle.basics.proofs.Booleans.{by-test}
 use Rattle.decision.specs.Key.{Key, sameKey}
-use Rattle.met.specs.views.KeysMet.{hashOf, keyAt, countIn, keysIn, keyNumber, linkAt, headAt, lastOf, Chained}
+use Rattle.met.specs.views.KeysMet.{hashOf, keyAt, countIn, keysIn, keyNumber, linkAt, headAt, lastWith, Chained}
 use Rattle.met.proofs.Numbers.{same-equal, number-none, number-here}
 
 module _ (at : ℕ → Key) (h : ℕ) where
   -- The last key with a hash is one of the first n,
-  last-most : (n : ℕ) → lastOf at h n ≤ n
+  last-most : (n : ℕ) → lastWith at h n ≤ n
   last-most zero = omega arith
   last-most (suc n) = go (eqb (hashOf (at n)) h) (last-most n)
     where
-      go : (b : Bool) → lastOf at h n ≤ n → cond b (suc n) (lastOf at h n) ≤ suc n
+      go : (b : Bool) → lastWith at h n ≤ n → cond b (suc n) (lastWith at h n) ≤ suc n
       go true l = omega arith
       go false l = omega arith
 
   -- has the hash,
-  last-hash : (n i : ℕ) → suc i ≡ lastOf at h n → hashOf (at i) ≡ h
+  last-hash : (n i : ℕ) → suc i ≡ lastWith at h n → hashOf (at i) ≡ h
   last-hash zero i e = absurd (let z : ⊥ = omega arith in z)
   last-hash (suc n) i e = go (eqb (hashOf (at n)) h) refl (last-hash n i) e
     where
-      go : (b : Bool) → eqb (hashOf (at n)) h ≡ b → (suc i ≡ lastOf at h n → hashOf (at i) ≡ h)
-          → suc i ≡ cond b (suc n) (lastOf at h n) → hashOf (at i) ≡ h
+      go : (b : Bool) → eqb (hashOf (at n)) h ≡ b → (suc i ≡ lastWith at h n → hashOf (at i) ≡ h)
+          → suc i ≡ cond b (suc n) (lastWith at h n) → hashOf (at i) ≡ h
       go true d rest s =
           let same : i ≡ n = omega arith in
           ap (λ (x : ℕ). hashOf (at x)) same ∙ eqb-true (hashOf (at n)) h d
       go false d rest s = rest s
 
   -- and none after it has.
-  last-after : (n j : ℕ) → lastOf at h n ≤ j → j < n → hashOf (at j) ≡ h → ⊥
+  last-after : (n j : ℕ) → lastWith at h n ≤ j → j < n → hashOf (at j) ≡ h → ⊥
   last-after zero j l k e = absurd (let z : ⊥ = omega arith in z)
   last-after (suc n) j l k e = go (eqb (hashOf (at n)) h) refl (last-after n j) l
     where
-      go : (b : Bool) → eqb (hashOf (at n)) h ≡ b → (lastOf at h n ≤ j → j < n → hashOf (at j) ≡ h → ⊥)
-          → cond b (suc n) (lastOf at h n) ≤ j → ⊥
+      go : (b : Bool) → eqb (hashOf (at n)) h ≡ b → (lastWith at h n ≤ j → j < n → hashOf (at j) ≡ h → ⊥)
+          → cond b (suc n) (lastWith at h n) ≤ j → ⊥
       go true d rest s = let z : ⊥ = omega arith in z
       go false d rest s =
           by-cases (ℕ-discrete j n)
@@ -85,7 +85,7 @@ module _ (t : List ℕ) (key : Key) (c : Chained t) where
     search-on n next e =
         let low : i < countIn t = omega (arith, one-less, s .most) in
         let h = s .same i one-less in
-        let d = e ∙ c .links i low ∙ ap (λ (x : ℕ). lastOf (keyAt t) x i) h in
+        let d = e ∙ c .links i low ∙ ap (λ (x : ℕ). lastWith (keyAt t) x i) h in
         let most = last-most (keyAt t) (hashOf key) i in (
           record {
             most = omega (arith, d, most, low);
@@ -129,7 +129,7 @@ zeros-chained {t} n size e =
       record {
         size = ap length e ∙ length-replicate n 0 ∙ size;
         few = omega arith;
-        heads = λ h l. zeros (3072 + h) (omega arith) ∙ sym (ap (lastOf (keyAt t) h) none);
+        heads = λ h l. zeros (3072 + h) (omega arith) ∙ sym (ap (lastWith (keyAt t) h) none);
         links = λ i l. absurd (let z : ⊥ = omega arith in z);
         once = λ i j l k. absurd (let z : ⊥ = omega arith in z);
       },

@@ -22,7 +22,7 @@ use Rattle.codes.specs.views.Codes.{unknownRun}
 use Rattle.codes.proofs.TermRuns.{run-some}
 use Rattle.piece.specs.views.Cells.{foundRun}
 use Rattle.piece.specs.views.LaidOut.{emptyCells, pieceCells}
-use Rattle.outcomes.specs.views.Look.{nearest, look}
+use Rattle.outcomes.specs.views.Look.{nearestCell, look}
 use Rattle.outcomes.specs.views.CompareCells.{Narrow}
 use Rattle.outcomes.proofs.Climbing.{no-parent, has-cell, has-none}
 use Rattle.outcomes.proofs.FindWith.{findWith, findsWith, finds-is, row-composes, unknown-stays, lacking-stays, goOn}
@@ -149,8 +149,8 @@ module _ (arity : ℕ) (piece : Terms) (accepted : AcceptedPiece arity piece) (f
   above-found
       : (k n : ℕ) → n < 680
       →
-      ((q : ℕ) → q < 680 → levelsAt q ≡ suc (levelsAt n) → eqb (nearest k (pieceCells piece) q) unknownRun ≡ isUnknown (termAt piece q))
-      → eqb (nearest k (pieceCells piece) (parentAt n)) unknownRun ≡ aboveUnknown piece n
+      ((q : ℕ) → q < 680 → levelsAt q ≡ suc (levelsAt n) → eqb (nearestCell k (pieceCells piece) q) unknownRun ≡ isUnknown (termAt piece q))
+      → eqb (nearestCell k (pieceCells piece) (parentAt n)) unknownRun ≡ aboveUnknown piece n
   above-found k n inside up =
       elim (ℕ-discrete (parentAt n) 680) [
         | yes none ↦
@@ -164,15 +164,15 @@ module _ (arity : ℕ) (piece : Terms) (accepted : AcceptedPiece arity piece) (f
   -- From a place, climbing far enough, the nearest cell is an unknown's exactly where an unknown stands at the place.
   nearest-found
       : (k n : ℕ) → n < 680 → 5 ≤ levelsAt n + k
-      → eqb (nearest k (pieceCells piece) n) unknownRun ≡ isUnknown (termAt piece n)
+      → eqb (nearestCell k (pieceCells piece) n) unknownRun ≡ isUnknown (termAt piece n)
   nearest-found zero n inside enough = absurd (omega (arith, levels-range 4 n (omega arith)))
   nearest-found (suc k) n inside enough =
       go (storedAt piece n) refl (above-found k n inside (λ q below levels. nearest-found k q below (omega arith)))
     where
       go
-          : (s : Found) → storedAt piece n ≡ s → eqb (nearest k (pieceCells piece) (parentAt n)) unknownRun ≡
+          : (s : Found) → storedAt piece n ≡ s → eqb (nearestCell k (pieceCells piece) (parentAt n)) unknownRun ≡
           aboveUnknown piece n
-          → eqb (nearest (suc k) (pieceCells piece) n) unknownRun ≡ isUnknown (termAt piece n)
+          → eqb (nearestCell (suc k) (pieceCells piece) n) unknownRun ≡ isUnknown (termAt piece n)
       go (found t) stored above =
           ap (λ x. eqb x unknownRun)
           (has-cell (suc k) (pieceCells piece) n (omega arith) (λ e. omega arith) (has-run n inside t stored) ∙ stored-cell n inside t stored)
@@ -181,7 +181,7 @@ module _ (arity : ℕ) (piece : Terms) (accepted : AcceptedPiece arity piece) (f
           let less : suc k - 1 ≡ k = omega arith in
           ap (λ x. eqb x unknownRun)
           (has-none (suc k) (pieceCells piece) n (omega arith) (λ e. omega arith) (no-run n inside stored)
-          ∙ ap (λ (j : ℕ). nearest j (pieceCells piece) (parentAt n)) less)
+          ∙ ap (λ (j : ℕ). nearestCell j (pieceCells piece) (parentAt n)) less)
           ∙ above ∙ sym (ap isUnknown (hidden-found n inside stored) ∙ unknown-if (aboveUnknown piece n))
 
   -- Looking at a place gives the run of what stands there.
@@ -191,7 +191,7 @@ module _ (arity : ℕ) (piece : Terms) (accepted : AcceptedPiece arity piece) (f
       (above-found 3 n inside (λ q below levels. nearest-found 3 q below (omega (arith, levels-range 4 n (omega arith)))))
     where
       go
-          : (s : Found) → storedAt piece n ≡ s → eqb (nearest 3 (pieceCells piece) (parentAt n)) unknownRun ≡
+          : (s : Found) → storedAt piece n ≡ s → eqb (nearestCell 3 (pieceCells piece) (parentAt n)) unknownRun ≡
           aboveUnknown piece n
           → look (pieceCells piece) n ≡ foundRun (termAt piece n)
       go (found t) stored above = rw (ne-eqb _ _ (has-run n inside t stored)) (stored-cell n inside t stored)

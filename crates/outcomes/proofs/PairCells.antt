@@ -12,7 +12,7 @@ use Rattle.places.proofs.Levels.{levels-range, levels-fit-row}
 use Rattle.terms.specs.Outcome.{Outcome, contradicted}
 use Rattle.basics.proofs.Booleans.{cond-holds}
 use Rattle.codes.specs.views.Codes.{unknownRun}
-use Rattle.outcomes.specs.views.Look.{nearest, look}
+use Rattle.outcomes.specs.views.Look.{nearestCell, look}
 use Rattle.outcomes.specs.views.CompareCells.{NarrowRun, Narrow, Inside}
 use Rattle.outcomes.specs.views.CellOutcome.{runsOutcome}
 use Rattle.outcomes.proofs.TwoTests.{one-is, none-is}
@@ -30,7 +30,7 @@ module _ (a b : ℕ) (compared : Outcome) where
 pub look-narrow : (cells : List ℕ) (p : ℕ) → Narrow cells → NarrowRun (look cells p)
 look-narrow cells p narrow =
     cond-holds NarrowRun (eqb (getD cells p 0) 0) _ _
-    (cond-holds NarrowRun (eqb (nearest 3 cells (parentAt p)) unknownRun) unknownRun 0 (λ h. absurd h) (λ h. absurd h)) (narrow p)
+    (cond-holds NarrowRun (eqb (nearestCell 3 cells (parentAt p)) unknownRun) unknownRun 0 (λ h. absurd h) (λ h. absurd h)) (narrow p)
 
 module _ (p d : ℕ) (depth : d ≡ depthAt p) where
   -- A place at depth d has 4 - d levels below it.

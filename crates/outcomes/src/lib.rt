@@ -9,7 +9,7 @@ ghost use mathlib.Core.Path.{_≡_};
 ghost use Prim.Native.Nat.{suc, _≤_, _<_};
 ghost use Rattle.places.specs.Numbering.{stride};
 ghost use Rattle.terms.specs.Outcome.{_and_};
-ghost use Rattle.outcomes.specs.views.Look.{nearest, look};
+ghost use Rattle.outcomes.specs.views.Look.{nearestCell, look};
 ghost use Rattle.outcomes.specs.views.CompareCells.{NarrowRun, Narrow, Inside, compareAt, compareCells, compareRow};
 ghost use Rattle.outcomes.specs.views.CellOutcome.{outcomeOf, placeCells, pairCells};
 
@@ -23,7 +23,7 @@ pub enum TestOutcome {
 // The cell of the nearest place that has one, of p and the places above it, 3 in all; 0 where none has.
 fn nearest(cells: &Cells, p: usize) -> u64
     requires { ⌜ p ≤ 680 ⌝ }
-    ensures { λ r. ⌜ r ≡ nearest 3 (now (cells .entry)) p ⌝ }
+    ensures { λ r. ⌜ r ≡ nearestCell 3 (now (cells .entry)) p ⌝ }
 {
     let mut place = p;
     let mut left: usize = 3;

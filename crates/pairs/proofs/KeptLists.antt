@@ -10,7 +10,7 @@ use lib.Seq.{length-take-le, getD-take, take-take}
 use borrow.Author.Tests.{le-leb, lt-leb}
 use Rattle.basics.specs.Order.{insertBy}
 use Rattle.pairs.specs.views.Slot.{slot}
-use Rattle.pairs.specs.views.KeptPairs.{Kept, these, many, keptIf, keptOf, keep, keepAll, pairsIn}
+use Rattle.pairs.specs.views.KeptPairs.{KeptPairs, these, many, keptIf, keptOf, keep, keepAll, pairsIn}
 use Rattle.pairs.proofs.Slots.{insert-there, insert-here, slot-within}
 
 -- An array with too many holds too many.
@@ -68,7 +68,7 @@ module _ (codes : List ℕ) (n code : ℕ) (few : n ≤ 64) (within : n ≤ leng
         ∙ sym (keep-step put)
 
 -- All of two lists joined are those of the one, then those of the other.
-pub keep-append : (cs ds : List ℕ) (k : Kept) → keepAll (cs ++ ds) k ≡ keepAll ds (keepAll cs k)
+pub keep-append : (cs ds : List ℕ) (k : KeptPairs) → keepAll (cs ++ ds) k ≡ keepAll ds (keepAll cs k)
 keep-append [] ds k = refl
 keep-append (c ∷ cs) ds k = keep-append cs ds (keep c k)
 

@@ -13,15 +13,15 @@ use Rattle.patterns.specs.declared.PatternRecord.{PatternRecord}
 use Rattle.patterns.specs.declared.PatternRecord.the-variants.{Anything, Symbol, Range, Compound, Variable, Ranged}
 use Rattle.pairs.specs.declared.Name.{Name}
 use Rattle.pairs.specs.declared.Name.the-variants.{Nameless, Of}
-use Rattle.pairs.specs.views.KeptPairs.{Kept, pairCode, keep, keepAll, pairsIn}
-use Rattle.pairs.specs.views.NoteVariables.{nameOf, isNamed, occurrence, notesVariables, pairCodes, codesWith, notesCodes}
+use Rattle.pairs.specs.views.KeptPairs.{KeptPairs, pairCode, keep, keepAll, pairsIn}
+use Rattle.pairs.specs.views.NoteVariables.{nameOf, namesVariable, occurrence, notesVariables, pairCodes, codesWith, notesCodes}
 use Rattle.pairs.proofs.KeptLists.{keep-append, keep-all-many, pairs-many}
 use Rattle.pairs.proofs.NoteRows.{notes-next, notes-end}
 use Rattle.masks.proofs.Listed.{consIf}
 
 -- Where too many are kept, what is left to keep changes nothing.
 pub full-done
-    : (left : List ℕ) (codes : List ℕ) (count : ℕ) {all : Kept} → 64 < count → keepAll left (pairsIn codes count) ≡ all
+    : (left : List ℕ) (codes : List ℕ) (count : ℕ) {all : KeptPairs} → 64 < count → keepAll left (pairsIn codes count) ≡ all
     → pairsIn codes count ≡ all
 full-done left codes count h e =
     let full = pairs-many codes count h in full ∙ sym (ap (keepAll left) full ∙ keep-all-many left) ∙ e
@@ -39,7 +39,7 @@ named p v n u ns false e =
 
 -- The pairs with a note more: a variable of that name, or any other record.
 named-codes
-    : (p v : ℕ) (n : ℕ) (what : PatternRecord) (ns : List Note) (b : Bool) → isNamed v what ≡ b
+    : (p v : ℕ) (n : ℕ) (what : PatternRecord) (ns : List Note) (b : Bool) → namesVariable v what ≡ b
     → codesWith p v (note n what ∷ ns) ≡ consIf b (pairCode p n) (codesWith p v ns)
 named-codes p v n Anything ns true e = absurd (subst T (sym e) tt)
 named-codes p v n Anything ns false e = refl
@@ -53,12 +53,12 @@ named-codes p v n (Variable u) ns b e = named p v n u ns b e
 named-codes p v n (Ranged u l h) ns b e = named p v n u ns b e
 
 -- The pairs of a place of variable v with the notes from i on.
-abbrev pub withFrom : ℕ → ℕ → List ℕ → ℕ → ℕ → Kept → Kept
+abbrev pub withFrom : ℕ → ℕ → List ℕ → ℕ → ℕ → KeptPairs → KeptPairs
 withFrom p v codes n i k = keepAll (codesWith p v (drop i (notesIn codes n))) k
 
 module _ (p v : ℕ) (codes : List ℕ) (n : ℕ) (within : n ≤ length codes) (i : ℕ) where
   with-step
-      : (b : Bool) → i < n → isNamed v (codeRecord (getD codes i 0)) ≡ b → (k : Kept)
+      : (b : Bool) → i < n → namesVariable v (codeRecord (getD codes i 0)) ≡ b → (k : KeptPairs)
       → withFrom p v codes n i k
       ≡ keepAll (consIf b (pairCode p (codePlace (getD codes i 0))) (codesWith p v (drop (i + 1) (notesIn codes n)))) k
   with-step b h e k =
@@ -68,25 +68,25 @@ module _ (p v : ℕ) (codes : List ℕ) (n : ℕ) (within : n ≤ length codes) 
 
   -- A place of v makes a pair.
   pub with-yes
-      : i < n → isNamed v (codeRecord (getD codes i 0)) ≡ true → (k : Kept)
+      : i < n → namesVariable v (codeRecord (getD codes i 0)) ≡ true → (k : KeptPairs)
       → withFrom p v codes n (i + 1) (keep (pairCode p (codePlace (getD codes i 0))) k) ≡ withFrom p v codes n i k
   with-yes h e k = sym (with-step true h e k)
 
   -- Any other note is passed.
-  pub with-no : i < n → isNamed v (codeRecord (getD codes i 0)) ≡ false → (k : Kept) → withFrom p v codes n (i + 1) k ≡ withFrom p v codes n i k
+  pub with-no : i < n → namesVariable v (codeRecord (getD codes i 0)) ≡ false → (k : KeptPairs) → withFrom p v codes n (i + 1) k ≡ withFrom p v codes n i k
   with-no h e k = sym (with-step false h e k)
 
   -- At the end none is left.
-  pub with-end : n ≤ i → (k : Kept) → withFrom p v codes n i k ≡ k
+  pub with-end : n ≤ i → (k : KeptPairs) → withFrom p v codes n i k ≡ k
   with-end h k = ap (λ (ns : List Note). keepAll (codesWith p v ns) k) (notes-end codes n within i h)
 
 -- All pairs of the notes from i on.
-abbrev pub pairsFrom : List ℕ → ℕ → ℕ → Kept → Kept
+abbrev pub pairsFrom : List ℕ → ℕ → ℕ → KeptPairs → KeptPairs
 pairsFrom codes n i k = keepAll (notesCodes (drop i (notesIn codes n))) k
 
 module _ (codes : List ℕ) (n : ℕ) (within : n ≤ length codes) (i : ℕ) where
   pairs-step
-      : (name : Name) → i < n → nameOf (codeRecord (getD codes i 0)) ≡ name → (k : Kept)
+      : (name : Name) → i < n → nameOf (codeRecord (getD codes i 0)) ≡ name → (k : KeptPairs)
       → pairsFrom codes n i k
       ≡ keepAll (pairCodes (pairsOf (occurrence (codePlace (getD codes i 0)) name (notesVariables (drop (i + 1) (notesIn codes n)))))) k
   pairs-step name h e k =
@@ -96,7 +96,7 @@ module _ (codes : List ℕ) (n : ℕ) (within : n ≤ length codes) (i : ℕ) wh
 
   -- A variable makes pairs with its later places.
   pub pairs-named
-      : (v : ℕ) → i < n → nameOf (codeRecord (getD codes i 0)) ≡ Of v → (k : Kept)
+      : (v : ℕ) → i < n → nameOf (codeRecord (getD codes i 0)) ≡ Of v → (k : KeptPairs)
       → pairsFrom codes n (i + 1) (keepAll (codesWith (codePlace (getD codes i 0)) v (drop (i + 1) (notesIn codes n))) k)
       ≡ pairsFrom codes n i k
   pairs-named v h e k =
@@ -109,9 +109,9 @@ module _ (codes : List ℕ) (n : ℕ) (within : n ≤ length codes) (i : ℕ) wh
 
   -- Any other note is passed.
   pub pairs-nameless
-      : i < n → nameOf (codeRecord (getD codes i 0)) ≡ Nameless → (k : Kept) → pairsFrom codes n (i + 1) k ≡ pairsFrom codes n i k
+      : i < n → nameOf (codeRecord (getD codes i 0)) ≡ Nameless → (k : KeptPairs) → pairsFrom codes n (i + 1) k ≡ pairsFrom codes n i k
   pairs-nameless h e k = sym (pairs-step Nameless h e k)
 
   -- At the end none is left.
-  pub pairs-end : n ≤ i → (k : Kept) → pairsFrom codes n i k ≡ k
+  pub pairs-end : n ≤ i → (k : KeptPairs) → pairsFrom codes n i k ≡ k
   pairs-end h k = ap (λ (ns : List Note). keepAll (notesCodes ns) k) (notes-end codes n within i h)

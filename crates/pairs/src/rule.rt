@@ -9,7 +9,7 @@ ghost use lib.ListN.{length, drop};
 ghost use Rattle.basics.specs.Lists.{All};
 ghost use Rattle.sheet.specs.views.NoteArray.{notesIn};
 ghost use Rattle.pairs.specs.views.KeptPairs.{pairCode, pairsIn, keepAll};
-ghost use Rattle.pairs.specs.views.NoteVariables.{nameOf, isNamed, codesWith, notesCodes, Placed};
+ghost use Rattle.pairs.specs.views.NoteVariables.{nameOf, namesVariable, codesWith, notesCodes, Placed};
 
 // The variable of a record.
 pub fn name_of(what: PatternRecord) -> Name
@@ -27,7 +27,7 @@ pub fn name_of(what: PatternRecord) -> Name
 
 // Is the record variable v?
 pub fn is_named(v: u8, what: PatternRecord) -> bool
-    ensures { λ r. ⌜ r ≡ isNamed v what ⌝ }
+    ensures { λ r. ⌜ r ≡ namesVariable v what ⌝ }
 {
     match what {
         PatternRecord::Anything => false,

@@ -11,7 +11,7 @@ use Rattle.places.proofs.Levels.{levels-first-of}
 use Rattle.places.proofs.Parents.{parent-of-argument}
 use Rattle.records.proofs.Wrote.{Wrote, wrote-as}
 use Rattle.parent_lines.specs.ParentLines.{linesFrom, parentLines}
-use Rattle.parent_lines.specs.views.Counting.{Counted}
+use Rattle.parent_lines.specs.views.Counting.{CountedTo}
 use Rattle.parent_lines.proofs.LineRows.{RowsWrote, rows-begun, row-room, row-more}
 
 -- The text has 5,210 bytes.
@@ -20,7 +20,7 @@ unfolding linesFrom decimal decimalIn
 text-length = refl
 
 -- Arguments are at depth 1, with 680 for their parent.
-pub argument-counted : (a : ℕ) → 1 ≤ a → a ≤ 8 → Counted 1 (argumentPlace a) 680
+pub argument-counted : (a : ℕ) → 1 ≤ a → a ≤ 8 → CountedTo 1 (argumentPlace a) 680
 argument-counted a from to =
     let levels : levelsAt (argumentPlace a) ≡ 4 = ap levelsAt (mul-comm (stride 4) (a - 1)) ∙ levels-first-of 4 (a - 1) in
     record { inside = omega arith; depth = omega (arith, levels); parent = sym (parent-of-argument a) }

@@ -10,10 +10,10 @@ use Rattle.places.proofs.Levels.{levels-range, levels-fit-row}
 use Rattle.places.proofs.Parents.{parent-of-child-place, levels-of-child-place}
 use Rattle.records.proofs.Wrote.{Wrote, wrote-as, room-as, wrote-more, first-fits, rest-fits}
 use Rattle.parent_lines.specs.ParentLines.{placeLine, linesFrom}
-use Rattle.parent_lines.specs.views.Counting.{Counted}
+use Rattle.parent_lines.specs.views.Counting.{CountedTo}
 
 -- A place that is counted to stands at a depth of 1 to 4.
-module _ (d p up : ℕ) (counted : Counted d p up) where
+module _ (d p up : ℕ) (counted : CountedTo d p up) where
   pub depth-range : (1 ≤ d) × (d ≤ 4)
   depth-range = let levels = levels-range 4 p (omega arith) in (omega (arith, counted .depth), omega (arith, counted .depth))
 
@@ -50,7 +50,7 @@ module _ (d p up : ℕ) (counted : Counted d p up) where
         let less : 4 - d ≡ 5 - (d + 1) = omega arith in
         ap (λ (x : ℕ). linesFrom x (stride (4 - d))) (sym (is ∙ child-row)) ∙ ap (λ (r : ℕ). linesFrom q (stride r)) less
 
-    pub child-counted : Counted (d + 1) (childPlace (5 - d) p j) p
+    pub child-counted : CountedTo (d + 1) (childPlace (5 - d) p j) p
     child-counted =
         let r = 4 - d in
         let levels : levelsAt p ≡ suc r = levels-are ∙ omega arith in

@@ -6,7 +6,7 @@ ghost use lib.ListN.{length};
 ghost use Rattle.places.specs.Numbering.{stride};
 ghost use Rattle.records.specs.Writing.{splice};
 ghost use Rattle.parent_lines.specs.ParentLines.{placeLine, linesFrom, parentLines};
-ghost use Rattle.parent_lines.specs.views.Counting.{Counted};
+ghost use Rattle.parent_lines.specs.views.Counting.{CountedTo};
 
 // The text.
 pub type ParentText = [u8; 5210];
@@ -23,7 +23,7 @@ fn put_line(buf: &mut [u8], at: usize, place: usize, up: usize) -> usize
 
 // The lines of place p, which is at depth d and below place up, and of the places below it, and the position behind them.
 fn put_place(buf: &mut [u8], at: usize, d: usize, p: usize, up: usize) -> usize
-    requires { ⌜ Counted d p up × (at + length (linesFrom p (stride (5 - d))) ≤ length (now buf)) ⌝ }
+    requires { ⌜ CountedTo d p up × (at + length (linesFrom p (stride (5 - d))) ≤ length (now buf)) ⌝ }
     ensures { λ r. ⌜ (r ≡ at + length (linesFrom p (stride (5 - d))))
         × (now (buf .exit) ≡ splice (now (buf .entry)) at (linesFrom p (stride (5 - d)))) ⌝ }
 {

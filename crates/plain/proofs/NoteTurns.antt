@@ -14,7 +14,7 @@ use Rattle.patterns.specs.views.NoteCode.{noteOf, codePlace, codeRecord}
 use Rattle.sheet.specs.views.NoteArray.{notesIn}
 use Rattle.pairs.specs.declared.Name.{Name}
 use Rattle.pairs.specs.declared.Name.the-variants.{Nameless, Of}
-use Rattle.pairs.specs.views.NoteVariables.{nameOf, isNamed, occurrence, notesVariables}
+use Rattle.pairs.specs.views.NoteVariables.{nameOf, namesVariable, occurrence, notesVariables}
 use Rattle.pairs.proofs.NoteRows.{notes-next, notes-end}
 use Rattle.plain.proofs.Gathering.{together-append}
 
@@ -33,7 +33,7 @@ named p v n u os false e =
 
 -- The pairs with a note more: a variable of that name, or any other record.
 named-pairs
-    : (p v n : ℕ) (what : PatternRecord) (ns : List Note) (b : Bool) → isNamed v what ≡ b
+    : (p v n : ℕ) (what : PatternRecord) (ns : List Note) (b : Bool) → namesVariable v what ≡ b
     → pairsWith p v (notesVariables (note n what ∷ ns)) ≡ pairIf b (both p n) (pairsWith p v (notesVariables ns))
 named-pairs p v n Anything ns true e = absurd (subst T (sym e) tt)
 named-pairs p v n Anything ns false e = refl
@@ -69,7 +69,7 @@ module _ (codes : List ℕ) (n : ℕ) (within : n ≤ length codes) (i : ℕ) wh
       pairsFrom j = together f (pairsWith p v (notesVariables (from j)))
 
       with-turn
-          : (b : Bool) → i < n → isNamed v (codeRecord code) ≡ b
+          : (b : Bool) → i < n → namesVariable v (codeRecord code) ≡ b
           → pairsFrom i ≡ together f (pairIf b (both p (codePlace code)) (pairsWith p v (notesVariables (from (i + 1)))))
       with-turn b h e =
           ap (λ (ns : List Note). together f (pairsWith p v (notesVariables ns))) (notes-next codes n within i h)
@@ -77,11 +77,11 @@ module _ (codes : List ℕ) (n : ℕ) (within : n ≤ length codes) (i : ℕ) wh
 
       -- A place of v makes a pair,
       pub named-turn
-          : i < n → isNamed v (codeRecord code) ≡ true → pairsFrom i ≡ _and_ (f (both p (codePlace code))) (pairsFrom (i + 1))
+          : i < n → namesVariable v (codeRecord code) ≡ true → pairsFrom i ≡ _and_ (f (both p (codePlace code))) (pairsFrom (i + 1))
       named-turn h e = with-turn true h e
 
       -- and any other note none.
-      pub other-turn : i < n → isNamed v (codeRecord code) ≡ false → pairsFrom i ≡ pairsFrom (i + 1)
+      pub other-turn : i < n → namesVariable v (codeRecord code) ≡ false → pairsFrom i ≡ pairsFrom (i + 1)
       other-turn h e = with-turn false h e
 
       pub no-pair : n ≤ i → pairsFrom i ≡ holds

@@ -23,11 +23,11 @@ abbrev pub wideAt : List ℕ → ℕ → ℕ
 wideAt bytes i = wideOf (byteAt bytes i) (byteAt bytes (i + 1))
 
 -- The two bytes of a wide field, and what follows it.
-abbrev pub highOf : ℕ → ℕ
-highOf x = x / 256 % 256
+abbrev pub highByte : ℕ → ℕ
+highByte x = x / 256 % 256
 
-abbrev pub lowOf : ℕ → ℕ
-lowOf x = x % 256
+abbrev pub lowByte : ℕ → ℕ
+lowByte x = x % 256
 
 abbrev pub wideThen : ℕ → List ℕ → List ℕ
-wideThen x bytes = highOf x ∷ lowOf x ∷ bytes
+wideThen x bytes = highByte x ∷ lowByte x ∷ bytes

@@ -3,7 +3,7 @@ ghost use Prim.Native.Nat.{_+_, _≤_};
 ghost use mathlib.Core.Path.{_≡_};
 ghost use mathlib.Core.List.{_++_};
 ghost use lib.ListN.{length, drop};
-ghost use Rattle.records.specs.Fields.{highOf, lowOf, wideOf};
+ghost use Rattle.records.specs.Fields.{highByte, lowByte, wideOf};
 ghost use Rattle.records.specs.Writing.{splice};
 
 // The wide field of two bytes.
@@ -15,14 +15,14 @@ pub fn wide(high: u8, low: u8) -> u16
 
 // The high byte of a wide field.
 pub fn high(x: u16) -> u8
-    ensures { λ r. ⌜ r ≡ highOf x ⌝ }
+    ensures { λ r. ⌜ r ≡ highByte x ⌝ }
 {
     (x / 256 % 256) as u8
 }
 
 // The low byte of a wide field.
 pub fn low(x: u16) -> u8
-    ensures { λ r. ⌜ r ≡ lowOf x ⌝ }
+    ensures { λ r. ⌜ r ≡ lowByte x ⌝ }
 {
     (x % 256) as u8
 }

@@ -18,7 +18,7 @@ use Rattle.sheet.specs.views.NoteArray.{notesIn}
 use Rattle.pairs.specs.declared.Name.{Name}
 use Rattle.pairs.specs.declared.Name.the-variants.{Nameless, Of}
 use Rattle.pairs.specs.views.KeptPairs.{pairCode}
-use Rattle.pairs.specs.views.NoteVariables.{nameOf, isNamed, occurrence, notesVariables, pairCodes, codesWith, notesCodes}
+use Rattle.pairs.specs.views.NoteVariables.{nameOf, namesVariable, occurrence, notesVariables, pairCodes, codesWith, notesCodes}
 use Rattle.pairs.proofs.NoteRows.{notes-next, notes-end}
 use Rattle.rows.specs.views.Row.{withTest, withTests, pairNumber, placeNumbers, pairNumbers}
 use Rattle.rows.proofs.NotesWanted.{wantHere, testsFrom, tests-turn, tests-end}
@@ -65,7 +65,7 @@ abbrev isName : ℕ → Name → Bool
 isName v Nameless = false
 isName v (Of u) = eqb v u
 
-named-is : (v : ℕ) (what : PatternRecord) → isNamed v what ≡ isName v (nameOf what)
+named-is : (v : ℕ) (what : PatternRecord) → namesVariable v what ≡ isName v (nameOf what)
 named-is v Anything = refl
 named-is v (Symbol a) = refl
 named-is v (Range l h) = refl
@@ -91,7 +91,7 @@ codes-more p v q (Of u) os = go (eqb v u)
 module _ (codes : List ℕ) (n : ℕ) (within : n ≤ length codes) (i : ℕ) where
   -- A place of v makes a pair with a place of v, and any other note none.
   pub codes-turn
-      : (p v : ℕ) (b : Bool) → i < n → isNamed v (codeRecord (getD codes i 0)) ≡ b
+      : (p v : ℕ) (b : Bool) → i < n → namesVariable v (codeRecord (getD codes i 0)) ≡ b
       → codesWith p v (drop i (notesIn codes n))
       ≡ consIf b (pairCode p (codePlace (getD codes i 0))) (codesWith p v (drop (i + 1) (notesIn codes n)))
   codes-turn p v b h e =
@@ -139,13 +139,13 @@ module _ (codes : List ℕ) (n : ℕ) (within : n ≤ length codes) (i count : �
 
     -- A place of v makes a pair,
     pub with-yes
-        : i < n → isNamed v (codeRecord (getD codes i 0)) ≡ true → (row : ℕ)
+        : i < n → namesVariable v (codeRecord (getD codes i 0)) ≡ true → (row : ℕ)
         → withFrom (i + 1) (withTest row (pairNumber count kept (pairCode p (codePlace (getD codes i 0))))) ≡ withFrom i row
     with-yes h e row =
         sym (ap (λ (cs : List ℕ). withTests (pairNumbers count kept cs) row) (codes-turn codes n within i p v true h e))
 
     -- and any other note none.
-    pub with-no : i < n → isNamed v (codeRecord (getD codes i 0)) ≡ false → (row : ℕ) → withFrom (i + 1) row ≡ withFrom i row
+    pub with-no : i < n → namesVariable v (codeRecord (getD codes i 0)) ≡ false → (row : ℕ) → withFrom (i + 1) row ≡ withFrom i row
     with-no h e row =
         sym (ap (λ (cs : List ℕ). withTests (pairNumbers count kept cs) row) (codes-turn codes n within i p v false h e))
 

@@ -25,7 +25,7 @@ use Rattle.tables.specs.views.Planes.{rulesIn, testsIn, placeTestsIn, testIn, u
 use Rattle.tables.specs.views.TablesOf.{isPlace, testCode, Near}
 use Rattle.test_list.specs.views.Numbers.{numberAll, Small}
 use Rattle.rows.specs.views.Row.{notesRow}
-use Rattle.test_list.specs.views.Tests.{testsPut, settledIn, pairsListed, underPut}
+use Rattle.test_list.specs.views.Tests.{testsPut, settledBelow, pairsListed, underPut}
 use Rattle.rows.specs.views.TestsOf.{TestsOf}
 use Rattle.test_list.proofs.PutLists.{put-length, put-other, put-at, row-at}
 use Rattle.test_list.proofs.TestsListed.{listed-tests, listed-places, listed-counted, listed-long}
@@ -43,11 +43,11 @@ module _ (rules : List Patterns) (ps cs s : List ℕ) (tests : sheetTests rules 
   put = testsPut ps cs s
 
   abbrev sets : List ℕ
-  sets = map (settledIn put) (countFrom 0 (placeTestsIn put))
+  sets = map (settledBelow put) (countFrom 0 (placeTestsIn put))
 
   many : length sets ≡ length ps
   many =
-      length-map (countFrom 0 (placeTestsIn put)) (settledIn put)
+      length-map (countFrom 0 (placeTestsIn put)) (settledBelow put)
       ∙ count-length 0 (placeTestsIn put)
       ∙ listed-places ps cs s entries few
 
@@ -59,13 +59,13 @@ module _ (rules : List Patterns) (ps cs s : List ℕ) (tests : sheetTests rules 
   unfolding underPut
   same k h = put-other sets 196 put k (inl (omega arith))
 
-  settled-at : (t : ℕ) → t < length ps → underIn (underPut put) t ≡ settledIn put t
+  settled-at : (t : ℕ) → t < length ps → underIn (underPut put) t ≡ settledBelow put t
   unfolding underPut
   settled-at t h =
       let count : placeTestsIn put ≡ length ps = listed-places ps cs s entries few in
       put-at sets 196 put t (196 + t) (omega (arith, many)) (omega (arith, many, listed-long ps cs s entries few)) (omega arith)
-      ∙ row-at (settledIn put) 0 0 (placeTestsIn put) t (omega arith)
-      ∙ ap (settledIn put) (omega arith)
+      ∙ row-at (settledBelow put) 0 0 (placeTestsIn put) t (omega arith)
+      ∙ ap (settledBelow put) (omega arith)
 
   pub tests-listed
       : {numbers s′ : List ℕ} → numbers ≡ numberAll ps 0 (replicate 680 0) → s′ ≡ underPut put → TestsOf rules numbers s′

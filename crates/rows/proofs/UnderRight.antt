@@ -19,7 +19,7 @@ use Rattle.decision.specs.Rules.{testAt, testsWhere}
 use Rattle.decision.specs.Edges.{settledByUnknown}
 use Rattle.tables.specs.views.Planes.{testsIn, testIn}
 use Rattle.tables.specs.views.TablesOf.{testCode, Near}
-use Rattle.test_list.specs.views.Tests.{under, isSettled, settledIn}
+use Rattle.test_list.specs.views.Tests.{under, isSettled, settledBelow}
 use Rattle.rows.proofs.AscendingLists.{ascends-at}
 
 -- A test's places are those of its code.
@@ -47,8 +47,8 @@ module _ (rules : List Patterns) (s : List ℕ) where
   pub under-right
       : testsIn s ≡ all → ((u : ℕ) → u < all → Near (testAt rules u))
       → ((u : ℕ) → u < all → testIn s u ≡ testCode (testAt rules u)) → (t n : ℕ) → t < all → testAt rules t ≡ place n
-      → settledIn s t ≡ testsWhere rules (λ u. settledByUnknown n (testAt rules u))
-  unfolding settledIn
+      → settledBelow s t ≡ testsWhere rules (λ u. settledByUnknown n (testAt rules u))
+  unfolding settledBelow
   under-right many near codes t n h is =
       let small : n < 680 = subst Near is (near t h) in
       let own : testIn s t ≡ n * 0x1_0000 + n = codes t h ∙ ap testCode is in

@@ -10,10 +10,10 @@ use Rattle.terms.specs.Term.{Terms}
 use Rattle.terms.specs.Pattern.{Patterns, pnil}
 use Rattle.terms.specs.Outcome.{Outcome, holds, notKnown, contradicted, ruleOutcome}
 use Rattle.terms.specs.Answer.{Answer, commit, execute, suspend, fail, ruleAt, isOpen, onlyRule, decide, plainAnswer}
-use Rattle.rule_by_rule.specs.views.RuleByRule.{opened, moved, movedBy}
+use Rattle.rule_by_rule.specs.views.RuleByRule.{opened, answerAfter, movedBy}
 
 -- Suspend stays.
-pub moved-suspend : (i : ℕ) (o : Outcome) → moved suspend i o ≡ suspend
+pub moved-suspend : (i : ℕ) (o : Outcome) → answerAfter suspend i o ≡ suspend
 moved-suspend i holds = refl
 moved-suspend i notKnown = refl
 moved-suspend i contradicted = refl
@@ -22,7 +22,7 @@ module _ (outcome : ℕ → Outcome) where
   -- The k rules from number i on, one after another.
   abbrev counted : ℕ → ℕ → Answer → Answer
   counted i zero a = a
-  counted i (suc k) a = counted (suc i) k (moved a i (outcome i))
+  counted i (suc k) a = counted (suc i) k (answerAfter a i (outcome i))
 
   abbrev isOpenRule : ℕ → Bool
   isOpenRule i = isOpen (outcome i)
@@ -45,7 +45,7 @@ module _ (outcome : ℕ → Outcome) where
 
       go
           : (o : Outcome) → decide outcome (j ∷ rest) ≡ counted (suc i) k a
-          → decide outcome (j ∷ cond (isOpen o) (i ∷ rest) rest) ≡ counted (suc i) k (moved a i o)
+          → decide outcome (j ∷ cond (isOpen o) (i ∷ rest) rest) ≡ counted (suc i) k (answerAfter a i o)
       go holds onward = sym (ap (counted (suc i) k) (first .1 (commit i)) ∙ suspended (suc i) k)
       go notKnown onward = sym (ap (counted (suc i) k) (first .1 (execute i)) ∙ suspended (suc i) k)
       go contradicted onward = onward
@@ -59,7 +59,7 @@ module _ (outcome : ℕ → Outcome) where
 
       go
           : (o : Outcome) → outcome i ≡ o → decide outcome rest ≡ counted (suc i) k fail
-          → decide outcome (cond (isOpen o) (i ∷ rest) rest) ≡ counted (suc i) k (moved fail i o)
+          → decide outcome (cond (isOpen o) (i ∷ rest) rest) ≡ counted (suc i) k (answerAfter fail i o)
       go holds e onward = one-open i (suc i) k (commit i) (ap (onlyRule i) e, λ only. refl)
       go notKnown e onward = one-open i (suc i) k (execute i) (ap (onlyRule i) e, λ only. refl)
       go contradicted e onward = onward
@@ -70,8 +70,8 @@ module _ (outcome : ℕ → Outcome) where
       → ((n : ℕ) → outcome (i + n) ≡ byRule (getD rules n pnil)) → counted i (length rules) a ≡ movedBy byRule i a rules
   numbered byRule [] i a same = refl
   numbered byRule (rule ∷ rules) i a same =
-      ap (λ (o : Outcome). counted (suc i) (length rules) (moved a i o)) (ap outcome (omega arith) ∙ same 0)
-      ∙ numbered byRule rules (suc i) (moved a i (byRule rule)) (λ n. ap outcome (omega arith) ∙ same (suc n))
+      ap (λ (o : Outcome). counted (suc i) (length rules) (answerAfter a i o)) (ap outcome (omega arith) ∙ same 0)
+      ∙ numbered byRule rules (suc i) (answerAfter a i (byRule rule)) (λ n. ap outcome (omega arith) ∙ same (suc n))
 
 -- The plain answer, rule by rule.
 pub plain-by-rule
@@ -89,5 +89,5 @@ pub moved-same
     → movedBy f i a rules ≡ movedBy g i a rules
 moved-same f g [] i a same = refl
 moved-same f g (rule ∷ rules) i a same =
-    ap (λ (o : Outcome). movedBy f (suc i) (moved a i o) rules) (same .0)
-    ∙ moved-same f g rules (suc i) (moved a i (g rule)) (same .1)
+    ap (λ (o : Outcome). movedBy f (suc i) (answerAfter a i o) rules) (same .0)
+    ∙ moved-same f g rules (suc i) (answerAfter a i (g rule)) (same .1)

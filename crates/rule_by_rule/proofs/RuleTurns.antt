@@ -14,7 +14,7 @@ use Rattle.terms.specs.Answer.{Answer, commit, execute, suspend, fail, wordOf}
 use Rattle.sheet.specs.views.Noted.{ruleNotes}
 use Rattle.sheet.specs.ReadSheet.{readRule, readRules}
 use Rattle.plain.specs.Plain.{PlainValues, answerValues, plainRefusalValues, readingValues}
-use Rattle.rule_by_rule.specs.views.RuleByRule.{moved, movedBy}
+use Rattle.rule_by_rule.specs.views.RuleByRule.{answerAfter, movedBy}
 use Rattle.rule_by_rule.proofs.RuleByRule.{moved-suspend}
 
 -- The values do not say how many bytes were read.
@@ -72,10 +72,10 @@ module _ (outcome : Patterns → Outcome) (arity count : ℕ) (s : List ℕ) whe
       -- A rule that is read moves the answer, and the others follow it.
       pub turn-next
           : {b : ℕ} (rule : Patterns) → readRule arity (drop at s) ≡ took b rule
-          → answerFrom (i + 1) (at + b) (moved a (i + 1) (outcome rule)) ≡ answerFrom i at a
+          → answerFrom (i + 1) (at + b) (answerAfter a (i + 1) (outcome rule)) ≡ answerFrom i at a
       turn-next {b} rule e =
           let less : count - (i + 1) ≡ count - i - 1 = omega arith in
-          let next : ℕ → Answer = λ k. moved a k (outcome rule) in
+          let next : ℕ → Answer = λ k. answerAfter a k (outcome rule) in
           (λ j.
           readingValues
           (mapReading (movedBy outcome (suc (add-one i j)) (next (add-one i j)))

@@ -18,7 +18,7 @@ ghost use Rattle.outcomes.specs.views.CompareCells.{Narrow};
 ghost use Rattle.outcomes.specs.views.CellOutcome.{outcomeOf};
 ghost use Rattle.plain.specs.Plain.{answerOf, answerValues, readingValues};
 ghost use Rattle.rule_by_rule.specs.views.SheetRules.{SheetRules};
-ghost use Rattle.rule_by_rule.specs.views.RuleByRule.{opened, moved, movedBy};
+ghost use Rattle.rule_by_rule.specs.views.RuleByRule.{opened, answerAfter, movedBy};
 ghost use Rattle.plain.specs.views.NotesOutcome.{cellsOutcome};
 
 // The answer so far where a rule is open, which would alone be answered so.
@@ -35,7 +35,7 @@ fn opened(answer: Answer, only: Answer) -> Answer
 
 // The answer so far moved on by the outcome of a rule.
 fn moved(answer: Answer, rule: u8, outcome: TestOutcome) -> Answer
-    ensures { λ r. ⌜ answerOf r ≡ moved (answerOf answer) rule (outcomeOf outcome) ⌝ }
+    ensures { λ r. ⌜ answerOf r ≡ answerAfter (answerOf answer) rule (outcomeOf outcome) ⌝ }
 {
     match outcome {
         TestOutcome::Holds => opened(answer, Answer::Commit(rule)),

@@ -11,7 +11,7 @@ use Rattle.sheet.specs.views.NoteArray.{notesIn}
 use Rattle.sheet_tests.specs.SheetTests.{Test}
 use Rattle.pairs.specs.declared.Name.the-variants.{Nameless, Of}
 use Rattle.pairs.specs.views.KeptPairs.{pairCode}
-use Rattle.pairs.specs.views.NoteVariables.{nameOf, isNamed, codesWith, notesCodes}
+use Rattle.pairs.specs.views.NoteVariables.{nameOf, namesVariable, codesWith, notesCodes}
 use Rattle.rows.proofs.NotesWanted.{wantHere, testsFrom, tests-turn, tests-end}
 use Rattle.rows.specs.views.Row.{withTest}
 use Rattle.rows.proofs.RowTurns as row
@@ -64,12 +64,12 @@ module _ (tests : List Test) (cells codes : List ℕ) (n : ℕ) (within : n ≤ 
 
     -- A place of v makes a pair,
     pub with-yes
-        : i < n → isNamed v (codeRecord (getD codes i 0)) ≡ true → (m : Masks)
+        : i < n → namesVariable v (codeRecord (getD codes i 0)) ≡ true → (m : Masks)
         → withFrom (i + 1) (withMade tests m (pairMade cells (pairCode p (codePlace (getD codes i 0))))) ≡ withFrom i m
     with-yes h e m = sym (ap (λ (cs : List ℕ). afterPairs tests cells cs m) (codes-turn codes n within i p v true h e))
 
     -- and any other note none.
-    pub with-no : i < n → isNamed v (codeRecord (getD codes i 0)) ≡ false → (m : Masks) → withFrom (i + 1) m ≡ withFrom i m
+    pub with-no : i < n → namesVariable v (codeRecord (getD codes i 0)) ≡ false → (m : Masks) → withFrom (i + 1) m ≡ withFrom i m
     with-no h e m = sym (ap (λ (cs : List ℕ). afterPairs tests cells cs m) (codes-turn codes n within i p v false h e))
 
     pub with-end : n ≤ i → (m : Masks) → withFrom i m ≡ m

@@ -7,7 +7,7 @@ use native.Mathlib.Numerals.{add-one}
 use native.Mathlib.Omega.{arith}
 use lib.ListN.{set}
 use borrow.Author.Tests.{eq-eqb, ne-eqb}
-use Rattle.rule_rows.specs.views.Words.{packedWord, wordLow, wordHigh, wordUses, slot, metWord, Numbering, numberedIf}
+use Rattle.rule_rows.specs.views.Words.{packedWord, wordLow, wordHigh, wordUses, wordPlace, metWord, Numbering, numberedWord}
 
 -- The parts of a word, whose fields fit their bits.
 pub record Parts (n u h l : ℕ) : Type 0 where
@@ -37,25 +37,25 @@ module _ (v w : ℕ) (words : List ℕ) (count : ℕ) where
   abbrev before : Numbering
   before = record { words = words; count = count }
 
-  pub number-none : (w / 0x2_0000_0000 ≡ 2 → ⊥) → before ≡ numberedIf v w before
+  pub number-none : (w / 0x2_0000_0000 ≡ 2 → ⊥) → before ≡ numberedWord v w before
   number-none no-more =
       sym
       (ap
       (λ (b : Bool).
       cond b
-      (record { words = set words (slot v) (w + (count * 4 + 1) * 0x2_0000_0000); count = suc count })
+      (record { words = set words (wordPlace v) (w + (count * 4 + 1) * 0x2_0000_0000); count = suc count })
       before)
       (ne-eqb (w / 0x2_0000_0000) 2 no-more))
 
   pub number-given
       : w / 0x2_0000_0000 ≡ 2
-      → record { words = set words (slot v) (w + (count * 4 + 1) * 0x2_0000_0000); count = count + 1 } ≡ numberedIf v w before
+      → record { words = set words (wordPlace v) (w + (count * 4 + 1) * 0x2_0000_0000); count = count + 1 } ≡ numberedWord v w before
   number-given is =
-      (λ j. record { words = set words (slot v) (w + (count * 4 + 1) * 0x2_0000_0000); count = add-one count j })
+      (λ j. record { words = set words (wordPlace v) (w + (count * 4 + 1) * 0x2_0000_0000); count = add-one count j })
       ∙ sym
       (ap
       (λ (b : Bool).
       cond b
-      (record { words = set words (slot v) (w + (count * 4 + 1) * 0x2_0000_0000); count = suc count })
+      (record { words = set words (wordPlace v) (w + (count * 4 + 1) * 0x2_0000_0000); count = suc count })
       before)
       (eq-eqb (w / 0x2_0000_0000) 2 is))

@@ -6,7 +6,7 @@ ghost use mathlib.Core.Path.{_≡_};
 ghost use Prim.Native.Nat.{_≤_, min, max};
 ghost use lib.ListN.{length};
 ghost use Rattle.sheet.specs.views.NoteArray.{notesIn};
-ghost use Rattle.sheet.specs.views.NoteRanges.{rangesOf, endsMeet, notesMeet};
+ghost use Rattle.sheet.specs.views.NoteRanges.{noteRanges, endsMeet, notesMeet};
 
 // The larger of two numbers.
 fn larger(x: u16, y: u16) -> u16
@@ -33,7 +33,7 @@ fn wider(x: u16) -> u32
 // and no range where it has none.
 pub fn ranges(notes: &[u64; 680], n: usize) -> Ranges
     requires { ⌜ (n ≤ 680) × (length (now notes) ≡ 680) ⌝ }
-    ensures { λ r. ⌜ r ≡ rangesOf (notesIn (now (notes .entry)) n) ⌝ }
+    ensures { λ r. ⌜ r ≡ noteRanges (notesIn (now (notes .entry)) n) ⌝ }
 {
     let mut low = [0u16; 16];
     let mut high = [65536u32; 16];

@@ -38,7 +38,7 @@ use Rattle.sheet_tests.specs.views.KeptPairs.{codePair}
 use Rattle.pairs.specs.views.NoteVariables.{nameOf, occurrence, notesVariables, Placed}
 use Rattle.sheet_tests.specs.views.Gathered.{Gathered, gather, held, gatheredIn, sheetPlaces, sheetCodes}
 use Rattle.sheet_tests.specs.CheckSheet.{mostTests, askTests, acceptSheet, sheetCheckValues, sheetValues}
-use Rattle.sheet_tests.specs.views.TestsRead.{keptTests, testsFound, sheetFound, foundValues, Counted, Held}
+use Rattle.sheet_tests.specs.views.TestsRead.{keptTests, testsFound, sheetFound, foundValues, CountsTests, Held}
 use Rattle.sheet_tests.proofs.NotedTests.{rule-placed, rule-varied}
 use Rattle.sheet_tests.proofs.PlaceSets.{places-none}
 use Rattle.pairs.proofs.KeptLists.{pairs-many, pairs-these}
@@ -261,7 +261,7 @@ check-no words codes x same found = ap foundValues (sym (ap (testsFound words co
 module _ (words codes : List ℕ) {r : TestsRead} {arity rules places pairs : ℕ} (same : r ≡ Accepted arity rules places pairs)
     (held : Held words codes r) where
   pub read-counted : (places ≡ length (placesIn words)) × (places + pairs ≤ mostTests)
-  read-counted = subst (Counted words) same (held .counted)
+  read-counted = subst (CountsTests words) same (held .counted)
 
   pub check-yes
       : (x : Reading Sheet) → testsFound words codes r ≡ sheetFound x

@@ -10,7 +10,7 @@ use lib.Seq.{length-take-le, getD-take, getD-drop, ext-getD}
 use Rattle.masks.specs.Mask.{maskOf}
 use Rattle.masks.proofs.Extensionality.{maskOf-same}
 use Rattle.tables.specs.views.Planes.{testsIn, placeTestsIn}
-use Rattle.test_list.specs.views.Tests.{Counted, pairsListed, under, isSettled, settledIn}
+use Rattle.test_list.specs.views.Tests.{Counted, pairsListed, under, isSettled, settledBelow}
 
 module _ (s₀ s : List ℕ) (size : length s ≡ length s₀) (same : (k : ℕ) → k < 68 → getD s k 0 ≡ getD s₀ k 0) (c : Counted s₀) where
   -- They say how many there are,
@@ -42,8 +42,8 @@ module _ (s₀ s : List ℕ) (size : length s ≡ length s₀) (same : (k : ℕ)
       ∙ sym (getD-take n (drop m s₀) k 0 (omega arith) ∙ getD-drop m s₀ k 0))
 
   -- and so is what an unknown settles.
-  pub same-settled : (t : ℕ) → t < 64 → settledIn s t ≡ settledIn s₀ t
-  unfolding settledIn
+  pub same-settled : (t : ℕ) → t < 64 → settledBelow s t ≡ settledBelow s₀ t
+  unfolding settledBelow
   same-settled t h =
       ap (λ (n : ℕ). maskOf n (isSettled s t)) (same 1 (omega arith))
       ∙ maskOf-same (testsIn s₀) (isSettled s t) (isSettled s₀ t)

@@ -8,7 +8,7 @@ use lib.ListN.{length, getD, take, drop, set, length-set, length-map, length-dro
 use lib.Seq.{length-take-le, getD-take, getD-drop, getD-set-same, getD-set-other, ext-getD}
 use Rattle.basics.specs.Lists.{countFrom}
 use Rattle.tables.specs.views.Planes.{rulesIn, testsIn, placeTestsIn, testIn}
-use Rattle.test_list.specs.views.Tests.{putAll, spotCode, testsPut, Counted, pairsListed, settledIn, underPut}
+use Rattle.test_list.specs.views.Tests.{putAll, spotCode, testsPut, Counted, pairsListed, settledBelow, underPut}
 use Rattle.test_list.proofs.PutLists.{put-length, put-other, put-at}
 
 module _ (ps cs s : List ℕ) (entries : length s ≡ 324) (few : length ps + length cs ≤ 64) where
@@ -105,4 +105,4 @@ module _ (ps cs s : List ℕ) (entries : length s ≡ 324) (few : length ps + le
   unfolding underPut
   under-rows k l h =
       let s' = testsPut ps cs s in
-      put-other (map (settledIn s') (countFrom 0 (placeTestsIn s'))) 196 s' k (inl h) ∙ listed-other k l
+      put-other (map (settledBelow s') (countFrom 0 (placeTestsIn s'))) 196 s' k (inl h) ∙ listed-other k l

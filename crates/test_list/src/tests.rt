@@ -12,7 +12,7 @@ ghost use Rattle.places.specs.Numbering.{stride, levelsAt};
 ghost use Rattle.sheet_tests.specs.views.TestedPlaces.{placesIn};
 ghost use Rattle.tables.specs.views.Planes.{testsIn};
 ghost use Rattle.test_list.specs.views.Numbers.{numberAll};
-ghost use Rattle.test_list.specs.views.Tests.{Counted, putAll, spotCode, testsPut, inside, settledIn, underPut};
+ghost use Rattle.test_list.specs.views.Tests.{Counted, putAll, spotCode, testsPut, inside, settledBelow, underPut};
 
 // The same numbers at other widths.
 fn spot(x: u16) -> u64
@@ -92,7 +92,7 @@ fn is_under(p: usize, end: usize, code: u64) -> bool
 // The tests that an unknown at place test t settles. Not a test at a place above it, nor the place itself left out.
 fn settled(s: &Tables, t: usize) -> u64
     requires { ⌜ Counted (now s) × (t < testsIn (now s)) ⌝ }
-    ensures { λ r. ⌜ r ≡ settledIn (now (s .entry)) t ⌝ }
+    ensures { λ r. ⌜ r ≡ settledBelow (now (s .entry)) t ⌝ }
 {
     let p = (tables::test(s, t) % 0x1_0000) as usize;
     let end = below_end(p);

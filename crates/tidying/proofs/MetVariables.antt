@@ -23,7 +23,7 @@ use Rattle.sheet.specs.views.NoteRanges.{recordRange, lowEnd, highEnd, forVaria
 use Rattle.sheet.proofs.CommonRanges.{common-none, common-assoc}
 use Rattle.sheet.proofs.RangeArrays.{variable-at, variables-same, variable-set}
 use Rattle.tidy.proofs.TidyRecords.{patternRecords, patternsRecords}
-use Rattle.rule_rows.specs.views.Words.{packedWord, freshWords, slot}
+use Rattle.rule_rows.specs.views.Words.{packedWord, freshWords, wordPlace}
 use Rattle.rule_rows.specs.views.Words.{metWord, metAt, metRecord, metRecords}
 use Rattle.tidy_rows.specs.views.TidyRow.{metIn}
 use Rattle.rule_rows.proofs.WordLaws.{word-parts, one-more}
@@ -168,7 +168,7 @@ module _ (uses : ℕ → ℕ) (range : ℕ → Option tests.Range) (fits : (v : 
       → metAt (knownWords uses range) u (lowEnd x) (highEnd x)
       ≡ knownWords (λ (v : ℕ). uses v + times v (u ∷ [])) (λ (v : ℕ). commonPart (range v) (own v))
   variable-met u x own small fit is apart =
-      let here : slot u ≡ u = omega arith in
+      let here : wordPlace u ≡ u = omega arith in
       let before : ℕ → ℕ = λ v. knownWord (uses v) (range v) in
       let after : ℕ → ℕ = λ v. knownWord (uses v + times v (u ∷ [])) (commonPart (range v) (own v)) in
       let one : suc (uses u) ≡ uses u + times u (u ∷ []) =

@@ -20,7 +20,7 @@ use Rattle.sheet.proofs.RangeArrays.{variable-at, variables-same, variable-set}
 use Rattle.tidy.specs.TidyRule.{isNamed, isRepeated, appearsFirst, newNumber}
 use Rattle.tidy.proofs.InOrder.{appears-next, number-next}
 use Rattle.tidy.proofs.Uses.{uses, repeated-uses}
-use Rattle.rule_rows.specs.views.Words.{packedWord, slot, Numbering, numberedAt}
+use Rattle.rule_rows.specs.views.Words.{packedWord, wordPlace, Numbering, numberedAt}
 use Rattle.rule_rows.proofs.WordLaws.{word-parts, number-none, number-given}
 use Rattle.tidying.proofs.MetVariables.{nameAt, knownWord, EndsFit}
 
@@ -103,11 +103,11 @@ module _ (b e : ℕ) (os : List Occurrence) (up : Ascends variablePlace b e os) 
     other-word u apart = ap (λ (c : Bool). wordWith (isRepeated os u && c) u) (sym (other-met u apart))
 
     abbrev word : ℕ
-    word = getD (wordsAfter xs) (slot v) 0
+    word = getD (wordsAfter xs) (wordPlace v) 0
 
     word-is : {c : Bool} → isGiven xs v ≡ c → word ≡ wordWith c v
     word-is h =
-        let here : slot v ≡ v = omega arith in
+        let here : wordPlace v ≡ v = omega arith in
         ap (λ (k : ℕ). getD (wordsAfter xs) k 0) here
         ∙ variable-at (λ (u : ℕ). wordWith (isGiven xs u) u) v small
         ∙ ap (λ (c : Bool). wordWith c v) h
@@ -155,14 +155,14 @@ module _ (b e : ℕ) (os : List Occurrence) (up : Ascends variablePlace b e os) 
         let was : word ≡ knownWord (uses v os) (rangeOf v) = word-is unmet in
         let two : min 2 (uses v os) ≡ 2 = omega arith in
         let upper : word / 0x2_0000_0000 ≡ 2 = ap (λ (w : ℕ). w / 0x2_0000_0000) was ∙ known-upper v ∙ two in
-        let here : slot v ≡ v = omega arith in
+        let here : wordPlace v ≡ v = omega arith in
         let now : word + (count * 4 + 1) * 0x2_0000_0000 ≡ wordWith (isGiven more v) v =
         ap (λ (w : ℕ). w + (count * 4 + 1) * 0x2_0000_0000)
         (was ∙ ap (λ (k : ℕ). packedWord 0 k (highEnd (rangeOf v)) (lowEnd (rangeOf v))) two)
         ∙ one-number count (highEnd (rangeOf v)) (lowEnd (rangeOf v))
         ∙ ap (λ (n : ℕ). packedWord n 3 (highEnd (rangeOf v)) (lowEnd (rangeOf v))) (sym number)
         ∙ ap (λ (c : Bool). wordWith c v) (sym met) in
-        let words : set (wordsAfter xs) (slot v) (word + (count * 4 + 1) * 0x2_0000_0000) ≡ wordsAfter more =
+        let words : set (wordsAfter xs) (wordPlace v) (word + (count * 4 + 1) * 0x2_0000_0000) ≡ wordsAfter more =
         ap (λ (k : ℕ). set (wordsAfter xs) k (word + (count * 4 + 1) * 0x2_0000_0000)) here
         ∙ variable-set (λ (u : ℕ). wordWith (isGiven xs u) u) (λ (u : ℕ). wordWith (isGiven more u) u) v small now other-word in
         let next : count + 1 ≡ length (filter (appearsFirst os) more) = sym (counted appears) in

@@ -12,7 +12,7 @@ use borrow.Author.Tests.{le-ltb, eqb-true}
 use Rattle.patterns.specs.declared.PatternRecord.{PatternRecord}
 use Rattle.patterns.specs.declared.PatternRecord.the-variants.{Anything, Symbol, Range, Compound, Variable, Ranged}
 use Rattle.patterns.specs.views.PatternRecord.{recordBytes}
-use Rattle.rule_rows.specs.views.Words.{wordHigh, wordUses, slot, Numbering, numberedAt, numberRecord}
+use Rattle.rule_rows.specs.views.Words.{wordHigh, wordUses, wordPlace, Numbering, numberedAt, numberRecord}
 use Rattle.tidy_rows.specs.views.TidyRow.{tidyWord, tidyIn, tidySpelling, metIn, tidyRow}
 use Rattle.tidy_rows.proofs.TidyWords.{tidy-by}
 use Rattle.tidying.proofs.Settled.{numberRecords, numberedIn, met-sixteen, row-is}
@@ -49,7 +49,7 @@ kept-at : (v : ℕ) (x : Numbering) → length (x .words) ≡ 16 → Kept (x .wo
 kept-at v x size = go (eqb (w / 0x2_0000_0000) 2) refl
   where
     w : ℕ
-    w = getD (x .words) (slot v) 0
+    w = getD (x .words) (wordPlace v) 0
 
     words : List ℕ
     words = x .words
@@ -59,20 +59,20 @@ kept-at v x size = go (eqb (w / 0x2_0000_0000) 2) refl
 
     go
         : (b : Bool) → eqb (w / 0x2_0000_0000) 2 ≡ b
-        → Kept words (cond b (record { words = set words (slot v) more; count = suc (x .count) }) x .words)
+        → Kept words (cond b (record { words = set words (wordPlace v) more; count = suc (x .count) }) x .words)
     go true e = record {
-      alike = λ k. elim (ℕ-discrete k (slot v)) [
+      alike = λ k. elim (ℕ-discrete k (wordPlace v)) [
         | yes same ↦
             ap (λ (i : ℕ). recordBytes (tidyWord (getD words i 0))) same
             ∙ numbered-bytes w (x .count) (eqb-true (w / 0x2_0000_0000) 2 e)
             ∙ ap (λ (u : ℕ). recordBytes (tidyWord u))
             (sym
-            (ap (λ (i : ℕ). getD (set words (slot v) more) i 0) same
-            ∙ getD-set-same words (slot v) more 0 (omega (arith, size))))
+            (ap (λ (i : ℕ). getD (set words (wordPlace v) more) i 0) same
+            ∙ getD-set-same words (wordPlace v) more 0 (omega (arith, size))))
         | no apart ↦
-            ap (λ (u : ℕ). recordBytes (tidyWord u)) (sym (getD-set-other words (slot v) k more 0 apart))
+            ap (λ (u : ℕ). recordBytes (tidyWord u)) (sym (getD-set-other words (wordPlace v) k more 0 apart))
       ];
-      size = length-set words (slot v) more ∙ size;
+      size = length-set words (wordPlace v) more ∙ size;
     }
     go false e = record { alike = λ k. refl; size = size }
 
@@ -94,8 +94,8 @@ bytes-alike xs ys same Anything = refl
 bytes-alike xs ys same (Symbol a) = refl
 bytes-alike xs ys same (Range l h) = refl
 bytes-alike xs ys same (Compound a n) = refl
-bytes-alike xs ys same (Variable v) = same (slot v)
-bytes-alike xs ys same (Ranged v l h) = same (slot v)
+bytes-alike xs ys same (Variable v) = same (wordPlace v)
+bytes-alike xs ys same (Ranged v l h) = same (wordPlace v)
 
 spelling-alike
     : (xs ys : List ℕ) → Alike xs ys → (rs : List PatternRecord) → length (tidySpelling xs rs) ≡ length (tidySpelling ys rs)

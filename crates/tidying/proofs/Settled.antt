@@ -12,7 +12,7 @@ use borrow.Author.Tests.{eqb-true, eqb-false}
 use Rattle.patterns.specs.declared.PatternRecord.{PatternRecord}
 use Rattle.patterns.specs.declared.PatternRecord.the-variants.{Anything, Symbol, Range, Compound, Variable, Ranged}
 use Rattle.patterns.specs.views.PatternRecord.{recordSpelling}
-use Rattle.rule_rows.specs.views.Words.{freshWords, slot, metRecord, metRecords, Numbering, numberedAt, numberRecord}
+use Rattle.rule_rows.specs.views.Words.{freshWords, wordPlace, metRecord, metRecords, Numbering, numberedAt, numberRecord}
 use Rattle.tidy_rows.specs.views.TidyRow.{tidyWord, tidyIn, tidySpelling, tidyOnward, metIn, tidyRow}
 
 -- The numbers that records give, and those of a rule's records.
@@ -31,7 +31,7 @@ Settled words k = getD words k 0 / 0x2_0000_0000 ≡ 2 → ⊥
 record Given (v : ℕ) (words after : List ℕ) : Type 0 where
   size : length after ≡ 16
   stays : (k : ℕ) → Settled words k → getD after k 0 ≡ getD words k 0
-  settled : Settled after (slot v)
+  settled : Settled after (wordPlace v)
 
 given-at : (v : ℕ) (x : Numbering) → length (x .words) ≡ 16 → Given v (x .words) (numberedAt v x .words)
 given-at v x size = go (eqb (w / 0x2_0000_0000) 2) refl
@@ -40,22 +40,22 @@ given-at v x size = go (eqb (w / 0x2_0000_0000) 2) refl
     words = x .words
 
     w : ℕ
-    w = getD words (slot v) 0
+    w = getD words (wordPlace v) 0
 
     more : ℕ
     more = w + (x .count * 4 + 1) * 0x2_0000_0000
 
     go
         : (b : Bool) → eqb (w / 0x2_0000_0000) 2 ≡ b
-        → Given v words (cond b (record { words = set words (slot v) more; count = suc (x .count) }) x .words)
+        → Given v words (cond b (record { words = set words (wordPlace v) more; count = suc (x .count) }) x .words)
     go true e =
         let two = eqb-true (w / 0x2_0000_0000) 2 e in
-        let now : getD (set words (slot v) more) (slot v) 0 ≡ more = getD-set-same words (slot v) more 0 (omega (arith, size)) in
+        let now : getD (set words (wordPlace v) more) (wordPlace v) 0 ≡ more = getD-set-same words (wordPlace v) more 0 (omega (arith, size)) in
         record {
-          size = length-set words (slot v) more ∙ size;
-          stays = λ k settled. elim (ℕ-discrete k (slot v)) [
+          size = length-set words (wordPlace v) more ∙ size;
+          stays = λ k settled. elim (ℕ-discrete k (wordPlace v)) [
             | yes same ↦ absurd (settled (ap (λ (i : ℕ). getD words i 0 / 0x2_0000_0000) same ∙ two))
-            | no apart ↦ getD-set-other words (slot v) k more 0 apart
+            | no apart ↦ getD-set-other words (wordPlace v) k more 0 apart
           ];
           settled = λ h. omega (arith, two, ap (λ (u : ℕ). u / 0x2_0000_0000) now);
         }
@@ -92,9 +92,9 @@ now-as-last (Symbol a) x rs size = refl
 now-as-last (Range l h) x rs size = refl
 now-as-last (Compound a n) x rs size = refl
 now-as-last (Variable v) x rs size =
-    let g = given-at v x size in ap tidyWord (sym (stays-on (numberedAt v x) rs (slot v) (g .size) (g .settled)))
+    let g = given-at v x size in ap tidyWord (sym (stays-on (numberedAt v x) rs (wordPlace v) (g .size) (g .settled)))
 now-as-last (Ranged v l h) x rs size =
-    let g = given-at v x size in ap tidyWord (sym (stays-on (numberedAt v x) rs (slot v) (g .size) (g .settled)))
+    let g = given-at v x size in ap tidyWord (sym (stays-on (numberedAt v x) rs (wordPlace v) (g .size) (g .settled)))
 
 onward-is
     : (x : Numbering) (rs : List PatternRecord) → length (x .words) ≡ 16
@@ -114,8 +114,8 @@ met-size words (r ∷ rs) size = met-size (metRecord words r) rs (go r)
     go (Symbol a) = size
     go (Range l h) = size
     go (Compound a n) = size
-    go (Variable v) = length-set words (slot v) _ ∙ size
-    go (Ranged v l h) = length-set words (slot v) _ ∙ size
+    go (Variable v) = length-set words (wordPlace v) _ ∙ size
+    go (Ranged v l h) = length-set words (wordPlace v) _ ∙ size
 
 pub met-sixteen : (rs : List PatternRecord) → length (metIn rs) ≡ 16
 met-sixteen rs = met-size freshWords rs refl

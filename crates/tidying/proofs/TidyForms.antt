@@ -32,7 +32,7 @@ use Rattle.tidy.proofs.NewNumbers.{number-lt}
 use Rattle.tidy.proofs.TidyAccepted.{all-names-small}
 use Rattle.tidy.proofs.TidyRecords.{patternsRecords, records-spell, singleRecord, repeatedRecord, tidyRecord, tidy-spelling}
 use Rattle.tidy.proofs.Uses.{uses, repeated-uses}
-use Rattle.rule_rows.specs.views.Words.{packedWord, wordHigh, wordUses, slot, Numbering}
+use Rattle.rule_rows.specs.views.Words.{packedWord, wordHigh, wordUses, wordPlace, Numbering}
 use Rattle.tidy_rows.specs.views.TidyRow.{tidyWord, tidyIn, tidySpelling, metIn, tidyRow}
 use Rattle.tidying.specs.views.TidyRows.{tidyRows}
 use Rattle.rule_rows.proofs.WordLaws.{word-parts}
@@ -167,10 +167,10 @@ module _ (arity : ℕ) (rule : Patterns) (accepted : AcceptedRule arity rule) wh
 
   variable-tidy
       : (v : ℕ) → v < 16
-      → tidyWord (getD words (slot v) 0)
+      → tidyWord (getD words (wordPlace v) 0)
       ≡ cond (isRepeated os v) (repeatedRecord (newNumber os v) (patternsRange rule v)) (singleRecord (patternsRange rule v))
   variable-tidy v small =
-      let here : slot v ≡ v = omega arith in
+      let here : wordPlace v ≡ v = omega arith in
       ap (λ (k : ℕ). tidyWord (getD words k 0)) here ∙ ap tidyWord (variable-at _ v small) ∙ tidy-word v
 
   record-tidy : (r : PatternRecord) → Fitting r → tidyIn words r ≡ tidyRecord os (patternsRange rule) r

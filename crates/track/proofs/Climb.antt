@@ -12,7 +12,7 @@ use Rattle.basics.proofs.Booleans.{by-test}
 use Rattle.places.specs.Numbering.{parentAt, depthAt, atOrBelow}
 use Rattle.places.proofs.Below.{at-or-below-range, at-or-below-refl, below-parent, not-above-end}
 use Rattle.places.proofs.Parents.{parent-before}
-use Rattle.track.specs.views.Front.{keyOf, Opened, LeastBelow, Climbed, PutDown}
+use Rattle.track.specs.views.Front.{positionKey, Opened, LeastBelow, Climbed, PutDown}
 use Rattle.track.proofs.Rows.{Row, child-within, opened-children, opened-others}
 
 -- The least of the same keys is the same.
@@ -104,7 +104,7 @@ climb-all {p} {keys₀} {keys} {u} c top = record {
 -- The keys where the children of p have theirs.
 pub record Fresh (positions : List ℕ) (p : ℕ) (keys after : List ℕ) : Type 0 where
   pub size : length after ≡ 680
-  pub children : (q : ℕ) → q < 680 → parentAt q ≡ p → getD after q 0 ≡ keyOf positions q
+  pub children : (q : ℕ) → q < 680 → parentAt q ≡ p → getD after q 0 ≡ positionKey positions q
   pub others : (q : ℕ) → (parentAt q ≡ p → ⊥) → getD after q 0 ≡ getD keys q 0
 
 pub fresh-row

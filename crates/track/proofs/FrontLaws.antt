@@ -16,7 +16,7 @@ use Rattle.places.proofs.Below.{at-or-below-refl, at-or-below-trans, at-or-belo
 use Rattle.places.proofs.Below.{below-parent, not-above-end}
 use Rattle.places.proofs.Parents.{parent-before}
 use Rattle.track.specs.Track.{isDown, mayFollow, nextPlace}
-use Rattle.track.specs.views.Front.{keyOf, frontAt, Opened, LeastBelow, PutDown}
+use Rattle.track.specs.views.Front.{positionKey, frontAt, Opened, LeastBelow, PutDown}
 use Rattle.track.proofs.Rows.{arguments, opened-children, opened-others}
 use Rattle.track.proofs.Climb.{below-same}
 use Rattle.track.proofs.StepByStep.{Rests, After, next-least, follows-new, new-follows, down-same, down-itself}
@@ -37,11 +37,11 @@ front-first positions keys o = record {
       by-cases (ℕ-discrete (parentAt q) 680)
       (λ (e : parentAt q ≡ 680).
       opened-children arguments o q h e
-      ∙ sym (ap (λ (b : Bool). cond (b || false) (keyOf positions q) 67108864) (eq-eqb (parentAt q) 680 e)))
+      ∙ sym (ap (λ (b : Bool). cond (b || false) (positionKey positions q) 67108864) (eq-eqb (parentAt q) 680 e)))
       (λ (d : parentAt q ≡ 680 → ⊥).
       opened-others arguments o q d
       ∙ getD-replicate {A = ℕ} 680 q 67108864 0 h
-      ∙ sym (ap (λ (b : Bool). cond (b || false) (keyOf positions q) 67108864) (ne-eqb (parentAt q) 680 d)));
+      ∙ sym (ap (λ (b : Bool). cond (b || false) (positionKey positions q) 67108864) (ne-eqb (parentAt q) 680 d)));
 }
 
 -- The places above one that may follow are down.
@@ -78,9 +78,9 @@ module _ (positions : List ℕ) {n : ℕ} {down : List ℕ} (a : After n down) (
       (λ f. f)
 
   -- Where p is down too its children may follow,
-  front-child : (q : ℕ) → (q ≡ p → ⊥) → parentAt q ≡ p → frontAt positions (down ++ (p ∷ [])) q ≡ keyOf positions q
+  front-child : (q : ℕ) → (q ≡ p → ⊥) → parentAt q ≡ p → frontAt positions (down ++ (p ∷ [])) q ≡ positionKey positions q
   front-child q d e =
-      ap (λ (b : Bool). cond b (keyOf positions q) 67108864)
+      ap (λ (b : Bool). cond b (positionKey positions q) 67108864)
       (new-follows (down ++ (p ∷ [])) q (down-same down p q d ∙ child-new q e) (inr (down-itself down p (parentAt q) e)))
 
   -- and the others may as before.
@@ -89,7 +89,7 @@ module _ (positions : List ℕ) {n : ℕ} {down : List ℕ} (a : After n down) (
   front-other q d e =
       let itself = down-same down p q d in
       let parent = down-same down p (parentAt q) e in
-      λ j. cond (not (itself j) && (eqb (parentAt q) 680 || parent j)) (keyOf positions q) 67108864
+      λ j. cond (not (itself j) && (eqb (parentAt q) 680 || parent j)) (positionKey positions q) 67108864
 
   module _ {keys after : List ℕ} (f : Front positions down keys) (o : PutDown positions p keys after) where
     -- A place that is not at or above p keeps what it has below it.
@@ -133,7 +133,7 @@ module _ (positions : List ℕ) {n : ℕ} {down : List ℕ} (a : After n down) (
           (λ (e : parentAt q ≡ p → ⊥). o .others q h aside e ∙ f .own q h still ∙ sym (front-other q apart e));
     }
 
-module _ (positions : List ℕ) {n : ℕ} {down keys : List ℕ} (few : (q : ℕ) → q < 680 → keyOf positions q < 67108864)
+module _ (positions : List ℕ) {n : ℕ} {down keys : List ℕ} (few : (q : ℕ) → q < 680 → positionKey positions q < 67108864)
     (a : After n down) (h : n < 680) (f : Front positions down keys) (m : ℕ) (l : LeastBelow keys 680 m) where
   -- The arguments' least key is at most that of each place whose parent is down,
   reached : (k q : ℕ) → q < k → q < 680 → Rests down q → m ≤ getD keys q 0
@@ -148,7 +148,7 @@ module _ (positions : List ℕ) {n : ℕ} {down keys : List ℕ} (few : (q : ℕ
 
   -- and each place has the key of one that may follow, or none.
   abbrev Found : ℕ → Type 0
-  Found m = (m ≡ 67108864) ⊎ ((x : ℕ) × (x < 680) × (mayFollow down x ≡ true) × (m ≡ keyOf positions x))
+  Found m = (m ≡ 67108864) ⊎ ((x : ℕ) × (x < 680) × (mayFollow down x ≡ true) × (m ≡ positionKey positions x))
 
   found : (k q : ℕ) → 680 ≤ q + k → q < 680 → Found (getD keys q 0)
   found zero q some inside = absurd (omega arith)
@@ -166,26 +166,26 @@ module _ (positions : List ℕ) {n : ℕ} {down keys : List ℕ} (few : (q : ℕ
       (λ s.
       let is = f .own q inside s in
       by-test (mayFollow down q)
-      (λ t. inr (q, inside, t, is ∙ ap (λ (b : Bool). cond b (keyOf positions q) 67108864) t))
-      (λ t. inl (is ∙ ap (λ (b : Bool). cond b (keyOf positions q) 67108864) t)))
+      (λ t. inr (q, inside, t, is ∙ ap (λ (b : Bool). cond b (positionKey positions q) 67108864) t))
+      (λ t. inl (is ∙ ap (λ (b : Bool). cond b (positionKey positions q) 67108864) t)))
 
-  low : m ≤ keyOf positions (nextPlace positions down)
+  low : m ≤ positionKey positions (nextPlace positions down)
   low =
       let next = next-least positions a h in
       let p = nextPlace positions down in
       let new = follows-new down p (next .passes) in
-      let own = f .own p (next .to) (new .0) ∙ ap (λ (b : Bool). cond b (keyOf positions p) 67108864) (next .passes) in
+      let own = f .own p (next .to) (new .0) ∙ ap (λ (b : Bool). cond b (positionKey positions p) 67108864) (next .passes) in
       omega (arith, own, reached (suc p) p (omega arith) (next .to) (new .1))
 
   -- A least key that is a place's is that of the next place.
-  least-of : Found m → m ≡ keyOf positions (nextPlace positions down)
+  least-of : Found m → m ≡ positionKey positions (nextPlace positions down)
   least-of (inl e) = absurd (omega (arith, e, low, few (nextPlace positions down) (next-least positions a h .to)))
   least-of (inr x) =
       let le = next-least positions a h .least (x .0) (omega arith) (x .1) (x .2) in omega (arith, le, low, x .3)
 
   pub least-next : m % 1024 ≡ nextPlace positions down
   least-next =
-      let is : m ≡ keyOf positions (nextPlace positions down) = elim (l .met) [
+      let is : m ≡ positionKey positions (nextPlace positions down) = elim (l .met) [
         | inl e ↦ least-of (inl e)
         | inr c ↦ least-of (subst Found (sym (c .3)) (found 680 (c .0) (omega arith) (c .1)))
       ] in

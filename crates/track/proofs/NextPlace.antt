@@ -11,7 +11,7 @@ use lib.Dec.{leb}
 use Rattle.basics.specs.Lists.{filter, countFrom}
 use Rattle.basics.proofs.Booleans.{by-test}
 use Rattle.track.specs.Track.{positionAt, mayFollow, nearer, nearest, nextPlace}
-use Rattle.track.specs.views.Front.{keyOf}
+use Rattle.track.specs.views.Front.{positionKey}
 
 -- None of the k places from a on passes the test.
 abbrev pub None : (ℕ → Bool) → ℕ → ℕ → Type 0
@@ -22,7 +22,7 @@ pub record Least (positions : List ℕ) (f : ℕ → Bool) (a k r : ℕ) : Type 
   pub from : a ≤ r
   pub to : r < a + k
   pub passes : f r ≡ true
-  pub least : (q : ℕ) → a ≤ q → q < a + k → f q ≡ true → keyOf positions r ≤ keyOf positions q
+  pub least : (q : ℕ) → a ≤ q → q < a + k → f q ≡ true → positionKey positions r ≤ positionKey positions q
 
 module _ (positions : List ℕ) (f : ℕ → Bool) where
   abbrev Found : ℕ → ℕ → ℕ → Type 0
@@ -49,7 +49,7 @@ module _ (positions : List ℕ) (f : ℕ → Bool) where
 
   -- or it passes and is the nearest,
   found-here
-      : (a k : ℕ) → f a ≡ true → ((q : ℕ) → suc a ≤ q → q < suc a + k → f q ≡ true → keyOf positions a ≤ keyOf positions q)
+      : (a k : ℕ) → f a ≡ true → ((q : ℕ) → suc a ≤ q → q < suc a + k → f q ≡ true → positionKey positions a ≤ positionKey positions q)
       → Found a (suc k) a
   found-here a k in-a h =
       inr
@@ -58,7 +58,7 @@ module _ (positions : List ℕ) (f : ℕ → Bool) where
         to = omega arith;
         passes = in-a;
         least = λ q from to in-q.
-            by-cases (ℕ-discrete q a) (λ (e : q ≡ a). subst (λ (x : ℕ). keyOf positions a ≤ keyOf positions x) (sym e)
+            by-cases (ℕ-discrete q a) (λ (e : q ≡ a). subst (λ (x : ℕ). positionKey positions a ≤ positionKey positions x) (sym e)
             (omega arith))
             (λ (d : q ≡ a → ⊥). h q (omega arith) (omega arith) in-q);
       }
@@ -90,7 +90,7 @@ module _ (positions : List ℕ) (f : ℕ → Bool) where
         passes = l .passes;
         least = λ q from to in-q.
             by-cases (ℕ-discrete q a)
-            (λ (s : q ≡ a). subst (λ (x : ℕ). keyOf positions r ≤ keyOf positions x) (sym s) (omega (arith, far, l .to)))
+            (λ (s : q ≡ a). subst (λ (x : ℕ). positionKey positions r ≤ positionKey positions x) (sym s) (omega (arith, far, l .to)))
             (λ (d : q ≡ a → ⊥). l .least q (omega arith) (omega arith) in-q);
       }))
 

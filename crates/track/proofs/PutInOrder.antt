@@ -8,7 +8,7 @@ use native.Mathlib.Omega.{arith}
 use borrow.Author.Tests.{eq-eqb, ne-eqb, le-leb, lt-leb}
 use lib.Dec.{leb}
 use lib.ListN.{length, length-append, replicate}
-use Rattle.records.specs.Fields.{highOf, lowOf, wideThen}
+use Rattle.records.specs.Fields.{highByte, lowByte, wideThen}
 use Rattle.records.specs.Writing.{splice}
 use Rattle.records.specs.Reading.{took, ask}
 use Rattle.records.specs.Written.{resultOf, askFits}
@@ -17,12 +17,12 @@ use Rattle.records.proofs.Wrote.{Wrote, wrote-as, wrote-behind}
 use Rattle.order.specs.TableBytes.{tableBytes}
 use Rattle.track.specs.Track.{mayFollow, nextPlace, downAfter, trackOrder}
 use Rattle.track.specs.Ordering.{ordered}
-use Rattle.track.specs.views.Front.{keyOf, Opened, LeastBelow, PutDown}
+use Rattle.track.specs.views.Front.{positionKey, Opened, LeastBelow, PutDown}
 use Rattle.track.proofs.StepByStep.{After, after, next-least}
 use Rattle.track.proofs.FrontLaws.{Front, front-first, front-more, least-next}
 
 -- The bytes of one place more stand behind those of the others.
-bytes-more : (places : List ℕ) (p : ℕ) → tableBytes (places ++ (p ∷ [])) ≡ tableBytes places ++ (highOf p ∷ lowOf p ∷ [])
+bytes-more : (places : List ℕ) (p : ℕ) → tableBytes (places ++ (p ∷ [])) ≡ tableBytes places ++ (highByte p ∷ lowByte p ∷ [])
 bytes-more [] p = refl
 bytes-more (x ∷ places) p = ap (wideThen x) (bytes-more places p)
 
@@ -34,7 +34,7 @@ steps-length positions (suc n) =
     let down = downAfter positions n in
     let p = nextPlace positions down in
     omega
-    (arith, ap length (bytes-more down p), length-append (tableBytes down) (highOf p ∷ lowOf p ∷ []), steps-length positions n)
+    (arith, ap length (bytes-more down p), length-append (tableBytes down) (highByte p ∷ lowByte p ∷ []), steps-length positions n)
 
 pub order-length : (positions : List ℕ) → length (tableBytes (trackOrder positions)) ≡ 1360
 unfolding trackOrder
@@ -44,12 +44,12 @@ order-length positions = steps-length positions 680
 pub record PutSo (positions buf₀ : List ℕ) (i : ℕ) (keys buf : List ℕ) (end : ℕ) : Type 0 where
   pub within : i ≤ 680
   pub room : 1360 ≤ length buf₀
-  pub few : (q : ℕ) → q < 680 → keyOf positions q < 67108864
+  pub few : (q : ℕ) → q < 680 → positionKey positions q < 67108864
   pub front : Front positions (downAfter positions i) keys
   pub wrote : Wrote buf₀ 0 (tableBytes (downAfter positions i)) end buf
 
 pub put-first
-    : (positions buf₀ keys : List ℕ) → 1360 ≤ length buf₀ → ((q : ℕ) → q < 680 → keyOf positions q < 67108864)
+    : (positions buf₀ keys : List ℕ) → 1360 ≤ length buf₀ → ((q : ℕ) → q < 680 → positionKey positions q < 67108864)
     → Opened positions 0 85 8 (replicate 680 67108864) keys → PutSo positions buf₀ 0 keys buf₀ 0
 unfolding downAfter
 put-first positions buf₀ keys room few o = record {
@@ -88,7 +88,7 @@ module _ {positions buf₀ : List ℕ} {i : ℕ} {keys buf : List ℕ} {end : �
       -- and comes next.
       pub put-next
           : (keys' buf' : List ℕ) (end' : ℕ) → PutDown positions place keys keys'
-          → Wrote buf end (highOf place ∷ lowOf place ∷ []) end' buf' → PutSo positions buf₀ (i + 1) keys' buf' end'
+          → Wrote buf end (highByte place ∷ lowByte place ∷ []) end' buf' → PutSo positions buf₀ (i + 1) keys' buf' end'
       unfolding downAfter
       put-next keys' buf' end' o w =
           let l = next-least positions so-far h in
@@ -104,7 +104,7 @@ module _ {positions buf₀ : List ℕ} {i : ℕ} {keys buf : List ℕ} {end : �
                 (front-more positions so-far place put-inside follows (s .front) o);
             wrote =
                 wrote-as buf₀ 0 (sym (bytes-more down place) ∙ ap tableBytes more)
-                (wrote-behind buf₀ 0 (tableBytes down) (highOf place ∷ lowOf place ∷ [])
+                (wrote-behind buf₀ 0 (tableBytes down) (highByte place ∷ lowByte place ∷ [])
                 (omega (arith, steps-length positions i, s .within, s .room)) (s .wrote) w);
           }
 

@@ -13,7 +13,7 @@ use Rattle.places.specs.Numbering.{parentAt, depthAt, levelsAt, stride, childPl
 use Rattle.places.proofs.Below.{at-or-below-parent, at-or-below-range}
 use Rattle.places.proofs.Levels.{levels-range, levels-fit-row}
 use Rattle.places.proofs.Parents.{parent-first-of, parent-before, parent-of-child-place, child-of-parent, argument-without-parent}
-use Rattle.track.specs.views.Front.{keyOf, Opened, LeastOf, LeastBelow}
+use Rattle.track.specs.views.Front.{positionKey, Opened, LeastOf, LeastBelow}
 
 -- The next place of a row.
 pub row-next : (from i step : ℕ) → from + i * step + step ≡ from + (i + 1) * step
@@ -25,7 +25,7 @@ module _ (positions : List ℕ) (from step : ℕ) {keys₀ : List ℕ} where
 
   pub opened-more
       : {keys : List ℕ} (i q key : ℕ) → Opened positions from step i keys₀ keys → q ≡ from + i * step → q < 680
-      → key ≡ keyOf positions q → Opened positions from step (i + 1) keys₀ (set keys q key)
+      → key ≡ positionKey positions q → Opened positions from step (i + 1) keys₀ (set keys q key)
   opened-more {keys} i q key o place inside is = record {
     size = length-set keys q key ∙ o .size;
     row = λ k h.
@@ -34,7 +34,7 @@ module _ (positions : List ℕ) (from step : ℕ) {keys₀ : List ℕ} where
         ap (λ (x : ℕ). getD (set keys q key) x 0) e
         ∙ getD-set-same keys q key 0 (omega (arith, o .size))
         ∙ is
-        ∙ ap (keyOf positions) (sym e))
+        ∙ ap (positionKey positions) (sym e))
         (λ (d : from + k * step ≡ q → ⊥).
         getD-set-other keys q (from + k * step) key 0 d ∙ o .row k (before k h d));
     others = λ x d.
@@ -149,10 +149,10 @@ least-below {keys} {p} {from} {step} r l = record {
 -- they get their keys where the row does,
 pub opened-children
     : {positions keys after : List ℕ} {p from step n : ℕ} → Row p from step n → Opened positions from step n keys after
-    → (q : ℕ) → q < 680 → parentAt q ≡ p → getD after q 0 ≡ keyOf positions q
+    → (q : ℕ) → q < 680 → parentAt q ≡ p → getD after q 0 ≡ positionKey positions q
 opened-children {positions} {keys} {after} r o q h e =
     let i = r .found q h e in
-    ap (λ (x : ℕ). getD after x 0) (i .2) ∙ o .row (i .0) (i .1) ∙ ap (keyOf positions) (sym (i .2))
+    ap (λ (x : ℕ). getD after x 0) (i .2) ∙ o .row (i .0) (i .1) ∙ ap (positionKey positions) (sym (i .2))
 
 -- and any other place keeps its own.
 pub opened-others

@@ -5,7 +5,7 @@ ghost use mathlib.Core.Path.{_≡_};
 ghost use lib.ListN.{length};
 ghost use Rattle.places.specs.Numbering.{depthAt};
 ghost use Rattle.places.specs.AllParents.{AllParents};
-ghost use Rattle.track.specs.views.Front.{keyOf, Opened, LeastOf, LeastBelow, Climbed, PutDown};
+ghost use Rattle.track.specs.views.Front.{positionKey, Opened, LeastOf, LeastBelow, Climbed, PutDown};
 
 // For each place the least key of those at or below it that may follow, 2 to the power 26 where there is none. A key is a position
 // × 1,024 + the place's number.
@@ -14,7 +14,7 @@ pub type Keys = [u32; 680];
 // The key of a place.
 fn key(positions: &[u8], p: usize) -> u32
     requires { ⌜ (length (now positions) ≡ 1360) × (p < 680) ⌝ }
-    ensures { λ r. ⌜ r ≡ keyOf (now (positions .entry)) p ⌝ }
+    ensures { λ r. ⌜ r ≡ positionKey (now (positions .entry)) p ⌝ }
 {
     let position = records::wide(positions[2 * p], positions[2 * p + 1]);
     (position as u32) * 1024 + (p as u32)

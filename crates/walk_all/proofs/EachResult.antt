@@ -20,7 +20,7 @@ use Rattle.walk.specs.Walking.{WalkValues, walkReply, replyValues}
 use Rattle.walk.proofs.Replies.{sheet-accepts, piece-refuses}
 use Rattle.walk_all.specs.WalkAll.{pieceThen, piecesIn, resultsOf, resultBytes, resultLength, mostResults, mostTaken}
 use Rattle.walk_all.specs.WalkAll.{walkedFor, piecesFor, walkAll}
-use Rattle.walk_all.specs.EachPiece.{bytesOf, pieceAt, resultAt}
+use Rattle.walk_all.specs.EachPiece.{pieceLength, pieceAt, resultAt}
 
 -- A result has 16 bytes.
 result-skipped : (v : WalkValues) (l : List ℕ) (i : ℕ) → resultAt (suc i) (resultBytes v ++ l) ≡ resultAt i l
@@ -44,12 +44,12 @@ module _ (reply : List ℕ → Reading Walk) (unread : (p : List ℕ) (q : ℕ) 
         → i < length (cond b (took k (take k input) ∷ more k) [])
         → resultAt i (results (cond b (took k (take k input) ∷ more k) []) behind) ≡ due (pieceAt i input)
     unfolding pieceAt
-    by-fit k piece true zero e h = ap (λ (r : Reading Piece). due (take (bytesOf input r) input)) (sym e)
+    by-fit k piece true zero e h = ap (λ (r : Reading Piece). due (take (pieceLength input r) input)) (sym e)
     by-fit k piece true (suc i) e h =
         ap (resultAt (suc i)) (append-assoc (due (take k input)) (resultsOf reply (more k)) behind)
         ∙ result-skipped (replyValues (reply (take k input))) (results (more k) behind) i
         ∙ each k i (omega (arith, h))
-        ∙ ap (λ (r : Reading Piece). due (pieceAt i (drop (bytesOf input r) input))) (sym e)
+        ∙ ap (λ (r : Reading Piece). due (pieceAt i (drop (pieceLength input r) input))) (sym e)
     by-fit k piece false i e h = absurd (omega (arith, h))
 
     by-read
@@ -60,7 +60,7 @@ module _ (reply : List ℕ → Reading Walk) (unread : (p : List ℕ) (q : ℕ) 
     by-read (refused q) zero e h =
         ap (λ (r : Reading Walk). resultBytes (replyValues r)) (sym (unread input q e))
         ∙ ap due (sym (take-length input))
-        ∙ ap (λ (r : Reading Piece). due (take (bytesOf input r) input)) (sym e)
+        ∙ ap (λ (r : Reading Piece). due (take (pieceLength input r) input)) (sym e)
     by-read (refused q) (suc i) e h = absurd (omega (arith, h))
 
   each-of

@@ -16,7 +16,7 @@ use Rattle.graph_check.specs.CheckGraph.{graphReading}
 use Rattle.walk.specs.Walking.{walkReply}
 use Rattle.walk_all.specs.WalkAll.{pieceThen, piecesIn, bytesTaken, mostResults, mostTaken, resultLength}
 use Rattle.walk_all.specs.WalkAll.{walkedFor, piecesFor, walkAll}
-use Rattle.walk_all.specs.EachPiece.{bytesOf, pieceAt, WasRead}
+use Rattle.walk_all.specs.EachPiece.{pieceLength, pieceAt, WasRead}
 
 -- The pieces behind those of a list, where the list's bytes are passed.
 abbrev GoesOn : List ℕ → List (Reading (List ℕ)) → Type 0
@@ -34,7 +34,7 @@ module _ (input : List ℕ) (left : ℕ) (more : ℕ → List (Reading (List ℕ
   by-fit k piece true e read j =
       let behind : suc (length (more k)) + j ≡ suc (length (more k) + j) = omega arith in
       ap (λ (i : ℕ). pieceAt i input) behind
-      ∙ ap (λ (r : Reading Piece). pieceAt (length (more k) + j) (drop (bytesOf input r) input)) e
+      ∙ ap (λ (r : Reading Piece). pieceAt (length (more k) + j) (drop (pieceLength input r) input)) e
       ∙ each k (read .1) j
       ∙ ap (pieceAt j) (drop-drop (bytesTaken (more k)) k input)
   by-fit k piece false e read j = none-passed input j

@@ -8,17 +8,17 @@ use Rattle.piece.specs.ReadPiece.{readPrefix}
 use Rattle.walk_all.specs.WalkAll.{resultLength}
 
 -- The bytes of the piece that the input begins with, "each ending with its last term"; all of them where it cannot be read.
-abbrev pub bytesOf : List ℕ → Reading Piece → ℕ
-bytesOf input (took k piece) = k
-bytesOf input (refused q) = length input
+abbrev pub pieceLength : List ℕ → Reading Piece → ℕ
+pieceLength input (took k piece) = k
+pieceLength input (refused q) = length input
 
 abbrev pub firstPiece : List ℕ → List ℕ
-firstPiece input = take (bytesOf input (readPrefix input)) input
+firstPiece input = take (pieceLength input (readPrefix input)) input
 
 -- Piece i of the input, from 0.
 unfoldable pub pieceAt : ℕ → List ℕ → List ℕ
 pieceAt zero input = firstPiece input
-pieceAt (suc i) input = pieceAt i (drop (bytesOf input (readPrefix input)) input)
+pieceAt (suc i) input = pieceAt i (drop (pieceLength input (readPrefix input)) input)
 
 -- Result i of the buffer, from 0.
 abbrev pub resultAt : ℕ → List ℕ → List ℕ

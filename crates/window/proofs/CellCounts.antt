@@ -9,7 +9,7 @@ use lib.ListN.{length}
 use borrow.Author.Tests.{eqb-true, eqb-false, ne-eqb}
 use Rattle.basics.specs.Lists.{All}
 use Rattle.window.specs.LastThousand.{Given, isCommit, isExecute, isSuspend, isFail, countOf}
-use Rattle.window.specs.views.Keeps.{countedAt}
+use Rattle.window.specs.views.CellsOf.{countedAt}
 use Rattle.window.proofs.Taken.{IsAnswer, answer}
 use Rattle.window.proofs.Counts.{one, count-none, count-cons}
 use Rattle.window.proofs.Moves.{in-word, in-rule, not-in}

@@ -13,7 +13,7 @@ use borrow.Author.Tests.{lt-ltb, le-ltb}
 use Rattle.basics.specs.Lists.{All}
 use Rattle.window.specs.LastThousand.{Given, given, lastOf, countOf}
 use Rattle.window.specs.Cells.{codeOf, answerIn, placeAfter, moved, counted, withRoom, stored, fedCells}
-use Rattle.window.specs.views.Keeps.{fromPlace, countedAt, ringIn, Keeps}
+use Rattle.window.specs.views.CellsOf.{fromPlace, countedAt, ringIn, CellsOf}
 use Rattle.window.proofs.Taken.{IsAnswer, answer}
 use Rattle.window.proofs.Steps.{taken-fed}
 use Rattle.window.proofs.Lasts.{last-more, last-few, last-rest, place-first, place-stored, place-round, place-rest, map-set}
@@ -44,7 +44,7 @@ module _ {A : Type 0} (next : ℕ) (ring : List A) (x : A) (sized : length ring 
       (sym (place-round (set ring next x)) ∙ ap (λ k. fromPlace k (set ring next x)) e ∙ place-stored next ring x (omega arith)))
 
 -- One more answer is taken.
-module _ (answers : List Given) (all : All IsTaken answers) (cells : List ℕ) (k : Keeps answers cells) (g : Given) (t : IsTaken g) where
+module _ (answers : List Given) (all : All IsTaken answers) (cells : List ℕ) (k : CellsOf answers cells) (g : Given) (t : IsTaken g) where
   abbrev next : ℕ
   next = getD cells 0 0
 
@@ -138,7 +138,7 @@ module _ (answers : List Given) (all : All IsTaken answers) (cells : List ℕ) (
       counted-at true (g .word) (g .rule) kept is j (omega (arith, kept-length)) (rw e (omega arith))
       ∙ ap (moved true (one (countedAt j g))) e ∙ omega arith
 
-  keeps-more : Keeps (answers ++ (g ∷ [])) new
+  keeps-more : CellsOf (answers ++ (g ∷ [])) new
   keeps-more =
       record {
         sized = counted-length true (g .word) (g .rule) kept ∙ kept-length;
@@ -150,7 +150,7 @@ module _ (answers : List Given) (all : All IsTaken answers) (cells : List ℕ) (
             ∙ sym (ap (countOf (countedAt j)) more ∙ count-more (countedAt j) rest g);
       }
 
-  pub keeps-taken : Keeps (answers ++ (g ∷ [])) (fedCells g cells)
+  pub keeps-taken : CellsOf (answers ++ (g ∷ [])) (fedCells g cells)
   keeps-taken =
-      subst (Keeps (answers ++ (g ∷ [])))
+      subst (CellsOf (answers ++ (g ∷ [])))
       (taken-fed g cells t (sym (rw (lt-ltb next 1000 (k .placed)))) refl refl refl) keeps-more

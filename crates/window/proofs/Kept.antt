@@ -8,7 +8,7 @@ use lib.ListN.{length, getD, length-replicate, getD-replicate, drop-of-length-le
 use Rattle.basics.specs.Lists.{All}
 use Rattle.window.specs.LastThousand.{Given, isTaken, taken, lastOf, countOf}
 use Rattle.window.specs.Cells.{freshCells, fedCells, fedAll}
-use Rattle.window.specs.views.Keeps.{fromPlace, countedAt, ringIn, Keeps}
+use Rattle.window.specs.views.CellsOf.{fromPlace, countedAt, ringIn, CellsOf}
 use Rattle.window.proofs.Steps.{refused-fed}
 use Rattle.window.proofs.Lasts.{last-all}
 use Rattle.window.proofs.Counts.{count-none, all-more}
@@ -30,7 +30,7 @@ fresh-length : length freshCells ≡ 1070
 unfolding freshCells
 fresh-length = length-replicate {A = ℕ} 1070 0
 
-pub keeps-fresh : Keeps [] freshCells
+pub keeps-fresh : CellsOf [] freshCells
 keeps-fresh =
     let none : lastOf 1000 [] ≡ [] = last-all {A = Given} 1000 [] (omega arith) in
     record {
@@ -45,25 +45,25 @@ keeps-fresh =
 
 -- The answers fed after others.
 pub keeps-fed
-    : (before : List Given) → All IsTaken before → (answers : List Given) (cells : List ℕ) → Keeps before cells
-    → Keeps (before ++ taken answers) (fedAll answers cells)
-keeps-fed before all [] cells k = subst (λ l. Keeps l cells) (sym (append-nil before)) k
+    : (before : List Given) → All IsTaken before → (answers : List Given) (cells : List ℕ) → CellsOf before cells
+    → CellsOf (before ++ taken answers) (fedAll answers cells)
+keeps-fed before all [] cells k = subst (λ l. CellsOf l cells) (sym (append-nil before)) k
 keeps-fed before all (g ∷ answers) cells k =
     go (isTaken g) refl
     (λ t. keeps-fed (before ++ (g ∷ [])) (all-more IsTaken before all t) answers (fedCells g cells) (keeps-taken before all cells k g t))
-    (λ t. keeps-fed before all answers (fedCells g cells) (subst (Keeps before) (refused-fed g cells t) k))
+    (λ t. keeps-fed before all answers (fedCells g cells) (subst (CellsOf before) (refused-fed g cells t) k))
   where
     go
         : (b : Bool) → isTaken g ≡ b
-        → (isTaken g ≡ true → Keeps (before ++ (g ∷ []) ++ taken answers) (fedAll answers (fedCells g cells)))
-        → (isTaken g ≡ false → Keeps (before ++ taken answers) (fedAll answers (fedCells g cells)))
-        → Keeps (before ++ cond b (g ∷ taken answers) (taken answers)) (fedAll answers (fedCells g cells))
+        → (isTaken g ≡ true → CellsOf (before ++ (g ∷ []) ++ taken answers) (fedAll answers (fedCells g cells)))
+        → (isTaken g ≡ false → CellsOf (before ++ taken answers) (fedAll answers (fedCells g cells)))
+        → CellsOf (before ++ cond b (g ∷ taken answers) (taken answers)) (fedAll answers (fedCells g cells))
     go true t kept same =
-        subst (λ l. Keeps l (fedAll answers (fedCells g cells))) (append-assoc before (g ∷ []) (taken answers)) (kept t)
+        subst (λ l. CellsOf l (fedAll answers (fedCells g cells))) (append-assoc before (g ∷ []) (taken answers)) (kept t)
     go false t kept same = same t
 
 -- The cells of a fresh window that was fed these answers.
-pub keeps : (answers : List Given) → Keeps (taken answers) (fedAll answers freshCells)
+pub keeps : (answers : List Given) → CellsOf (taken answers) (fedAll answers freshCells)
 keeps answers = keeps-fed [] tt answers freshCells keeps-fresh
 
 -- All that counts was taken.

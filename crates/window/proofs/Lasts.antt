@@ -6,7 +6,7 @@ use native.Mathlib.Omega.{arith}
 use lib.ListN.{length, getD, set, take, drop, length-append, length-take, length-drop}
 use lib.Seq.{drop-cons, drop-append-le, drop-set-lt, take-suc-set, take-length, drop-length}
 use Rattle.window.specs.LastThousand.{lastOf}
-use Rattle.window.specs.views.Keeps.{fromPlace}
+use Rattle.window.specs.views.CellsOf.{fromPlace}
 
 module _ {A : Type 0} where
   -- One more at the end of a list.

@@ -10,7 +10,7 @@ use lib.Seq.{getD-set-same, getD-set-other, drop-set-lt}
 use borrow.Author.Tests.{eqb-true, eqb-false, eq-eqb, ne-eqb}
 use Rattle.window.specs.LastThousand.{given}
 use Rattle.window.specs.Cells.{moved, movedAt, counted}
-use Rattle.window.specs.views.Keeps.{countedAt}
+use Rattle.window.specs.views.CellsOf.{countedAt}
 use Rattle.window.proofs.Taken.{IsAnswer}
 use Rattle.window.proofs.Counts.{one}
 

@@ -16,7 +16,7 @@ use Rattle.terms.specs.Answer.{Answer, commit, execute, suspend, fail, wordOf, 
 use Rattle.window.specs.LastThousand.{Given, given, isCommit, isTaken, refusalOf, taken, lastOf, lastThousand, countOf, commitCount, executeCount, suspendCount, failCount, commitsOf}
 use Rattle.window.specs.Cells.{fedCells, fedAll, fedFresh, commitsIn}
 use Rattle.window.specs.Handed.{wordsIn}
-use Rattle.window.specs.views.Keeps.{countedAt, Keeps}
+use Rattle.window.specs.views.CellsOf.{countedAt, CellsOf}
 use Rattle.window.specs.declared.WordCounts.{WordCounts}
 use Rattle.window.proofs.Steps.{refused-fed, commits-there, commits-below, commits-above}
 use Rattle.window.proofs.Lasts.{last-all, last-length}
@@ -26,8 +26,8 @@ use Rattle.window.proofs.Roomed.{IsTaken}
 use Rattle.window.proofs.Kept.{keeps, all-taken}
 
 module _ (answers : List Given) where
-  -- What the cells hold (specs/views/Keeps).
-  pub cells-hold : Keeps (taken answers) (fedFresh answers)
+  -- What the cells hold (specs/views/CellsOf).
+  pub cells-hold : CellsOf (taken answers) (fedFresh answers)
   cells-hold = keeps answers
 
   last-taken : All IsTaken (lastThousand answers)

@@ -11,7 +11,7 @@ use lib.Seq.{getD-set-same, getD-set-other, drop-set-lt, getD-drop}
 use Rattle.basics.specs.Lists.{All}
 use Rattle.window.specs.LastThousand.{Given, isTaken, lastOf, countOf}
 use Rattle.window.specs.Cells.{answerIn, moved, withRoom}
-use Rattle.window.specs.views.Keeps.{fromPlace, countedAt, ringIn, Keeps}
+use Rattle.window.specs.views.CellsOf.{fromPlace, countedAt, ringIn, CellsOf}
 use Rattle.window.proofs.Taken.{answer}
 use Rattle.window.proofs.Steps.{one-more, oldest-leaves}
 use Rattle.window.proofs.Lasts.{last-all, last-length, last-oldest, last-rest, place-first, place-rest}
@@ -28,7 +28,7 @@ pub record Roomed (next : ℕ) (answers : List Given) (cells room : List ℕ) : 
   pub ring : lastOf (length (lastOf 999 answers)) (fromPlace next (ringIn cells)) ≡ lastOf 999 answers
   pub counts : (j : ℕ) → 2 ≤ j → j < 70 → getD room j 0 ≡ countOf (countedAt j) (lastOf 999 answers)
 
-module _ (answers : List Given) (cells : List ℕ) (k : Keeps answers cells) where
+module _ (answers : List Given) (cells : List ℕ) (k : CellsOf answers cells) where
   abbrev next : ℕ
   next = getD cells 0 0
 

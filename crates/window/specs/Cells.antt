@@ -7,7 +7,7 @@
 --   cells 70 to 1,069   the ring of 1,000 answers, each as one number
 --
 -- The memory may hold anything, so each step says what becomes of every content. From a fresh window the cells hold what
--- specs/views/Keeps says.
+-- specs/views/CellsOf says.
 use Prim.Native.Nat.{ℕ, _+_, _-_, _*_, _/_, _%_}
 use mathlib.Core.Bool.{Bool, true, false, _&&_, cond}
 use mathlib.Core.List.{List, [], _∷_}

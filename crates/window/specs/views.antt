@@ -1,2 +1,2 @@
 -- How the code keeps things.
-pub mod Keeps
+pub mod CellsOf

@@ -42,7 +42,7 @@ testsFor places pairs rules =
     putAll 260 (map lowerTests (countFrom 0 (testsIn s))) s
 
 -- These accepted rules are read from the bytes; their tests are listed, and asked in this order; no rule is in the tables yet.
-pub record Listed (arity : ℕ) (b numbers s order : List ℕ) (all : List Patterns) : Type 0 where
+pub record ListedRules (arity : ℕ) (b numbers s order : List ℕ) (all : List Patterns) : Type 0 where
   pub arguments : arity ≤ 8
   pub bytes : ℕ
   pub read : readRules arity (rulesIn s) b ≡ took bytes all

@@ -46,15 +46,15 @@ module _ (t : List ℕ) where
   keysIn = map keyAt (countFrom 0 countIn)
 
 -- The number after that of the last of the first n keys that has the hash; 0 where none has.
-abbrev pub lastOf : (ℕ → Key) → ℕ → ℕ → ℕ
-lastOf key h zero = 0
-lastOf key h (suc n) = cond (eqb (hashOf (key n)) h) (suc n) (lastOf key h n)
+abbrev pub lastWith : (ℕ → Key) → ℕ → ℕ → ℕ
+lastWith key h zero = 0
+lastWith key h (suc n) = cond (eqb (hashOf (key n)) h) (suc n) (lastWith key h n)
 
 -- Every key is on the chain of its hash: the head is the last key that has it, and each links to the last one before it, so links
 -- go to smaller numbers. No key stands twice.
 pub record Chained (t : List ℕ) : Type 0 where
   pub size : length t ≡ 4097
   pub few : countIn t ≤ mostNodes
-  pub heads : (h : ℕ) → h < 1024 → headAt t h ≡ lastOf (keyAt t) h (countIn t)
-  pub links : (i : ℕ) → i < countIn t → linkAt t i ≡ lastOf (keyAt t) (hashOf (keyAt t i)) i
+  pub heads : (h : ℕ) → h < 1024 → headAt t h ≡ lastWith (keyAt t) h (countIn t)
+  pub links : (i : ℕ) → i < countIn t → linkAt t i ≡ lastWith (keyAt t) (hashOf (keyAt t i)) i
   pub once : (i j : ℕ) → i < j → j < countIn t → sameKey (keyAt t i) (keyAt t j) ≡ false

@@ -4,13 +4,13 @@ use mathlib.Core.Path.{_≡_, sym, _∙_}
 use native.Mathlib.Omega.{arith}
 use denote.Ref.{now}
 use borrow.Author.Needs.{needs}
-use Rattle.outcomes.specs.views.Look.{nearest}
+use Rattle.outcomes.specs.views.Look.{nearestCell}
 use Rattle.outcomes.proofs.Climbing.{none-left, no-parent, has-cell, has-none, parent-most}
 use Rattle.outcomes.proofs.nearest.Statement.{statement}
 use Rattle.outcomes.proofs.nearest.Tie as tie
 
 abbrev Inv-loop : tie.InvT-loop
-Inv-loop cells p place₀ left₀ place left = (place ≤ 680) × (nearest 3 cells p ≡ nearest left cells place)
+Inv-loop cells p place₀ left₀ place left = (place ≤ 680) × (nearestCell 3 cells p ≡ nearestCell left cells place)
 
 abbrev μ-loop : tie.MeasureT-loop
 μ-loop cells p place₀ left₀ place left = left

@@ -9,15 +9,15 @@ use Rattle.codes.specs.views.Codes.{unknownRun}
 
 -- The cell of the nearest place that has one, of p and the places above it, so many in all; 0 where none has. The
 -- parents are those of the table, 680 where there is none.
-abbrev pub nearest : ℕ → List ℕ → ℕ → ℕ
-nearest zero cells p = 0
-nearest (suc k) cells p =
-    cond (eqb p 680) 0 (cond (eqb (getD cells p 0) 0) (nearest k cells (parentAt p)) (getD cells p 0))
+abbrev pub nearestCell : ℕ → List ℕ → ℕ → ℕ
+nearestCell zero cells p = 0
+nearestCell (suc k) cells p =
+    cond (eqb p 680) 0 (cond (eqb (getD cells p 0) 0) (nearestCell k cells (parentAt p)) (getD cells p 0))
 
 -- What stands at place p: its cell; where that is 0, unknown if the nearest place above it with a cell is, since "a
 -- place below an unknown is unknown", else nothing. At most 3 places are above it.
 abbrev pub look : List ℕ → ℕ → ℕ
 look cells p =
     cond (eqb (getD cells p 0) 0)
-    (cond (eqb (nearest 3 cells (parentAt p)) unknownRun) unknownRun 0)
+    (cond (eqb (nearestCell 3 cells (parentAt p)) unknownRun) unknownRun 0)
     (getD cells p 0)

@@ -11,26 +11,26 @@ abbrev pub pairCode : ℕ → ℕ → ℕ
 pairCode p q = p * 0x1_0000 + q
 
 -- The numbers of the pairs kept, or that there are more than 64.
-pub data Kept : Type 0 where
-  these : List ℕ → Kept
-  many : Kept
+pub data KeptPairs : Type 0 where
+  these : List ℕ → KeptPairs
+  many : KeptPairs
 
-abbrev pub keptIf : Bool → List ℕ → Kept
+abbrev pub keptIf : Bool → List ℕ → KeptPairs
 keptIf true l = these l
 keptIf false l = many
 
-abbrev pub keptOf : List ℕ → Kept
+abbrev pub keptOf : List ℕ → KeptPairs
 keptOf l = keptIf (leb (length l) 64) l
 
 -- One pair more, and all of a list.
-abbrev pub keep : ℕ → Kept → Kept
+abbrev pub keep : ℕ → KeptPairs → KeptPairs
 keep c (these l) = keptOf (insertBy ltb c l)
 keep c many = many
 
-abbrev pub keepAll : List ℕ → Kept → Kept
+abbrev pub keepAll : List ℕ → KeptPairs → KeptPairs
 keepAll [] k = k
 keepAll (c ∷ cs) k = keepAll cs (keep c k)
 
 -- What an array and a number say: the first n entries, or too many where n is 65.
-unfoldable pub pairsIn : List ℕ → ℕ → Kept
+unfoldable pub pairsIn : List ℕ → ℕ → KeptPairs
 pairsIn codes n = keptIf (leb n 64) (take n codes)

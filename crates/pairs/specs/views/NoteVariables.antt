@@ -20,13 +20,13 @@ nameOf (Compound a n) = Nameless
 nameOf (Variable v) = Of v
 nameOf (Ranged v l h) = Of v
 
-abbrev pub isNamed : ℕ → PatternRecord → Bool
-isNamed v Anything = false
-isNamed v (Symbol a) = false
-isNamed v (Range l h) = false
-isNamed v (Compound a n) = false
-isNamed v (Variable u) = eqb v u
-isNamed v (Ranged u l h) = eqb v u
+abbrev pub namesVariable : ℕ → PatternRecord → Bool
+namesVariable v Anything = false
+namesVariable v (Symbol a) = false
+namesVariable v (Range l h) = false
+namesVariable v (Compound a n) = false
+namesVariable v (Variable u) = eqb v u
+namesVariable v (Ranged u l h) = eqb v u
 
 -- The variables of a rule with their places.
 abbrev pub occurrence : ℕ → Name → List Occurrence → List Occurrence

@@ -7,7 +7,7 @@ use denote.Ref.{now}
 use borrow.Author.Needs.{needs}
 use Rattle.places.specs.Numbering.{stride}
 use Rattle.records.proofs.Wrote.{room-as, wrote-as}
-use Rattle.parent_lines.specs.views.Counting.{Counted}
+use Rattle.parent_lines.specs.views.Counting.{CountedTo}
 use Rattle.parent_lines.proofs.LineRows.{RowsWrote, rows-begun, row-room, row-more}
 use Rattle.parent_lines.proofs.PlaceLines.{depth-range, child-counted, child-lines}
 use Rattle.parent_lines.proofs.PlaceLines.{line-room, rows-room, deepest-wrote, rows-wrote}
@@ -90,7 +90,7 @@ put-place-requires t c κs =
     let room =
     row-room (line .last .0) (line .result) (a .p + 1) 4 (stride (4 - a .d)) (turn .j - 1) rows (omega arith) (turn .inv .4) in (
       omega (arith, start .pre .0),
-      (subst (λ (q : ℕ). Counted (a .d + 1) q (a .p)) (sym is) child, room-as (turn .buf) (turn .end) lines room),
+      (subst (λ (q : ℕ). CountedTo (a .d + 1) q (a .p)) (sym is) child, room-as (turn .buf) (turn .end) lines room),
     )
 
 add-j : (t : ℕ) → lts.Need-add-j (calls t) (asked t) put-place.Post Inv-loop μ-loop

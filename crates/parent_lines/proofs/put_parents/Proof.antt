@@ -5,7 +5,7 @@ use lib.ListN.{length}
 use borrow.Author.Needs.{needs}
 use Rattle.records.proofs.Wrote.{wrote-as}
 use Rattle.parent_lines.specs.ParentLines.{linesFrom}
-use Rattle.parent_lines.specs.views.Counting.{Counted}
+use Rattle.parent_lines.specs.views.Counting.{CountedTo}
 use Rattle.parent_lines.proofs.AllLines.{argument-counted, Passed, passed-none, argument-room, passed-more, passed-all}
 use Rattle.parent_lines.proofs.put_parents.Statement.{statement}
 use Rattle.parent_lines.proofs.put_parents.Tie as tie
@@ -27,7 +27,7 @@ put-place-requires c κs =
     let turn = c .before .before .before .loop in
     let to = c .before .before .loop-test .taken in
     let is = sym (c .before .argument .ensures) in (
-      subst (λ (p : ℕ). Counted 1 p 680) is (argument-counted (turn .a) (turn .inv .from) to),
+      subst (λ (p : ℕ). CountedTo 1 p 680) is (argument-counted (turn .a) (turn .inv .from) to),
       subst (λ (p : ℕ). turn .end + length (linesFrom p 85) ≤ length (turn .buf)) is
           (argument-room (turn .a) (turn .end) (turn .buf) (turn .inv) to),
     )

@@ -4,7 +4,7 @@ use mathlib.Core.Path.{_≡_}
 use Rattle.places.specs.Numbering.{depthAt, parentAt}
 
 -- Place p is at depth d and below place up, 680 for an argument.
-pub record Counted (d p up : ℕ) : Type 0 where
+pub record CountedTo (d p up : ℕ) : Type 0 where
   pub inside : p < 680
   pub depth : d ≡ depthAt p
   pub parent : up ≡ parentAt p

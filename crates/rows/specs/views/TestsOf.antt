@@ -8,7 +8,7 @@ use Rattle.sheet_tests.specs.SheetTests.{place, sheetTests}
 use Rattle.sheet_tests.specs.views.KeptPairs.{codePair}
 use Rattle.tables.specs.views.Planes.{rulesIn, testsIn, placeTestsIn, testIn, underIn}
 use Rattle.test_list.specs.views.Numbers.{numberAll}
-use Rattle.test_list.specs.views.Tests.{Counted, spotCode, pairsListed, settledIn}
+use Rattle.test_list.specs.views.Tests.{Counted, spotCode, pairsListed, settledBelow}
 
 -- The listed places and pairs.
 pub record TestsOf (rules : List Patterns) (numbers s : List ℕ) : Type 0 where
@@ -23,4 +23,4 @@ pub record TestsOf (rules : List Patterns) (numbers s : List ℕ) : Type 0 where
   pub placesAre : placeTestsIn s ≡ length places
   pub placeIs : (t : ℕ) → t < length places → testIn s t ≡ spotCode (getD places t 0)
   pub pairsAre : pairsListed s ≡ pairs
-  pub under : (t : ℕ) → t < length places → underIn s t ≡ settledIn s t
+  pub under : (t : ℕ) → t < length places → underIn s t ≡ settledBelow s t

@@ -13,12 +13,12 @@ opened suspend only = suspend
 opened fail only = only
 
 -- The answer so far moves on by the outcome of rule i.
-abbrev pub moved : Answer → ℕ → Outcome → Answer
-moved a i holds = opened a (commit i)
-moved a i notKnown = opened a (execute i)
-moved a i contradicted = a
+abbrev pub answerAfter : Answer → ℕ → Outcome → Answer
+answerAfter a i holds = opened a (commit i)
+answerAfter a i notKnown = opened a (execute i)
+answerAfter a i contradicted = a
 
 -- The answer after some rules, of which the first is rule i.
 abbrev pub movedBy : (Patterns → Outcome) → ℕ → Answer → List Patterns → Answer
 movedBy outcome i a [] = a
-movedBy outcome i a (rule ∷ rules) = movedBy outcome (suc i) (moved a i (outcome rule)) rules
+movedBy outcome i a (rule ∷ rules) = movedBy outcome (suc i) (answerAfter a i (outcome rule)) rules

@@ -33,12 +33,12 @@ unfoldable pub metWord : ℕ → ℕ → ℕ → ℕ
 metWord w l h = packedWord 0 (min 2 (suc (wordUses w))) (min (wordHigh w) h) (max (wordLow w) l)
 
 -- The word of a variable, which is one of 16.
-abbrev pub slot : ℕ → ℕ
-slot v = v % 16
+abbrev pub wordPlace : ℕ → ℕ
+wordPlace v = v % 16
 
 -- What is known after a record, and after records in a row.
 abbrev pub metAt : List ℕ → ℕ → ℕ → ℕ → List ℕ
-metAt words v l h = set words (slot v) (metWord (getD words (slot v) 0) l h)
+metAt words v l h = set words (wordPlace v) (metWord (getD words (wordPlace v) 0) l h)
 
 abbrev pub metRecord : List ℕ → PatternRecord → List ℕ
 metRecord words Anything = words
@@ -58,14 +58,14 @@ pub record Numbering : Type 0 where
   pub count : ℕ
 
 -- A variable that is repeated and has no number yet gets the next one.
-abbrev pub numberedIf : ℕ → ℕ → Numbering → Numbering
-numberedIf v w x =
+abbrev pub numberedWord : ℕ → ℕ → Numbering → Numbering
+numberedWord v w x =
     cond (eqb (w / 0x2_0000_0000) 2)
-    (record { words = set (x .words) (slot v) (w + (x .count * 4 + 1) * 0x2_0000_0000); count = suc (x .count) })
+    (record { words = set (x .words) (wordPlace v) (w + (x .count * 4 + 1) * 0x2_0000_0000); count = suc (x .count) })
     x
 
 abbrev pub numberedAt : ℕ → Numbering → Numbering
-numberedAt v x = numberedIf v (getD (x .words) (slot v) 0) x
+numberedAt v x = numberedWord v (getD (x .words) (wordPlace v) 0) x
 
 abbrev pub numberRecord : PatternRecord → Numbering → Numbering
 numberRecord Anything x = x

@@ -45,8 +45,8 @@ lowsOf notes = forVariables (λ (v : ℕ). lowEnd (rangeIn notes v))
 abbrev pub highsOf : List Note → List ℕ
 highsOf notes = forVariables (λ (v : ℕ). highEnd (rangeIn notes v))
 
-abbrev pub rangesOf : List Note → Ranges
-rangesOf notes = record { low = lowsOf notes; high = highsOf notes }
+abbrev pub noteRanges : List Note → Ranges
+noteRanges notes = record { low = lowsOf notes; high = highsOf notes }
 
 -- "9 Has each variable's set of ranges a number in common?"
 unfoldable pub endsMeet : List ℕ → List ℕ → Bool

@@ -9,7 +9,7 @@ use Rattle.terms.specs.RuleTests.{PlaceTest, placeTests, pairTests}
 use Rattle.patterns.specs.views.Note.{Note}
 use Rattle.sheet.specs.views.NoteRanges.{highsOf}
 use Rattle.sheet_tests.specs.views.TestedPlaces.{placesIn, insertAll}
-use Rattle.pairs.specs.views.KeptPairs.{Kept, keepAll, pairsIn}
+use Rattle.pairs.specs.views.KeptPairs.{KeptPairs, keepAll, pairsIn}
 use Rattle.pairs.specs.views.NoteVariables.{pairCodes, notesCodes}
 use Rattle.sheet_tests.specs.views.NoteTests.{testedPlaces, hasRange}
 use Rattle.sheet_tests.specs.declared.Scan.{Scan}
@@ -34,7 +34,7 @@ sheetCodes (rule ∷ rules) = ruleCodes rule ++ sheetCodes rules
 -- The places and the pairs, each ascending.
 pub record Gathered : Type 0 where
   pub places : List ℕ
-  pub pairs : Kept
+  pub pairs : KeptPairs
 
 abbrev pub gathered : List ℕ → List ℕ → Gathered → Gathered
 gathered ps cs g = record { places = insertAll ps (g .places); pairs = keepAll cs (g .pairs) }

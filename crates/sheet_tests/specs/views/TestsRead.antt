@@ -40,12 +40,12 @@ abbrev pub foundValues : TestsFound → SheetValues
 foundValues f = record { refusal = f .refusal; arity = f .arity; rules = f .rules; tests = length (f .tests) }
 
 -- So many places are in the set, and there are at most 64 tests.
-abbrev pub Counted : List ℕ → TestsRead → Type 0
-Counted words (Accepted a n places pairs) = (places ≡ length (placesIn words)) × (places + pairs ≤ mostTests)
-Counted words (Refused q) = Unit
+abbrev pub CountsTests : List ℕ → TestsRead → Type 0
+CountsTests words (Accepted a n places pairs) = (places ≡ length (placesIn words)) × (places + pairs ≤ mostTests)
+CountsTests words (Refused q) = Unit
 
 -- The arrays keep their entries.
 pub record Held (words codes : List ℕ) (r : TestsRead) : Type 0 where
   pub allWords : length words ≡ 11
   pub allCodes : length codes ≡ 65
-  pub counted : Counted words r
+  pub counted : CountsTests words r

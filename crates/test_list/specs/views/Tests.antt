@@ -52,8 +52,8 @@ module _ (s : List ℕ) (t : ℕ) where
   abbrev pub isSettled : ℕ → Bool
   isSettled u = leb t u && under (testIn s t % 0x1_0000) (testIn s u)
 
-  unfoldable pub settledIn : ℕ
-  settledIn = maskOf (testsIn s) isSettled
+  unfoldable pub settledBelow : ℕ
+  settledBelow = maskOf (testsIn s) isSettled
 
 unfoldable pub underPut : List ℕ → List ℕ
-underPut s = putAll 196 (map (settledIn s) (countFrom 0 (placeTestsIn s))) s
+underPut s = putAll 196 (map (settledBelow s) (countFrom 0 (placeTestsIn s))) s

@@ -7,7 +7,7 @@ use lib.ListN.{getD}
 use Rattle.patterns.specs.declared.PatternRecord.{PatternRecord}
 use Rattle.patterns.specs.declared.PatternRecord.the-variants.{Anything, Symbol, Range, Compound, Variable, Ranged}
 use Rattle.patterns.specs.views.PatternRecord.{recordSpelling, recordsSpelling}
-use Rattle.rule_rows.specs.views.Words.{wordLow, wordHigh, wordUses, slot, freshWords, metRecords, Numbering, numberRecord}
+use Rattle.rule_rows.specs.views.Words.{wordLow, wordHigh, wordUses, wordPlace, freshWords, metRecords, Numbering, numberRecord}
 
 -- What a variable becomes, by its word.
 unfoldable pub tidyWord : ℕ → PatternRecord
@@ -23,8 +23,8 @@ tidyIn words Anything = Anything
 tidyIn words (Symbol a) = Symbol a
 tidyIn words (Range l h) = Range l h
 tidyIn words (Compound a n) = Compound a n
-tidyIn words (Variable v) = tidyWord (getD words (slot v) 0)
-tidyIn words (Ranged v l h) = tidyWord (getD words (slot v) 0)
+tidyIn words (Variable v) = tidyWord (getD words (wordPlace v) 0)
+tidyIn words (Ranged v l h) = tidyWord (getD words (wordPlace v) 0)
 
 -- The bytes of records with what their variables become.
 abbrev pub tidySpelling : List ℕ → List PatternRecord → List ℕ

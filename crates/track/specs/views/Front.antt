@@ -10,17 +10,17 @@ use Rattle.places.specs.Numbering.{parentAt, atOrBelow}
 use Rattle.track.specs.Track.{positionAt, mayFollow}
 
 -- By its position first, then by its number.
-abbrev pub keyOf : List ℕ → ℕ → ℕ
-keyOf positions p = positionAt positions p * 1024 + p
+abbrev pub positionKey : List ℕ → ℕ → ℕ
+positionKey positions p = positionAt positions p * 1024 + p
 
 -- The key of a place that may follow, and 2 to the power 26, which is above all keys, for any other.
 abbrev pub frontAt : List ℕ → List ℕ → ℕ → ℕ
-frontAt positions down p = cond (mayFollow down p) (keyOf positions p) 67108864
+frontAt positions down p = cond (mayFollow down p) (positionKey positions p) 67108864
 
 -- The keys with those of a row of n places, each so many places behind the one before it.
 pub record Opened (positions : List ℕ) (from step n : ℕ) (keys after : List ℕ) : Type 0 where
   pub size : length after ≡ 680
-  pub row : (i : ℕ) → i < n → getD after (from + i * step) 0 ≡ keyOf positions (from + i * step)
+  pub row : (i : ℕ) → i < n → getD after (from + i * step) 0 ≡ positionKey positions (from + i * step)
   pub others : (q : ℕ) → ((i : ℕ) → i < n → q ≡ from + i * step → ⊥) → getD after q 0 ≡ getD keys q 0
 
 -- The least key of such a row, 2 to the power 26 if it has none.
@@ -43,6 +43,6 @@ pub record Climbed (p : ℕ) (keys after : List ℕ) : Type 0 where
 pub record PutDown (positions : List ℕ) (p : ℕ) (keys after : List ℕ) : Type 0 where
   pub size : length after ≡ 680
   pub above : (q : ℕ) → q < 680 → atOrBelow q p ≡ true → LeastBelow after q (getD after q 0)
-  pub children : (q : ℕ) → q < 680 → parentAt q ≡ p → getD after q 0 ≡ keyOf positions q
+  pub children : (q : ℕ) → q < 680 → parentAt q ≡ p → getD after q 0 ≡ positionKey positions q
   pub others
       : (q : ℕ) → q < 680 → atOrBelow q p ≡ false → (parentAt q ≡ p → ⊥) → getD after q 0 ≡ getD keys q 0

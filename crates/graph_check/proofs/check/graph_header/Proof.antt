@@ -4,7 +4,7 @@ use mathlib.Core.Path.{subst}
 use native.Mathlib.Omega.{arith}
 use denote.Ref.{now}
 use lib.ListN.{length-replicate}
-use Rattle.sheet_tests.specs.views.TestsRead.{Counted}
+use Rattle.sheet_tests.specs.views.TestsRead.{CountsTests}
 use Rattle.accepted.proofs.FoundTests.{found-accepts, found-refuses}
 use Rattle.graph_check.proofs.FoundGraph.{index-accepts, index-refuses}
 use Rattle.graph_check.proofs.Headers.{sheet-refuses, graph-refuses, graph-accepts}
@@ -25,7 +25,7 @@ index-graph-requires : tie.Need-index-graph-requires
 index-graph-requires c κs =
     let words = c .before .before .before .before .before .before .read-tests .last .1 .0 in
     let held = c .before .before .before .before .before .before .read-tests .ensures .1 in
-    let counted = subst (Counted words) (c .before .before .before .before .read2 .given .1) (held .counted) in
+    let counted = subst (CountsTests words) (c .before .before .before .before .read2 .given .1) (held .counted) in
     (held .allWords, omega (arith, counted .1), held .allCodes, length-replicate {A = ℕ} 1024 0)
 
 enum-known-index : tie.Need-enum-known-index

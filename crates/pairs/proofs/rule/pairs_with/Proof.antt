@@ -7,7 +7,7 @@ use lib.ListN.{drop}
 use Rattle.sheet.specs.views.NoteArray.{notesIn}
 use Rattle.pairs.specs.views.KeptPairs.{pairCode, keep, pairsIn}
 use Rattle.pairs.specs.views.PutAt.{PutAt}
-use Rattle.pairs.specs.views.NoteVariables.{isNamed, codesWith, Placed}
+use Rattle.pairs.specs.views.NoteVariables.{namesVariable, codesWith, Placed}
 use Rattle.pairs.proofs.NoteRows.{notes-each}
 use Rattle.pairs.proofs.PutPairs.{none-passed}
 use Rattle.pairs.proofs.NotePairs.{withFrom, with-yes, with-no, with-end, full-done}
@@ -85,7 +85,7 @@ loop-again c =
     let place = start .args .place in
     let v = start .args .v in
     let kept = pairsIn (turn .codes) (turn .put .count) in
-    let test = ap (isNamed v) (sym (note-record .ensures)) ∙ sym (is-named .ensures) in
+    let test = ap (namesVariable v) (sym (note-record .ensures)) ∙ sym (is-named .ensures) in
     ⊎-elim
     (λ w. (
       omega arith,

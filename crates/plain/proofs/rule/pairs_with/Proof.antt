@@ -9,7 +9,7 @@ use Rattle.terms.specs.RuleTests.{both, pairsWith}
 use Rattle.terms.specs.Outcome.{Outcome, _and_, together}
 use Rattle.patterns.specs.views.NoteCode.{codePlace}
 use Rattle.sheet.specs.views.NoteArray.{notesIn}
-use Rattle.pairs.specs.views.NoteVariables.{isNamed, notesVariables, Placed}
+use Rattle.pairs.specs.views.NoteVariables.{namesVariable, notesVariables, Placed}
 use Rattle.pairs.proofs.NoteRows.{notes-each}
 use Rattle.outcomes.specs.views.CellOutcome.{outcomeOf, pairCells}
 use Rattle.plain.specs.views.NotesOutcome.{pairTestCells}
@@ -73,7 +73,7 @@ loop-again c =
     let f = pairTestCells cells in
     let gathered = outcomeOf (c .before .before .before .before .before .loop .outcome) in
     let rest = together f (pairsWith (a .place) (a .v) (notesVariables (drop (i + 1) (notesIn codes (a .n))))) in
-    let named = ap (isNamed (a .v)) (sym (c .before .before .note-record .ensures)) ∙ sym (c .before .is-named .ensures) in
+    let named = ap (namesVariable (a .v)) (sym (c .before .before .note-record .ensures)) ∙ sym (c .before .is-named .ensures) in
     let inside = c .before .before .before .before .loop-test .taken in
     ⊎-elim
     (λ w.

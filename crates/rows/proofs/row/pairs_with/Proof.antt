@@ -6,7 +6,7 @@ use native.Mathlib.Omega.{arith}
 use lib.ListN.{length, drop}
 use Rattle.sheet.specs.views.NoteArray.{notesIn}
 use Rattle.pairs.specs.views.KeptPairs.{pairCode}
-use Rattle.pairs.specs.views.NoteVariables.{isNamed, codesWith, Placed}
+use Rattle.pairs.specs.views.NoteVariables.{namesVariable, codesWith, Placed}
 use Rattle.pairs.proofs.NoteRows.{notes-each}
 use Rattle.tables.specs.views.Planes.{placeTestsIn}
 use Rattle.test_list.specs.views.Tests.{pairsListed}
@@ -70,7 +70,7 @@ loop-again c =
     let count = placeTestsIn (a .s .now) in
     let within : a .n ≤ length notes = omega (arith, start .pre) in
     let j = turn .j in
-    let test = ap (isNamed (a .v)) (sym (c .before .before .note-record .ensures)) ∙ sym (c .before .is-named .ensures) in
+    let test = ap (namesVariable (a .v)) (sym (c .before .before .note-record .ensures)) ∙ sym (c .before .is-named .ensures) in
     ⊎-elim
     (λ w.
     let t = w .2 .ensures ∙ ap (λ (q : ℕ). pairNumber count kept (pairCode (a .place) q)) (w .1 .ensures) in (

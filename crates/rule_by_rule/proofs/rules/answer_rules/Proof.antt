@@ -13,7 +13,7 @@ use Rattle.sheet.specs.ReadSheet.{readRule, readRules}
 use Rattle.sheet_tests.specs.views.Starts.{ruleStart}
 use Rattle.sheet_tests.proofs.Starting.{start-next}
 use Rattle.plain.specs.Plain.{PlainValues, answerOf, answerValues, readingValues}
-use Rattle.rule_by_rule.specs.views.RuleByRule.{moved, movedBy}
+use Rattle.rule_by_rule.specs.views.RuleByRule.{answerAfter, movedBy}
 use Rattle.plain.specs.views.NotesOutcome.{cellsOutcome}
 use Rattle.rule_by_rule.proofs.RuleTurns.{answerFrom, turns-start, turns-end, turns-suspend, turn-next, turn-read}
 use borrow.Author.Needs.{needs}
@@ -88,7 +88,7 @@ module _ (c : tie.After-moved Inv-loop μ-loop) where
       let begins = start .pre .4 (turn .i) (omega arith) .0 in
       let there =
       ap (readRule (a .arity)) (rest s _) ∙ ap (λ (k : ℕ). readRule (a .arity) (drop k s)) begins ∙ read in
-      let answer = c .moved .ensures ∙ ap (moved before (turn .i + 1)) (c .before .tried .ensures .0 b rule there) in
+      let answer = c .moved .ensures ∙ ap (answerAfter before (turn .i + 1)) (c .before .tried .ensures .0 b rule there) in
       let next = start-next (a .arity) s (turn .i) at refl read in
       (λ j. answerFrom outcome (a .arity) (a .count) s (turn .i + 1) (sym next j) (answer j))
       ∙ turn-next outcome (a .arity) (a .count) s (turn .i) at before (omega arith) rule read

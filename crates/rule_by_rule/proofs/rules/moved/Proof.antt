@@ -2,7 +2,7 @@
 use mathlib.Core.Path.{sym, ap, _∙_}
 use Rattle.outcomes.specs.views.CellOutcome.{outcomeOf}
 use Rattle.plain.specs.Plain.{answerOf}
-use Rattle.rule_by_rule.specs.views.RuleByRule.{moved}
+use Rattle.rule_by_rule.specs.views.RuleByRule.{answerAfter}
 use borrow.Author.Needs.{needs}
 use Rattle.rule_by_rule.proofs.rules.moved.Statement.{statement}
 use Rattle.rule_by_rule.proofs.rules.moved.Tie as tie
@@ -23,10 +23,10 @@ enum-told-3 : tie.Need-enum-told-3
 enum-told-3 c = search needs
 
 returns : tie.Need-returns
-returns c = c .opened .ensures ∙ ap (λ o. moved (answerOf (c .before .before .before .args .answer)) (c .before .before .before .args .rule) (outcomeOf o)) (sym (c .before .enum-told .given .1))
+returns c = c .opened .ensures ∙ ap (λ o. answerAfter (answerOf (c .before .before .before .args .answer)) (c .before .before .before .args .rule) (outcomeOf o)) (sym (c .before .enum-told .given .1))
 
 returns-2 : tie.Need-returns-2
-returns-2 c = c .opened2 .ensures ∙ ap (λ o. moved (answerOf (c .before .before .before .args .answer)) (c .before .before .before .args .rule) (outcomeOf o)) (sym (c .before .enum-told2 .given .1))
+returns-2 c = c .opened2 .ensures ∙ ap (λ o. answerAfter (answerOf (c .before .before .before .args .answer)) (c .before .before .before .args .rule) (outcomeOf o)) (sym (c .before .enum-told2 .given .1))
 
 returns-3 : tie.Need-returns-3
 returns-3 c = search needs

@@ -7,7 +7,7 @@ use lib.ListN.{length, drop}
 use denote.Ref.{now}
 use Rattle.sheet.specs.views.NoteArray.{notesIn}
 use Rattle.pairs.specs.views.KeptPairs.{pairCode}
-use Rattle.pairs.specs.views.NoteVariables.{isNamed, codesWith, Placed}
+use Rattle.pairs.specs.views.NoteVariables.{namesVariable, codesWith, Placed}
 use Rattle.pairs.proofs.NoteRows.{notes-each}
 use Rattle.rule_masks.specs.views.Kept.{listedTests}
 use Rattle.rule_masks.specs.views.RuleMasks.{pairMade, withMade, afterPairs}
@@ -69,7 +69,7 @@ loop-again c =
     let v = a .spot .name in
     let within : a .n ≤ length notes = omega (arith, start .pre) in
     let j = turn .j in
-    let test = ap (isNamed v) (sym (c .before .before .note-record .ensures)) ∙ sym (c .before .is-named .ensures) in
+    let test = ap (namesVariable v) (sym (c .before .before .note-record .ensures)) ∙ sym (c .before .is-named .ensures) in
     ⊎-elim
     (λ w.
     let put = w .2 .ensures ∙ ap (λ (q : ℕ). withMade tests (turn .all) (pairMade cells (pairCode p q))) (w .1 .ensures) in (

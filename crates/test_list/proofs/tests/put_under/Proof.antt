@@ -7,7 +7,7 @@ use lib.ListN.{length, getD, length-map}
 use Rattle.basics.specs.Lists.{countFrom}
 use Rattle.basics.proofs.Counting.{count-length}
 use Rattle.tables.specs.views.Planes.{placeTestsIn}
-use Rattle.test_list.specs.views.Tests.{settledIn, underPut}
+use Rattle.test_list.specs.views.Tests.{settledBelow, underPut}
 use Rattle.test_list.proofs.PutLists.{Putting, putting-start, putting-turn, putting-done, row-at}
 use Rattle.test_list.proofs.SameTests.{same-counted, same-settled}
 use borrow.Author.Needs.{needs}
@@ -15,10 +15,10 @@ use Rattle.test_list.proofs.tests.put_under.Statement.{statement}
 use Rattle.test_list.proofs.tests.put_under.Tie as tie
 
 abbrev sets : List ℕ → List ℕ
-sets s = map (settledIn s) (countFrom 0 (placeTestsIn s))
+sets s = map (settledBelow s) (countFrom 0 (placeTestsIn s))
 
 many : (s : List ℕ) → length (sets s) ≡ placeTestsIn s
-many s = length-map (countFrom 0 (placeTestsIn s)) (settledIn s) ∙ count-length 0 (placeTestsIn s)
+many s = length-map (countFrom 0 (placeTestsIn s)) (settledBelow s) ∙ count-length 0 (placeTestsIn s)
 
 abbrev Inv-loop : tie.InvT-loop
 Inv-loop s₀ count t₀ s t = Putting 196 (sets s₀) s₀ s t
@@ -73,7 +73,7 @@ loop-again c =
     putting-turn 196 (sets s) s (turn .s) (turn .t) (turn .inv) _ refl (omega (arith, many s))
     (c .settled .ensures
     ∙ same-settled s (turn .s) (turn .inv .entries) same pre (turn .t) (omega (arith, pre .places, pre .few))
-    ∙ sym (row-at (settledIn s) 0 0 (placeTestsIn s) (turn .t) inside ∙ ap (settledIn s) (omega arith)))
+    ∙ sym (row-at (settledBelow s) 0 0 (placeTestsIn s) (turn .t) inside ∙ ap (settledBelow s) (omega arith)))
 
 returns : tie.Need-returns Inv-loop μ-loop
 unfolding underPut

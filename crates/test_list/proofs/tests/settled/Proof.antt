@@ -6,7 +6,7 @@ use native.Mathlib.Omega.{arith}
 use Rattle.masks.specs.Mask.{maskOf}
 use Rattle.masks.proofs.Loops.{turn-yes, turn-no, turns-done}
 use Rattle.tables.specs.views.Planes.{testsIn}
-use Rattle.test_list.specs.views.Tests.{isSettled, settledIn}
+use Rattle.test_list.specs.views.Tests.{isSettled, settledBelow}
 use Rattle.test_list.proofs.SettledTests.{settled-start, settled-here}
 use borrow.Author.Needs.{needs}
 use Rattle.test_list.proofs.tests.settled.Statement.{statement}
@@ -76,7 +76,7 @@ loop-again c =
     (c .if1 .came)
 
 returns : tie.Need-returns Inv-loop μ-loop
-unfolding settledIn
+unfolding settledBelow
 returns c =
     let start = c .before .before .before .before .before in
     let turn = c .before .loop in

@@ -2,7 +2,7 @@
 use mathlib.Core.Path.{ap, subst, _∙_}
 use native.Mathlib.Omega.{arith}
 use denote.Ref.{now}
-use Rattle.sheet_tests.specs.views.TestsRead.{Counted}
+use Rattle.sheet_tests.specs.views.TestsRead.{CountsTests}
 use Rattle.accepted.proofs.FoundTests.{found-accepts, found-refuses}
 use Rattle.walk.specs.Walking.{replyValues}
 use Rattle.walk.proofs.Replies.{values-read, sheet-refuses, sheet-accepts}
@@ -28,7 +28,7 @@ walk-piece-requires c κs =
     let words = c .before .before .before .before .before .read-tests .last .1 .0 in
     let codes = c .before .before .before .before .before .read-tests .last .1 .1 .0 in
     let held = c .before .before .before .before .before .read-tests .ensures .1 in
-    let counted = subst (Counted words) (c .before .before .before .read2 .given .1) (held .counted) in (
+    let counted = subst (CountsTests words) (c .before .before .before .read2 .given .1) (held .counted) in (
       record { allWords = held .allWords; allCodes = held .allCodes; fewTests = omega (arith, counted .0, counted .1) },
       found-accepts s words codes (c .before .before .before .before .before .read-tests .ensures .0) (c .before .before .before .read2 .given .1),
     )

@@ -20,7 +20,7 @@ countedAt j g = eqb j (1 + g .word) || (isCommit g && eqb j (5 + g .rule))
 abbrev pub ringIn : List ℕ → List Given
 ringIn cells = map answerIn (drop 70 cells)
 
-pub record Keeps (answers : List Given) (cells : List ℕ) : Type 0 where
+pub record CellsOf (answers : List Given) (cells : List ℕ) : Type 0 where
   pub sized : length cells ≡ 1070
   -- Cell 0 holds a place of the ring, cell 1 how many of the last 1,000 there are.
   pub placed : getD cells 0 0 < 1000
