@@ -11,6 +11,7 @@ use std::thread;
 use voltunnis_tests::generate::known;
 use voltunnis_tests::generate::orders::{reversed, table};
 use voltunnis_tests::generate::tracks::{list, numbered};
+use voltunnis_tests::reference::sheet::Sheet;
 
 const PAINT: u8 = 0xa5;
 /// The stack that is painted, and how far below the caller's frame the paint begins: the painter's own frame lies between.
@@ -77,9 +78,13 @@ fn stack_of(call: impl Fn()) -> usize {
     top - lowest_changed(top)
 }
 
-/// The most stack that a call takes over some inputs, on a thread of its own.
+/// The most stack that a call takes over all inputs.
 fn most(call: impl Fn(&[u8], &[u8], &[u8]) + Send + Sync + 'static) -> usize {
-    let inputs = inputs();
+    most_of(inputs(), call)
+}
+
+/// The most stack that a call takes over these inputs, on a thread of its own.
+fn most_of(inputs: Vec<Input>, call: impl Fn(&[u8], &[u8], &[u8]) + Send + Sync + 'static) -> usize {
     let measure = move || inputs.iter().map(|(s, g, p)| stack_of(|| call(s, g, p))).max().unwrap_or(0);
     thread::Builder::new().stack_size(4 * DEEPEST).spawn(measure).expect("a thread").join().expect("a figure")
 }
@@ -101,8 +106,17 @@ fn most_places() -> Vec<u8> {
     [vec![0x10, 4, 64], rule.repeat(64)].concat()
 }
 
-/// Sheets, their graphs (empty where none is built) and pieces: of document 01, large ones, and ones of full depth.
-fn inputs() -> Vec<(Vec<u8>, Vec<u8>, Vec<u8>)> {
+/// A sheet, its graph (empty where none is built) and a piece.
+type Input = (Vec<u8>, Vec<u8>, Vec<u8>);
+
+/// How many words the cuts of a sheet take: for each tested place 1, and 4 for each rule.
+fn words_of_cuts(sheet: &[u8]) -> usize {
+    let read = Sheet::read(sheet).expect("a sheet");
+    (1 + 4 * read.rules.len()) * read.tests.places.len()
+}
+
+/// Sheets, their graphs and pieces: of document 01, large ones, and ones of full depth.
+fn inputs() -> Vec<Input> {
     let mut deep_sheet = vec![0x10, 2, 2, 0x24, 0, 0x24, 0];
     (0..2).for_each(|_| full(0x23, &[0x20], 1, &mut deep_sheet));
     let mut deep_piece = vec![0x11, 2];
@@ -215,6 +229,20 @@ fn the_stack_of_each_writer_is_what_the_readme_says() {
             let _ = black_box(voltunnis::rewrite(s, g, &mut lent.lock().expect("one thread")));
         }),
     );
+}
+
+#[test]
+fn a_build_takes_the_room_that_its_sheet_needs() {
+    for (row, words) in [("`vt_build` in 320 words", 320), ("`vt_build` in 8,256 words", 8_256)] {
+        let fitting = inputs().into_iter().filter(|(sheet, _, _)| words_of_cuts(sheet) <= words).collect();
+        let lent = std::sync::Mutex::new(vec![0; 600_000]);
+        holds(
+            row,
+            most_of(fitting, move |s, _, _| {
+                let _ = black_box(voltunnis::build(s, &mut lent.lock().expect("one thread")));
+            }),
+        );
+    }
 }
 
 #[test]
