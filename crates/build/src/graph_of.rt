@@ -89,9 +89,10 @@ fn build_large(b: &[u8], arity: u8, numbers: &[u8; 680], s: &mut Tables, buf: &m
     build_cut(b, arity, numbers, s, &mut c, buf)
 }
 
-// The graph of the rules that the input begins with, whose tests are listed, in the first room, or in one of the larger ones where
-// their cuts do not fit it. A function that calls itself takes no other's large arrays into its frame, so the stack of a build holds
-// the one room that is used.
+// The graph of the rules that the input begins with, whose tests are listed, in this room, of 320, 8,256 and 16,448 words, or in the
+// next one where their cuts do not fit it. A function that calls itself takes no other's large arrays into its frame, so that the
+// stack of a build holds the one room that is used. Not the graph of rules whose cuts are cut off at the room's end, nor a graph
+// for every room that is passed.
 fn build_in(
     room: u8,
     b: &[u8],
@@ -112,7 +113,10 @@ fn build_in(
         }
         return build_small(b, arity, numbers, s, buf);
     }
-    if words <= 8256 {
+    if room == 1 {
+        if 8256 < words {
+            return build_in(2, b, arity, numbers, s, buf);
+        }
         return build_middle(b, arity, numbers, s, buf);
     }
     build_large(b, arity, numbers, s, buf)

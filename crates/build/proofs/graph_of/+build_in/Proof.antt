@@ -1,4 +1,4 @@
--- `build_in` meets its contract: it calls itself from the first room only.
+-- `build_in` meets its contract: it calls itself for the next room, of three.
 use Prim.Native.Nat.{ℕ, _-_, _<_}
 use native.Mathlib.Omega.{arith}
 use borrow.Author.Needs.{needs}
@@ -18,7 +18,7 @@ use Rattle.build.proofs.graph_of.+build_in.Tie.{close}
 use Rattle.build.proofs.graph_of.+build_in.{statement}
 
 abbrev μ-build-in : Measures 4 build-in-kinds.ps ℕ
-μ-build-in κs a = 1 - a .0
+μ-build-in κs a = 2 - a .0
 
 abbrev build-in-at : ℕ → In 4 build-in-kinds.ps
 build-in-at t = and 4 build-in-kinds.ps (is 4 build-in-kinds.ps μ-build-in t) build-in.Pre
@@ -80,29 +80,39 @@ build-in-returns-2 t c order all g =
     c .before .before .build-small .ensures order all
     (small-compiling g 320 (c .before .before .before .before .before .before .before .before .before .before .rules .ensures) (c .before .before .before .before .before .before .before .before .place-tests .ensures) (c .before .before .before .before .before .before .before .part .ensures) (c .before .before .before .before .before .if2 .left))
 
-build-in-build-middle-requires : (t : ℕ) → build-in-lts.Need-build-middle-requires (build-in-calls t) (build-in-at t) build-in.Post
-build-in-build-middle-requires t c κs =
-    let (order, all, g) = c .before .before .before .before .before .before .before .before .before .before .before .pre .1 in
-    (order, all, small-compiling g 8256 (c .before .before .before .before .before .before .before .rules .ensures) (c .before .before .before .before .before .place-tests .ensures) (c .before .before .before .before .part .ensures) (c .before .before .if3 .taken))
+build-in-build-in-requires-2 : (t : ℕ) → build-in-lts.Need-build-in-requires-2 (build-in-calls t) (build-in-at t) build-in.Post
+build-in-build-in-requires-2 t c κs =
+    let start = c .before .before .before .before .before .before .before .before .before .before .before .before in (omega (arith, start .pre .0, c .before .before .before .if3 .taken), start .pre .1)
 
 build-in-same-length-3 : (t : ℕ) → build-in-lts.Need-same-length-3 (build-in-calls t) (build-in-at t) build-in.Post
 build-in-same-length-3 t c = search needs
 
 build-in-returns-3 : (t : ℕ) → build-in-lts.Need-returns-3 (build-in-calls t) (build-in-at t) build-in.Post
-build-in-returns-3 t c order all g =
+build-in-returns-3 t c = c .before .before .build-in2 .ensures
+
+build-in-build-middle-requires : (t : ℕ) → build-in-lts.Need-build-middle-requires (build-in-calls t) (build-in-at t) build-in.Post
+build-in-build-middle-requires t c κs =
+    let (order, all, g) = c .before .before .before .before .before .before .before .before .before .before .before .before .pre .1 in
+    (order, all, small-compiling g 8256 (c .before .before .before .before .before .before .before .before .rules .ensures) (c .before .before .before .before .before .before .place-tests .ensures) (c .before .before .before .before .before .part .ensures) (c .before .before .if4 .left))
+
+build-in-same-length-4 : (t : ℕ) → build-in-lts.Need-same-length-4 (build-in-calls t) (build-in-at t) build-in.Post
+build-in-same-length-4 t c = search needs
+
+build-in-returns-4 : (t : ℕ) → build-in-lts.Need-returns-4 (build-in-calls t) (build-in-at t) build-in.Post
+build-in-returns-4 t c order all g =
     c .before .before .build-middle .ensures order all
-    (small-compiling g 8256 (c .before .before .before .before .before .before .before .before .before .before .rules .ensures) (c .before .before .before .before .before .before .before .before .place-tests .ensures) (c .before .before .before .before .before .before .before .part .ensures) (c .before .before .before .before .before .if3 .taken))
+    (small-compiling g 8256 (c .before .before .before .before .before .before .before .before .before .before .before .rules .ensures) (c .before .before .before .before .before .before .before .before .before .place-tests .ensures) (c .before .before .before .before .before .before .before .before .part .ensures) (c .before .before .before .before .before .if4 .left))
 
 build-in-build-large-requires : (t : ℕ) → build-in-lts.Need-build-large-requires (build-in-calls t) (build-in-at t) build-in.Post
 build-in-build-large-requires t c κs =
     let (order, all, g) = c .before .before .before .before .before .before .before .before .before .before .before .pre .1 in
     (order, all, large-compiling g)
 
-build-in-same-length-4 : (t : ℕ) → build-in-lts.Need-same-length-4 (build-in-calls t) (build-in-at t) build-in.Post
-build-in-same-length-4 t c = search needs
+build-in-same-length-5 : (t : ℕ) → build-in-lts.Need-same-length-5 (build-in-calls t) (build-in-at t) build-in.Post
+build-in-same-length-5 t c = search needs
 
-build-in-returns-4 : (t : ℕ) → build-in-lts.Need-returns-4 (build-in-calls t) (build-in-at t) build-in.Post
-build-in-returns-4 t c order all g = c .before .before .build-large .ensures order all (large-compiling g)
+build-in-returns-5 : (t : ℕ) → build-in-lts.Need-returns-5 (build-in-calls t) (build-in-at t) build-in.Post
+build-in-returns-5 t c order all g = c .before .before .build-large .ensures order all (large-compiling g)
 
 pub +build-in-spec : {M : Type 1} → statement M
 +build-in-spec =
@@ -116,9 +126,12 @@ pub +build-in-spec : {M : Type 1} → statement M
     (build-in-build-small-requires t)
     (build-in-same-length-2 t)
     (build-in-returns-2 t)
-    (build-in-build-middle-requires t)
+    (build-in-build-in-requires-2 t)
     (build-in-same-length-3 t)
     (build-in-returns-3 t)
-    (build-in-build-large-requires t)
+    (build-in-build-middle-requires t)
     (build-in-same-length-4 t)
     (build-in-returns-4 t)
+    (build-in-build-large-requires t)
+    (build-in-same-length-5 t)
+    (build-in-returns-5 t)
