@@ -17,6 +17,7 @@ pub mod TurningCuts
 pub mod SwitchCases
 -- All numbers in runs, and pairs of them.
 pub mod UnionPairs
+pub mod CaseRuns
 pub mod PointCodes
 pub mod FramedSwitch
 pub mod FramedNumbers

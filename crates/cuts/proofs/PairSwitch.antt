@@ -10,6 +10,7 @@ use native.Mathlib.Omega.{arith}
 use lib.Bits.{bitOr}
 use lib.Dec.{leb}
 use lib.ListN.{length, length-append, length-map}
+use lib.Seq.{take-append-seam, drop-append-seam}
 use Rattle.basics.specs.Lists.{filter}
 use Rattle.basics.proofs.Booleans.{same-truth, either-true, true-left, true-right}
 use Rattle.basics.proofs.Filters.{map-join}
@@ -31,13 +32,14 @@ use Rattle.decision.proofs.cases.RangeOrder.{Filled}
 use Rattle.decision.proofs.cases.RunPairs.{fromTo}
 use Rattle.cuts.specs.views.Runs.{Run}
 use Rattle.cuts.specs.views.FramedRuns.{framedRuns, isPoint, pointRuns}
+use Rattle.cuts.specs.views.CaseRuns.{unionPairs, caseRuns}
 use Rattle.cuts.specs.views.CutsOf.{cutsTo}
 use Rattle.cuts.proofs.FramedCases.{pointCases, runs-of-numbers, runs-of-points, runs-are-framed}
 use Rattle.cuts.proofs.FramedNumbers.{numberFrames, meetsFor, pairRun, numberRun}
 use Rattle.cuts.proofs.FramedSwitch.{base}
 use Rattle.cuts.proofs.Parts.{left-part, right-part}
 use Rattle.cuts.proofs.SwitchCases.{map-same}
-use Rattle.cuts.proofs.UnionPairs.{unionPairs, union-count, pairs-union, between-unbroken}
+use Rattle.cuts.proofs.UnionPairs.{union-count, pairs-union, between-unbroken}
 
 -- The runs of numbers.
 abbrev pub numberRuns : ℕ → List Run → List Run
@@ -144,6 +146,15 @@ module _ (rules : List Patterns) (n live : ℕ) (fits : live < 2 ^ length rules)
       (all-always (λ (r : Range). pairRun rules n live (numbersIn r) ≡ asRun r) (λ r. refl) pairs)
       ∙ numbers-paired (rangesOf wants))
       ∙ (λ i. sym points-part i ++ unionPairs (sym numbers-part i))
+
+  -- They are what the runs make, where those of symbols and compounds are cases by themselves.
+  pub runs-make-pairs : map (pairRun rules n live) (pairCases wants) ≡ caseRuns (length (pointRuns base runs)) runs
+  runs-make-pairs =
+      let points = pointRuns base runs in
+      let numbers = numberRuns base runs in
+      switch-pairs
+      ∙ (λ i. sym (take-append-seam points numbers) i ++ unionPairs (sym (drop-append-seam points numbers) i))
+      ∙ ap (caseRuns (length points)) (sym points-first)
 
   -- There are as many as runs of symbols and compounds, and r (r + 1) / 2 for r runs of numbers.
   pub pairs-counted : length (pairCases wants) * 2

@@ -13,17 +13,7 @@ use Rattle.decision.specs.Runs.{between}
 use Rattle.decision.proofs.cases.RangeOrder.{Filled}
 use Rattle.decision.proofs.cases.RunPairs.{fromTo, runPairs, pairs-count}
 use Rattle.cuts.specs.views.Runs.{Run}
-
--- The pairs of a first run that begins at `low` with each run of a list, where `union` is the union of the sets before them.
-abbrev pub unionRow : ℕ → ℕ → List Run → List Run
-unionRow low union [] = []
-unionRow low union (s ∷ rest) =
-    let more = bitOr union (s .set) in record { low = low; high = s .high; set = more } ∷ unionRow low more rest
-
--- For each first run in order each last run from it on.
-abbrev pub unionPairs : List Run → List Run
-unionPairs [] = []
-unionPairs (r ∷ rs) = unionRow (r .low) 0 (r ∷ rs) ++ unionPairs rs
+use Rattle.cuts.specs.views.CaseRuns.{unionRow, unionPairs}
 
 -- The codes of a run.
 abbrev codesOf : Run → Range

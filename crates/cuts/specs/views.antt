@@ -2,4 +2,5 @@
 pub mod Cuts
 pub mod Runs
 pub mod FramedRuns
+pub mod CaseRuns
 pub mod CutsOf

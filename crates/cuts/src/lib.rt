@@ -1,7 +1,7 @@
 // Where the switches of a sheet are cut (document 01, "Nodes"): the cuts of each place test are sorted once a sheet, and a switch
 // takes those of its live rules in one pass.
 ghost use mathlib.Core.Path.{_≡_};
-ghost use mathlib.Core.List.{[], _++_};
+ghost use mathlib.Core.List.{List, [], _++_};
 ghost use Prim.Native.Nat.{ℕ, max, _+_, _*_, _≤_, _<_};
 ghost use lib.ListN.{length};
 ghost use lib.Seq.{slice};
@@ -9,6 +9,7 @@ ghost use Rattle.records.specs.Writing.{splice};
 ghost use Rattle.cuts.specs.views.Cuts.{partAt, countAt, cutAt, cutsIn, partWords, toggle, Spot};
 ghost use Rattle.cuts.specs.views.Runs.{switchRuns, runsIn, withRun};
 ghost use Rattle.cuts.specs.views.FramedRuns.{framedRun, framedFrom, pointRuns};
+ghost use Rattle.cuts.specs.views.CaseRuns.{caseRuns};
 
 // The runs of one switch: for each the lowest code, the highest and the live rules that want it. 64 rules make 129 at most.
 pub type Runs = [u64; 390];
@@ -82,6 +83,12 @@ pub fn turn(c: &mut [u64], from: usize, code: u64, bit: u64)
 pub struct Framed {
     pub count: usize,
     pub points: usize,
+}
+
+// A row of pairs: the first run of them all, and how many runs there are.
+pub struct Row {
+    pub first: usize,
+    pub count: usize,
 }
 
 // The higher of two codes.
@@ -174,15 +181,33 @@ pub fn frame_switch(c: &[u64], from: usize, live: u64, base: u64, runs: &mut Run
     end_run(runs, framed, base, start, 0x301_0000, 0)
 }
 
-// Cuts a switch whose test has the part that begins there: how many cases it has for the live rules, each left in `runs`. Not a
-// case that no live rule wants, nor one cut where only rules turn that are not live.
-pub fn cut_switch(c: &[u64], from: usize, live: u64, runs: &mut Runs) -> usize
+// From this code on all codes would be in runs, whose pairs are cases. No code is above it, since no piece holds a span.
+const BASE: u64 = 0xffff_ffff_ffff_ffff;
+
+// Cuts a switch whose test has the part that begins there, for the live rules: the runs that make its cases are left in `runs`, and
+// each is a case by itself. Not a case that no live rule wants, nor one cut where only rules turn that are not live.
+pub fn cut_switch(c: &[u64], from: usize, live: u64, runs: &mut Runs) -> Framed
     requires { ⌜ (from + 1 + 2 * countAt (now c) from ≤ length (now c)) × (countAt (now c) from ≤ 128)
         × (length (now runs) ≡ 390) ⌝ }
     requires { ⌜ ((k : ℕ) → k < countAt (now c) from → 0 < cutAt (now c) from k .code) ⌝ }
-    ensures { λ r. ⌜ (runsIn (now (runs .exit)) r ≡ switchRuns live (cutsIn (now (c .entry)) from))
-        × (r ≤ 127) × (length (now (runs .exit)) ≡ 390) ⌝ }
+    ensures { λ r. ⌜ (caseRuns (r .points) (runsIn (now (runs .exit)) (r .count))
+        ≡ switchRuns live (cutsIn (now (c .entry)) from))
+        × (length (switchRuns live (cutsIn (now (c .entry)) from)) ≤ 127)
+        × (r .points ≤ r .count) × (r .count ≤ 129) × (length (now (runs .exit)) ≡ 390) ⌝ }
 {
-    let framed = frame_switch(c, from, live, 0xffff_ffff_ffff_ffff, runs);
-    framed.count
+    let framed = frame_switch(c, from, live, BASE, runs);
+    let count = framed.count;
+    Framed {
+        count: count,
+        points: count,
+    }
+}
+
+// How many cases the runs of a switch make. Not one for each run where there are pairs, nor a pair again with its last run first.
+pub fn case_count(framed: Framed) -> usize
+    requires { ⌜ (framed .points ≤ framed .count) × (framed .count ≤ 129) ⌝ }
+    ensures { λ r. ⌜ ((runs : List ℕ) → r ≡ length (caseRuns (framed .points) (runsIn runs (framed .count)))) ⌝ }
+{
+    let n = framed.count - framed.points;
+    framed.points + n * (n + 1) / 2
 }

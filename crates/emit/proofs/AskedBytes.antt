@@ -4,8 +4,6 @@ use mathlib.Core.Path.{_≡_, refl, sym, ap, _∙_}
 use mathlib.Core.List.{List, [], _∷_, _++_, map}
 use lib.ListN.{length, length-map}
 use borrow.Author.Tests.{le-ltb}
-use Rattle.basics.specs.Lists.{countFrom}
-use Rattle.basics.proofs.Counting.{count-length}
 use Rattle.records.specs.Fields.{wideThen}
 use Rattle.decision.specs.Key.{Key}
 use Rattle.decision.specs.Node.{Node, mapCase, mapNode}
@@ -16,7 +14,7 @@ use Rattle.graph.specs.declared.NodeRecord.the-variants.{End, Switch, Pair}
 use Rattle.graph.specs.views.WriteNode.{nodeRecordBytes, caseRecordBytes}
 use Rattle.tables.specs.views.Planes.{rulesIn, placeTestsIn, testIn}
 use Rattle.cuts.specs.views.Cuts.{partAt, cutsIn}
-use Rattle.cuts.specs.views.Runs.{Run, caseOf, runAt, runsIn, switchRuns}
+use Rattle.cuts.specs.views.Runs.{Run, caseOf, switchRuns}
 use Rattle.edges.specs.declared.Asked.{Asked}
 use Rattle.edges.specs.views.KeysBehind.{askedIn, noneBehind, otherBehind, runBehind, unknownBehind}
 use Rattle.edges.specs.views.NodeIn.{runEdge, nodeIn}
@@ -27,19 +25,16 @@ use Rattle.keys.specs.views.Expanded.{kindNode}
 use Rattle.keys.proofs.NodeKinds.{node-leaf, node-asks}
 use Rattle.keys.proofs.SwitchParts.{switch-is}
 use Rattle.emit.specs.views.Laid.{runBytes, askBytes, keyBytes}
-use Rattle.emit.proofs.InTurn.{runsLeft, runs-next}
 
 module _ (s : List ℕ) (keys : List Key) (asked : Asked) where
-  -- The record of the case that leads to a key is that of the next run.
+  -- The record of the case that leads to a node is that of the next run.
   pub case-next
-      : (runs : List ℕ) (count k : ℕ) → k < count → {node : ℕ} {key : Key} (r : CaseRecord)
-      → caseRecordBytes r ≡ caseBytes (caseOf (runAt runs k .low) (runAt runs k .high)) node → node ≡ keyNumber keys key
-      → key ≡ runBehind s asked (runAt runs k .set)
-      → runsLeft s keys asked runs count k ≡ caseRecordBytes r ++ runsLeft s keys asked runs count (k + 1)
-  case-next runs count k h r e d f =
-      let same = e ∙ ap (caseBytes (caseOf (runAt runs k .low) (runAt runs k .high))) (d ∙ ap (keyNumber keys) f) in
-      runs-next s keys asked runs count k h
-      ∙ ap (λ (l : List ℕ). l ++ runsLeft s keys asked runs count (k + 1)) (sym same)
+      : {rest more : List Run} (run : Run) → rest ≡ run ∷ more → {node : ℕ} (r : CaseRecord)
+      → caseRecordBytes r ≡ caseBytes (caseOf (run .low) (run .high)) node → node ≡ keyNumber keys (runBehind s asked (run .set))
+      → runBytes s keys asked rest ≡ caseRecordBytes r ++ runBytes s keys asked more
+  case-next {rest} {more} run is r e d =
+      let same = e ∙ ap (caseBytes (caseOf (run .low) (run .high))) d in
+      ap (runBytes s keys asked) is ∙ ap (λ (l : List ℕ). l ++ runBytes s keys asked more) (sym same)
 
   -- The cases of a switch are those of its runs,
   runs-bytes
@@ -53,32 +48,26 @@ module _ (s : List ℕ) (keys : List Key) (asked : Asked) where
       (runs-bytes c rs)
 
   -- as many.
-  runs-many
-      : (c runs : List ℕ) (count : ℕ)
-      → length (map (mapCase (keyNumber keys)) (map (runEdge s c asked) (runsIn runs count))) ≡ count
-  runs-many c runs count =
-      length-map (map (runEdge s c asked) (runsIn runs count)) (mapCase (keyNumber keys))
-      ∙ length-map (runsIn runs count) (runEdge s c asked)
-      ∙ length-map (countFrom 0 count) (runAt runs)
-      ∙ count-length 0 count
+  runs-many : (c : List ℕ) (rs : List Run) → length (map (mapCase (keyNumber keys)) (map (runEdge s c asked) rs)) ≡ length rs
+  runs-many c rs = length-map (map (runEdge s c asked) rs) (mapCase (keyNumber keys)) ∙ length-map rs (runEdge s c asked)
 
   -- So a switch is its record and the cases of its runs,
   pub switch-bytes
-      : (c : List ℕ) → asked .test < placeTestsIn s → (runs : List ℕ) (count : ℕ) {from : ℕ}
-      → from ≡ partAt (rulesIn s) (asked .test) → runsIn runs count ≡ switchRuns (asked .live) (cutsIn c from)
+      : (c : List ℕ) → asked .test < placeTestsIn s → (rs : List Run) {from : ℕ}
+      → from ≡ partAt (rulesIn s) (asked .test) → rs ≡ switchRuns (asked .live) (cutsIn c from) → {count : ℕ} → count ≡ length rs
       → {test neither unknown : ℕ} {none other : Key} → test ≡ testIn s (asked .test) → neither ≡ keyNumber keys none
       → none ≡ noneBehind s asked → unknown ≡ keyNumber keys other → other ≡ unknownBehind s asked
       → askBytes s c keys asked
-      ≡ nodeRecordBytes (Switch (test % 0x1_0000) count neither unknown) ++ runBytes s keys asked (runsIn runs count)
-  switch-bytes c h runs count e is t x x′ y y′ =
+      ≡ nodeRecordBytes (Switch (test % 0x1_0000) count neither unknown) ++ runBytes s keys asked rs
+  switch-bytes c h rs e is n t x x′ y y′ =
+      let counted = runs-many c rs ∙ sym n in
       let first = x ∙ ap (keyNumber keys) x′ in
       let second = y ∙ ap (keyNumber keys) y′ in
-      ap (λ (node : Node Key). nodeBytes (mapNode (keyNumber keys) node)) (switch-is s c asked h runs count e is)
+      ap (λ (node : Node Key). nodeBytes (mapNode (keyNumber keys) node)) (switch-is s c asked h rs e is)
       ∙ (λ i.
       0x43
       ∷ wideThen (sym t i % 0x1_0000)
-      (runs-many c runs count i
-      ∷ wideThen (sym first i) (wideThen (sym second i) (runs-bytes c (runsIn runs count) i))))
+      (counted i ∷ wideThen (sym first i) (wideThen (sym second i) (runs-bytes c rs i))))
 
   -- and a pair its record.
   pub pair-bytes

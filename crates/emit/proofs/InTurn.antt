@@ -1,13 +1,15 @@
 -- Pieces that are counted, one behind another: those left after some of them.
 use Prim.Native.Nat.{ℕ, suc, _+_, _-_, _≤_, _<_}
 use mathlib.Core.Path.{_≡_, refl, sym, ap, _∙_}
-use mathlib.Core.List.{List, [], _++_, map}
+use mathlib.Core.List.{List, [], _∷_, _++_, map, append-assoc}
 use native.Mathlib.Omega.{arith}
 use Rattle.basics.specs.Lists.{countFrom}
 use Rattle.decision.specs.Key.{Key}
 use Rattle.decision.specs.Node.{mapNode}
 use Rattle.decision.specs.GraphBytes.{caseBytes, nodesBytes}
-use Rattle.cuts.specs.views.Runs.{caseOf, runAt, runsIn}
+use Rattle.cuts.specs.views.Runs.{Run, caseOf, runsIn}
+use Rattle.cuts.specs.views.CaseRuns.{unionPairs, caseRuns, runsFrom, rowOf}
+use Rattle.cuts.proofs.CaseRuns.{cases-parted, pairs-some}
 use Rattle.edges.specs.declared.Asked.{Asked}
 use Rattle.edges.specs.views.KeysBehind.{runBehind}
 use Rattle.edges.specs.views.NodeIn.{nodeIn}
@@ -26,26 +28,31 @@ module _ (piece : ℕ → List ℕ) (row : ℕ → ℕ → List ℕ) (more : (i 
       let next : suc i ≡ i + 1 = omega arith in
       ap (row i) one ∙ more i (count - (i + 1)) ∙ ap (λ (j : ℕ). piece i ++ row j (count - (i + 1))) next
 
--- The cases of a switch in an array.
-module _ (s : List ℕ) (keys : List Key) (asked : Asked) (runs : List ℕ) (count : ℕ) where
-  abbrev runPiece : ℕ → List ℕ
-  runPiece k =
-      caseBytes (caseOf (runAt runs k .low) (runAt runs k .high)) (keyNumber keys (runBehind s asked (runAt runs k .set)))
+-- The cases of runs of which some come first.
+module _ (s : List ℕ) (keys : List Key) (asked : Asked) where
+  runs-join : (rs qs : List Run) → runBytes s keys asked (rs ++ qs) ≡ runBytes s keys asked rs ++ runBytes s keys asked qs
+  runs-join [] qs = refl
+  runs-join (r ∷ rs) qs =
+      let piece = caseBytes (caseOf (r .low) (r .high)) (keyNumber keys (runBehind s asked (r .set))) in
+      ap (λ (l : List ℕ). piece ++ l) (runs-join rs qs)
+      ∙ sym (append-assoc piece (runBytes s keys asked rs) (runBytes s keys asked qs))
 
-  abbrev runRow : ℕ → ℕ → List ℕ
-  runRow k n = runBytes s keys asked (map (runAt runs) (countFrom k n))
+  module _ (runs : List ℕ) (count : ℕ) where
+    -- The cases of a switch are the runs that are cases by themselves, then the pairs,
+    pub cases-bytes : (k : ℕ) → k ≤ count
+        → runBytes s keys asked (caseRuns k (runsIn runs count))
+        ≡ runBytes s keys asked (runsIn runs k) ++ runBytes s keys asked (unionPairs (runsFrom runs count k))
+    cases-bytes k h =
+        ap (runBytes s keys asked) (cases-parted runs count k h)
+        ∙ runs-join (runsIn runs k) (unionPairs (runsFrom runs count k))
 
-  abbrev pub runsLeft : ℕ → List ℕ
-  runsLeft k = runRow k (count - k)
-
-  pub runs-first : runBytes s keys asked (runsIn runs count) ≡ runsLeft 0
-  runs-first = row-first runPiece runRow (λ k n. refl) count
-
-  pub runs-next : (k : ℕ) → k < count → runsLeft k ≡ runPiece k ++ runsLeft (k + 1)
-  runs-next k h = row-next runPiece runRow (λ i n. refl) count k h
-
-  pub runs-last : (k : ℕ) → count ≤ k → runsLeft k ≡ []
-  runs-last k h = let none : count - k ≡ 0 = omega arith in ap (runRow k) none
+    -- and these, row after row.
+    pub pairs-bytes : (k : ℕ) → k < count
+        → runBytes s keys asked (unionPairs (runsFrom runs count k))
+        ≡ runBytes s keys asked (rowOf runs count k) ++ runBytes s keys asked (unionPairs (runsFrom runs count (k + 1)))
+    pairs-bytes k h =
+        ap (runBytes s keys asked) (pairs-some runs count k h)
+        ∙ runs-join (rowOf runs count k) (unionPairs (runsFrom runs count (k + 1)))
 
 -- The nodes of the keys met.
 module _ (s c t : List ℕ) where

@@ -1,5 +1,8 @@
 // One node of a graph as a record, with a switch's cases behind it.
+use cuts::Framed;
+use cuts::Row;
 use cuts::Runs;
+use cuts::case_count;
 use cuts::cut_switch;
 use cuts::part;
 use edges::Asked;
@@ -26,6 +29,7 @@ ghost use Rattle.graph.specs.views.WriteNode.{caseRecordBytes};
 ghost use Rattle.tables.specs.views.Planes.{rulesIn, placeTestsIn};
 ghost use Rattle.cuts.specs.views.Cuts.{Parted};
 ghost use Rattle.cuts.specs.views.Runs.{caseOf, runsIn};
+ghost use Rattle.cuts.specs.views.CaseRuns.{unionPairs, caseRuns, runsFrom, rowOf};
 ghost use Rattle.edges.specs.views.VertexKey.{keyIn};
 ghost use Rattle.met.specs.views.KeysMet.{keyNumber, keysIn, Chained};
 ghost use Rattle.emit.specs.views.Laid.{runBytes, askBytes, keyBytes};
@@ -53,9 +57,9 @@ fn case_record(first: u64, last: u64, node: u16) -> CaseRecord
     CaseRecord::Numbers((first % 0x1_0000) as u16, (last % 0x1_0000) as u16, node)
 }
 
-// The cases of a switch, and the position behind them. Not one that leads to the node of another case, nor the last without its
-// record.
-fn put_runs(
+// The runs of a switch that are cases by themselves, and the position behind them. Not one that leads to the node of another case,
+// nor the last without its record.
+fn put_points(
     buf: &mut [u8],
     start: usize,
     s: &Tables,
@@ -64,7 +68,7 @@ fn put_runs(
     count: usize,
     keys: &Keys,
 ) -> usize
-    requires { ⌜ Chained (now keys) × (count ≤ 127)
+    requires { ⌜ Chained (now keys) × (count ≤ 129)
         × Room (now buf) start (runBytes (now s) (keysIn (now keys)) asked (runsIn (now runs) count)) ⌝ }
     ensures { λ r. ⌜ Wrote (now (buf .entry)) start
         (runBytes (now (s .entry)) (keysIn (now (keys .entry))) asked (runsIn (now (runs .entry)) count)) r (now (buf .exit)) ⌝ }
@@ -77,6 +81,92 @@ fn put_runs(
         k += 1;
     }
     at
+}
+
+// A row of pairs, and the position behind it: where the next run adds no rule, its case leads to the node of the one before. Not a
+// case that ends with its first run, nor one that leads to the node of its last run alone.
+fn put_row(
+    buf: &mut [u8],
+    start: usize,
+    s: &Tables,
+    asked: Asked,
+    runs: &Runs,
+    row: Row,
+    keys: &Keys,
+) -> usize
+    requires { ⌜ Chained (now keys) × (row .first < row .count) × (row .count ≤ 129)
+        × Room (now buf) start (runBytes (now s) (keysIn (now keys)) asked (rowOf (now runs) (row .count) (row .first))) ⌝ }
+    ensures { λ r. ⌜ Wrote (now (buf .entry)) start (runBytes (now (s .entry)) (keysIn (now (keys .entry))) asked
+        (rowOf (now (runs .entry)) (row .count) (row .first))) r (now (buf .exit)) ⌝ }
+{
+    let first = row.first;
+    let count = row.count;
+    let low = runs[3 * first];
+    let mut set = runs[3 * first + 2];
+    let mut node = node_of(keys, by_run(s, asked, set));
+    let mut at = start;
+    let mut k = first;
+    while k < count {
+        let more = set | runs[3 * k + 2];
+        if more != set {
+            node = node_of(keys, by_run(s, asked, more));
+        }
+        set = more;
+        at = put_case(buf, at, case_record(low, runs[3 * k + 1], node));
+        k += 1;
+    }
+    at
+}
+
+// The pairs of the runs that are not cases by themselves, row after row, and the position behind them. Not a row over the one
+// before it, nor the first row alone.
+fn put_pairs(
+    buf: &mut [u8],
+    start: usize,
+    s: &Tables,
+    asked: Asked,
+    runs: &Runs,
+    framed: Framed,
+    keys: &Keys,
+) -> usize
+    requires { ⌜ Chained (now keys) × (framed .points ≤ framed .count) × (framed .count ≤ 129)
+        × Room (now buf) start (runBytes (now s) (keysIn (now keys)) asked
+        (unionPairs (runsFrom (now runs) (framed .count) (framed .points)))) ⌝ }
+    ensures { λ r. ⌜ Wrote (now (buf .entry)) start (runBytes (now (s .entry)) (keysIn (now (keys .entry))) asked
+        (unionPairs (runsFrom (now (runs .entry)) (framed .count) (framed .points)))) r (now (buf .exit)) ⌝ }
+{
+    let count = framed.count;
+    let mut at = start;
+    let mut first = framed.points;
+    while first < count {
+        let row = Row {
+            first: first,
+            count: count,
+        };
+        at = put_row(buf, at, s, asked, runs, row, keys);
+        first += 1;
+    }
+    at
+}
+
+// The cases of a switch, and the position behind them. Not the pairs before the runs that are cases by themselves, nor over them.
+fn put_runs(
+    buf: &mut [u8],
+    start: usize,
+    s: &Tables,
+    asked: Asked,
+    runs: &Runs,
+    framed: Framed,
+    keys: &Keys,
+) -> usize
+    requires { ⌜ Chained (now keys) × (framed .points ≤ framed .count) × (framed .count ≤ 129)
+        × Room (now buf) start (runBytes (now s) (keysIn (now keys)) asked
+        (caseRuns (framed .points) (runsIn (now runs) (framed .count)))) ⌝ }
+    ensures { λ r. ⌜ Wrote (now (buf .entry)) start (runBytes (now (s .entry)) (keysIn (now (keys .entry))) asked
+        (caseRuns (framed .points) (runsIn (now (runs .entry)) (framed .count)))) r (now (buf .exit)) ⌝ }
+{
+    let at = put_points(buf, start, s, asked, runs, framed.points, keys);
+    put_pairs(buf, at, s, asked, runs, framed, keys)
 }
 
 // A switch with its cases, and the position behind it. Not unknown where neither belongs, nor a switch's record without its cases.
@@ -97,7 +187,8 @@ fn put_switch(
     ensures { λ _. ⌜ length (now (runs .exit)) ≡ 390 ⌝ }
 {
     let t = asked.test;
-    let count = cut_switch(c, part(tables::rules(s), t), asked.live, runs);
+    let framed = cut_switch(c, part(tables::rules(s), t), asked.live, runs);
+    let count = case_count(framed);
     let neither = node_of(keys, by_none(s, asked));
     let unknown = node_of(keys, by_unknown(s, asked));
     let place = (tables::test(s, t) % 0x1_0000) as u16;
@@ -106,7 +197,7 @@ fn put_switch(
         at,
         NodeRecord::Switch(place, count as u8, neither, unknown),
     );
-    put_runs(buf, behind, s, asked, runs, count, keys)
+    put_runs(buf, behind, s, asked, runs, framed, keys)
 }
 
 // A pair, and the position behind it. Not q before p, nor other where no belongs.

@@ -1,22 +1,21 @@
 -- The keys behind a node's edges in turn: a switch's are those behind its cases, then neither, then unknown.
-use Prim.Native.Nat.{ℕ, suc, _+_, _-_, _/_, _%_, _≤_, _<_}
+use Prim.Native.Nat.{ℕ, _+_, _/_, _%_, _≤_, _<_}
 use mathlib.Core.Path.{_≡_, refl, sym, ap, subst, _∙_}
-use mathlib.Core.List.{List, [], _∷_, map}
+use mathlib.Core.List.{List, [], _∷_, _++_, map, append-nil}
 use native.Mathlib.Omega.{arith}
 use lib.ListN.{length, length-append}
 use borrow.Author.Tests.{le-ltb}
-use Rattle.basics.specs.Lists.{countFrom}
+use Rattle.basics.proofs.Filters.{map-join}
 use Rattle.decision.specs.Key.{Key}
 use Rattle.decision.specs.Node.{Node, CaseEdge, switch, pairNode, mapCase}
 use Rattle.decision.specs.Graph.{mostNodes}
 use Rattle.decision.specs.GraphBytes.{caseBytes, casesBytes}
-use Rattle.cuts.specs.views.Runs.{runAt, runsIn}
 use Rattle.edges.specs.declared.Asked.{Asked}
 use Rattle.tables.specs.views.Planes.{placeTestsIn, testIn}
 use Rattle.edges.specs.views.KeysBehind.{noneBehind, otherBehind}
-use Rattle.edges.specs.views.NodeIn.{runEdge, askIn}
+use Rattle.edges.specs.views.NodeIn.{askIn}
 use Rattle.met.specs.views.KeysMet.{meet, meetAll, keysIn}
-use Rattle.met.proofs.Meeting.{meet-longer, meet-join}
+use Rattle.met.proofs.Meeting.{meet-longer, meet-join, meet-again}
 use Rattle.keys.specs.declared.Measured.{Measured}
 use Rattle.keys.specs.declared.Measured.the-variants.{Bytes, TooMany}
 use Rattle.keys.specs.views.Expanded.{casesLength, AtMost, Met, CasesMet, EdgesMet}
@@ -54,6 +53,31 @@ pub record CasesLeft (all rest : List (CaseEdge Key)) (keys : List Key) (t : Lis
   pub left : meetAll (keysIn t) (targets rest) ≡ meetAll keys (targets all)
   pub lengths : bytes + casesLength rest ≡ casesLength all
 
+-- At first all are.
+pub cases-start : {all rest : List (CaseEdge Key)} → all ≡ rest → (t : List ℕ) → CasesLeft all rest (keysIn t) t 0
+cases-start e t = record {
+  left = ap (λ (l : List (CaseEdge Key)). meetAll (keysIn t) (targets l)) (sym e);
+  lengths = omega (arith, ap casesLength e);
+}
+
+-- The key behind the first may be met before all of them, since meeting it again changes nothing.
+pub met-begun
+    : {all more : List (CaseEdge Key)} (edge : CaseEdge Key) → all ≡ edge ∷ more → (t u : List ℕ)
+    → keysIn u ≡ meet (keysIn t) (edge .target) → (r : Measured) (w : List ℕ) → CasesMet all (keysIn u) r w
+    → CasesMet all (keysIn t) r w
+met-begun {all} {more} edge is t u met r w m = go r m
+  where
+    same : meetAll (keysIn u) (targets all) ≡ meetAll (keysIn t) (targets all)
+    same =
+        ap (λ (l : List (CaseEdge Key)). meetAll (keysIn u) (targets l)) is
+        ∙ ap (λ (l : List Key). meetAll l (targets more))
+        (ap (λ (l : List Key). meet l (edge .target)) met ∙ meet-again (keysIn t) (edge .target))
+        ∙ ap (λ (l : List (CaseEdge Key)). meetAll (keysIn t) (targets l)) (sym is)
+
+    go : (r : Measured) → CasesMet all (keysIn u) r w → CasesMet all (keysIn t) r w
+    go (Bytes n) l = (l .0 ∙ same, l .1)
+    go TooMany l = omega (arith, l, ap length same)
+
 module _ {all : List (CaseEdge Key)} {keys : List Key} {t : List ℕ} {bytes : ℕ} where
   -- Where none is left, all keys are met.
   pub cases-end : {rest : List (CaseEdge Key)} → rest ≡ [] → CasesLeft all rest keys t bytes → CasesMet all keys (Bytes bytes) t
@@ -84,35 +108,61 @@ module _ {all : List (CaseEdge Key)} {keys : List Key} {t : List ℕ} {bytes : �
     pub cases-many : mostNodes < length (meet (keysIn t) (edge .target)) → mostNodes < length (meetAll keys (targets all))
     cases-many h = omega (arith, one-many (keysIn t) (edge .target) (targets rest) h, ap length (now-left .left))
 
--- The cases from case k on of those in an array.
-module _ (s c : List ℕ) (asked : Asked) (runs : List ℕ) (count : ℕ) where
-  abbrev pub casesFrom : ℕ → List (CaseEdge Key)
-  casesFrom k = map (runEdge s c asked) (map (runAt runs) (countFrom k (count - k)))
+-- The same of some cases at once.
+cases-length : (part rest : List (CaseEdge Key)) → casesLength (part ++ rest) ≡ casesLength part + casesLength rest
+cases-length [] rest = omega arith
+cases-length (edge ∷ part) rest =
+    omega (
+      arith,
+      cases-length part rest,
+      length-append (caseBytes (edge .case) 0) (casesBytes (map (mapCase (λ (k : Key). 0)) (part ++ rest))),
+      length-append (caseBytes (edge .case) 0) (casesBytes (map (mapCase (λ (k : Key). 0)) part)),
+    )
 
-  pub cases-start : (t : List ℕ) → CasesLeft (map (runEdge s c asked) (runsIn runs count)) (casesFrom 0) (keysIn t) t 0
-  cases-start t =
-      let e : count - 0 ≡ count = omega arith in
-      subst
-      (λ (n : ℕ).
-      CasesLeft (map (runEdge s c asked) (runsIn runs count)) (map (runEdge s c asked) (map (runAt runs) (countFrom 0 n)))
-      (keysIn t) t 0)
-      (sym e)
-      (record { left = refl; lengths = omega arith })
+module _ {all before : List (CaseEdge Key)} {keys : List Key} {t : List ℕ} {bytes : ℕ} (part rest : List (CaseEdge Key))
+    (is : before ≡ part ++ rest) (state : CasesLeft all before keys t bytes) where
+  parted : meetAll (meetAll (keysIn t) (targets part)) (targets rest) ≡ meetAll keys (targets all)
+  parted =
+      sym (meet-join (keysIn t) (targets part) (targets rest))
+      ∙ ap (meetAll (keysIn t)) (sym (map-join (λ (c : CaseEdge Key). c .target) part rest))
+      ∙ ap (λ (l : List (CaseEdge Key)). meetAll (keysIn t) (targets l)) (sym is)
+      ∙ state .left
 
-  pub cases-some : (k : ℕ) → k < count → casesFrom k ≡ runEdge s c asked (runAt runs k) ∷ casesFrom (k + 1)
-  cases-some k h =
-      let e : count - k ≡ suc (count - (k + 1)) = omega arith in
-      let d : suc k ≡ k + 1 = omega arith in
-      ap (λ (n : ℕ). map (runEdge s c asked) (map (runAt runs) (countFrom k n))) e
-      ∙ ap
-      (λ (i : ℕ).
-      runEdge s c asked (runAt runs k) ∷ map (runEdge s c asked) (map (runAt runs) (countFrom i (count - (k + 1)))))
-      d
+  pub part-met
+      : (r : Measured) {more : ℕ} (u : List ℕ) → r ≡ Bytes more → CasesMet part (keysIn t) r u
+      → CasesLeft all rest keys u (bytes + more)
+  part-met r {more} u e met =
+      let done : CasesMet part (keysIn t) (Bytes more) u = subst (λ (x : Measured). CasesMet part (keysIn t) x u) e met in
+      record {
+        left = ap (λ (l : List Key). meetAll l (targets rest)) (done .0) ∙ parted;
+        lengths = omega (arith, state .lengths, done .1, ap casesLength is, cases-length part rest);
+      }
 
-  pub cases-none : (k : ℕ) → count ≤ k → casesFrom k ≡ []
-  cases-none k h =
-      let e : count - k ≡ 0 = omega arith in
-      ap (λ (n : ℕ). map (runEdge s c asked) (map (runAt runs) (countFrom k n))) e
+  pub part-many
+      : (r : Measured) (u : List ℕ) → r ≡ TooMany → CasesMet part (keysIn t) r u → CasesMet all keys r u
+  part-many r u e met =
+      let many : CasesMet part (keysIn t) TooMany u = subst (λ (x : Measured). CasesMet part (keysIn t) x u) e met in
+      let all-many : CasesMet all keys TooMany u =
+      omega (arith, many, meet-longer (meetAll (keysIn t) (targets part)) (targets rest), ap length parted) in
+      subst (λ (x : Measured). CasesMet all keys x u) (sym e) all-many
+
+-- Two parts, one after the other, are all.
+module _ {all : List (CaseEdge Key)} (first second : List (CaseEdge Key)) (is : all ≡ first ++ second) (t : List ℕ)
+    (r : Measured) (u : List ℕ) (met : CasesMet first (keysIn t) r u) where
+  pub first-many : r ≡ TooMany → CasesMet all (keysIn t) r u
+  first-many e = part-many first second is (cases-start refl t) r u e met
+
+  module _ {bytes : ℕ} (e : r ≡ Bytes bytes) (q : Measured) (w : List ℕ) (last : CasesMet second (keysIn u) q w) where
+    behind : CasesLeft all second (keysIn t) u (0 + bytes)
+    behind = part-met first second is (cases-start refl t) r u e met
+
+    pub then-many : q ≡ TooMany → CasesMet all (keysIn t) q w
+    then-many d = part-many second [] (sym (append-nil second)) behind q w d last
+
+    pub both-met : {more : ℕ} → q ≡ Bytes more → CasesMet all (keysIn t) (Bytes (bytes + more)) w
+    both-met {more} d =
+        let done = cases-end refl (part-met second [] (sym (append-nil second)) behind q w d last) in
+        (done .0, omega (arith, done .1))
 
 -- A pair's edges are taken as no, other, and its record is 9 bytes.
 pub pair-met

@@ -5,6 +5,7 @@ pub mod Targets
 pub mod GraphGrown
 pub mod NodeKinds
 pub mod EdgesInTurn
+pub mod RowsInTurn
 pub mod Growing
 pub mod GrowingKeys
 pub mod SwitchParts

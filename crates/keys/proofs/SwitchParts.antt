@@ -9,7 +9,7 @@ use borrow.Author.Tests.{lt-ltb}
 use Rattle.decision.specs.Node.{switch}
 use Rattle.tables.specs.views.Planes.{rulesIn, placeTestsIn, testIn}
 use Rattle.cuts.specs.views.Cuts.{partAt, countAt, cutsIn, Parted}
-use Rattle.cuts.specs.views.Runs.{Run, runsIn, switchRuns}
+use Rattle.cuts.specs.views.Runs.{Run, switchRuns}
 use Rattle.edges.specs.declared.Asked.{Asked}
 use Rattle.edges.specs.views.KeysBehind.{noneBehind, unknownBehind}
 use Rattle.edges.specs.views.NodeIn.{runEdge, askIn}
@@ -27,13 +27,12 @@ part-room {rules} {places} {c} parted t h {from} e =
 
 -- The runs of the part are the cases of the switch.
 pub switch-is
-    : (s c : List ℕ) (asked : Asked) → asked .test < placeTestsIn s → (runs : List ℕ) (count : ℕ) {from : ℕ}
-    → from ≡ partAt (rulesIn s) (asked .test) → runsIn runs count ≡ switchRuns (asked .live) (cutsIn c from)
+    : (s c : List ℕ) (asked : Asked) → asked .test < placeTestsIn s → (rs : List Run) {from : ℕ}
+    → from ≡ partAt (rulesIn s) (asked .test) → rs ≡ switchRuns (asked .live) (cutsIn c from)
     → askIn s c asked
-    ≡ switch (testIn s (asked .test) % 0x1_0000) (map (runEdge s c asked) (runsIn runs count)) (noneBehind s asked)
-    (unknownBehind s asked)
-switch-is s c asked h runs count e is =
-    let cut : runsIn runs count ≡ switchRuns (asked .live) (cutsIn c (partAt (rulesIn s) (asked .test))) =
+    ≡ switch (testIn s (asked .test) % 0x1_0000) (map (runEdge s c asked) rs) (noneBehind s asked) (unknownBehind s asked)
+switch-is s c asked h rs e is =
+    let cut : rs ≡ switchRuns (asked .live) (cutsIn c (partAt (rulesIn s) (asked .test))) =
     is ∙ ap (λ (from : ℕ). switchRuns (asked .live) (cutsIn c from)) e in
     (simp (lt-ltb (asked .test) (placeTestsIn s) h))
     ∙ ap

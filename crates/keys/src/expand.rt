@@ -2,6 +2,8 @@
 use crate::Kind;
 use crate::Measured;
 use crate::node::kind_of;
+use cuts::Framed;
+use cuts::Row;
 use cuts::Runs;
 use cuts::cut_switch;
 use cuts::part;
@@ -19,17 +21,18 @@ use met::meet;
 use tables::Tables;
 ghost use mathlib.Core.Path.{_≡_};
 ghost use mathlib.Core.List.{List, [], _∷_, map};
-ghost use Prim.Native.Nat.{ℕ, _*_, _≤_, _<_};
+ghost use Prim.Native.Nat.{ℕ, _*_, _-_, _≤_, _<_};
 ghost use lib.ListN.{length};
 ghost use Rattle.decision.specs.GraphBytes.{leafBytes, caseBytes};
 ghost use Rattle.graph.specs.views.NodeRecord.{leafOf};
 ghost use Rattle.tables.specs.views.Planes.{rulesIn, placeTestsIn};
 ghost use Rattle.cuts.specs.views.Cuts.{Parted};
 ghost use Rattle.cuts.specs.views.Runs.{caseOf, runsIn};
+ghost use Rattle.cuts.specs.views.CaseRuns.{unionPairs, caseRuns, runsFrom, rowOf};
 ghost use Rattle.edges.specs.views.VertexKey.{keyIn};
 ghost use Rattle.edges.specs.views.NodeIn.{runEdge, askIn, nodeIn};
 ghost use Rattle.met.specs.views.KeysMet.{keyAt, countIn, keysIn, Chained};
-ghost use Rattle.keys.specs.views.Expanded.{AtMost, Met, CasesMet, EdgesMet};
+ghost use Rattle.keys.specs.views.Expanded.{AtMost, mostLength, Met, CasesMet, EdgesMet};
 
 // The length of a leaf's record. Not one byte for execute, nor two for suspend.
 fn leaf_length(leaf: Leaf) -> usize
@@ -70,10 +73,10 @@ fn meet_two(keys: &mut Keys, first: Key, second: Key, bytes: usize) -> Measured
     Measured::Bytes(bytes)
 }
 
-// Meets the keys behind a switch's cases, in their order, and counts the bytes of their records. Not a case that the runs have not,
-// nor the case that ends first before one that begins first.
-fn meet_runs(keys: &mut Keys, s: &Tables, asked: Asked, runs: &Runs, count: usize) -> Measured
-    requires { ⌜ Chained (now keys) × (count ≤ 128) ⌝ }
+// Meets the keys behind the runs that are cases by themselves, in their order, and counts the bytes of their records. Not a case
+// that the runs have not, nor the case that ends first before one that begins first.
+fn meet_points(keys: &mut Keys, s: &Tables, asked: Asked, runs: &Runs, count: usize) -> Measured
+    requires { ⌜ Chained (now keys) × (count ≤ 129) ⌝ }
     ensures { λ r. ⌜ ((c : List ℕ) → CasesMet (map (runEdge (now (s .entry)) c asked) (runsIn (now (runs .entry)) count))
         (keysIn (now (keys .entry))) r (now (keys .exit))) ⌝ }
     ensures { λ r. ⌜ Chained (now (keys .exit)) × AtMost (7 * count) r ⌝ }
@@ -90,15 +93,94 @@ fn meet_runs(keys: &mut Keys, s: &Tables, asked: Asked, runs: &Runs, count: usiz
     Measured::Bytes(bytes)
 }
 
+// Meets the keys behind a row of pairs, in their order, and counts the bytes of their records. Where the next run adds no rule, its
+// key was just met. Not a pair without the rules of its first run, nor the row without the pair of the first run with itself.
+fn meet_row(keys: &mut Keys, s: &Tables, asked: Asked, runs: &Runs, row: Row) -> Measured
+    requires { ⌜ Chained (now keys) × (row .first < row .count) × (row .count ≤ 129) ⌝ }
+    ensures { λ r. ⌜ ((c : List ℕ)
+        → CasesMet (map (runEdge (now (s .entry)) c asked) (rowOf (now (runs .entry)) (row .count) (row .first)))
+        (keysIn (now (keys .entry))) r (now (keys .exit))) ⌝ }
+    ensures { λ r. ⌜ Chained (now (keys .exit)) × AtMost 903 r ⌝ }
+{
+    let first = row.first;
+    let count = row.count;
+    let size = case_length(runs[3 * first]);
+    let mut set = runs[3 * first + 2];
+    if 1024 <= meet(keys, by_run(s, asked, set)) {
+        return Measured::TooMany;
+    }
+    let mut bytes: usize = 0;
+    let mut k = first;
+    while k < count {
+        let more = set | runs[3 * k + 2];
+        if more != set {
+            if 1024 <= meet(keys, by_run(s, asked, more)) {
+                return Measured::TooMany;
+            }
+        }
+        set = more;
+        bytes += size;
+        k += 1;
+    }
+    Measured::Bytes(bytes)
+}
+
+// Meets the keys behind the pairs of the runs that are not cases by themselves, row after row. Not a row before that of an earlier
+// first run, nor the first row alone.
+fn meet_pairs(keys: &mut Keys, s: &Tables, asked: Asked, runs: &Runs, framed: Framed) -> Measured
+    requires { ⌜ Chained (now keys) × (framed .points ≤ framed .count) × (framed .count ≤ 129) ⌝ }
+    ensures { λ r. ⌜ ((c : List ℕ) → CasesMet (map (runEdge (now (s .entry)) c asked)
+        (unionPairs (runsFrom (now (runs .entry)) (framed .count) (framed .points))))
+        (keysIn (now (keys .entry))) r (now (keys .exit))) ⌝ }
+    ensures { λ r. ⌜ Chained (now (keys .exit)) × AtMost (903 * (framed .count - framed .points)) r ⌝ }
+{
+    let count = framed.count;
+    let mut bytes: usize = 0;
+    let mut first = framed.points;
+    while first < count {
+        let row = Row {
+            first: first,
+            count: count,
+        };
+        let met = meet_row(keys, s, asked, runs, row);
+        let Measured::Bytes(more) = met else {
+            return met;
+        };
+        bytes += more;
+        first += 1;
+    }
+    Measured::Bytes(bytes)
+}
+
+// Meets the keys behind a switch's cases, in their order, and counts the bytes of their records. Not a pair before a run that is a
+// case by itself, nor the pairs alone.
+fn meet_runs(keys: &mut Keys, s: &Tables, asked: Asked, runs: &Runs, framed: Framed) -> Measured
+    requires { ⌜ Chained (now keys) × (framed .points ≤ framed .count) × (framed .count ≤ 129) ⌝ }
+    ensures { λ r. ⌜ ((c : List ℕ) → CasesMet (map (runEdge (now (s .entry)) c asked)
+        (caseRuns (framed .points) (runsIn (now (runs .entry)) (framed .count))))
+        (keysIn (now (keys .entry))) r (now (keys .exit))) ⌝ }
+    ensures { λ r. ⌜ Chained (now (keys .exit)) × AtMost (7 * 129 * 129) r ⌝ }
+{
+    let points = meet_points(keys, s, asked, runs, framed.points);
+    let Measured::Bytes(bytes) = points else {
+        return points;
+    };
+    let pairs = meet_pairs(keys, s, asked, runs, framed);
+    let Measured::Bytes(more) = pairs else {
+        return pairs;
+    };
+    Measured::Bytes(bytes + more)
+}
+
 // A switch. Not neither before a case, nor unknown before neither.
 fn expand_switch(keys: &mut Keys, s: &Tables, c: &[u64], asked: Asked, runs: &mut Runs) -> Measured
     requires { ⌜ Chained (now keys) × Parted (rulesIn (now s)) (placeTestsIn (now s)) (now c)
         × (asked .test < placeTestsIn (now s)) × (length (now runs) ≡ 390) ⌝ }
     ensures { λ r. ⌜ EdgesMet (askIn (now (s .entry)) (now (c .entry)) asked) (keysIn (now (keys .entry))) r (now (keys .exit)) ⌝ }
-    ensures { λ r. ⌜ Chained (now (keys .exit)) × AtMost 1000 r × (length (now (runs .exit)) ≡ 390) ⌝ }
+    ensures { λ r. ⌜ Chained (now (keys .exit)) × AtMost mostLength r × (length (now (runs .exit)) ≡ 390) ⌝ }
 {
-    let count = cut_switch(c, part(tables::rules(s), asked.test), asked.live, runs);
-    let met = meet_runs(keys, s, asked, runs, count);
+    let framed = cut_switch(c, part(tables::rules(s), asked.test), asked.live, runs);
+    let met = meet_runs(keys, s, asked, runs, framed);
     let Measured::Bytes(bytes) = met else {
         return met;
     };
@@ -112,7 +194,7 @@ fn expand_pair(keys: &mut Keys, s: &Tables, asked: Asked) -> Measured
     requires { ⌜ Chained (now keys) × (placeTestsIn (now s) ≤ asked .test) ⌝ }
     ensures { λ r. ⌜ ((c : List ℕ)
         → EdgesMet (askIn (now (s .entry)) c asked) (keysIn (now (keys .entry))) r (now (keys .exit))) ⌝ }
-    ensures { λ r. ⌜ Chained (now (keys .exit)) × AtMost 1000 r ⌝ }
+    ensures { λ r. ⌜ Chained (now (keys .exit)) × AtMost mostLength r ⌝ }
 {
     let differ = by_none(s, asked);
     let other = by_other(s, asked);
@@ -126,7 +208,7 @@ pub fn expand(keys: &mut Keys, k: usize, s: &Tables, c: &[u64], runs: &mut Runs)
         × (length (now runs) ≡ 390) ⌝ }
     ensures { λ r. ⌜ EdgesMet (nodeIn (now (s .entry)) (now (c .entry)) (keyAt (now (keys .entry)) k)) (keysIn (now (keys .entry)))
         r (now (keys .exit)) ⌝ }
-    ensures { λ r. ⌜ Chained (now (keys .exit)) × AtMost 1000 r × (length (now (runs .exit)) ≡ 390) ⌝ }
+    ensures { λ r. ⌜ Chained (now (keys .exit)) × AtMost mostLength r × (length (now (runs .exit)) ≡ 390) ⌝ }
 {
     let key = key_at(keys, k);
     let kind = kind_of(s, key);

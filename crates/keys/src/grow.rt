@@ -13,7 +13,7 @@ ghost use lib.ListN.{length, replicate};
 ghost use Rattle.tables.specs.views.Planes.{rulesIn, placeTestsIn};
 ghost use Rattle.cuts.specs.views.Cuts.{Parted};
 ghost use Rattle.met.specs.views.KeysMet.{Chained};
-ghost use Rattle.keys.specs.views.Expanded.{AtMost};
+ghost use Rattle.keys.specs.views.Expanded.{AtMost, mostLength};
 ghost use Rattle.keys.specs.views.Grown.{Grown};
 
 // Meets all keys of a graph, each at its node's number, and adds up the lengths of their records. Not the keys behind the root's
@@ -22,7 +22,7 @@ pub fn grow(keys: &mut Keys, s: &Tables, c: &[u64], runs: &mut Runs) -> Measured
     requires { ⌜ (now keys ≡ replicate 4097 0) × Parted (rulesIn (now s)) (placeTestsIn (now s)) (now c)
         × (length (now runs) ≡ 390) ⌝ }
     ensures { λ r. ⌜ Grown (now (s .entry)) (now (c .entry)) r (now (keys .exit)) ⌝ }
-    ensures { λ r. ⌜ Chained (now (keys .exit)) × AtMost (1024 * 1000) r × (length (now (runs .exit)) ≡ 390) ⌝ }
+    ensures { λ r. ⌜ Chained (now (keys .exit)) × AtMost (1024 * mostLength) r × (length (now (runs .exit)) ≡ 390) ⌝ }
 {
     let first = root(s);
     add(keys, first.live, first.pending);

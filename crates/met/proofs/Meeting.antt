@@ -4,9 +4,12 @@ use mathlib.Core.Path.{_≡_, refl, sym, ap, _∙_}
 use mathlib.Core.Bool.{Bool, true, false, _||_, cond}
 use mathlib.Core.List.{List, [], _∷_, _++_, append-nil}
 use native.Mathlib.Omega.{arith}
+use borrow.Author.Tests.{eq-eqb}
 use lib.ListN.{length, getD, length-append, length-map, List·getD-map}
 use Rattle.basics.specs.Lists.{countFrom, anyOf}
+use Rattle.basics.proofs.Booleans.{by-test}
 use Rattle.basics.proofs.Counting.{count-length, count-at}
+use Rattle.basics.proofs.Filters.{any-join}
 use Rattle.decision.specs.Key.{Key, sameKey}
 use Rattle.decision.specs.Graph.{newOnes}
 use Rattle.decision.proofs.exploring.ExploreSteps.{meet-one}
@@ -93,3 +96,12 @@ meet-longer keys ks =
 pub meet-join : (keys ks ls : List Key) → meetAll keys (ks ++ ls) ≡ meetAll (meetAll keys ks) ls
 meet-join keys [] ls = refl
 meet-join keys (k ∷ ks) ls = meet-join (meet keys k) ks ls
+
+-- A key that was met last may be met again.
+pub meet-again : (keys : List Key) (key : Key) → meet (meet keys key) key ≡ meet keys key
+meet-again keys key =
+    let self : sameKey key key ≡ true = rw (eq-eqb (key .live) (key .live) refl, eq-eqb (key .pending) (key .pending) refl) in
+    by-test (anyOf (sameKey key) keys) (λ e. rw (e, e))
+    (λ e.
+    let last : anyOf (sameKey key) (keys ++ key ∷ []) ≡ true = any-join (sameKey key) keys (key ∷ []) ∙ rw (e, self) in
+    rw (e, last))

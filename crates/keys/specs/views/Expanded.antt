@@ -1,5 +1,5 @@
 -- The edges of one node (document 01, "Nodes"): the keys behind them are met, and the node's record is measured.
-use Prim.Native.Nat.{ℕ, _≤_, _<_}
+use Prim.Native.Nat.{ℕ, _+_, _*_, _≤_, _<_}
 use mathlib.Core.Path.{_≡_}
 use mathlib.Core.List.{List, map}
 use lib.ListN.{length}
@@ -37,6 +37,11 @@ recordLength node = length (nodeBytes (mapNode (λ (k : Key). 0) node))
 abbrev pub AtMost : ℕ → Measured → Type 0
 AtMost most (Bytes n) = n ≤ most
 AtMost most TooMany = Unit
+
+-- A node's record with its cases is at most so long: 8 bytes, and 7 for each case. Of at most 129 runs each is the first of at most
+-- 129 cases.
+abbrev pub mostLength : ℕ
+mostLength = 8 + 7 * 129 * 129
 
 -- Keys are met after some keys, and so many bytes are measured; or the keys are more than 1,024.
 abbrev pub Met : List Key → List Key → ℕ → Measured → List ℕ → Type 0

@@ -1,5 +1,4 @@
 -- All keys are met, then questions 18 and 19, and then the graph is written.
-use Prim.Native.Nat.{_*_}
 use native.Mathlib.Omega.{arith}
 use Rattle.tables.specs.views.Planes.{rulesIn}
 use Rattle.build.proofs.GrownBytes.{grown-none, grown-some, grown-most, graph-size, built-many, built-short, built-whole}
@@ -24,7 +23,7 @@ returns c =
     (grown-none (a .s .now) (a .c .now) (grow .last .0) _ (grow .ensures .0) (c .enum-told .given .1))
 
 add-if1 : tie.Need-add-if1
-add-if1 c = omega (arith, grown-most (1024 * 1000) _ (c .before .before .before .grow .ensures .1 .1) (c .before .grown .given .1))
+add-if1 c = omega (arith, grown-most _ _ (c .before .before .before .grow .ensures .1 .1) (c .before .grown .given .1))
 
 returns-2 : tie.Need-returns-2
 returns-2 c =
@@ -62,7 +61,7 @@ cast-t21 c =
     let t = grow .last .0 in
     let met = c .before .before .before .before .before .before .before .before .before .before .grown .given .1 in
     let some = grown-some (a .s .now) (a .c .now) t _ (grow .ensures .0) met in
-    let most = grown-most (1024 * 1000) _ (grow .ensures .1 .1) met in
+    let most = grown-most _ _ (grow .ensures .1 .1) met in
     let size =
     graph-size (a .arity) (rulesIn (a .s .now)) (a .s .now) (a .c .now) (a .buf .now) t _ (some .0) (some .1) in
     omega (arith, size, c .before .before .before .before .put-graph .ensures .0)

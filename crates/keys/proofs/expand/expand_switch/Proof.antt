@@ -10,6 +10,7 @@ use Rattle.decision.specs.Node.{Node}
 use Rattle.tables.specs.views.Planes.{testIn}
 use Rattle.cuts.specs.views.Cuts.{partAt, countAt, cutAt}
 use Rattle.cuts.specs.views.Runs.{runsIn}
+use Rattle.cuts.specs.views.CaseRuns.{caseRuns}
 use Rattle.edges.specs.views.KeysBehind.{noneBehind, unknownBehind}
 use Rattle.edges.specs.views.NodeIn.{runEdge}
 use Rattle.met.specs.views.KeysMet.{keysIn}
@@ -46,7 +47,7 @@ meet-runs-requires : tie.Need-meet-runs-requires
 meet-runs-requires c κs =
     let start = c .before .before .before .before .before .before .before in
     let cut-switch = c .before .before .cut-switch in
-    (start .pre .0, omega (arith, cut-switch .ensures .1))
+    (start .pre .0, cut-switch .ensures .2, cut-switch .ensures .3)
 
 enum-known-met : tie.Need-enum-known-met
 enum-known-met c = search needs
@@ -65,13 +66,14 @@ returns c =
     let a = start .args in
     let is = part .ensures ∙ ap (λ (n : ℕ). partAt n (a .asked .test)) (rules .ensures) in
     let runs = cut .last .1 .1 .1 .0 in
-    let node = switch-is (now (a .s)) (now (a .c)) (a .asked) (start .pre .2) runs (cut .result) is (cut .ensures .0) in
+    let cases-of = caseRuns (cut .result .points) (runsIn runs (cut .result .count)) in
+    let node = switch-is (now (a .s)) (now (a .c)) (a .asked) (start .pre .2) cases-of is (cut .ensures .0) in
     let many = switch-many (testIn (now (a .s)) (a .asked .test) % 0x1_0000)
-    (map (runEdge (now (a .s)) (now (a .c)) (a .asked)) (runsIn runs (cut .result))) (keysIn (now (a .keys)))
+    (map (runEdge (now (a .s)) (now (a .c)) (a .asked)) cases-of) (keysIn (now (a .keys)))
     (noneBehind (now (a .s)) (a .asked)) (unknownBehind (now (a .s)) (a .asked)) (cases .result) (cases .last .0)
     (enum-told .given .1) (cases .ensures .0 (now (a .c))) in (
       subst (λ (n : Node Key). EdgesMet n (keysIn (now (a .keys))) (cases .result) (cases .last .0)) (sym node) many,
-      (cases .ensures .1 .0, most-more (cases .result) (omega (arith, cut .ensures .1)) (cases .ensures .1 .1), cut .ensures .2),
+      (cases .ensures .1 .0, most-more (cases .result) (omega arith) (cases .ensures .1 .1), cut .ensures .4),
     )
 
 by-none-requires : tie.Need-by-none-requires
@@ -86,9 +88,8 @@ add-meet-two : tie.Need-add-meet-two
 add-meet-two c =
     let met = c .before .before .before .before .met in
     let meet-runs = c .before .before .before .before .before .before .meet-runs in
-    let cut-switch = c .before .before .before .before .before .before .before .before .before .cut-switch in
     let few = bytes-most (met .given .1) (meet-runs .ensures .1 .1) in
-    omega (arith, few, cut-switch .ensures .1)
+    omega (arith, few)
 
 meet-two-requires : tie.Need-meet-two-requires
 meet-two-requires c κs = c .before .before .before .before .before .before .meet-runs .ensures .1 .0
@@ -109,17 +110,18 @@ returns-2 c =
     let is = part .ensures ∙ ap (λ (n : ℕ). partAt n (a .asked .test)) (rules .ensures) in
     let few = bytes-most (met .given .1) (cases .ensures .1 .1) in
     let runs = cut .last .1 .1 .1 .0 in
-    let node = switch-is (now (a .s)) (now (a .c)) (a .asked) (start .pre .2) runs (cut .result) is (cut .ensures .0) in
+    let cases-of = caseRuns (cut .result .points) (runsIn runs (cut .result .count)) in
+    let node = switch-is (now (a .s)) (now (a .c)) (a .asked) (start .pre .2) cases-of is (cut .ensures .0) in
     let all = switch-met (testIn (now (a .s)) (a .asked .test) % 0x1_0000)
-    (map (runEdge (now (a .s)) (now (a .c)) (a .asked)) (runsIn runs (cut .result))) (keysIn (now (a .keys)))
+    (map (runEdge (now (a .s)) (now (a .c)) (a .asked)) cases-of) (keysIn (now (a .keys)))
     (noneBehind (now (a .s)) (a .asked)) (unknownBehind (now (a .s)) (a .asked)) (cases .result) (cases .last .0)
     (met .given .1) (cases .ensures .0 (now (a .c))) (last .result) (last .last .0) (by-none .ensures)
     (by-unknown .ensures) (last .ensures .0) in (
       subst (λ (n : Node Key). EdgesMet n (keysIn (now (a .keys))) (last .result) (last .last .0)) (sym node) all,
       (
         last .ensures .1 .0,
-        most-more (last .result) (omega (arith, few, cut .ensures .1)) (last .ensures .1 .1),
-        cut .ensures .2,
+        most-more (last .result) (omega (arith, few)) (last .ensures .1 .1),
+        cut .ensures .4,
       ),
     )
 

@@ -1,142 +1,116 @@
--- `expand::meet_runs` meets its contract. The loop's invariant: the cases from case k on are still to come.
-use Prim.Native.Nat.{ℕ, _-_, _*_, _≤_}
-use mathlib.Core.Path.{ap, _∙_}
-use mathlib.Core.List.{List, map}
+-- `expand::meet_runs` meets its contract: the keys behind the points are met, then those behind the pairs.
+use mathlib.Core.List.{map}
 use native.Mathlib.Omega.{arith}
-use lib.ListN.{length}
 use denote.Ref.{now}
 use borrow.Author.Needs.{needs}
-use Rattle.decision.specs.Key.{Key}
-use Rattle.cuts.specs.views.Runs.{runAt, runsIn}
+use Rattle.cuts.specs.views.Runs.{runsIn}
 use Rattle.edges.specs.views.NodeIn.{runEdge}
-use Rattle.met.specs.views.KeysMet.{meet, keysIn, Chained}
-use Rattle.keys.proofs.EdgesInTurn.{CasesLeft, casesFrom, cases-start, cases-some, cases-none}
-use Rattle.keys.proofs.EdgesInTurn.{cases-next, cases-many, cases-end}
+use Rattle.keys.proofs.EdgesInTurn.{bytes-most, most-more, first-many, then-many, both-met}
+use Rattle.keys.proofs.RowsInTurn.{pairsLeft, cases-both}
 use Rattle.keys.proofs.expand.meet_runs.Statement.{statement}
 use Rattle.keys.proofs.expand.meet_runs.Tie as tie
 
-abbrev Inv-loop : tie.InvT-loop
-Inv-loop keys₀ s asked runs count bytes₀ k₀ keys bytes k =
-    (k ≤ count) × (bytes ≤ 7 * k) × Chained keys
-    × ((c : List ℕ)
-    → CasesLeft (map (runEdge s c asked) (runsIn runs count)) (casesFrom s c asked runs count k) (keysIn keys₀) keys bytes)
+meet-points-requires : tie.Need-meet-points-requires
+meet-points-requires c κs = search needs
 
-abbrev μ-loop : tie.MeasureT-loop
-μ-loop keys₀ s asked runs count bytes₀ k₀ keys bytes k = count - k
+enum-known-points : tie.Need-enum-known-points
+enum-known-points c = search needs
 
-loop-holds : tie.Need-loop-holds Inv-loop μ-loop
-loop-holds c =
-    let a = c .args in (
-      omega arith,
-      omega arith,
-      c .pre .0,
-      λ cuts. cases-start (now (a .s)) cuts (a .asked) (now (a .runs)) (a .count) (now (a .keys)),
-    )
+enum-told : tie.Need-enum-told
+enum-told c = search needs
 
-mul-by-run : tie.Need-mul-by-run Inv-loop μ-loop
-mul-by-run c = search needs
-
-add-by-run : tie.Need-add-by-run Inv-loop μ-loop
-add-by-run c = search needs
-
-mul-by-run-2 : tie.Need-mul-by-run-2 Inv-loop μ-loop
-mul-by-run-2 c = search needs
-
-element-copy-out-by-run : tie.Need-element-copy-out-by-run Inv-loop μ-loop
-element-copy-out-by-run c = search needs
-
-by-run-requires : tie.Need-by-run-requires Inv-loop μ-loop
-by-run-requires c κs = search needs
-
-meet-requires : tie.Need-meet-requires Inv-loop μ-loop
-meet-requires c κs = c .before .before .before .before .loop .inv .2
-
-returns : tie.Need-returns Inv-loop μ-loop
+returns : tie.Need-returns
 returns c =
-    let at = c .before .before .before .before .before .before .loop in
-    let test = c .before .before .before .before .before .loop-test .taken in
-    let a = c .before .before .before .before .before .before .before .args in
-    let behind = c .before .before .by-run .ensures in
-    let met = c .before .meet .ensures in (
+    let start = c .before .before .before .before in
+    let a = start .args in
+    let s = now (a .s) in
+    let runs = now (a .runs) in
+    let points = a .framed .points in
+    let first = c .before .before .meet-points in (
       λ cuts.
-          cases-many (runEdge (now (a .s)) cuts (a .asked) (runAt (now (a .runs)) (at .k)))
-          (cases-some (now (a .s)) cuts (a .asked) (now (a .runs)) (a .count) (at .k) test) (at .inv .3 cuts)
-          (omega (arith, met .0 .1 (c .if1 .taken), ap (λ (key : Key). length (meet (keysIn (at .keys)) key)) behind)),
-      (met .1, tt),
+          first-many (map (runEdge s cuts (a .asked)) (runsIn runs points))
+          (pairsLeft s cuts (a .asked) runs (a .framed .count) points)
+          (cases-both s cuts (a .asked) runs (a .framed .count) points (start .pre .1)) (now (a .keys)) (first .result)
+          (first .last .0) (first .ensures .0 cuts) (c .enum-told .given .1),
+      (
+        first .ensures .1 .0,
+        most-more (first .result) (omega (arith, start .pre .1, start .pre .2)) (first .ensures .1 .1),
+      ),
     )
 
-mul-case-length : tie.Need-mul-case-length Inv-loop μ-loop
-mul-case-length c = search needs
+meet-pairs-requires : tie.Need-meet-pairs-requires
+meet-pairs-requires c κs = search needs
 
-mul-case-length-2 : tie.Need-mul-case-length-2 Inv-loop μ-loop
-mul-case-length-2 c = search needs
+enum-known-pairs : tie.Need-enum-known-pairs
+enum-known-pairs c = search needs
 
-element-copy-out-case-length : tie.Need-element-copy-out-case-length Inv-loop μ-loop
-element-copy-out-case-length c = search needs
+enum-told-2 : tie.Need-enum-told-2
+enum-told-2 c = search needs
 
-case-length-requires : tie.Need-case-length-requires Inv-loop μ-loop
-case-length-requires c κs = search needs
-
-add-bytes : tie.Need-add-bytes Inv-loop μ-loop
-add-bytes c =
-    let at = c .before .before .before .before .before .before .before .before .loop in
-    omega (arith, at .inv .0, at .inv .1, c .case-length .ensures .1)
-
-add-k : tie.Need-add-k Inv-loop μ-loop
-add-k c = search needs
-
-loop-less : tie.Need-loop-less Inv-loop μ-loop
-loop-less c =
-    let test = c .before .before .before .before .before .before .before .loop-test .taken in
-    omega (arith, test)
-
-loop-again : tie.Need-loop-again Inv-loop μ-loop
-loop-again c =
-    let at = c .before .before .before .before .before .before .before .before .loop in
-    let test = c .before .before .before .before .before .before .before .loop-test .taken in
-    let a = c .before .before .before .before .before .before .before .before .before .args in
-    let behind = c .before .before .before .before .by-run .ensures in
-    let met = c .before .before .before .meet .ensures in (
-      omega (arith, test),
-      omega (arith, at .inv .1, c .case-length .ensures .1),
-      met .1,
-      λ cuts.
-          cases-next (runEdge (now (a .s)) cuts (a .asked) (runAt (now (a .runs)) (at .k)))
-          (cases-some (now (a .s)) cuts (a .asked) (now (a .runs)) (a .count) (at .k) test) (at .inv .3 cuts)
-          (met .0 .0 (c .before .before .if1 .left) ∙ ap (λ (key : Key). meet (keysIn (at .keys)) key) behind)
-          (c .case-length .ensures .0 _),
-    )
-
-returns-2 : tie.Need-returns-2 Inv-loop μ-loop
+returns-2 : tie.Need-returns-2
 returns-2 c =
-    let at = c .before .loop in
-    let a = c .before .before .args in (
+    let start = c .before .before .before .before .before .before .before .before .before in
+    let a = start .args in
+    let s = now (a .s) in
+    let runs = now (a .runs) in
+    let points = a .framed .points in
+    let first = c .before .before .before .before .before .before .before .meet-points in
+    let some = c .before .before .before .before .before .points .given .1 in
+    let second = c .before .before .meet-pairs in
+    let many = c .enum-told2 .given .1 in (
       λ cuts.
-          cases-end (cases-none (now (a .s)) cuts (a .asked) (now (a .runs)) (a .count) (at .k) (c .loop-test .left))
-          (at .inv .3 cuts),
-      (at .inv .2, omega (arith, at .inv .0, at .inv .1)),
+          then-many (map (runEdge s cuts (a .asked)) (runsIn runs points))
+          (pairsLeft s cuts (a .asked) runs (a .framed .count) points)
+          (cases-both s cuts (a .asked) runs (a .framed .count) points (start .pre .1)) (now (a .keys)) (first .result)
+          (first .last .0) (first .ensures .0 cuts) some (second .result) (second .last .0)
+          (second .ensures .0 cuts) many,
+      (
+        second .ensures .1 .0,
+        most-more (second .result) (omega (arith, start .pre .1, start .pre .2)) (second .ensures .1 .1),
+      ),
+    )
+
+add-t12 : tie.Need-add-t12
+add-t12 c =
+    let start = c .before .before .before .before .before .before .before .before .before .before in
+    let first = c .before .before .before .before .before .before .before .before .meet-points in
+    let few = bytes-most (c .before .before .before .before .before .before .points .given .1) (first .ensures .1 .1) in
+    let more = bytes-most (c .before .pairs .given .1) (c .before .before .before .meet-pairs .ensures .1 .1) in
+    omega (arith, few, more, start .pre .1, start .pre .2)
+
+returns-3 : tie.Need-returns-3
+returns-3 c =
+    let start = c .before .before .before .before .before .before .before .before .before .before in
+    let a = start .args in
+    let s = now (a .s) in
+    let runs = now (a .runs) in
+    let points = a .framed .points in
+    let first = c .before .before .before .before .before .before .before .before .meet-points in
+    let some = c .before .before .before .before .before .before .points .given .1 in
+    let second = c .before .before .before .meet-pairs in
+    let others = c .before .pairs .given .1 in
+    let few = bytes-most some (first .ensures .1 .1) in
+    let more = bytes-most others (second .ensures .1 .1) in (
+      λ cuts.
+          both-met (map (runEdge s cuts (a .asked)) (runsIn runs points))
+          (pairsLeft s cuts (a .asked) runs (a .framed .count) points)
+          (cases-both s cuts (a .asked) runs (a .framed .count) points (start .pre .1)) (now (a .keys)) (first .result)
+          (first .last .0) (first .ensures .0 cuts) some (second .result) (second .last .0)
+          (second .ensures .0 cuts) others,
+      (second .ensures .1 .0, omega (arith, few, more, start .pre .1, start .pre .2)),
     )
 
 pub meet-runs-spec : {M : Type 1} → statement M
 meet-runs-spec =
     tie.close
     (tie.spec
-    Inv-loop
-    μ-loop
-    loop-holds
-    mul-by-run
-    add-by-run
-    mul-by-run-2
-    element-copy-out-by-run
-    by-run-requires
-    meet-requires
+    meet-points-requires
+    enum-known-points
+    enum-told
     returns
-    mul-case-length
-    mul-case-length-2
-    element-copy-out-case-length
-    case-length-requires
-    add-bytes
-    add-k
-    loop-less
-    loop-again
-    returns-2)
+    meet-pairs-requires
+    enum-known-pairs
+    enum-told-2
+    returns-2
+    add-t12
+    returns-3)

@@ -9,6 +9,7 @@ use Rattle.edges.specs.views.VertexKey.{keyIn}
 use Rattle.met.specs.views.KeysMet.{countIn, keysIn, Chained}
 use Rattle.met.proofs.Chains.{zeros-chained}
 use Rattle.met.proofs.Meeting.{new-number}
+use Rattle.keys.specs.views.Expanded.{mostLength}
 use Rattle.keys.proofs.EdgesInTurn.{bytes-most, many-most}
 use Rattle.keys.proofs.GrowingKeys.{Growing, root-added, growing-start, grown-all, grown-turn, grown-many}
 use Rattle.keys.proofs.grow.grow.Statement.{statement}
@@ -16,7 +17,7 @@ use Rattle.keys.proofs.grow.grow.Tie as tie
 
 abbrev Inv-loop : tie.InvT-loop
 Inv-loop keys₀ s c runs₀ bytes₀ k₀ keys runs bytes k =
-    Chained keys × (length runs ≡ 390) × (k ≤ countIn keys) × (bytes ≤ 1000 * k) × Growing s c (keysIn keys) k bytes
+    Chained keys × (length runs ≡ 390) × (k ≤ countIn keys) × (bytes ≤ mostLength * k) × Growing s c (keysIn keys) k bytes
 
 abbrev μ-loop : tie.MeasureT-loop
 μ-loop keys₀ s c runs₀ bytes₀ k₀ keys runs bytes k = 1024 - k
@@ -78,7 +79,7 @@ returns c =
     let below : at .k < countIn (at .keys) = omega (arith, count .ensures, if1 .taken) in (
       grown-many (now (a .s)) (now (a .c)) (at .keys) (at .inv .4) below (at .inv .0 .few) (behind .result) (behind .last .0)
           (behind .ensures .0) (enum-told .given .1),
-      (behind .ensures .1 .0, many-most (1024 * 1000) (enum-told .given .1), behind .ensures .1 .2),
+      (behind .ensures .1 .0, many-most (1024 * mostLength) (enum-told .given .1), behind .ensures .1 .2),
     )
 
 add-bytes : tie.Need-add-bytes Inv-loop μ-loop

@@ -1,0 +1,107 @@
+-- The runs in an array from one of them on, and the cases that they make, one run after another.
+use Prim.Native.Nat.{ℕ, suc, _+_, _*_, _-_, _≤_, _<_}
+use mathlib.Core.Path.{_≡_, sym, ap, _∙_}
+use mathlib.Core.List.{List, [], _∷_, _++_, map, append-nil}
+use native.Mathlib.Omega.{arith}
+use native.Mathlib.Numerals.{add-one}
+use lib.Bits.{bitOr, or-zero-l, or-self}
+use lib.ListN.{length, length-append, length-map}
+use lib.Seq.{take-at, drop-at, take-length, drop-length}
+use Rattle.basics.specs.Lists.{countFrom}
+use Rattle.basics.proofs.Counting.{count-append, count-length}
+use Rattle.basics.proofs.Filters.{map-join}
+use Rattle.cuts.specs.views.Runs.{Run, runAt, runsIn}
+use Rattle.cuts.specs.views.CaseRuns.{unionRow, unionPairs, caseRuns, runsFrom, rowOf}
+use Rattle.cuts.proofs.FramedPass.{runs-length}
+use Rattle.cuts.proofs.UnionPairs.{union-count}
+
+-- Where all runs are cases by themselves, they are the cases.
+pub all-points : (rs : List Run) {n : ℕ} → n ≡ length rs → caseRuns n rs ≡ rs
+all-points rs e =
+    ap (λ (n : ℕ). caseRuns n rs) e
+    ∙ (λ i. take-length rs i ++ unionPairs (drop-length rs i))
+    ∙ append-nil rs
+
+module _ (runs : List ℕ) (count : ℕ) where
+  -- All runs, the next one and those behind it, and none behind the last.
+  pub from-first : runsIn runs count ≡ runsFrom runs count 0
+  from-first = let e : count ≡ count - 0 = omega arith in ap (runsIn runs) e
+
+  pub from-some : (k : ℕ) → k < count → runsFrom runs count k ≡ runAt runs k ∷ runsFrom runs count (k + 1)
+  from-some k h =
+      let e : count - k ≡ suc (count - (k + 1)) = omega arith in
+      ap (λ (n : ℕ). map (runAt runs) (countFrom k n)) e
+      ∙ ap (λ (i : ℕ). runAt runs k ∷ map (runAt runs) (countFrom i (count - (k + 1)))) (sym (add-one k))
+
+  pub from-none : (k : ℕ) → count ≤ k → runsFrom runs count k ≡ []
+  from-none k h = let e : count - k ≡ 0 = omega arith in ap (λ (n : ℕ). map (runAt runs) (countFrom k n)) e
+
+  from-length : (k : ℕ) → length (runsFrom runs count k) ≡ count - k
+  from-length k = length-map (countFrom k (count - k)) (runAt runs) ∙ count-length k (count - k)
+
+  runs-parted : (k : ℕ) → k ≤ count → runsIn runs count ≡ runsIn runs k ++ runsFrom runs count k
+  runs-parted k h =
+      let e : count ≡ k + (count - k) = omega arith in
+      let d : 0 + k ≡ k = omega arith in
+      ap (runsIn runs) e
+      ∙ ap (map (runAt runs)) (count-append 0 k (count - k))
+      ∙ map-join (runAt runs) (countFrom 0 k) (countFrom (0 + k) (count - k))
+      ∙ ap (λ (i : ℕ). runsIn runs k ++ map (runAt runs) (countFrom i (count - k))) d
+
+  -- The cases are the first runs, then the pairs of the others.
+  pub cases-parted : (k : ℕ) → k ≤ count → caseRuns k (runsIn runs count) ≡ runsIn runs k ++ unionPairs (runsFrom runs count k)
+  cases-parted k h =
+      ap (caseRuns k) (runs-parted k h)
+      ∙ (λ i.
+      take-at (runsIn runs k) (runsFrom runs count k) k (runs-length runs k) i
+      ++ unionPairs (drop-at (runsIn runs k) (runsFrom runs count k) k (runs-length runs k) i))
+
+  -- They are as many as the first runs, and n (n + 1) / 2 for n others.
+  pub cases-counted
+      : (k : ℕ) → k ≤ count → length (caseRuns k (runsIn runs count)) * 2 ≡ k * 2 + (count - k) * suc (count - k)
+  cases-counted k h =
+      let same = ap (λ (l : List Run). length l) (cases-parted k h) in
+      let both = length-append (runsIn runs k) (unionPairs (runsFrom runs count k)) in
+      let pairs = union-count (runsFrom runs count k)
+      ∙ ap (λ (n : ℕ). n * suc n) (from-length k) in
+      omega (arith, runs-length runs k)
+
+  -- The pairs from a first run on are its row, then those of the first runs behind it.
+  pub pairs-some : (k : ℕ) → k < count
+      → unionPairs (runsFrom runs count k) ≡ rowOf runs count k ++ unionPairs (runsFrom runs count (k + 1))
+  pairs-some k h =
+      ap unionPairs (from-some k h)
+      ∙ ap (λ (l : List Run). unionRow (runAt runs k .low) 0 l ++ unionPairs (runsFrom runs count (k + 1))) (sym (from-some k h))
+
+  pub pairs-none : (k : ℕ) → count ≤ k → unionPairs (runsFrom runs count k) ≡ []
+  pairs-none k h = ap unionPairs (from-none k h)
+
+  -- A row with this union at its first run.
+  abbrev onwards : ℕ → ℕ → List Run
+  onwards k union =
+      record { low = runAt runs k .low; high = runAt runs k .high; set = union }
+      ∷ unionRow (runAt runs k .low) union (runsFrom runs count (k + 1))
+
+  -- A row goes on with the union of the sets so far and that of the next run,
+  pub row-some : (low union k : ℕ) → k < count
+      → unionRow low union (runsFrom runs count k)
+      ≡ record { low = low; high = runAt runs k .high; set = bitOr union (runAt runs k .set) }
+      ∷ unionRow low (bitOr union (runAt runs k .set)) (runsFrom runs count (k + 1))
+  row-some low union k h = ap (unionRow low union) (from-some k h)
+
+  -- it begins with its first run,
+  pub row-first : (k : ℕ) → k < count
+      → rowOf runs count k ≡ runAt runs k ∷ unionRow (runAt runs k .low) (runAt runs k .set) (runsFrom runs count (k + 1))
+  row-first k h = row-some (runAt runs k .low) 0 k h ∙ ap (onwards k) (or-zero-l (runAt runs k .set))
+
+  -- which may have been taken in before it,
+  pub row-begun : (k : ℕ) → k < count
+      → rowOf runs count k ≡ unionRow (runAt runs k .low) (runAt runs k .set) (runsFrom runs count k)
+  row-begun k h =
+      row-first k h
+      ∙ ap (onwards k) (sym (or-self (runAt runs k .set)))
+      ∙ sym (row-some (runAt runs k .low) (runAt runs k .set) k h)
+
+  -- and is over behind the last.
+  pub row-none : (low union k : ℕ) → count ≤ k → unionRow low union (runsFrom runs count k) ≡ []
+  row-none low union k h = ap (unionRow low union) (from-none k h)

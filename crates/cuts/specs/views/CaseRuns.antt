@@ -1,0 +1,31 @@
+-- The cases that the runs of a switch make (document 02, request 4): first those that are cases by themselves, as symbols and
+-- compounds are, then of the others "one case for each pair of first and last run, ordered so, with low and high their ends". It
+-- has the rules of all runs from its first to its last.
+use Prim.Native.Nat.{ℕ, _-_}
+use mathlib.Core.List.{List, [], _∷_, _++_, map}
+use lib.Bits.{bitOr}
+use lib.ListN.{take, drop}
+use Rattle.basics.specs.Lists.{countFrom}
+use Rattle.cuts.specs.views.Runs.{Run, runAt}
+
+-- The pairs of a first run that begins at `low` with each run of a list, where `union` is the union of the sets before them.
+abbrev pub unionRow : ℕ → ℕ → List Run → List Run
+unionRow low union [] = []
+unionRow low union (s ∷ rest) =
+    let more = bitOr union (s .set) in record { low = low; high = s .high; set = more } ∷ unionRow low more rest
+
+-- For each first run in order each last run from it on.
+abbrev pub unionPairs : List Run → List Run
+unionPairs [] = []
+unionPairs (r ∷ rs) = unionRow (r .low) 0 (r ∷ rs) ++ unionPairs rs
+
+-- The cases of runs of which the first so many are cases by themselves.
+abbrev pub caseRuns : ℕ → List Run → List Run
+caseRuns points rs = take points rs ++ unionPairs (drop points rs)
+
+-- The runs in an array from the k-th on, of so many, and the pairs with the k-th as first.
+abbrev pub runsFrom : List ℕ → ℕ → ℕ → List Run
+runsFrom runs count k = map (runAt runs) (countFrom k (count - k))
+
+abbrev pub rowOf : List ℕ → ℕ → ℕ → List Run
+rowOf runs count k = unionRow (runAt runs k .low) 0 (runsFrom runs count k)
