@@ -1,2 +1,3 @@
 -- How the code keeps things.
 pub mod CaseCodes
+pub mod GraphSize

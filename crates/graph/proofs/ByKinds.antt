@@ -20,10 +20,10 @@ use Rattle.graph.specs.declared.NodeRecord.{NodeRecord}
 use Rattle.graph.specs.declared.CaseRecord.{CaseRecord}
 use Rattle.graph.specs.declared.NodeHead.the-variants as node
 use Rattle.graph.specs.declared.CaseHead.the-variants as case
-use Rattle.graph.specs.declared.NodeRecord.the-variants.{End, Switch, Pair}
+use Rattle.graph.specs.declared.NodeRecord.the-variants.{End, Pair}
 use Rattle.graph.specs.declared.CaseRecord.the-variants.{Symbol, Compound, Numbers}
 use Rattle.graph.specs.ReadGraph.{readCase, readSwitch, readRecord, hasHeader}
-use Rattle.graph.specs.views.NodeRecord.{wholeNode, wholeCase, nodeHead, caseHead, onCase, onNode}
+use Rattle.graph.specs.views.NodeRecord.{wholeNode, wholeCase, switchLength, switchRecord, nodeHead, caseHead, onCase, onNode}
 use Rattle.graph.specs.declared.CaseHead.{CaseHead}
 use Rattle.graph.specs.declared.NodeHead.{NodeHead}
 
@@ -125,7 +125,7 @@ module _ (s : List ℕ) where
   same-switch =
       let r : List ℕ = 0x43 ∷ s in
       rw (not-empty 0x43)
-      (node-whole r (leb 8 (length r)) (Switch (wideAt r 1) (getD r 3 0) (wideAt r 4) (wideAt r 6)) (readSwitch r) refl)
+      (node-whole r (leb switchLength (length r)) (switchRecord r) (readSwitch r) refl)
 
   same-pair : NodeSame 0x47
   unfolding readRecord

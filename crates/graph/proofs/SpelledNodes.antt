@@ -8,20 +8,21 @@ use borrow.Author.Tests.{le-leb, ne-eqb}
 use lib.Dec.{T, leb, eqb, eqb→eq, leb→le}
 use lib.ListN.{length, getD, drop}
 use lib.Seq.{drop-drop}
-use Rattle.records.specs.Fields.{IsByte, wideAt, wideThen}
+use Rattle.records.specs.Fields.{IsByte, wideAt}
 use Rattle.records.specs.Reading.{Reading, took, refused, ask, after}
 use Rattle.records.proofs.WideFields.{wide-of}
 use Rattle.basics.specs.Lists.{All}
 use Rattle.terms.specs.Term.{Wide}
 use Rattle.decision.specs.Key.{failNode, suspendNode, executeNode}
 use Rattle.decision.specs.Node.{Node, CaseEdge, end, switch, pairNode}
-use Rattle.decision.specs.GraphBytes.{casesBytes, nodeBytes}
+use Rattle.decision.specs.GraphBytes.{mostCases, casesBytes, nodeBytes}
 use Rattle.graph.specs.declared.Leaf.the-variants.{Execute}
 use Rattle.graph.specs.declared.NodeRecord.{NodeRecord}
 use Rattle.graph.specs.declared.NodeRecord.the-variants.{End, Switch, Pair}
 use Rattle.graph.specs.declared.NodeHead.{NodeHead}
 use Rattle.graph.specs.declared.NodeHead.the-variants.{Whole}
-use Rattle.graph.specs.views.NodeRecord.{wholeNode, nodeHead, onNode}
+use Rattle.graph.specs.views.NodeRecord.{wholeNode, switchLength, switchRecord, nodeHead, onNode}
+use Rattle.graph.specs.views.WriteNode.{nodeRecordBytes}
 use Rattle.graph.specs.ReadGraph.{readCases, readRecord}
 use Rattle.graph.proofs.ByKinds.{node-by-kind}
 use Rattle.graph.proofs.Spelling.{Reads, Spelled, GoodRow, begins-read}
@@ -29,11 +30,11 @@ use Rattle.graph.proofs.FieldBytes.{wide-at, byte-then, kind-then, wide
 use Rattle.graph.proofs.SpelledCases.{kind-holds, EdgeFields, cases-spelled}
 use Rattle.records.proofs.ByteLists.{byte-at, bytes-drop}
 
--- What the fields of a node's record can hold, its cases' too: 1 to 255 of them.
+-- What the fields of a node's record can hold, its cases' too: one or more of them, and no more than can be counted.
 abbrev pub NodeFields : Node ℕ → Type 0
 NodeFields (end l) = Unit
 NodeFields (switch n cs x y) =
-    Wide n × Wide x × Wide y × (1 ≤ length cs) × (length cs ≤ 255) × All EdgeFields cs
+    Wide n × Wide x × Wide y × (1 ≤ length cs) × (length cs ≤ mostCases) × All EdgeFields cs
 NodeFields (pairNode p q x y) = Wide p × Wide q × Wide x × Wide y
 
 node-brought
@@ -48,7 +49,7 @@ node-brought (switch n cs x y) rest h =
     let s = nodeBytes (switch n cs x y) ++ rest in
     rw (
       ne-eqb (length s) 0 (λ e. omega arith),
-      le-leb 8 (length s) (omega arith),
+      le-leb switchLength (length s) (omega arith),
       wide-of n (h .0),
       wide-of x (h .1),
       wide-of y (h .2),
@@ -57,7 +58,7 @@ node-brought (switch n cs x y) rest h =
     )
     (ap (λ (k : ℕ). took k (switch n cs x y)) size)
   where
-    size : 8 + length (casesBytes cs) ≡ length (nodeBytes (switch n cs x y))
+    size : switchLength + length (casesBytes cs) ≡ length (nodeBytes (switch n cs x y))
     size = omega arith
 node-brought (pairNode p q x y) rest h =
     let s = nodeBytes (pairNode p q x y) ++ rest in
@@ -78,13 +79,22 @@ module _ (s : List ℕ) (h : All IsByte s) where
   whole-told true r f = f tt
   whole-told false r f = tt
 
-  -- A switch, where its cases are read behind its eight bytes.
-  module _ (there : 8 ≤ length s) (kind : getD s 0 0 ≡ 0x43) where
+  -- How many cases a switch says it has, and the switch with these.
+  abbrev count : ℕ
+  count = getD s 3 0
+
+  abbrev switchOf : List (CaseEdge ℕ) → Node ℕ
+  switchOf cs = switch (wideAt s 1) cs (wideAt s 4) (wideAt s 6)
+
+  -- A switch, where its cases are read behind its record.
+  module _ (there : switchLength ≤ length s) (kind : getD s 0 0 ≡ 0x43) where
     cases-told
-        : (r : Reading (List (CaseEdge ℕ))) → readCases (getD s 3 0) (drop 8 s) ≡ r → 1 ≤ getD s 3 0
-        → Reads nodeBytes NodeFields s (after 8 (λ cs. switch (wideAt s 1) cs (wideAt s 4) (wideAt s 6)) r)
+        : (r : Reading (List (CaseEdge ℕ))) → readCases count (drop switchLength s) ≡ r → 1 ≤ count
+        → Reads nodeBytes NodeFields s (after switchLength switchOf r)
     cases-told (took a cs) e some =
-        let row = begins-read casesBytes (GoodRow EdgeFields (getD s 3 0)) (cases-spelled (getD s 3 0)) (drop 8 s) (bytes-drop 8 s h) e in
+        let behind = drop switchLength s in
+        let row = begins-read casesBytes (GoodRow EdgeFields count) (cases-spelled count) behind (bytes-drop switchLength s h) e in
+        let rest = casesBytes cs ++ drop (switchLength + a) s in
         record {
           good = (
             wide-at s h 1,
@@ -101,16 +111,17 @@ module _ (s : List ℕ) (h : All IsByte s) where
               (byte-then s h 3 (omega arith)
               (wide-then s h 4 (omega arith)
               (wide-then s h 6 (omega arith)
-              (row .begins ∙ ap (λ (l : List ℕ). casesBytes cs ++ l) (drop-drop a 8 s))))))
+              (row .begins ∙ ap (λ (l : List ℕ). casesBytes cs ++ l) (drop-drop a switchLength s))))))
               ∙ ap
-              (λ (k : ℕ). 0x43 ∷ wideThen (wideAt s 1) (k ∷ wideThen (wideAt s 4) (wideThen (wideAt s 6) (casesBytes cs ++ drop (8 + a) s))))
+              (λ (k : ℕ). nodeRecordBytes (Switch (wideAt s 1) k (wideAt s 4) (wideAt s 6)) ++ rest)
               (sym (row .good .0));
         }
     cases-told (refused q) e some = tt
 
-    switch-told : (b : Bool) → (T b → 1 ≤ getD s 3 0) → Reads nodeBytes NodeFields s
-        (ask 22 b (after 8 (λ cs. switch (wideAt s 1) cs (wideAt s 4) (wideAt s 6)) (readCases (getD s 3 0) (drop 8 s))))
-    switch-told true some = cases-told (readCases (getD s 3 0) (drop 8 s)) refl (some tt)
+    switch-told
+        : (b : Bool) → (T b → 1 ≤ count)
+        → Reads nodeBytes NodeFields s (ask 22 b (after switchLength switchOf (readCases count (drop switchLength s))))
+    switch-told true some = cases-told (readCases count (drop switchLength s)) refl (some tt)
     switch-told false some = tt
 
   -- Each kind of node with its fields.
@@ -130,8 +141,8 @@ module _ (s : List ℕ) (h : All IsByte s) where
         begins = kind-then s h (eqb→eq (getD s 0 0) 0x42 k) (omega arith) (byte-then s h 1 (omega arith) refl);
       }))
       (kind-holds Told (eqb (getD s 0 0) 0x43)
-      (λ k. whole-told (leb 8 (length s)) (Switch (wideAt s 1) (getD s 3 0) (wideAt s 4) (wideAt s 6)) (λ l.
-      switch-told (leb→le 8 (length s) l) (eqb→eq (getD s 0 0) 0x43 k) (leb 1 (getD s 3 0)) (leb→le 1 (getD s 3 0))))
+      (λ k. whole-told (leb switchLength (length s)) (switchRecord s) (λ l.
+      switch-told (leb→le switchLength (length s) l) (eqb→eq (getD s 0 0) 0x43 k) (leb 1 count) (leb→le 1 count)))
       (kind-holds Told (eqb (getD s 0 0) 0x47)
       (λ k. whole-told (leb 9 (length s)) (Pair (wideAt s 1) (wideAt s 3) (wideAt s 5) (wideAt s 7)) (λ l.
       let there = leb→le 9 (length s) l in

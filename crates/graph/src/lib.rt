@@ -6,6 +6,9 @@ pub use record::case_refusal;
 pub use record::node_head;
 pub use record::node_refusal;
 
+// How many bytes a switch's record has, its cases not counted.
+pub const SWITCH_BYTES: usize = 8;
+
 // A node at which a walk ends.
 pub enum Leaf {
     Fail,

@@ -4,16 +4,17 @@ use crate::CaseRecord;
 use crate::Leaf;
 use crate::NodeHead;
 use crate::NodeRecord;
+use crate::SWITCH_BYTES;
 ghost use mathlib.Core.Path.{_≡_};
 ghost use Prim.Native.Nat.{_≤_};
 ghost use lib.ListN.{length};
-ghost use Rattle.graph.specs.views.NodeRecord.{nodeHead, switchRecord, pairRecord, nodeRefusal};
+ghost use Rattle.graph.specs.views.NodeRecord.{nodeHead, switchLength, switchRecord, pairRecord, nodeRefusal};
 ghost use Rattle.graph.specs.views.NodeRecord.{caseHead, symbolHead, compoundHead, numbersHead, caseRefusal};
 
 // The switch that the input begins with, whose bytes are there. Not with its unknown for its neither, nor the low byte of a field
 // before the high one.
 fn switch_record(s: &[u8]) -> NodeRecord
-    requires { ⌜ 8 ≤ length (now s) ⌝ }
+    requires { ⌜ switchLength ≤ length (now s) ⌝ }
     ensures { λ r. ⌜ r ≡ switchRecord (now (s .entry)) ⌝ }
 {
     NodeRecord::Switch(
@@ -56,7 +57,7 @@ pub fn node_head(s: &[u8]) -> NodeHead
             NodeRecord::End(Leaf::Execute(s[1]))
         }
         0x43 => {
-            if s.len() < 8 {
+            if s.len() < SWITCH_BYTES {
                 return NodeHead::Refused(22);
             }
             switch_record(s)

@@ -11,6 +11,7 @@ use Rattle.basics.specs.Lists.{All}
 use Rattle.basics.proofs.ListLaws.{all-at, all-map}
 use Rattle.sheet.specs.Sheet.{Sheet, SoundSheet}
 use Rattle.decision.specs.Node.{Node}
+use Rattle.decision.specs.views.GraphSize.{mostNodeBytes, mostGraphBytes}
 use Rattle.decision.specs.GraphBytes.{nodeBytes, nodesBytes, graphBytes}
 use Rattle.decision.specs.AcceptedGraph.{AcceptedNode}
 use Rattle.graph.specs.ReadGraph.{readGraph, readRecord}
@@ -25,8 +26,8 @@ use Rattle.node_check.proofs.Starts.{start-reads}
 use Rattle.graph_check.specs.views.GraphIndex.{AcceptedGraphAs}
 use Rattle.basics.proofs.Positions.{mem-at}
 
--- Nodes have at most 1,793 bytes each.
-pub nodes-size : (ns : List (Node ℕ)) → All NodeFields ns → length (nodesBytes ns) ≤ 1793 * length ns
+-- Nodes have at most so many bytes each.
+pub nodes-size : (ns : List (Node ℕ)) → All NodeFields ns → length (nodesBytes ns) ≤ mostNodeBytes * length ns
 nodes-size [] h = omega arith
 nodes-size (n ∷ ns) h =
     omega (arith, length-append (nodeBytes n) (nodesBytes ns), node-size n (h .0), nodes-size ns (h .1))
@@ -51,7 +52,7 @@ module _ (sheet : Sheet) (sound : SoundSheet sheet) (g : List ℕ) (g-bytes : Al
     pub graph-whole : 5 ≤ length g
     graph-whole = omega (arith, ap length written-same)
 
-    pub graph-small : length g ≤ 1836037
+    pub graph-small : length g ≤ mostGraphBytes
     graph-small =
         omega (arith, ap length written-same, nodes-size nodes node-fields, spelled .accepted .fewNodes)
 

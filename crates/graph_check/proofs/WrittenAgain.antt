@@ -15,6 +15,7 @@ use Rattle.sheet.specs.Sheet.{Sheet, SoundSheet}
 use Rattle.sheet_tests.specs.CheckSheet.{acceptSheet}
 use Rattle.accepted.proofs.Acceptance.{sheet-accepted}
 use Rattle.decision.specs.Node.{Node}
+use Rattle.decision.specs.views.GraphSize.{mostGraphBytes}
 use Rattle.decision.specs.GraphBytes.{nodesBytes, graphBytes}
 use Rattle.graph.specs.ReadGraph.{readGraph}
 use Rattle.graph.specs.views.Rewriting.{IsTook, readOr, readRecords}
@@ -58,7 +59,7 @@ module _ (s g : List ℕ) (s-bytes : All IsByte s) (g-bytes : All IsByte g) {a r
   pub graph-whole : 5 ≤ length g
   graph-whole = accepted.graph-whole sheet sound g g-bytes (h .read)
 
-  pub graph-small : length g ≤ 1836037
+  pub graph-small : length g ≤ mostGraphBytes
   graph-small = accepted.graph-small sheet sound g g-bytes (h .read)
 
   records-read : readRecords n (drop 5 g) ≡ took (length (nodesBytes (h .nodes))) (h .nodes)

@@ -6,7 +6,7 @@ use mathlib.Core.List.{List, [], _∷_, _++_}
 use native.Mathlib.Omega.{arith}
 use lib.Dec.{leb}
 use lib.ListN.{length, drop, length-append}
-use Rattle.records.specs.Fields.{IsByte, wideThen}
+use Rattle.records.specs.Fields.{IsByte}
 use Rattle.records.specs.Reading.{Reading, took, refused, ask, after}
 use Rattle.records.specs.Writing.{splice}
 use Rattle.records.proofs.Writing.{splice-more}
@@ -18,7 +18,7 @@ use Rattle.graph.specs.declared.Leaf.{Leaf}
 use Rattle.graph.specs.declared.Leaf.the-variants.{Fail, Suspend, Execute}
 use Rattle.graph.specs.declared.NodeRecord.the-variants.{End, Switch, Pair}
 use Rattle.graph.specs.declared.NodeHead.the-variants.{Whole, Refused}
-use Rattle.graph.specs.views.NodeRecord.{nodeHead}
+use Rattle.graph.specs.views.NodeRecord.{switchLength, nodeHead}
 use Rattle.graph.specs.ReadGraph.{readCases, readRecord}
 use Rattle.graph.specs.views.WriteNode.{nodeRecordBytes}
 use Rattle.graph.specs.views.Rewriting.{IsTook, readOr}
@@ -63,28 +63,28 @@ module _ (s : List ℕ) where
   -- A switch is its record and its cases, which are there to be read.
   module _ {n count x y : ℕ} (e : nodeHead s ≡ Whole (Switch n count x y)) (there : IsTook (readRecord s)) where
     abbrev Cases : Reading (List (CaseEdge ℕ)) → Reading (Node ℕ)
-    Cases r = after 8 (λ cs. switch n cs x y) r
+    Cases r = after switchLength (λ cs. switch n cs x y) r
 
     asked : (b : Bool) (r : Reading (List (CaseEdge ℕ))) → IsTook (ask 22 b (Cases r)) → IsTook r
     asked true (took a cs) h = tt
     asked true (refused q) h = h
     asked false r h = absurd h
 
-    pub cases-there : IsTook (readCases count (drop 8 s))
-    cases-there = asked (leb 1 count) (readCases count (drop 8 s)) (subst IsTook (node-read-by s e) there)
+    pub cases-there : IsTook (readCases count (drop switchLength s))
+    cases-there = asked (leb 1 count) (readCases count (drop switchLength s)) (subst IsTook (node-read-by s e) there)
 
     pub switch-bytes
-        : All IsByte s → nodeRecordBytes (Switch n count x y) ++ casesBytes (readOr [] (readCases count (drop 8 s))) ≡ writtenNode s
+        : All IsByte s → nodeRecordBytes (Switch n count x y) ++ casesBytes (readOr [] (readCases count (drop switchLength s))) ≡ writtenNode s
     switch-bytes h =
         sym
         (ap (λ r. nodeBytes (readOr (end failNode) r)) (node-read-by s e)
-        ∙ go (leb 1 count) (readCases count (drop 8 s)) refl (subst IsTook (node-read-by s e) there))
+        ∙ go (leb 1 count) (readCases count (drop switchLength s)) refl (subst IsTook (node-read-by s e) there))
       where
         go
-            : (b : Bool) (r : Reading (List (CaseEdge ℕ))) → readCases count (drop 8 s) ≡ r → IsTook (ask 22 b (Cases r))
+            : (b : Bool) (r : Reading (List (CaseEdge ℕ))) → readCases count (drop switchLength s) ≡ r → IsTook (ask 22 b (Cases r))
             → nodeBytes (readOr (end failNode) (ask 22 b (Cases r))) ≡ nodeRecordBytes (Switch n count x y) ++ casesBytes (readOr [] r)
         go true (took a cs) f t =
-            let row = begins-read casesBytes (GoodRow EdgeFields count) (cases-spelled count) (drop 8 s) (bytes-drop 8 s h) f in
-            ap (λ (k : ℕ). 0x43 ∷ wideThen n (k ∷ wideThen x (wideThen y (casesBytes cs)))) (row .good .0)
+            let row = begins-read casesBytes (GoodRow EdgeFields count) (cases-spelled count) (drop switchLength s) (bytes-drop switchLength s h) f in
+            ap (λ (k : ℕ). nodeRecordBytes (Switch n k x y) ++ casesBytes cs) (row .good .0)
         go true (refused q) f t = absurd t
         go false r f t = absurd t

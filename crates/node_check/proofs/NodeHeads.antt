@@ -13,11 +13,11 @@ use Rattle.decision.specs.Node.{Node, pairNode}
 use Rattle.graph.specs.declared.Leaf.{Leaf}
 use Rattle.graph.specs.declared.Leaf.the-variants.{Fail, Suspend, Execute}
 use Rattle.graph.specs.declared.NodeRecord.{NodeRecord}
-use Rattle.graph.specs.declared.NodeRecord.the-variants.{End, Switch, Pair}
+use Rattle.graph.specs.declared.NodeRecord.the-variants.{End, Pair}
 use Rattle.graph.specs.declared.NodeHead.{NodeHead}
 use Rattle.graph.specs.declared.NodeHead.the-variants as head
 use Rattle.node_check.specs.declared.NodeCheck.the-variants.{Refused}
-use Rattle.graph.specs.views.NodeRecord.{wholeNode, nodeHead, onNode}
+use Rattle.graph.specs.views.NodeRecord.{wholeNode, switchLength, switchRecord, nodeHead, onNode}
 use Rattle.graph.specs.ReadGraph.{inRange, inOrder, askRangeAndOrder, readNode, readRecord}
 use Rattle.graph.specs.views.WriteNode.{nodeRecordBytes}
 use Rattle.node_check.specs.views.CheckNode.{checked, leafCheck}
@@ -38,7 +38,7 @@ head-fits s =
     (kind-holds (NodeFits s) (eqb (getD s 0 0) 0x42)
     (λ k. whole (leb 2 (length s)) (End (Execute (getD s 1 0))) (leb→le 2 (length s)))
     (kind-holds (NodeFits s) (eqb (getD s 0 0) 0x43)
-    (λ k. whole (leb 8 (length s)) (Switch (wideAt s 1) (getD s 3 0) (wideAt s 4) (wideAt s 6)) (leb→le 8 (length s)))
+    (λ k. whole (leb switchLength (length s)) (switchRecord s) (leb→le switchLength (length s)))
     (kind-holds (NodeFits s) (eqb (getD s 0 0) 0x47)
     (λ k. whole (leb 9 (length s)) (Pair (wideAt s 1) (wideAt s 3) (wideAt s 5) (wideAt s 7)) (leb→le 9 (length s))) refl)))))
   where

@@ -9,6 +9,7 @@ use native.Mathlib.Numerals.{add-one}
 use lib.ListN.{length, take, drop, set, length-drop}
 use lib.Seq.{drop-drop, take-suc-set}
 use Rattle.records.specs.Fields.{IsByte}
+use Rattle.records.specs.Kinds.{recordLength}
 use Rattle.records.specs.Reading.{Reading, took, refused, after, readRow}
 use Rattle.records.proofs.Rows.{row-none, row-refused, row-next}
 use Rattle.basics.specs.Lists.{All}
@@ -16,6 +17,7 @@ use Rattle.sheet_tests.specs.SheetTests.{Test}
 use Rattle.decision.specs.Node.{Node, CaseEdge, end, switch, pairNode}
 use Rattle.decision.specs.Key.{failNode, suspendNode, executeNode}
 use Rattle.decision.specs.GraphBytes.{caseBytes, casesBytes, nodeBytes}
+use Rattle.decision.specs.views.GraphSize.{mostNodeBytes}
 use Rattle.decision.specs.Cases.{Case, symbolCase, compoundCase, numbersCase}
 use Rattle.node_check.specs.declared.NodeCheck.the-variants.{Used, Refused}
 use Rattle.graph.specs.ReadGraph.{readNode, readNodes}
@@ -34,18 +36,20 @@ pub checked-refused : {A : Type 0} (r : Reading A) {q : ℕ} → Refused q ≡ c
 checked-refused (took b x) e = let z : _≡_ {A = ℕ} 0 1 = cc in absurd (omega arith)
 checked-refused (refused q) e = cc
 
--- A node has at most 8 + 255 × 7 bytes.
-cases-size : (cs : List (CaseEdge ℕ)) → length (casesBytes cs) ≤ 7 * length cs
+-- A case has at most as many bytes as one of numbers.
+cases-size : (cs : List (CaseEdge ℕ)) → length (casesBytes cs) ≤ recordLength 0x46 * length cs
 cases-size [] = omega arith
 cases-size (c ∷ cs) = one (c .case) (c .target) (cases-size cs)
   where
-    one : (x : Case) (n : ℕ) → length (casesBytes cs) ≤ 7 * length cs → length (caseBytes x n ++ casesBytes cs) ≤ 7 * suc (length cs)
+    one
+        : (x : Case) (n : ℕ) → length (casesBytes cs) ≤ recordLength 0x46 * length cs
+        → length (caseBytes x n ++ casesBytes cs) ≤ recordLength 0x46 * suc (length cs)
     one (symbolCase a) n h = omega arith
     one (compoundCase a k) n h = omega arith
     one (numbersCase l u) n h = omega arith
 
--- A node has few bytes.
-pub node-size : (node : Node ℕ) → NodeFields node → length (nodeBytes node) ≤ 1793
+-- A node has at most as many as a switch with the most cases.
+pub node-size : (node : Node ℕ) → NodeFields node → length (nodeBytes node) ≤ mostNodeBytes
 node-size (end failNode) h = omega arith
 node-size (end suspendNode) h = omega arith
 node-size (end (executeNode i)) h = omega arith
@@ -104,7 +108,7 @@ module _ (test : Test → Bool) (rules nodes : ℕ) (s : List ℕ) where
       pub node-inside : at ≤ length s → at + a ≤ length s
       node-inside there = omega (arith, begins-length nodeBytes NodeFields begins, length-drop at s)
 
-      pub node-few : a ≤ 1793
+      pub node-few : a ≤ mostNodeBytes
       node-few = omega (arith, begins .size, node-size node (begins .good))
 
       -- A node that is passed.

@@ -20,7 +20,7 @@ use Rattle.node_check.specs.declared.NodeCheck.the-variants.{Used, Refus
 use Rattle.graph.specs.declared.CaseHead.{CaseHead}
 use Rattle.graph.specs.declared.CaseHead.the-variants as head
 use Rattle.graph.specs.declared.CaseRecord.the-variants.{Symbol, Compound, Numbers}
-use Rattle.graph.specs.views.NodeRecord.{caseHead, onCase, onNode}
+use Rattle.graph.specs.views.NodeRecord.{switchLength, caseHead, onCase, onNode}
 use Rattle.graph.specs.ReadGraph.{readCases, allInside, casesAscend, askRangeAndOrder, readCase}
 use Rattle.node_check.specs.views.CaseRanges.{CasesFound, casesFound, checkedCases}
 use Rattle.node_check.specs.views.CheckNode.{checked, switchCheck}
@@ -65,7 +65,7 @@ asked-any x false c a = refl
 
 -- What is asked after the cases were read.
 abbrev askedOf : Bool → Bool → ℕ → NodeCheck
-askedOf inside ascend a = checked {A = Unit} (ask 23 inside (ask 24 ascend (took (8 + a) tt)))
+askedOf inside ascend a = checked {A = Unit} (ask 23 inside (ask 24 ascend (took (switchLength + a) tt)))
 
 module _ (known : Bool) (count nodes : ℕ) (s : List ℕ) where
   -- A switch has 1 case or more.
@@ -74,7 +74,7 @@ module _ (known : Bool) (count nodes : ℕ) (s : List ℕ) where
 
   module _ (some : 1 ≤ count) (r : CasesCheck) (e : checkedCases r ≡ mapReading (casesFound nodes) (readCases count s)) where
     abbrev asking : Reading (List (CaseEdge ℕ)) → Reading (List (CaseEdge ℕ))
-    asking x = andThen x (λ a cs. ask 23 (known && allInside nodes cs) (ask 24 (casesAscend cs) (took (8 + a) cs)))
+    asking x = andThen x (λ a cs. ask 23 (known && allInside nodes cs) (ask 24 (casesAscend cs) (took (switchLength + a) cs)))
 
     after-cases : {x : Reading (List (CaseEdge ℕ))} → readCases count s ≡ x → switchCheck known count nodes s ≡ checked (asking x)
     after-cases h =
@@ -98,7 +98,7 @@ module _ (known : Bool) (count nodes : ℕ) (s : List ℕ) where
       switch-read =
           let (cs, read, found) = took-view (casesFound nodes) (readCases count s) (ap checkedCases (sym h) ∙ e) in
           after-cases read
-          ∙ asked-any cs (known && allInside nodes cs) (casesAscend cs) (8 + a)
+          ∙ asked-any cs (known && allInside nodes cs) (casesAscend cs) (switchLength + a)
           ∙ ap (λ (f : CasesFound). askedOf (known && f .inside) (f .ascend) a) (sym found)
 
       -- Question 23 gets a no,
@@ -110,23 +110,23 @@ module _ (known : Bool) (count nodes : ℕ) (s : List ℕ) where
       switch-unordered f g = sym (switch-read ∙ (λ i. askedOf (f i) (g i) a))
 
       -- or neither.
-      pub switch-right : (known && inside) ≡ true → ascend ≡ true → Used (8 + a) ≡ switchCheck known count nodes s
+      pub switch-right : (known && inside) ≡ true → ascend ≡ true → Used (switchLength + a) ≡ switchCheck known count nodes s
       switch-right f g = sym (switch-read ∙ (λ i. askedOf (f i) (g i) a))
 
 -- A switch is checked by its parts.
 pub switch-asked
     : (test : Test → Bool) (rules nodes : ℕ) (s : List ℕ) (n count x y : ℕ) {known : Bool}
     → known ≡ (test (place n) && ltb x nodes && ltb y nodes)
-    → switchCheck known count nodes (drop 8 s) ≡ checked (askRangeAndOrder test rules nodes (onNode s (Whole (Switch n count x y))))
-switch-asked test rules nodes s n count x y {known} e = go (leb 1 count) (readCases count (drop 8 s))
+    → switchCheck known count nodes (drop switchLength s) ≡ checked (askRangeAndOrder test rules nodes (onNode s (Whole (Switch n count x y))))
+switch-asked test rules nodes s n count x y {known} e = go (leb 1 count) (readCases count (drop switchLength s))
   where
     go
         : (b : Bool) (r : Reading (List (CaseEdge ℕ)))
-        → checked (ask 22 b (andThen r (λ a cs. ask 23 (known && allInside nodes cs) (ask 24 (casesAscend cs) (took (8 + a) cs)))))
-        ≡ checked (askRangeAndOrder test rules nodes (ask 22 b (after 8 (λ cs. switch n cs x y) r)))
+        → checked (ask 22 b (andThen r (λ a cs. ask 23 (known && allInside nodes cs) (ask 24 (casesAscend cs) (took (switchLength + a) cs)))))
+        ≡ checked (askRangeAndOrder test rules nodes (ask 22 b (after switchLength (λ cs. switch n cs x y) r)))
     go true (took a cs) =
-        asked-any cs (known && allInside nodes cs) (casesAscend cs) (8 + a)
-        ∙ ap (λ (k : Bool). checked {A = Unit} (ask 23 (k && allInside nodes cs) (ask 24 (casesAscend cs) (took (8 + a) tt)))) e
-        ∙ sym (asked-any (switch n cs x y) ((test (place n) && ltb x nodes && ltb y nodes) && allInside nodes cs) (casesAscend cs) (8 + a))
+        asked-any cs (known && allInside nodes cs) (casesAscend cs) (switchLength + a)
+        ∙ ap (λ (k : Bool). checked {A = Unit} (ask 23 (k && allInside nodes cs) (ask 24 (casesAscend cs) (took (switchLength + a) tt)))) e
+        ∙ sym (asked-any (switch n cs x y) ((test (place n) && ltb x nodes && ltb y nodes) && allInside nodes cs) (casesAscend cs) (switchLength + a))
     go true (refused q) = refl
     go false r = refl

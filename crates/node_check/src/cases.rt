@@ -51,14 +51,14 @@ pub fn both(a: bool, b: bool) -> bool
 }
 
 // The cases that the input begins with, so many, in a graph of so many nodes.
-pub fn check_cases(s: &[u8], count: u8, nodes: u16) -> CasesCheck
+pub fn check_cases(s: &[u8], count: u16, nodes: u16) -> CasesCheck
     ensures { λ r. ⌜ checkedCases r ≡ mapReading (casesFound nodes) (readCases count (now (s .entry))) ⌝ }
 {
     let mut at: usize = 0;
     let mut last: u32 = 0;
     let mut inside = true;
     let mut ascend = true;
-    let mut i: u8 = 0;
+    let mut i: u16 = 0;
     while i < count {
         let head = case_head(&s[at..]);
         let CaseHead::Whole(c) = head else {

@@ -9,6 +9,7 @@ use crate::kept::has_place;
 use graph::Leaf;
 use graph::NodeHead;
 use graph::NodeRecord;
+use graph::SWITCH_BYTES;
 use graph::node_head;
 use graph::node_refusal;
 ghost use Prim.Native.Nat.{_≤_};
@@ -36,7 +37,7 @@ fn check_leaf(leaf: Leaf, rules: u8) -> NodeCheck
 }
 
 // A switch whose cases the input begins with, where its place, neither and unknown are known to be right or not.
-fn check_switch(s: &[u8], known: bool, count: u8, nodes: u16) -> NodeCheck
+fn check_switch(s: &[u8], known: bool, count: u16, nodes: u16) -> NodeCheck
     ensures { λ r. ⌜ r ≡ switchCheck known count nodes (now (s .entry)) ⌝ }
 {
     if count < 1 {
@@ -52,7 +53,7 @@ fn check_switch(s: &[u8], known: bool, count: u8, nodes: u16) -> NodeCheck
     if !ascend {
         return NodeCheck::Refused(24);
     }
-    NodeCheck::Used(8 + bytes)
+    NodeCheck::Used(SWITCH_BYTES + bytes)
 }
 
 // The node that the input begins with, in a graph of so many nodes.
@@ -80,7 +81,7 @@ fn check_node(
                 both(has_place(words, place), neither < nodes),
                 unknown < nodes,
             );
-            check_switch(&s[8..], known, cases, nodes)
+            check_switch(&s[SWITCH_BYTES..], known, cases as u16, nodes)
         }
         NodeRecord::Pair(p, q, differ, other) => {
             if both(

@@ -23,7 +23,7 @@ use Rattle.graph.specs.declared.NodeHead.{NodeHead}
 use Rattle.graph.specs.declared.NodeHead.the-variants.{Whole, Refused}
 use Rattle.graph.specs.declared.CaseHead.{CaseHead}
 use Rattle.graph.specs.declared.CaseHead.the-variants as case
-use Rattle.graph.specs.views.NodeRecord.{wholeNode, wholeCase, nodeHead, caseHead, onCase, onNode}
+use Rattle.graph.specs.views.NodeRecord.{wholeNode, wholeCase, switchLength, switchRecord, nodeHead, caseHead, onCase, onNode}
 use Rattle.graph.specs.ReadGraph.{readCases, isSheetTest, inRange, inOrder, readNode, readNodes, endGraph, hasHeader, readBy, readGraph, readCase, readRecord}
 use Rattle.accepted.proofs.Named.{Named, ask-named, then-named, after-named, map-named, row-named}
 use Rattle.promises.specs.Questions.{GraphQuestion, PathQuestion}
@@ -84,7 +84,7 @@ node-head-named s =
     (kind-node (eqb (getD s 0 0) 0x41) _ _ tt
     (kind-node (eqb (getD s 0 0) 0x42) _ _ (whole-node (leb 2 (length s)) (End (Execute (getD s 1 0))))
     (kind-node (eqb (getD s 0 0) 0x43) _ _
-    (whole-node (leb 8 (length s)) (Switch (wideAt s 1) (getD s 3 0) (wideAt s 4) (wideAt s 6)))
+    (whole-node (leb switchLength (length s)) (switchRecord s))
     (kind-node (eqb (getD s 0 0) 0x47) _ _
     (whole-node (leb 9 (length s)) (Pair (wideAt s 1) (wideAt s 3) (wideAt s 5) (wideAt s 7)))
     (omega arith, omega arith))))))
@@ -93,9 +93,9 @@ on-node-named : (s : List ℕ) (h : NodeHead) → NodeNamed h → Named GraphQue
 on-node-named s (Whole (End l)) h = tt
 on-node-named s (Whole (Switch n count x y)) h =
     let node : List (CaseEdge ℕ) → Node ℕ = λ cases. switch n cases x y in
-    let read : Reading (Node ℕ) = after 8 node (readCases count (drop 8 s)) in
+    let read : Reading (Node ℕ) = after switchLength node (readCases count (drop switchLength s)) in
     ask-named GraphQuestion 22 (leb 1 count) read (omega arith, omega arith)
-    (after-named GraphQuestion 8 node (readCases count (drop 8 s)) (cases-named count (drop 8 s)))
+    (after-named GraphQuestion switchLength node (readCases count (drop switchLength s)) (cases-named count (drop switchLength s)))
 on-node-named s (Whole (Pair p q x y)) h = tt
 on-node-named s (Refused q) h = h
 

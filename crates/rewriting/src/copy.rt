@@ -23,7 +23,7 @@ ghost use Rattle.rewriting.specs.declared.Copied.the-variants.{To};
 
 // So many cases from a position of the graph to the same of the buffer, and the position behind them. Not one case short, nor a
 // byte changed in front of them or behind.
-fn copy_cases(s: &[u8], buf: &mut [u8], start: usize, count: u8) -> Copied
+fn copy_cases(s: &[u8], buf: &mut [u8], start: usize, count: u16) -> Copied
     requires { ⌜ (start ≤ length (now s)) × (length (now s) ≤ length (now buf)) × IsTook (readCases count (drop start (now s))) ⌝ }
     ensures { λ r. ⌜ (r ≡ To (start + length (casesBytes (readOr [] (readCases count (drop start (now (s .entry))))))))
         × (now (buf .exit)
@@ -31,7 +31,7 @@ fn copy_cases(s: &[u8], buf: &mut [u8], start: usize, count: u8) -> Copied
         (casesBytes (readOr [] (readCases count (drop start (now (s .entry))))))) ⌝ }
 {
     let mut at = start;
-    let mut i: u8 = 0;
+    let mut i: u16 = 0;
     while i < count {
         let head = case_head(&s[at..]);
         let CaseHead::Whole(c) = head else {
@@ -59,7 +59,7 @@ fn copy_node(s: &[u8], buf: &mut [u8], start: usize) -> Copied
     let at = put_node(buf, start, node);
     match node {
         NodeRecord::End(_) => Copied::To(at),
-        NodeRecord::Switch(_, count, _, _) => copy_cases(s, buf, at, count),
+        NodeRecord::Switch(_, count, _, _) => copy_cases(s, buf, at, count as u16),
         NodeRecord::Pair(_, _, _, _) => Copied::To(at),
     }
 }

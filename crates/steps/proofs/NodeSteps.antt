@@ -19,7 +19,7 @@ use Rattle.graph.specs.declared.Leaf.{Leaf}
 use Rattle.graph.specs.declared.Leaf.the-variants.{Fail, Suspend, Execute}
 use Rattle.graph.specs.declared.NodeRecord.the-variants.{End, Switch, Pair}
 use Rattle.graph.specs.declared.NodeHead.the-variants.{Whole}
-use Rattle.graph.specs.views.NodeRecord.{nodeHead, leafOf}
+use Rattle.graph.specs.views.NodeRecord.{switchLength, nodeHead, leafOf}
 use Rattle.graph.specs.ReadGraph.{readCases, readRecord}
 use Rattle.graph.specs.views.Rewriting.{IsTook, readOr}
 use Rattle.node_check.proofs.NodeHeads.{node-fits}
@@ -73,27 +73,27 @@ module _ (s : List ℕ) where
 
   pub switch-node
       : {n count x y : ℕ} → nodeHead s ≡ Whole (Switch n count x y) → IsTook (readRecord s)
-      → switch n (readOr [] (readCases count (drop 8 s))) x y ≡ nodeIn
+      → switch n (readOr [] (readCases count (drop switchLength s))) x y ≡ nodeIn
   switch-node {n} {count} {x} {y} e there =
       sym
       (ap (readOr (end failNode)) (node-read-by s e)
-      ∙ go (leb 1 count) (readCases count (drop 8 s)) (subst IsTook (node-read-by s e) there))
+      ∙ go (leb 1 count) (readCases count (drop switchLength s)) (subst IsTook (node-read-by s e) there))
     where
       go
-          : (b : Bool) (r : Reading (List (CaseEdge ℕ))) → IsTook (ask 22 b (after 8 (λ cs. switch n cs x y) r))
-          → readOr (end failNode) (ask 22 b (after 8 (λ cs. switch n cs x y) r)) ≡ switch n (readOr [] r) x y
+          : (b : Bool) (r : Reading (List (CaseEdge ℕ))) → IsTook (ask 22 b (after switchLength (λ cs. switch n cs x y) r))
+          → readOr (end failNode) (ask 22 b (after switchLength (λ cs. switch n cs x y) r)) ≡ switch n (readOr [] r) x y
       go true (took a cs) h = refl
       go true (refused q) h = absurd h
       go false r h = absurd h
 
--- The cases of a switch whose record begins at a position are there to be read, 8 bytes behind it.
+-- The cases of a switch whose record begins at a position are there to be read, behind it.
 module _ (s : List ℕ) (at : ℕ) (inside : at ≤ length s) {n count x y : ℕ}
     (e : nodeHead (drop at s) ≡ Whole (Switch n count x y)) where
-  pub cases-inside : at + 8 ≤ length s
+  pub cases-inside : at + switchLength ≤ length s
   cases-inside = omega (arith, node-fits (drop at s) e, length-drop at s)
 
-  pub cases-begin : drop 8 (drop at s) ≡ drop (at + 8) s
-  cases-begin = drop-drop 8 at s
+  pub cases-begin : drop switchLength (drop at s) ≡ drop (at + switchLength) s
+  cases-begin = drop-drop switchLength at s
 
-  pub cases-read : IsTook (readRecord (drop at s)) → IsTook (readCases count (drop (at + 8) s))
+  pub cases-read : IsTook (readRecord (drop at s)) → IsTook (readCases count (drop (at + switchLength) s))
   cases-read there = subst (λ (l : List ℕ). IsTook (readCases count l)) cases-begin (cases-there (drop at s) e there)

@@ -17,13 +17,13 @@ ghost use Rattle.steps.specs.views.CodeSteps.{followCode, CodesAscend};
 // Where the cases, so many from a position of the graph on, lead for the codes from low to high; they are whole, so none is refused
 // here, and ascend, so none behind the first that begins above low takes them. Not by the first case that takes them where a
 // narrower one does too, nor by neither where a case takes them.
-pub fn find_case(graph: &[u8], start: usize, count: u8, low: u32, high: u32, neither: u16) -> Led
+pub fn find_case(graph: &[u8], start: usize, count: u16, low: u32, high: u32, neither: u16) -> Led
     requires { ⌜ (start ≤ length (now graph)) × IsTook (readCases count (drop start (now graph))) ⌝ }
     requires { ⌜ CodesAscend (readOr [] (readCases count (drop start (now graph)))) ⌝ }
     ensures { λ r. ⌜ r ≡ To (followCode (readOr [] (readCases count (drop start (now (graph .entry))))) neither low high) ⌝ }
 {
     let mut at = start;
-    let mut i: u8 = 0;
+    let mut i: u16 = 0;
     let mut begun: u32 = 0;
     let mut node = neither;
     while i < count {

@@ -7,6 +7,7 @@ use codes::high_of;
 use codes::low_of;
 use graph::NodeHead;
 use graph::NodeRecord;
+use graph::SWITCH_BYTES;
 use graph::node_head;
 use graph::node_refusal;
 use outcomes::TestOutcome;
@@ -38,7 +39,7 @@ fn test_code(p: u16, q: u16) -> u32
 fn switch_step(
     graph: &[u8],
     start: usize,
-    count: u8,
+    count: u16,
     tested: u16,
     neither: u16,
     unknown: u16,
@@ -102,7 +103,16 @@ pub fn step_at(graph: &[u8], at: usize, cells: &Cells) -> Step
     match node {
         NodeRecord::End(leaf) => Step::Stop(leaf),
         NodeRecord::Switch(tested, count, neither, unknown) => {
-            switch_step(graph, at + 8, count, tested, neither, unknown, cells)
+            let cases = count as u16;
+            switch_step(
+                graph,
+                at + SWITCH_BYTES,
+                cases,
+                tested,
+                neither,
+                unknown,
+                cells,
+            )
         }
         NodeRecord::Pair(p, q, differ, other) => pair_step(cells, p, q, differ, other),
     }

@@ -15,6 +15,7 @@ use Rattle.decision.specs.Runs.{cuts, between, isCovered, runs}
 use Rattle.decision.specs.Cases.{Case, symbolCase, compoundCase, numbersCase}
 use Rattle.decision.specs.Cases.{symbolsOf, Functor, functorsOf, rangesOf, compoundOf, numbersIn, casesOf}
 use Rattle.decision.specs.Node.{CaseEdge}
+use Rattle.decision.specs.GraphBytes.{mostCases}
 use Rattle.decision.specs.AcceptedGraph.{CaseBefore, LowAtMostHigh, Ascend, CaseFields}
 use Rattle.basics.proofs.Filters.{mem-length, all-mapped, filter-length}
 use Rattle.basics.proofs.Ascent.{ascending-map}
@@ -103,7 +104,7 @@ cases-few ws =
 -- What the check of a graph asks of the cases of a switch, whatever they lead to.
 pub record AcceptedCases (cs : List (CaseEdge ℕ)) : Type 0 where
   pub someCase : 1 ≤ length cs
-  pub fewCases : length cs ≤ 255
+  pub fewCases : length cs ≤ mostCases
   pub fields : All (λ (c : CaseEdge ℕ). CaseFields (c .case)) cs
   pub ordered : All (λ (c : CaseEdge ℕ). LowAtMostHigh (c .case)) cs
   pub ascend : Ascend cs

@@ -5,6 +5,7 @@ use mathlib.Core.List.{List}
 use lib.ListN.{length, getD, drop}
 use lib.Dec.{leb, eqb}
 use Rattle.records.specs.Fields.{wideAt}
+use Rattle.records.specs.Kinds.{recordLength}
 use Rattle.graph.specs.declared.Leaf.{Leaf}
 use Rattle.graph.specs.declared.Leaf.the-variants.{Fail, Suspend, Execute}
 use Rattle.graph.specs.declared.NodeRecord.{NodeRecord}
@@ -30,6 +31,10 @@ abbrev pub wholeCase : Bool → CaseRecord → CaseHead
 wholeCase true r = case.Whole r
 wholeCase false r = case.Refused 22
 
+-- How many bytes a switch's record has, its cases not counted.
+abbrev pub switchLength : ℕ
+switchLength = recordLength 0x43
+
 -- "43 switch (wide place, number of cases, wide node for neither, wide node for unknown)", "47 pair (wide place p, wide place q,
 -- wide node for no, wide node for other)".
 abbrev pub switchRecord : List ℕ → NodeRecord
@@ -45,7 +50,7 @@ nodeHead s =
     (cond (eqb (getD s 0 0) 0x40) (Whole (End Fail))
     (cond (eqb (getD s 0 0) 0x41) (Whole (End Suspend))
     (cond (eqb (getD s 0 0) 0x42) (wholeNode (leb 2 (length s)) (End (Execute (getD s 1 0))))
-    (cond (eqb (getD s 0 0) 0x43) (wholeNode (leb 8 (length s)) (switchRecord s))
+    (cond (eqb (getD s 0 0) 0x43) (wholeNode (leb switchLength (length s)) (switchRecord s))
     (cond (eqb (getD s 0 0) 0x47) (wholeNode (leb 9 (length s)) (pairRecord s))
     (Refused 22))))))
 
@@ -88,7 +93,7 @@ onNode s (Whole (End l)) = took (leafLength l) (end (leafOf l))
     leafLength Suspend = 1
     leafLength (Execute i) = 2
 onNode s (Whole (Switch n count x y)) =
-    ask 22 (leb 1 count) (after 8 (λ cases. switch n cases x y) (readCases count (drop 8 s)))
+    ask 22 (leb 1 count) (after switchLength (λ cases. switch n cases x y) (readCases count (drop switchLength s)))
 onNode s (Whole (Pair p q x y)) = took 9 (pairNode p q x y)
 onNode s (Refused q) = refused q
 

@@ -17,7 +17,7 @@ use Rattle.node_check.specs.declared.NodeCheck.{NodeCheck}
 use Rattle.node_check.specs.declared.NodeCheck.the-variants.{Used, Refused}
 use Rattle.graph.specs.ReadGraph.{allInside, casesAscend, readCases, askRangeAndOrder}
 use Rattle.basics.specs.Lists.{anyOf}
-use Rattle.graph.specs.views.NodeRecord.{onNode}
+use Rattle.graph.specs.views.NodeRecord.{switchLength, onNode}
 
 -- A pair is among the first so many codes, each of which has p in its two high bytes and q in its two low ones.
 abbrev pub isPair : ℕ → ℕ → ℕ → Bool
@@ -45,7 +45,7 @@ switchCheck known count nodes s =
     checked
     (ask 22 (leb 1 count)
     (andThen (readCases count s)
-    (λ a cases. ask 23 (known && allInside nodes cases) (ask 24 (casesAscend cases) (took (8 + a) cases)))))
+    (λ a cases. ask 23 (known && allInside nodes cases) (ask 24 (casesAscend cases) (took (switchLength + a) cases)))))
 
 -- Where the records of nodes begin, of which the first begins at a position.
 abbrev pub startsFrom : ℕ → List (Node ℕ) → List ℕ

@@ -13,7 +13,7 @@ use borrow.Author.Needs.{needs}
 use Rattle.node_check.proofs.check.check_node.Statement.{statement}
 use Rattle.node_check.proofs.check.check_node.Tie as tie
 use Rattle.graph.proofs.ByKinds.{node-read-by}
-use Rattle.graph.specs.views.NodeRecord.{nodeRefusal}
+use Rattle.graph.specs.views.NodeRecord.{switchLength, nodeRefusal}
 
 node-head-requires : tie.Need-node-head-requires
 node-head-requires c κs = search needs
@@ -57,6 +57,9 @@ part-check-switch-start c = node-fits (now (c .before .before .before .before .b
 part-check-switch-end : tie.Need-part-check-switch-end
 part-check-switch-end c = search needs
 
+cast-check-switch : tie.Need-cast-check-switch
+cast-check-switch c = search needs
+
 check-switch-requires : tie.Need-check-switch-requires
 check-switch-requires c κs = search needs
 
@@ -79,7 +82,7 @@ returns-3 : tie.Need-returns-3
 returns-3 c =
     let g = c .before .before .before .before .before .before .node2 .given .0 in
     c .check-switch .ensures
-    ∙ ap (λ l. switchCheck (c .before .before .both2 .result) (g .1 .0) (c .before .before .before .before .before .before .before .before .before .before .before .before .before .args .nodes) l) (rest (now (c .before .before .before .before .before .before .before .before .before .before .before .before .before .args .s)) 8)
+    ∙ ap (λ l. switchCheck (c .before .before .both2 .result) (g .1 .0) (c .before .before .before .before .before .before .before .before .before .before .before .before .before .args .nodes) l) (rest (now (c .before .before .before .before .before .before .before .before .before .before .before .before .before .args .s)) switchLength)
     ∙ switch-asked (keptTest (now (c .before .before .before .before .before .before .before .before .before .before .before .before .before .args .words)) (now (c .before .before .before .before .before .before .before .before .before .before .before .before .before .args .codes)) (c .before .before .before .before .before .before .before .before .before .before .before .before .before .args .count)) (c .before .before .before .before .before .before .before .before .before .before .before .before .before .args .rules) (c .before .before .before .before .before .before .before .before .before .before .before .before .before .args .nodes) (now (c .before .before .before .before .before .before .before .before .before .before .before .before .before .args .s)) (g .0) (g .1 .0) (g .1 .1 .0) (g .1 .1 .1 .0) (c .before .before .both2 .ensures ∙ ap (λ b. b && ltb (c .before .before .before .before .before .before .node2 .given .0 .1 .1 .1 .0) (c .before .before .before .before .before .before .before .before .before .before .before .before .before .args .nodes)) (c .before .before .before .both .ensures ∙ ap (λ b. b && ltb (c .before .before .before .before .before .before .node2 .given .0 .1 .1 .0) (c .before .before .before .before .before .before .before .before .before .before .before .before .before .args .nodes)) (c .before .before .before .before .has-place .ensures)))
     ∙ ap (λ r. checked (askRangeAndOrder (keptTest (now (c .before .before .before .before .before .before .before .before .before .before .before .before .before .args .words)) (now (c .before .before .before .before .before .before .before .before .before .before .before .before .before .args .codes)) (c .before .before .before .before .before .before .before .before .before .before .before .before .before .args .count)) (c .before .before .before .before .before .before .before .before .before .before .before .before .before .args .rules) (c .before .before .before .before .before .before .before .before .before .before .before .before .before .args .nodes) r)) (sym (node-read-by (now (c .before .before .before .before .before .before .before .before .before .before .before .before .before .args .s)) (sym (c .before .before .before .before .before .before .before .before .before .before .before .node-head .ensures) ∙ c .before .before .before .before .before .before .before .before .before .head .given .1 ∙ ap Whole (c .before .before .before .before .before .before .node2 .given .1))))
 
@@ -107,6 +110,7 @@ check-node-spec =
     sub-check-switch
     part-check-switch-start
     part-check-switch-end
+    cast-check-switch
     check-switch-requires
     enum-known-node-3
     has-pair-requires

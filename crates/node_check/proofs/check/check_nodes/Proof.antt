@@ -1,5 +1,6 @@
 -- `graph::check::check_nodes` meets its contract: where the passed nodes begin and what is still to be read give where all begin.
 use Rattle.node_check.proofs.NodesPass.{resumeAt, nodesLeft, nodes-start, nodes-end, nodes-refused, nodes-next, node-few, node-inside, start-stored}
+use Rattle.decision.specs.views.GraphSize.{mostNodeBytes}
 use Rattle.node_check.specs.views.CheckNode.{keptTest, checked, startsFrom, checkedNodes}
 use Rattle.graph.specs.ReadGraph.{readNode, readNodes}
 use Rattle.node_check.specs.declared.NodeCheck.the-variants.{Used, Refused}
@@ -17,7 +18,7 @@ use Rattle.records.proofs.ByteLists.{bytes-all}
 
 abbrev Inv-loop : tie.InvT-loop
 Inv-loop s words codes count rules nodes starts₀ at₀ i₀ starts at i =
-    (i ≤ nodes) × (at ≤ length s) × (at ≤ 5 + 1793 * i) × (length starts ≡ 1024)
+    (i ≤ nodes) × (at ≤ length s) × (at ≤ 5 + mostNodeBytes * i) × (length starts ≡ 1024)
     × (after 5 (startsFrom 5) (readNodes (keptTest words codes count) rules nodes (drop 5 s))
     ≡ resumeAt (keptTest words codes count) rules nodes s at (take i starts) (nodesLeft (keptTest words codes count) rules nodes s i at))
 

@@ -7,7 +7,7 @@ use mathlib.Core.List.{[]}
 use Rattle.graph.specs.views.Rewriting.{IsTook, readOr}
 use Rattle.graph.specs.views.WriteNode.{nodeRecordBytes}
 use Rattle.graph.specs.ReadGraph.{readCases}
-use Rattle.graph.specs.views.NodeRecord.{nodeHead}
+use Rattle.graph.specs.views.NodeRecord.{switchLength, nodeHead}
 use Rattle.graph.specs.declared.NodeRecord.the-variants.{Switch}
 use Rattle.graph.specs.declared.NodeHead.the-variants.{Whole}
 use Rattle.records.proofs.Parts.{rest}
@@ -63,6 +63,9 @@ enum-told-2 c = search needs
 enum-known-node : tie.Need-enum-known-node
 enum-known-node c = search needs
 
+cast-copy-cases : tie.Need-cast-copy-cases
+cast-copy-cases c = search needs
+
 copy-cases-requires : tie.Need-copy-cases-requires
 copy-cases-requires c κs =
     let a = c .before .before .before .before .before .before .before .before .before .before .before .before .before .before .before .args in
@@ -70,9 +73,9 @@ copy-cases-requires c κs =
     let g = c .before .before .node .given .0 in
     let told : nodeHead s ≡ Whole (Switch (g .0) (g .1 .0) (g .1 .1 .0) (g .1 .1 .1 .0)) = ap nodeHead (sym (rest (now (a .s)) (a .start))) ∙ sym (c .before .before .before .before .before .before .before .before .before .before .before .node-head .ensures) ∙ c .before .before .before .before .before .before .before .before .before .head .given .1 ∙ ap Whole (c .before .before .node .given .1) in
     let fits = node-fits s told in
-    let at : c .before .before .before .before .before .before .put-node .result ≡ a .start + 8 = c .before .before .before .before .before .before .put-node .ensures .0 ∙ ap (λ r. a .start + length (nodeRecordBytes r)) (c .before .before .node .given .1) in
+    let at : c .before .before .before .before .before .before .put-node .result ≡ a .start + switchLength = c .before .before .before .before .before .before .put-node .ensures .0 ∙ ap (λ r. a .start + length (nodeRecordBytes r)) (c .before .before .node .given .1) in
     let there = cases-there s told (c .before .before .before .before .before .before .before .before .before .before .before .before .before .before .before .pre .2) in
-    let behind : drop 8 s ≡ drop (c .before .before .before .before .before .before .put-node .result) (now (a .s)) = drop-drop 8 (a .start) (now (a .s)) ∙ ap (λ k. drop k (now (a .s))) (sym at) in (
+    let behind : drop switchLength s ≡ drop (c .before .before .before .before .before .before .put-node .result) (now (a .s)) = drop-drop switchLength (a .start) (now (a .s)) ∙ ap (λ k. drop k (now (a .s))) (sym at) in (
       omega (arith, length-drop (a .start) (now (a .s)), c .before .before .before .before .before .before .before .before .before .before .before .before .before .before .before .pre .0),
       omega (arith, c .before .before .before .before .before .buf .given, c .before .before .before .before .before .before .before .before .before .before .before .before .before .before .before .pre .1),
       subst (λ l. IsTook (readCases (g .1 .0) l)) behind there,
@@ -102,13 +105,13 @@ returns-3 c =
     let g = c .before .before .before .before .before .node .given .0 in
     let told : nodeHead s ≡ Whole (Switch (g .0) (g .1 .0) (g .1 .1 .0) (g .1 .1 .1 .0)) = ap nodeHead (sym (rest (now (a .s)) (a .start))) ∙ sym (c .before .before .before .before .before .before .before .before .before .before .before .before .before .before .node-head .ensures) ∙ c .before .before .before .before .before .before .before .before .before .before .before .before .head .given .1 ∙ ap Whole (c .before .before .before .before .before .node .given .1) in
     let fits = node-fits s told in
-    let at : c .before .before .before .before .before .before .before .before .before .put-node .result ≡ a .start + 8 = c .before .before .before .before .before .before .before .before .before .put-node .ensures .0 ∙ ap (λ r. a .start + length (nodeRecordBytes r)) (c .before .before .before .before .before .node .given .1) in
+    let at : c .before .before .before .before .before .before .before .before .before .put-node .result ≡ a .start + switchLength = c .before .before .before .before .before .before .before .before .before .put-node .ensures .0 ∙ ap (λ r. a .start + length (nodeRecordBytes r)) (c .before .before .before .before .before .node .given .1) in
     let there = cases-there s told (c .before .before .before .before .before .before .before .before .before .before .before .before .before .before .before .before .before .before .pre .2) in
-    let behind : drop 8 s ≡ drop (c .before .before .before .before .before .before .before .before .before .put-node .result) (now (a .s)) = drop-drop 8 (a .start) (now (a .s)) ∙ ap (λ k. drop k (now (a .s))) (sym at) in
+    let behind : drop switchLength s ≡ drop (c .before .before .before .before .before .before .before .before .before .put-node .result) (now (a .s)) = drop-drop switchLength (a .start) (now (a .s)) ∙ ap (λ k. drop k (now (a .s))) (sym at) in
     let h = bytes-drop (a .start) (now (a .s)) (bytes-all (now (a .s)) (λ i. omega (arith, c .before .before .before .before .before .before .before .before .before .before .before .before .before .before .before .before .before .shared-slice-known .given i))) in
     let record-bytes = ap nodeRecordBytes (c .before .before .before .before .before .node .given .1) in
     let cases = ap (λ l. casesBytes (readOr [] (readCases (g .1 .0) l))) (sym behind) in
-    let both = both-written (now (a .buf)) (a .start) (nodeRecordBytes (Switch (g .0) (g .1 .0) (g .1 .1 .0) (g .1 .1 .1 .0))) (casesBytes (readOr [] (readCases (g .1 .0) (drop 8 s))))
+    let both = both-written (now (a .buf)) (a .start) (nodeRecordBytes (Switch (g .0) (g .1 .0) (g .1 .1 .0) (g .1 .1 .1 .0))) (casesBytes (readOr [] (readCases (g .1 .0) (drop switchLength s))))
     (omega (arith, fits, length-drop (a .start) (now (a .s)), c .before .before .before .before .before .before .before .before .before .before .before .before .before .before .before .before .before .before .pre .0, c .before .before .before .before .before .before .before .before .before .before .before .before .before .before .before .before .before .before .pre .1)) at
     (c .before .before .before .before .before .before .before .before .before .put-node .ensures .1 ∙ ap (splice (now (a .buf)) (a .start)) record-bytes)
     refl
@@ -141,6 +144,7 @@ copy-node-spec =
     put-node-requires
     enum-told-2
     enum-known-node
+    cast-copy-cases
     copy-cases-requires
     enum-told-3
     same-length

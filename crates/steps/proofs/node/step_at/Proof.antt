@@ -56,6 +56,9 @@ enum-known-node c = search needs
 enum-known-node-2 : tie.Need-enum-known-node-2
 enum-known-node-2 c = search needs
 
+cast-cases : tie.Need-cast-cases
+cast-cases c = search needs
+
 add-switch-step : tie.Need-add-switch-step
 add-switch-step c = search needs
 
@@ -134,6 +137,7 @@ step-at-spec =
     returns
     enum-known-node
     enum-known-node-2
+    cast-cases
     add-switch-step
     switch-step-requires
     enum-known-node-3
