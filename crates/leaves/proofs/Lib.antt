@@ -1,6 +1,4 @@
--- The laws of what is answered at a leaf: the tests met that are not known, where rules begin, and the answer at an execute.
-pub mod OpenAgree
-pub mod MetTests
+-- The laws of what is answered at an execute of a rule, and of where rules begin.
 pub mod RulesLeft
 pub mod RuleBegins
 pub mod ExecutedRight

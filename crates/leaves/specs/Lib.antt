@@ -1,2 +1,2 @@
--- What is answered at a leaf.
+-- What is answered at an execute of a rule.
 pub mod views

@@ -1,5 +1,4 @@
 -- How the code keeps things.
-pub mod OpenTests
 pub mod TakenNotes
 pub mod Seeking
 pub mod RuleRead

@@ -1,7 +1,6 @@
-// What is answered at a leaf, and the tests that it waits for.
+// What is answered at an execute of a rule, and where the rules of a sheet begin.
 pub mod begins; // where the rules begin
 pub mod rule; // the answer at an execute of a rule
-pub mod waits; // the tests met that are not known
 
 use plain::Answer;
 

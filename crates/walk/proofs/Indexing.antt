@@ -31,7 +31,7 @@ use Rattle.rule_masks.specs.views.TestNumbers.{NearTest}
 use Rattle.rule_masks.proofs.ListedTests.{spot-test, pair-test}
 use Rattle.path.specs.views.Following.{nodeFrom, nodesAt, GoodNode, Index}
 use Rattle.walk.specs.views.Ready.{LeafNode, AsksKept}
-use Rattle.walk.proofs.MetAsked.{Coded}
+use Rattle.waiting.proofs.MetAsked.{Coded}
 use Rattle.rule_masks.proofs.PairsApart.{pairs-apart}
 use Rattle.steps.proofs.StepsAgree.{FieldsFit}
 use Rattle.steps.proofs.OrderedCases.{node-ordered}

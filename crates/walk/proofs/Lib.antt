@@ -1,5 +1,4 @@
 -- The laws of the walk, for the proofs of this crate and of those that use it.
-pub mod MetAsked
 pub mod Indexing
 pub mod LeafRules
 pub mod WalksAgree

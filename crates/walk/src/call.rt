@@ -6,7 +6,6 @@ use crate::leaf::at_execute;
 use graph::Leaf;
 use graph_check::GraphCheck;
 use graph_check::index_graph;
-use leaves::waits::suspend_waits;
 use path::Followed;
 use path::follow_path;
 use piece::Cells;
@@ -15,6 +14,8 @@ use plain::Answer;
 use rule_masks::kept::keep_tests;
 use sheet_tests::TestsRead;
 use tables::Tables;
+use waiting::Shape;
+use waiting::list::suspend_waits;
 ghost use Prim.Native.Nat.{ℕ};
 ghost use mathlib.Core.Path.{_≡_};
 ghost use mathlib.Core.List.{List, []};
@@ -32,7 +33,7 @@ ghost use Rattle.walk.specs.views.Ready.{Ready, SomePiece, Checked};
 ghost use Rattle.walk.specs.Walking.{graphReply, pieceReply, walkReply, replyValues, walkedValues, walkedReading};
 
 // Follows the edges of an accepted graph, and answers at the leaf: a fail waits for nothing, a suspend for the tests met that are
-// not known.
+// not known, where a span is met also for those not known for a rule live there.
 fn walk_nodes(
     s: &[u8],
     graph: &[u8],
@@ -61,11 +62,17 @@ fn walk_nodes(
                 edges: edges,
                 waits: 0,
             }),
-            Leaf::Suspend => Walked::Answered(Walk {
-                answer: Answer::Suspend,
-                edges: edges,
-                waits: suspend_waits(&met, edges, kept, cells),
-            }),
+            Leaf::Suspend => {
+                let shape = Shape {
+                    arity: sizes.arity as usize,
+                    rules: sizes.rules,
+                };
+                Walked::Answered(Walk {
+                    answer: Answer::Suspend,
+                    edges: edges,
+                    waits: suspend_waits(s, shape, &mut met, edges, notes, kept, cells),
+                })
+            }
             Leaf::Execute(rule) => at_execute(s, rule, edges, kept, sizes, notes, cells),
         },
     }

@@ -10,7 +10,7 @@ use Rattle.sheet_tests.specs.SheetTests.{Test}
 use Rattle.decision.specs.Key.{Leaf, failNode, suspendNode, executeNode}
 use Rattle.decision.specs.Walk.{Walk}
 use Rattle.path.specs.views.Following.{Ended, reached, stopped}
-use Rattle.leaves.specs.views.OpenTests.{metWaits}
+use Rattle.waiting.specs.views.SpanTests.{spanList}
 use Rattle.rule_masks.specs.views.RuleMasks.{notesMasks}
 use Rattle.leaves.specs.views.LeafAnswers.{RuleEnd, executedBy}
 
@@ -20,11 +20,11 @@ walkAfter edges e = record { answer = e .answer; edges = edges; waits = e .waits
 
 module _ (rules : List Patterns) (tests : List Test) (cells : List ℕ) where
   -- The answer at a leaf that so many edges lead to, where the tests with these codes were met: "for suspend it holds the tests met
-  -- not known on the walk".
+  -- not known on the walk", with those not known for a rule live there where a span is met.
   abbrev pub leafWalk : Leaf → ℕ → List ℕ → Walk
   leafWalk failNode edges met = record { answer = answers.fail; edges = edges; waits = 0 }
   leafWalk suspendNode edges met =
-      record { answer = answers.suspend; edges = edges; waits = metWaits tests cells met }
+      record { answer = answers.suspend; edges = edges; waits = spanList tests cells rules met }
   leafWalk (executeNode i) edges met =
       walkAfter edges (executedBy i (notesMasks tests cells (ruleNotes (ruleAt rules i))))
 

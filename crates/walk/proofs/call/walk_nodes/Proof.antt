@@ -36,18 +36,25 @@ enum-told c = search needs
 enum-told-2 : tie.Need-enum-told-2
 enum-told-2 c = search needs
 
+cast-t20 : tie.Need-cast-t20
+cast-t20 c = search needs
+
 suspend-waits-requires : tie.Need-suspend-waits-requires
 suspend-waits-requires c κs =
-    let a = c .before .before .before .before .before .before .before .before .before .before .args in
-    let pre = c .before .before .before .before .before .before .before .before .before .before .pre .0 in
-    let ready = c .before .before .before .before .before .before .before .before .before .before .pre .1 in
+    let a = c .before .before .before .before .before .before .before .before .before .before .before .before .args in
+    let pre = c .before .before .before .before .before .before .before .before .before .before .before .before .pre .0 in
+    let ready = c .before .before .before .before .before .before .before .before .before .before .before .before .pre .1 in
     let tests = listedTests (now (a .kept)) in
     let cells = now (a .cells) in
     let sizes = a .sizes in
-    let call = c .before .before .before .before .before .before .follow-path in
-    let ends = sym (ap (endedOf (c .before .before .before .before .before .before .follow-path .last .1 .1 .1 .1 .0)) (c .before .before .before .before .followed2 .given .1)) ∙ c .before .before .before .before .before .before .follow-path .ensures .0 in (
-      (ready .listed, call .ensures .1 .0, omega (arith, call .ensures .1 .1, ap edgesOf (c .before .before .before .before .followed2 .given .1)), pre .1),
-      reached-kept tests (nodesAt (now (a .graph)) (now (a .starts)) (sizes .nodes)) (ready .asked) cells ends,
+    let call = c .before .before .before .before .before .before .before .before .follow-path in
+    let ends = sym (ap (endedOf (c .before .before .before .before .before .before .before .before .follow-path .last .1 .1 .1 .1 .0)) (c .before .before .before .before .before .before .followed2 .given .1)) ∙ c .before .before .before .before .before .before .before .before .follow-path .ensures .0 in (
+      (ready .fewArguments, ready .rulesRead, pre .3, ready .listed, pre .1),
+      (
+        call .ensures .1 .0,
+        omega (arith, call .ensures .1 .1, ap edgesOf (c .before .before .before .before .before .before .followed2 .given .1)),
+        reached-kept tests (nodesAt (now (a .graph)) (now (a .starts)) (sizes .nodes)) (ready .asked) cells ends,
+      ),
     )
 
 enum-known-leaf : tie.Need-enum-known-leaf
@@ -97,16 +104,16 @@ returns-2 c =
 
 returns-3 : tie.Need-returns-3
 returns-3 c =
-    let a = c .before .before .before .before .before .before .before .before .before .before .before .args in
-    let pre = c .before .before .before .before .before .before .before .before .before .before .before .pre .0 in
-    let ready = c .before .before .before .before .before .before .before .before .before .before .before .pre .1 in
+    let a = c .before .before .before .before .before .before .before .before .before .before .before .before .before .args in
+    let pre = c .before .before .before .before .before .before .before .before .before .before .before .before .before .pre .0 in
+    let ready = c .before .before .before .before .before .before .before .before .before .before .before .before .before .pre .1 in
     let tests = listedTests (now (a .kept)) in
     let cells = now (a .cells) in
     let sizes = a .sizes in
-    let ends = sym (ap (endedOf (c .before .before .before .before .before .before .before .follow-path .last .1 .1 .1 .1 .0)) (c .before .before .before .before .before .followed2 .given .1)) ∙ c .before .before .before .before .before .before .before .follow-path .ensures .0 in (
-      ap (λ (w : ℕ). took 0 (record { answer = answers.suspend; edges = (c .before .before .before .before .before .followed2 .given .0 .1 .0); waits = w })) (c .suspend-waits .ensures)
-          ∙ ap (endWalk (readOr [] (readRules (sizes .arity) (sizes .rules) (now (a .s)))) tests cells) (ap (λ (l : Leaf). reached (leafOf l) (c .before .before .before .before .before .followed2 .given .0 .1 .0) (take (c .before .before .before .before .before .followed2 .given .0 .1 .0) (c .before .before .before .before .before .before .before .follow-path .last .1 .1 .1 .1 .0))) (sym (c .before .before .enum-told2 .given .1)) ∙ ends),
-      pre .3,
+    let ends = sym (ap (endedOf (c .before .before .before .before .before .before .before .before .before .follow-path .last .1 .1 .1 .1 .0)) (c .before .before .before .before .before .before .before .followed2 .given .1)) ∙ c .before .before .before .before .before .before .before .before .before .follow-path .ensures .0 in (
+      ap (λ (w : ℕ). took 0 (record { answer = answers.suspend; edges = (c .before .before .before .before .before .before .before .followed2 .given .0 .1 .0); waits = w })) (c .suspend-waits .ensures .0)
+          ∙ ap (endWalk (readOr [] (readRules (sizes .arity) (sizes .rules) (now (a .s)))) tests cells) (ap (λ (l : Leaf). reached (leafOf l) (c .before .before .before .before .before .before .before .followed2 .given .0 .1 .0) (take (c .before .before .before .before .before .before .before .followed2 .given .0 .1 .0) (c .before .before .before .before .before .before .before .before .before .follow-path .last .1 .1 .1 .1 .0))) (sym (c .before .before .before .before .enum-told2 .given .1)) ∙ ends),
+      c .suspend-waits .ensures .1,
     )
 
 returns-4 : tie.Need-returns-4
@@ -132,6 +139,7 @@ walk-nodes-spec =
     enum-known-followed-2
     enum-told
     enum-told-2
+    cast-t20
     suspend-waits-requires
     enum-known-leaf
     at-execute-requires

@@ -22,7 +22,7 @@ use Rattle.basics.proofs.Positions.{mem-at}
 use Rattle.sheet_tests.specs.SheetTests.{Test, place}
 use Rattle.decision.specs.Rules.{sameTest}
 use Rattle.decision.proofs.rules.TestsOfRules.{same-test}
-use Rattle.leaves.specs.views.OpenTests.{openCells, isMet, metWaits}
+use Rattle.waiting.specs.views.OpenTests.{openCells, isMet, metWaits}
 use Rattle.rule_masks.specs.views.TestNumbers.{testNumber, codeTest, Once, withIf, KeptCode}
 use Rattle.rule_masks.specs.views.Kept.{listedTests, Listed}
 use Rattle.rule_masks.proofs.CodeNumbers.{listed-few}

@@ -1,4 +1,4 @@
--- `leaves::waits::with_open` meets its contract: the test is not known, or known.
+-- `waiting::open::with_open` meets its contract: the test is not known, or known.
 use mathlib.Core.Bool.{Bool}
 use mathlib.Core.Path.{sym, ap, _∙_}
 use native.Mathlib.Omega.{arith}
@@ -8,8 +8,8 @@ use Rattle.rule_masks.specs.views.Kept.{listedTests}
 use Rattle.rule_masks.proofs.Numbers.{number-there}
 use Rattle.rule_masks.proofs.CodeNumbers.{listed-few}
 use borrow.Author.Needs.{needs}
-use Rattle.leaves.proofs.waits.with_open.Statement.{statement}
-use Rattle.leaves.proofs.waits.with_open.Tie as tie
+use Rattle.waiting.proofs.open.with_open.Statement.{statement}
+use Rattle.waiting.proofs.open.with_open.Tie as tie
 
 is-open-requires : tie.Need-is-open-requires
 is-open-requires c κs = (c .pre .1 .0, c .pre .2)

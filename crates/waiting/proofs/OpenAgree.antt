@@ -14,7 +14,7 @@ use Rattle.outcomes.proofs.FoundRuns.{run-unknown}
 use Rattle.outcomes.proofs.LookFinds.{look-finds}
 use Rattle.outcomes.proofs.PairTestsAgree.{pair-test-agrees}
 use Rattle.decision.specs.Walk.{isUnknown, isNotKnown, testNotKnown}
-use Rattle.leaves.specs.views.OpenTests.{openCells}
+use Rattle.waiting.specs.views.OpenTests.{openCells}
 use Rattle.rule_masks.specs.views.TestNumbers.{NearTest}
 
 -- An unknown is found.

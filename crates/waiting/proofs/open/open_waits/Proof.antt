@@ -1,15 +1,15 @@
--- `leaves::waits::suspend_waits` meets its contract: a loop over the tests met that builds the set.
+-- `waiting::open::open_waits` meets its contract: a loop over the tests met that builds the set.
 use Prim.Native.Nat.{ℕ, _-_, _≤_}
 use mathlib.Core.Path.{_≡_, ap, _∙_}
 use native.Mathlib.Omega.{arith}
 use lib.ListN.{take}
 use denote.Ref.{now}
 use Rattle.rule_masks.specs.views.Kept.{listedTests}
-use Rattle.leaves.specs.views.OpenTests.{metWaits}
-use Rattle.leaves.proofs.MetTests.{met-none, met-at, met-turn}
+use Rattle.waiting.specs.views.OpenTests.{metWaits}
+use Rattle.waiting.proofs.MetTests.{met-none, met-at, met-turn}
 use borrow.Author.Needs.{needs}
-use Rattle.leaves.proofs.waits.suspend_waits.Statement.{statement}
-use Rattle.leaves.proofs.waits.suspend_waits.Tie as tie
+use Rattle.waiting.proofs.open.open_waits.Statement.{statement}
+use Rattle.waiting.proofs.open.open_waits.Tie as tie
 
 abbrev Inv-loop : tie.InvT-loop
 Inv-loop met edges kept cells set₀ i₀ set i =
@@ -63,8 +63,8 @@ returns c =
     let done : c .before .loop .i ≡ a .edges = omega arith in
     c .before .loop .inv .1 ∙ ap (λ (n : ℕ). metWaits (listedTests (now (a .kept))) cells (take n met)) done
 
-pub suspend-waits-spec : {M : Type 1} → statement M
-suspend-waits-spec =
+pub open-waits-spec : {M : Type 1} → statement M
+open-waits-spec =
     tie.close
     (tie.spec
     Inv-loop

@@ -1,5 +1,5 @@
 -- The tests met by their codes are those that the nodes walked ask.
-use Prim.Native.Nat.{ℕ, _≤_}
+use Prim.Native.Nat.{ℕ}
 use mathlib.Core.Path.{_≡_, refl, ap, ap₂, _∙_}
 use mathlib.Core.Bool.{Bool, _&&_, _||_, or-false}
 use mathlib.Core.List.{List, [], _∷_}
@@ -10,19 +10,16 @@ use Rattle.basics.proofs.Filters.{any-join}
 use Rattle.basics.proofs.Positions.{mem-at}
 use Rattle.terms.specs.Term.{Terms}
 use Rattle.terms.specs.Pattern.{Patterns}
-use Rattle.terms.specs.Accepted.{AcceptedPiece}
 use Rattle.sheet_tests.specs.SheetTests.{Test, place, pair, sheetTests}
 use Rattle.pairs.specs.views.KeptPairs.{pairCode}
-use Rattle.piece.specs.views.LaidOut.{pieceCells}
 use Rattle.decision.specs.Rules.{sameTest}
 use Rattle.decision.specs.Node.{Node, end, switch, pairNode}
 use Rattle.decision.specs.Path.{nodeAt}
-use Rattle.decision.specs.Walk.{asksTest, suspendWaits}
+use Rattle.decision.specs.Walk.{asksTest, testNotKnown, suspendWaits}
 use Rattle.path.specs.views.Following.{askedCodes, metCodes}
 use Rattle.path.proofs.PathsAgree.{nodes-each}
-use Rattle.rule_masks.specs.views.TestNumbers.{codeTest, NearTest}
-use Rattle.leaves.specs.views.OpenTests.{isMet, metWaits}
-use Rattle.leaves.proofs.OpenAgree.{open-agrees}
+use Rattle.rule_masks.specs.views.TestNumbers.{codeTest}
+use Rattle.waiting.specs.views.OpenTests.{openCells, isMet, metWaits}
 
 -- The code of a node's test is that of no other.
 abbrev pub Coded : Node ℕ → Type 0
@@ -36,7 +33,7 @@ module _ (t : Test) where
   one-asked (switch n cs x y) c = or-false (sameTest t (codeTest (pairCode n n))) ∙ ap (sameTest t) c
   one-asked (pairNode p q x y) c = or-false (sameTest t (codeTest (pairCode p q))) ∙ ap (sameTest t) c
 
-  met-asked
+  pub met-asked
       : (nodes : List (Node ℕ)) → All Coded nodes → (walked : List ℕ)
       → isMet (metCodes nodes walked) t ≡ anyOf (λ (n : ℕ). asksTest t (nodeAt nodes n)) walked
   met-asked nodes h [] = refl
@@ -44,16 +41,16 @@ module _ (t : Test) where
       any-join (λ (c : ℕ). sameTest t (codeTest c)) (askedCodes (nodeAt nodes n)) (metCodes nodes walked)
       ∙ ap₂ (λ (x y : Bool). x || y) (one-asked (nodeAt nodes n) (nodes-each Coded nodes tt h n)) (met-asked nodes h walked)
 
-module _ (arity : ℕ) (piece : Terms) (accepted : AcceptedPiece arity piece) (few : arity ≤ 8) (nodes : List (Node ℕ))
-    (coded : All Coded nodes) (rules : List Patterns) (near : (t : Test) → Mem t (sheetTests rules) → NearTest t) where
-  -- In the cells of an accepted piece, the tests met that are not known are those of the piece.
+module _ (rules : List Patterns) (piece : Terms) (cells : List ℕ)
+    (agrees : (t : Test) → Mem t (sheetTests rules) → openCells cells t ≡ testNotKnown piece t) (nodes : List (Node ℕ))
+    (coded : All Coded nodes) where
+  -- Where the cells say which tests are not known, the tests met that are not known are those of the piece.
   pub met-same
-      : (walked : List ℕ)
-      → metWaits (sheetTests rules) (pieceCells piece) (metCodes nodes walked) ≡ suspendWaits rules nodes piece walked
+      : (walked : List ℕ) → metWaits (sheetTests rules) cells (metCodes nodes walked) ≡ suspendWaits rules nodes piece walked
   unfolding metWaits
   met-same walked =
       maskOf-same (length (sheetTests rules)) _ _
       (λ t h.
       let test = getD (sheetTests rules) t (place 0) in
       ap₂ (λ (x y : Bool). x && y) (met-asked test nodes coded walked)
-      (open-agrees arity piece accepted few test (near test (mem-at (place 0) (sheetTests rules) t h))))
+      (agrees test (mem-at (place 0) (sheetTests rules) t h)))

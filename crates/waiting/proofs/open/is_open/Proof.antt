@@ -1,4 +1,4 @@
--- `leaves::waits::is_open` meets its contract: a place, or a pair with each outcome.
+-- `waiting::open::is_open` meets its contract: a place, or a pair with each outcome.
 use Prim.Native.Nat.{ℕ}
 use mathlib.Core.Path.{sym, ap, subst, _∙_}
 use lib.Dec.{eqb}
@@ -7,11 +7,11 @@ use Rattle.codes.specs.views.Codes.{unknownRun}
 use Rattle.outcomes.specs.views.CellOutcome.{outcomeOf}
 use Rattle.decision.specs.Walk.{isNotKnown}
 use Rattle.rule_masks.specs.views.TestNumbers.{NearTest}
-use Rattle.leaves.specs.views.OpenTests.{openCells}
+use Rattle.waiting.specs.views.OpenTests.{openCells}
 use Rattle.rule_masks.proofs.CodeNumbers.{code-place, code-pair}
 use borrow.Author.Needs.{needs}
-use Rattle.leaves.proofs.waits.is_open.Statement.{statement}
-use Rattle.leaves.proofs.waits.is_open.Tie as tie
+use Rattle.waiting.proofs.open.is_open.Statement.{statement}
+use Rattle.waiting.proofs.open.is_open.Tie as tie
 
 cast-p : tie.Need-cast-p
 cast-p c = search needs

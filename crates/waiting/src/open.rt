@@ -13,7 +13,7 @@ ghost use Rattle.basics.specs.Lists.{All};
 ghost use Rattle.outcomes.specs.views.CompareCells.{Narrow};
 ghost use Rattle.rule_masks.specs.views.TestNumbers.{testNumber, codeTest, NearTest, KeptCode, withIf};
 ghost use Rattle.rule_masks.specs.views.Kept.{Listed, listedTests};
-ghost use Rattle.leaves.specs.views.OpenTests.{openCells, metWaits};
+ghost use Rattle.waiting.specs.views.OpenTests.{openCells, metWaits};
 
 // Is the test with a code not known? Not one with a place that the piece lacks, nor a pair that holds.
 pub fn is_open(cells: &Cells, code: u32) -> bool
@@ -49,7 +49,7 @@ fn with_open(set: u64, kept: &Tables, cells: &Cells, code: u32) -> u64
 
 // The set of the tests met, of which so many stand at the front of the list, that are not known. Not all tests met, nor those of
 // the sheet that are not known, nor a test behind the walk's edges.
-pub fn suspend_waits(met: &[u32; 64], edges: u8, kept: &Tables, cells: &Cells) -> u64
+pub fn open_waits(met: &[u32; 64], edges: u8, kept: &Tables, cells: &Cells) -> u64
     requires { ⌜ Listed (now kept) × (length (now met) ≡ 64) × (edges ≤ 64) × Narrow (now cells) ⌝ }
     requires { ⌜ All (KeptCode (listedTests (now kept))) (take edges (now met)) ⌝ }
     ensures { λ r. ⌜ r ≡ metWaits (listedTests (now (kept .entry))) (now (cells .entry)) (take edges (now (met .entry))) ⌝ }

@@ -1,0 +1,2 @@
+-- What a suspended piece waits for.
+pub mod views
