@@ -89,10 +89,9 @@ fn build_large(b: &[u8], arity: u8, numbers: &[u8; 680], s: &mut Tables, buf: &m
     build_cut(b, arity, numbers, s, &mut c, buf)
 }
 
-// The graph of the rules that the input begins with, whose tests are listed, in this room, of 320, 8,256 and 16,448 words, or in the
-// next one where their cuts do not fit it. A function that calls itself takes no other's large arrays into its frame, so that the
-// stack of a build holds the one room that is used. Not the graph of rules whose cuts are cut off at the room's end, nor a graph
-// for every room that is passed.
+// The graph of the rules that the input begins with, whose tests are listed, in this one of three rooms, or in the next where their
+// cuts do not fit it. A function that calls itself takes no other's large arrays into its frame, so that the stack of a build holds
+// the one room that is used. Not the graph of rules whose cuts are cut off at the room's end, nor that of all rules but the last.
 fn build_in(
     room: u8,
     b: &[u8],
