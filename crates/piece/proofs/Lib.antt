@@ -1,6 +1,7 @@
 -- The laws of reading pieces into cells, and of the bytes that spell them.
 pub mod Rooms
 pub mod StoredCells
+pub mod Telling
 pub mod Emptying
 pub mod Readings
 pub mod Heads

@@ -12,6 +12,7 @@ ghost use Rattle.records.specs.Reading.{mapReading};
 ghost use Rattle.piece.specs.views.TermRecord.{termHead, headRefusal};
 ghost use Rattle.piece.specs.ReadPiece.{readArity, readPrefix, readPiece};
 ghost use Rattle.piece.specs.views.LaidOut.{tookCells, termCells, termsCells, emptyCells, UsedTo, layOut};
+ghost use Rattle.piece.specs.views.Emptied.{TellsBelow, ArgumentTells, Emptied};
 ghost use Rattle.piece.specs.views.LaidOut.{arityRead, prefixRead, prefixBytes, pieceRead};
 ghost use Rattle.piece.specs.CheckPiece.{pieceCheckValues, pieceValues};
 
@@ -174,15 +175,52 @@ fn piece_head(s: &[u8]) -> Prefix
     Prefix::Read(arity, 2)
 }
 
-// Empties the cells before a place, where those from there on are empty.
+// Empties the 21 cells of a child of an argument, which stands at place p: its own alone where the cell behind says that nothing
+// stands below it.
+// Ruled out: a cell left that is used; a cell of the next child emptied too.
+fn empty_child(cells: &mut Cells, p: usize)
+    requires { ⌜ (p + 21 ≤ 680) × (length (now cells) ≡ 680) × TellsBelow 21 p (now cells) ⌝ }
+    ensures { λ _. ⌜ Emptied p (p + 21) (now (cells .entry)) (now (cells .exit)) ⌝ }
+{
+    cells[p] = 0;
+    if cells[p + 1] == 0 {
+        return;
+    }
+    let mut place = p + 1;
+    while place < p + 21 {
+        cells[place] = 0;
+        place += 1;
+    }
+}
+
+// Empties the 85 cells of an argument, which stands at a place: its own alone where the cell behind says that nothing stands below
+// it, else its children's too.
+// Ruled out: the last child's cells left; a cell of the argument before emptied too.
+fn empty_argument(cells: &mut Cells, argument: usize)
+    requires { ⌜ (argument + 85 ≤ 680) × (length (now cells) ≡ 680) × ArgumentTells argument (now cells) ⌝ }
+    ensures { λ _. ⌜ Emptied argument (argument + 85) (now (cells .entry)) (now (cells .exit)) ⌝ }
+{
+    cells[argument] = 0;
+    if cells[argument + 1] == 0 {
+        return;
+    }
+    let mut k: usize = 0;
+    while k < 4 {
+        empty_child(cells, argument + 1 + 21 * k);
+        k += 1;
+    }
+}
+
+// Empties the cells that a piece used, whose arguments stand before a place.
+// Ruled out: the cells of the last argument left; those of each argument's children left.
 fn empty(cells: &mut Cells, used: usize)
     requires { ⌜ (used ≤ 680) × UsedTo used (now cells) ⌝ }
     ensures { λ _. ⌜ now (cells .exit) ≡ emptyCells ⌝ }
 {
-    let mut place: usize = 0;
-    while place < used {
-        cells[place] = 0;
-        place += 1;
+    let mut a: usize = 0;
+    while 85 * a < used {
+        empty_argument(cells, 85 * a);
+        a += 1;
     }
 }
 

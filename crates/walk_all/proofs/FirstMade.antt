@@ -38,7 +38,7 @@ module _ (input cells : List ℕ) (bytes : (i : ℕ) → IsByte (getD input i 0)
       let used = ap usedBy e in (
         omega (arith, used, a .few),
         subst (λ (u : ℕ). UsedTo u cells) (sym used)
-            (subst (UsedTo (85 * n)) (sym (a .laid)) (piece-used n (a .piece .terms) (a .accepted))),
+            (subst (UsedTo (85 * n)) (sym (a .laid)) (piece-used n (a .piece .terms) (a .few) (a .accepted))),
       )
 
   -- One of so many arguments that was read is an accepted piece.

@@ -14,6 +14,7 @@ use Rattle.piece.specs.declared.PieceCheck.the-variants as check
 use Rattle.piece.specs.Piece.{Piece}
 use Rattle.piece.specs.ReadPiece.{readTerm, readTerms}
 use Rattle.piece.specs.views.Cells.{storeTerm, storeTerms}
+use Rattle.piece.specs.views.Emptied.{ArgumentTells}
 
 -- What was read into the cells, and the bytes that it took. After a refusal nothing is said of the cells.
 abbrev pub tookCells : List ℕ → Taken → Reading (List ℕ)
@@ -32,10 +33,11 @@ termsCells below n p cells s = mapReading (λ ts. storeTerms ts below p cells) (
 unfoldable pub emptyCells : List ℕ
 emptyCells = replicate 680 0
 
--- Nothing stands from place k on.
+-- Nothing stands from place k on, and of each argument, counted from 0, few cells tell what stands below it.
 pub record UsedTo (k : ℕ) (cells : List ℕ) : Type 0 where
   pub size : length cells ≡ 680
   pub behind : (i : ℕ) → k ≤ i → getD cells i 0 ≡ 0
+  pub arguments : (a : ℕ) → ArgumentTells (85 * a) cells
 
 -- The cells of a piece: its terms have 3 levels below them and stand from place 0 on.
 abbrev pub pieceCells : Terms → List ℕ
