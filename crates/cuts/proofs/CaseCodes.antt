@@ -12,9 +12,9 @@ use Rattle.decision.specs.AcceptedGraph.{CaseFields}
 use Rattle.decision.proofs.cases.CasesAccepted.{cases-fields}
 use Rattle.codes.specs.views.Codes.{SoundWant, symbolCode, compoundCode, numberCode}
 use Rattle.decision.specs.views.CaseCodes.{caseLow, caseHigh}
-use Rattle.cuts.specs.views.Runs.{caseOf}
+use Rattle.cuts.specs.views.Runs.{runCase}
 
-case-told : (c : Case) → CaseFields c → caseOf (caseLow c) (caseHigh c) ≡ c
+case-told : (c : Case) → CaseFields c → runCase (caseLow c) (caseHigh c) ≡ c
 case-told (symbolCase a) f =
     let e : symbolCode a % 0x1_0000 ≡ a = omega arith in
     rw (lt-ltb (symbolCode a) 0x200_0000 (omega arith), e)
@@ -29,7 +29,7 @@ case-told (numbersCase l h) f =
     rw (le-ltb (numberCode l) 0x200_0000 (omega arith), le-ltb (numberCode l) 0x300_0000 (omega arith), d, e)
 
 -- The case of the codes of a case is this case.
-pub case-of-run : (ws : List Want) → All SoundWant ws → All (λ (c : Case). caseOf (caseLow c) (caseHigh c) ≡ c) (casesOf ws)
+pub case-of-run : (ws : List Want) → All SoundWant ws → All (λ (c : Case). runCase (caseLow c) (caseHigh c) ≡ c) (casesOf ws)
 case-of-run ws sound =
-    all-map CaseFields (λ (c : Case). caseOf (caseLow c) (caseHigh c) ≡ c) case-told (casesOf ws)
+    all-map CaseFields (λ (c : Case). runCase (caseLow c) (caseHigh c) ≡ c) case-told (casesOf ws)
     (cases-fields ws sound)

@@ -11,7 +11,7 @@ use Rattle.basics.specs.Lists.{countFrom}
 use Rattle.basics.proofs.Counting.{count-append, count-length}
 use Rattle.basics.proofs.Filters.{map-join}
 use Rattle.cuts.specs.views.Runs.{Run, runAt, runsIn}
-use Rattle.cuts.specs.views.CaseRuns.{unionRow, unionPairs, caseRuns, runsFrom, rowOf}
+use Rattle.cuts.specs.views.CaseRuns.{unionRow, unionPairs, caseRuns, runsFrom, pairsRow}
 use Rattle.cuts.proofs.FramedPass.{runs-length}
 use Rattle.cuts.proofs.UnionPairs.{union-count}
 
@@ -68,7 +68,7 @@ module _ (runs : List ℕ) (count : ℕ) where
 
   -- The pairs from a first run on are its row, then those of the first runs behind it.
   pub pairs-some : (k : ℕ) → k < count
-      → unionPairs (runsFrom runs count k) ≡ rowOf runs count k ++ unionPairs (runsFrom runs count (k + 1))
+      → unionPairs (runsFrom runs count k) ≡ pairsRow runs count k ++ unionPairs (runsFrom runs count (k + 1))
   pairs-some k h =
       ap unionPairs (from-some k h)
       ∙ ap (λ (l : List Run). unionRow (runAt runs k .low) 0 l ++ unionPairs (runsFrom runs count (k + 1))) (sym (from-some k h))
@@ -91,12 +91,12 @@ module _ (runs : List ℕ) (count : ℕ) where
 
   -- it begins with its first run,
   pub row-first : (k : ℕ) → k < count
-      → rowOf runs count k ≡ runAt runs k ∷ unionRow (runAt runs k .low) (runAt runs k .set) (runsFrom runs count (k + 1))
+      → pairsRow runs count k ≡ runAt runs k ∷ unionRow (runAt runs k .low) (runAt runs k .set) (runsFrom runs count (k + 1))
   row-first k h = row-some (runAt runs k .low) 0 k h ∙ ap (onwards k) (or-zero-l (runAt runs k .set))
 
   -- which may have been taken in before it,
   pub row-begun : (k : ℕ) → k < count
-      → rowOf runs count k ≡ unionRow (runAt runs k .low) (runAt runs k .set) (runsFrom runs count k)
+      → pairsRow runs count k ≡ unionRow (runAt runs k .low) (runAt runs k .set) (runsFrom runs count k)
   row-begun k h =
       row-first k h
       ∙ ap (onwards k) (sym (or-self (runAt runs k .set)))

@@ -24,7 +24,7 @@ use Rattle.decision.specs.Edges.{leadsTo}
 use Rattle.tables.specs.views.Planes.{rowIn, columnIn}
 use Rattle.tables.specs.views.TablesOf.{TablesOf}
 use Rattle.edges.specs.views.VertexKey.{keyWith, vertexKey}
-use Rattle.edges.specs.views.KeysBehind.{both, settledIn, heldIn, leadBy, leadIn}
+use Rattle.edges.specs.views.KeysBehind.{common, settledIn, heldIn, leadBy, leadIn}
 use Rattle.edges.proofs.Widths.{any-within, members-within, those-where}
 
 -- An edge leads to one vertex, however the tests that are left are said.
@@ -38,8 +38,8 @@ leads-same rules live p q same =
 
 -- Of some live rules, those are settled that are settled among more.
 pub settled-among
-    : (s : List ℕ) (part live left : ℕ) → Subset part live → both part (settledIn s live left) ≡ settledIn s part left
-unfolding both settledIn
+    : (s : List ℕ) (part live left : ℕ) → Subset part live → common part (settledIn s live left) ≡ settledIn s part left
+unfolding common settledIn
 settled-among s part live left within =
     maskOf-same 64 _ _
     (λ i l.
@@ -117,7 +117,7 @@ module _ (rules : List Patterns) (order s : List ℕ) (tables : TablesOf rules o
 
     -- Where the settled rules are given, the code's key is that of the vertex.
     pub lead-is
-        : (clear : ℕ) → both live clear ≡ settledIn s live left
+        : (clear : ℕ) → common live clear ≡ settledIn s live left
         → leadIn s live left clear ≡ vertexKey (leadsTo rules live (has left))
     lead-is clear e =
         go (members 64 live) refl
@@ -136,5 +136,5 @@ module _ (rules : List Patterns) (order s : List ℕ) (tables : TablesOf rules o
         go [] d = refl
         go (i ∷ []) d = ap (λ (x : ℕ). keyWith x 0) (power-of live i small d)
         go (i ∷ (j ∷ l)) d =
-            chosen (twoOrMore (members 64 (both live clear)))
+            chosen (twoOrMore (members 64 (common live clear)))
             ∙ ap (λ (l : List ℕ). vertexKey (cond (twoOrMore l) (leaf suspendNode) (asking key))) (settled-members e)

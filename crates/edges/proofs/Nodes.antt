@@ -28,7 +28,7 @@ use Rattle.tables.specs.views.TablesOf.{TablesOf, isPlace, testCode, Near}
 use Rattle.codes.specs.views.Codes.{SoundWant}
 use Rattle.decision.specs.views.CaseCodes.{caseLow, caseHigh}
 use Rattle.cuts.specs.views.Cuts.{partAt, cutsIn}
-use Rattle.cuts.specs.views.Runs.{switchRuns, caseOf}
+use Rattle.cuts.specs.views.Runs.{switchRuns, runCase}
 use Rattle.cuts.specs.views.CutsOf.{CutsOf, caseRun}
 use Rattle.cuts.proofs.ListedWants.{wants-sound}
 use Rattle.cuts.proofs.CaseCodes.{case-of-run}
@@ -40,7 +40,7 @@ use Rattle.edges.proofs.EdgeKeys.{none-is, other-is, run-is, unknown-is
 
 -- The codes of a case say which it is.
 abbrev Told : Case → Type 0
-Told c = caseOf (caseLow c) (caseHigh c) ≡ c
+Told c = runCase (caseLow c) (caseHigh c) ≡ c
 
 -- Edges are the same where each is.
 edges-same

@@ -14,7 +14,7 @@ use Rattle.graph.specs.declared.NodeRecord.the-variants.{End, Switch, Pair}
 use Rattle.graph.specs.views.WriteNode.{nodeRecordBytes, caseRecordBytes}
 use Rattle.tables.specs.views.Planes.{rulesIn, placeTestsIn, testIn}
 use Rattle.cuts.specs.views.Cuts.{partAt, cutsIn}
-use Rattle.cuts.specs.views.Runs.{Run, caseOf, switchRuns}
+use Rattle.cuts.specs.views.Runs.{Run, runCase, switchRuns}
 use Rattle.edges.specs.declared.Asked.{Asked}
 use Rattle.edges.specs.views.KeysBehind.{askedIn, noneBehind, otherBehind, runBehind, unknownBehind}
 use Rattle.edges.specs.views.NodeIn.{runEdge, nodeIn}
@@ -30,10 +30,10 @@ module _ (s : List ℕ) (keys : List Key) (asked : Asked) where
   -- The record of the case that leads to a node is that of the next run.
   pub case-next
       : {rest more : List Run} (run : Run) → rest ≡ run ∷ more → {node : ℕ} (r : CaseRecord)
-      → caseRecordBytes r ≡ caseBytes (caseOf (run .low) (run .high)) node → node ≡ keyNumber keys (runBehind s asked (run .set))
+      → caseRecordBytes r ≡ caseBytes (runCase (run .low) (run .high)) node → node ≡ keyNumber keys (runBehind s asked (run .set))
       → runBytes s keys asked rest ≡ caseRecordBytes r ++ runBytes s keys asked more
   case-next {rest} {more} run is r e d =
-      let same = e ∙ ap (caseBytes (caseOf (run .low) (run .high))) d in
+      let same = e ∙ ap (caseBytes (runCase (run .low) (run .high))) d in
       ap (runBytes s keys asked) is ∙ ap (λ (l : List ℕ). l ++ runBytes s keys asked more) (sym same)
 
   -- The cases of a switch are those of its runs,
@@ -44,7 +44,7 @@ module _ (s : List ℕ) (keys : List Key) (asked : Asked) where
   runs-bytes c (run ∷ rs) =
       ap
       (λ (l : List ℕ).
-      caseBytes (caseOf (run .low) (run .high)) (keyNumber keys (runBehind s asked (run .set))) ++ l)
+      caseBytes (runCase (run .low) (run .high)) (keyNumber keys (runBehind s asked (run .set))) ++ l)
       (runs-bytes c rs)
 
   -- as many.

@@ -11,7 +11,7 @@ use Rattle.met.specs.views.KeysMet.{keyNumber, countIn, keysIn}
 use Rattle.met.proofs.Meeting.{keys-length}
 use Rattle.keys.specs.views.Grown.{nodesFrom}
 use Rattle.emit.specs.views.Laid.{keysBytes}
-use Rattle.emit.specs.views.Written.{headerBytes}
+use Rattle.graph.specs.views.WriteNode.{headerBytes}
 
 pub graph-joined
     : (s c t : List ℕ) (arity rules : ℕ) {counted many : ℕ} → counted ≡ rules → many ≡ countIn t

@@ -7,8 +7,8 @@ use Rattle.basics.specs.Lists.{countFrom}
 use Rattle.decision.specs.Key.{Key}
 use Rattle.decision.specs.Node.{mapNode}
 use Rattle.decision.specs.GraphBytes.{caseBytes, nodesBytes}
-use Rattle.cuts.specs.views.Runs.{Run, caseOf, runsIn}
-use Rattle.cuts.specs.views.CaseRuns.{unionPairs, caseRuns, runsFrom, rowOf}
+use Rattle.cuts.specs.views.Runs.{Run, runCase, runsIn}
+use Rattle.cuts.specs.views.CaseRuns.{unionPairs, caseRuns, runsFrom, pairsRow}
 use Rattle.cuts.proofs.CaseRuns.{cases-parted, pairs-some}
 use Rattle.edges.specs.declared.Asked.{Asked}
 use Rattle.edges.specs.views.KeysBehind.{runBehind}
@@ -33,7 +33,7 @@ module _ (s : List ℕ) (keys : List Key) (asked : Asked) where
   runs-join : (rs qs : List Run) → runBytes s keys asked (rs ++ qs) ≡ runBytes s keys asked rs ++ runBytes s keys asked qs
   runs-join [] qs = refl
   runs-join (r ∷ rs) qs =
-      let piece = caseBytes (caseOf (r .low) (r .high)) (keyNumber keys (runBehind s asked (r .set))) in
+      let piece = caseBytes (runCase (r .low) (r .high)) (keyNumber keys (runBehind s asked (r .set))) in
       ap (λ (l : List ℕ). piece ++ l) (runs-join rs qs)
       ∙ sym (append-assoc piece (runBytes s keys asked rs) (runBytes s keys asked qs))
 
@@ -49,10 +49,10 @@ module _ (s : List ℕ) (keys : List Key) (asked : Asked) where
     -- and these, row after row.
     pub pairs-bytes : (k : ℕ) → k < count
         → runBytes s keys asked (unionPairs (runsFrom runs count k))
-        ≡ runBytes s keys asked (rowOf runs count k) ++ runBytes s keys asked (unionPairs (runsFrom runs count (k + 1)))
+        ≡ runBytes s keys asked (pairsRow runs count k) ++ runBytes s keys asked (unionPairs (runsFrom runs count (k + 1)))
     pairs-bytes k h =
         ap (runBytes s keys asked) (pairs-some runs count k h)
-        ∙ runs-join (rowOf runs count k) (unionPairs (runsFrom runs count (k + 1)))
+        ∙ runs-join (pairsRow runs count k) (unionPairs (runsFrom runs count (k + 1)))
 
 -- The nodes of the keys met.
 module _ (s c t : List ℕ) where

@@ -28,8 +28,8 @@ ghost use Rattle.decision.specs.GraphBytes.{caseBytes};
 ghost use Rattle.graph.specs.views.WriteNode.{caseRecordBytes};
 ghost use Rattle.tables.specs.views.Planes.{rulesIn, placeTestsIn};
 ghost use Rattle.cuts.specs.views.Cuts.{Parted};
-ghost use Rattle.cuts.specs.views.Runs.{caseOf, runsIn};
-ghost use Rattle.cuts.specs.views.CaseRuns.{unionPairs, caseRuns, runsFrom, rowOf};
+ghost use Rattle.cuts.specs.views.Runs.{runCase, runsIn};
+ghost use Rattle.cuts.specs.views.CaseRuns.{unionPairs, caseRuns, runsFrom, pairsRow};
 ghost use Rattle.edges.specs.views.VertexKey.{keyIn};
 ghost use Rattle.met.specs.views.KeysMet.{keyNumber, keysIn, Chained};
 ghost use Rattle.emit.specs.views.Laid.{runBytes, askBytes, keyBytes};
@@ -46,7 +46,7 @@ fn node_of(keys: &Keys, key: Key) -> u16
 // The record of the case whose codes run from one to another. Not the record of a symbol that has a compound's id, nor one of
 // numbers that ends at its low.
 fn case_record(first: u64, last: u64, node: u16) -> CaseRecord
-    ensures { λ r. ⌜ caseRecordBytes r ≡ caseBytes (caseOf first last) node ⌝ }
+    ensures { λ r. ⌜ caseRecordBytes r ≡ caseBytes (runCase first last) node ⌝ }
 {
     if first < 0x200_0000 {
         return CaseRecord::Symbol((first % 0x1_0000) as u16, node);
@@ -95,9 +95,9 @@ fn put_row(
     keys: &Keys,
 ) -> usize
     requires { ⌜ Chained (now keys) × (row .first < row .count) × (row .count ≤ 129)
-        × Room (now buf) start (runBytes (now s) (keysIn (now keys)) asked (rowOf (now runs) (row .count) (row .first))) ⌝ }
+        × Room (now buf) start (runBytes (now s) (keysIn (now keys)) asked (pairsRow (now runs) (row .count) (row .first))) ⌝ }
     ensures { λ r. ⌜ Wrote (now (buf .entry)) start (runBytes (now (s .entry)) (keysIn (now (keys .entry))) asked
-        (rowOf (now (runs .entry)) (row .count) (row .first))) r (now (buf .exit)) ⌝ }
+        (pairsRow (now (runs .entry)) (row .count) (row .first))) r (now (buf .exit)) ⌝ }
 {
     let first = row.first;
     let count = row.count;

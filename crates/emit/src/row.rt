@@ -13,7 +13,8 @@ ghost use Rattle.cuts.specs.views.Cuts.{Parted};
 ghost use Rattle.met.specs.views.KeysMet.{keysIn, Chained};
 ghost use Rattle.keys.specs.views.Grown.{nodesFrom};
 ghost use Rattle.emit.specs.views.Laid.{keysBytes};
-ghost use Rattle.emit.specs.views.Written.{Room, Wrote, headerBytes};
+ghost use Rattle.emit.specs.views.Written.{Room, Wrote};
+ghost use Rattle.graph.specs.views.WriteNode.{headerBytes};
 
 // The header of a graph at the front of a buffer, and the position behind it. Not the rules before the arity, nor a node count with
 // its low byte first.

@@ -17,7 +17,7 @@ use Rattle.sheet_tests.specs.views.TestsRead.{keptTests}
 use Rattle.decision.specs.Rules.{sameTest}
 use Rattle.basics.proofs.Filters.{mem-filter, filter-mem, mem-any, any-mem}
 use Rattle.graph.specs.ReadGraph.{isSheetTest, readBy}
-use Rattle.node_check.specs.views.CheckNode.{isPair, keptTest}
+use Rattle.node_check.specs.views.CheckNode.{isCode, keptTest}
 use Rattle.node_check.proofs.KeptTests.{place-lacking}
 use Rattle.basics.proofs.Booleans.{same-truth}
 use Rattle.basics.proofs.Counting.{mem-count}
@@ -28,9 +28,9 @@ place-any [] [] n = refl
 place-any [] (c ∷ cs) n = place-any [] cs n
 place-any (p ∷ ps) cs n = ap (λ (b : Bool). eqb n p || b) (place-any ps cs n)
 
-pair-any : (ps cs : List ℕ) (p q : ℕ) → anyOf (sameTest (pair p q)) (map place ps ++ map codePair cs) ≡ anyOf (isPair p q) cs
+pair-any : (ps cs : List ℕ) (p q : ℕ) → anyOf (sameTest (pair p q)) (map place ps ++ map codePair cs) ≡ anyOf (isCode p q) cs
 pair-any [] [] p q = refl
-pair-any [] (c ∷ cs) p q = ap (λ (b : Bool). isPair p q c || b) (pair-any [] cs p q)
+pair-any [] (c ∷ cs) p q = ap (λ (b : Bool). isCode p q c || b) (pair-any [] cs p q)
 pair-any (x ∷ ps) cs p q = pair-any ps cs p q
 
 -- A place is in the set exactly when it is listed: none past the last word is.

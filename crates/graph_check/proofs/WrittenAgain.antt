@@ -24,7 +24,8 @@ use Rattle.graph_check.specs.declared.Rewrote.the-variants as rewrote
 use Rattle.graph_check.specs.Rewritten.{rewritten, leftBy}
 use Rattle.graph_check.proofs.Headers.{HeaderOf}
 use Rattle.graph_check.proofs.AcceptedBytes as accepted
-use Rattle.graph_check.specs.views.Header.{fieldsOf, fieldsReading, fieldsRead, headerBytes}
+use Rattle.graph_check.specs.views.Header.{fieldsOf, fieldsReading, fieldsRead}
+use Rattle.graph.specs.views.WriteNode.{headerBytes}
 
 -- A graph that was refused before question 19.
 module _ (s g buffer : List ℕ) where

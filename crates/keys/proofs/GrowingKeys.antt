@@ -19,7 +19,7 @@ use Rattle.met.specs.views.KeysMet.{keyNumber, meetAll, keyAt, countIn, keysIn}
 use Rattle.met.proofs.Meeting.{keys-length, key-at, meet-all, meet-longer}
 use Rattle.keys.specs.declared.Measured.{Measured}
 use Rattle.keys.specs.declared.Measured.the-variants.{Bytes, TooMany}
-use Rattle.keys.specs.views.Expanded.{recordLength, EdgesMet}
+use Rattle.keys.specs.views.Expanded.{nodeLength, EdgesMet}
 use Rattle.keys.specs.views.Grown.{keysFrom, Grown}
 use Rattle.keys.proofs.Targets.{length-anywhere}
 use Rattle.keys.proofs.Growing.{leftFrom, left-turn, left-done, left-many}
@@ -34,7 +34,7 @@ module _ (s c : List ℕ) where
   -- How long the records of the nodes of keys are.
   abbrev recordsLength : List Key → ℕ
   recordsLength [] = 0
-  recordsLength (k ∷ ks) = recordLength (nodeIn s c k) + recordsLength ks
+  recordsLength (k ∷ ks) = nodeLength (nodeIn s c k) + recordsLength ks
 
   records-join : (ks ls : List Key) → recordsLength (ks ++ ls) ≡ recordsLength ks + recordsLength ls
   records-join [] ls = omega arith
@@ -71,7 +71,7 @@ module _ (s c : List ℕ) where
   -- Then the edges of the next key are met.
   growing-turn
       : (d : Key) (keys : List Key) (k bytes : ℕ) → Growing keys k bytes → k < length keys → k < mostNodes
-      → Growing (meetAll keys (nextIn (getD keys k d))) (k + 1) (bytes + recordLength (nodeIn s c (getD keys k d)))
+      → Growing (meetAll keys (nextIn (getD keys k d))) (k + 1) (bytes + nodeLength (nodeIn s c (getD keys k d)))
   growing-turn d keys k bytes state h room =
       let key : Key = getD keys k d in
       let new : List Key = newOnes sameKey keys (nextIn key) in
@@ -96,9 +96,9 @@ module _ (s c : List ℕ) where
 
     module _ (h : k < countIn t) (small : countIn t ≤ 1024) (r : Measured) (u : List ℕ)
         (met : EdgesMet (nodeIn s c (keyAt t k)) (keysIn t) r u) where
-      turned : Growing (meetAll (keysIn t) (nextIn (keyAt t k))) (k + 1) (bytes + recordLength (nodeIn s c (keyAt t k)))
+      turned : Growing (meetAll (keysIn t) (nextIn (keyAt t k))) (k + 1) (bytes + nodeLength (nodeIn s c (keyAt t k)))
       turned =
-          subst (λ (key : Key). Growing (meetAll (keysIn t) (nextIn key)) (k + 1) (bytes + recordLength (nodeIn s c key)))
+          subst (λ (key : Key). Growing (meetAll (keysIn t) (nextIn key)) (k + 1) (bytes + nodeLength (nodeIn s c key)))
           (key-at t k h)
           (growing-turn (keyAt t 0) (keysIn t) k bytes state (omega (arith, keys-length t)) (omega arith))
 
@@ -107,9 +107,9 @@ module _ (s c : List ℕ) where
       grown-turn {more} e =
           let m : EdgesMet (nodeIn s c (keyAt t k)) (keysIn t) (Bytes more) u =
           subst (λ (x : Measured). EdgesMet (nodeIn s c (keyAt t k)) (keysIn t) x u) e met in
-          let size : bytes + recordLength (nodeIn s c (keyAt t k)) ≡ bytes + more = omega (arith, m .1) in (
+          let size : bytes + nodeLength (nodeIn s c (keyAt t k)) ≡ bytes + more = omega (arith, m .1) in (
             subst (λ (n : ℕ). Growing (keysIn u) (k + 1) n) size
-                (subst (λ (l : List Key). Growing l (k + 1) (bytes + recordLength (nodeIn s c (keyAt t k)))) (sym (m .0)) turned),
+                (subst (λ (l : List Key). Growing l (k + 1) (bytes + nodeLength (nodeIn s c (keyAt t k)))) (sym (m .0)) turned),
             omega (arith, meet-longer (keysIn t) (nextIn (keyAt t k)), ap length (m .0), keys-length t, keys-length u),
           )
 

@@ -10,8 +10,8 @@ use Rattle.decision.specs.Key.{Key}
 use Rattle.decision.specs.Node.{CaseEdge}
 use Rattle.decision.specs.Graph.{mostNodes}
 use Rattle.decision.specs.GraphBytes.{caseBytes}
-use Rattle.cuts.specs.views.Runs.{caseOf, runAt, runsIn}
-use Rattle.cuts.specs.views.CaseRuns.{unionRow, unionPairs, caseRuns, runsFrom, rowOf}
+use Rattle.cuts.specs.views.Runs.{runCase, runAt, runsIn}
+use Rattle.cuts.specs.views.CaseRuns.{unionRow, unionPairs, caseRuns, runsFrom, pairsRow}
 use Rattle.cuts.proofs.CaseRuns.{cases-parted, pairs-some, pairs-none, row-first, row-begun, row-some, row-none}
 use Rattle.edges.specs.declared.Asked.{Asked}
 use Rattle.edges.specs.views.KeysBehind.{runBehind}
@@ -30,7 +30,7 @@ met-last keys key u e = e ∙ sym (meet-again keys key) ∙ ap (λ (l : List Key
 module _ (s c : List ℕ) (asked : Asked) (runs : List ℕ) (count first : ℕ) where
   -- All pairs of the row, and those from last run k on, where `set` is the union so far.
   abbrev pub rowEdges : List (CaseEdge Key)
-  rowEdges = map (runEdge s c asked) (rowOf runs count first)
+  rowEdges = map (runEdge s c asked) (pairsRow runs count first)
 
   abbrev pub rowLeft : ℕ → ℕ → List (CaseEdge Key)
   rowLeft set k = map (runEdge s c asked) (unionRow (runAt runs first .low) set (runsFrom runs count k))
@@ -77,7 +77,7 @@ module _ (s c : List ℕ) (asked : Asked) (runs : List ℕ) (count first : ℕ) 
     -- The key behind the next pair is met,
     pub row-next
         : {u : List ℕ} {size : ℕ} → k < count → keysIn u ≡ meet (keysIn t) (behind more)
-        → size ≡ length (caseBytes (caseOf (runAt runs first .low) (runAt runs k .high)) 0)
+        → size ≡ length (caseBytes (runCase (runAt runs first .low) (runAt runs k .high)) 0)
         → CasesLeft rowEdges (rowLeft more (k + 1)) keys u (bytes + size)
     row-next h met size = cases-next nextEdge (next-head h) state met size
 
@@ -99,7 +99,7 @@ module _ (s c : List ℕ) (asked : Asked) (runs : List ℕ) (count : ℕ) where
   pub pairs-next : (k : ℕ) → k < count → pairsLeft k ≡ rowEdges s c asked runs count k ++ pairsLeft (k + 1)
   pairs-next k h =
       ap (map (runEdge s c asked)) (pairs-some runs count k h)
-      ∙ map-join (runEdge s c asked) (rowOf runs count k) (unionPairs (runsFrom runs count (k + 1)))
+      ∙ map-join (runEdge s c asked) (pairsRow runs count k) (unionPairs (runsFrom runs count (k + 1)))
 
   pub pairs-end : (k : ℕ) → count ≤ k → pairsLeft k ≡ []
   pairs-end k h = ap (map (runEdge s c asked)) (pairs-none runs count k h)

@@ -10,7 +10,7 @@ use Rattle.decision.specs.Key.{Key}
 use Rattle.decision.specs.Cases.{Case, symbolCase, compoundCase, numbersCase}
 use Rattle.decision.specs.Node.{Node, CaseEdge, end, switch, pairNode, edges, mapCase, mapNode}
 use Rattle.decision.specs.GraphBytes.{caseBytes, casesBytes, nodeBytes}
-use Rattle.keys.specs.views.Expanded.{recordLength}
+use Rattle.keys.specs.views.Expanded.{nodeLength}
 
 -- Cases that lead to the same things are the same,
 cases-same
@@ -54,7 +54,7 @@ cases-anywhere f g (c ∷ cs) =
     )
 
 -- and so is the record of a node.
-pub length-anywhere : (f : Key → ℕ) (node : Node Key) → length (nodeBytes (mapNode f node)) ≡ recordLength node
+pub length-anywhere : (f : Key → ℕ) (node : Node Key) → length (nodeBytes (mapNode f node)) ≡ nodeLength node
 length-anywhere f (end l) = refl
 length-anywhere f (switch n cs x y) = omega (arith, cases-anywhere f (λ (k : Key). 0) cs)
 length-anywhere f (pairNode p q x y) = refl

@@ -27,8 +27,8 @@ ghost use Rattle.decision.specs.GraphBytes.{leafBytes, caseBytes};
 ghost use Rattle.graph.specs.views.NodeRecord.{leafOf};
 ghost use Rattle.tables.specs.views.Planes.{rulesIn, placeTestsIn};
 ghost use Rattle.cuts.specs.views.Cuts.{Parted};
-ghost use Rattle.cuts.specs.views.Runs.{caseOf, runsIn};
-ghost use Rattle.cuts.specs.views.CaseRuns.{unionPairs, caseRuns, runsFrom, rowOf};
+ghost use Rattle.cuts.specs.views.Runs.{runCase, runsIn};
+ghost use Rattle.cuts.specs.views.CaseRuns.{unionPairs, caseRuns, runsFrom, pairsRow};
 ghost use Rattle.edges.specs.views.VertexKey.{keyIn};
 ghost use Rattle.edges.specs.views.NodeIn.{runEdge, askIn, nodeIn};
 ghost use Rattle.met.specs.views.KeysMet.{keyAt, countIn, keysIn, Chained};
@@ -47,7 +47,7 @@ fn leaf_length(leaf: Leaf) -> usize
 
 // The length of the record of the case that begins at a code. Not a symbol's for a compound, nor a compound's for numbers.
 fn case_length(code: u64) -> usize
-    ensures { λ r. ⌜ ((high : ℕ) → r ≡ length (caseBytes (caseOf code high) 0)) × (r ≤ 7) ⌝ }
+    ensures { λ r. ⌜ ((high : ℕ) → r ≡ length (caseBytes (runCase code high) 0)) × (r ≤ 7) ⌝ }
 {
     if code < 0x200_0000 {
         return 5;
@@ -98,7 +98,7 @@ fn meet_points(keys: &mut Keys, s: &Tables, asked: Asked, runs: &Runs, count: us
 fn meet_row(keys: &mut Keys, s: &Tables, asked: Asked, runs: &Runs, row: Row) -> Measured
     requires { ⌜ Chained (now keys) × (row .first < row .count) × (row .count ≤ 129) ⌝ }
     ensures { λ r. ⌜ ((c : List ℕ)
-        → CasesMet (map (runEdge (now (s .entry)) c asked) (rowOf (now (runs .entry)) (row .count) (row .first)))
+        → CasesMet (map (runEdge (now (s .entry)) c asked) (pairsRow (now (runs .entry)) (row .count) (row .first)))
         (keysIn (now (keys .entry))) r (now (keys .exit))) ⌝ }
     ensures { λ r. ⌜ Chained (now (keys .exit)) × AtMost 903 r ⌝ }
 {

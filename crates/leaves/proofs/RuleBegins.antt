@@ -15,7 +15,7 @@ use Rattle.sheet_tests.specs.views.TestedPlaces.{placesIn}
 use Rattle.test_list.specs.views.Tests.{testsPut}
 use Rattle.test_list.proofs.TestsListed.{listed-other}
 use Rattle.rows.proofs.SheetRows.{zeros}
-use Rattle.rule_masks.specs.views.Kept.{Arrays, SameTests}
+use Rattle.rule_masks.specs.views.Kept.{Arrays, TestsStay}
 use Rattle.rule_masks.proofs.ListedTests.{arrays-fit}
 use Rattle.leaves.specs.views.Seeking.{Seeking, BeginAt, Begins, beginOf, notedIn, passedBy}
 use Rattle.leaves.proofs.RulesLeft.{seeking-starts}
@@ -85,12 +85,12 @@ module _ (s : List ℕ) (arity count : ℕ) where
           subst (λ (k : ℕ). Seeking (readRule arity) pnil s count (pred rule) begin k) before (noted (eqb-false begin 0 e))
 
 -- The tests stay where no begin was noted yet, and where one more is.
-pub tests-start : (kept : List ℕ) → length kept ≡ 324 → SameTests kept kept
+pub tests-start : (kept : List ℕ) → length kept ≡ 324 → TestsStay kept kept
 tests-start kept long = record { entries = long; same = λ k h. refl }
 
 pub tests-stay
-    : (kept others : List ℕ) (i at : ℕ) {next : List ℕ} → SameTests kept others → next ≡ notedIn others i at → length next ≡ 324
-    → SameTests kept next
+    : (kept others : List ℕ) (i at : ℕ) {next : List ℕ} → TestsStay kept others → next ≡ notedIn others i at → length next ≡ 324
+    → TestsStay kept next
 tests-stay kept others i at {next} stay e long = record {
   entries = long;
   same = λ k h. ap (λ (l : List ℕ). getD l k 0) e ∙ go (ltb i 64) k h ∙ stay .same k h;

@@ -7,7 +7,7 @@ ghost use mathlib.Core.Path.{_≡_};
 ghost use lib.ListN.{length};
 ghost use Rattle.sheet.specs.ReadSheet.{readRules};
 ghost use Rattle.graph.specs.views.Rewriting.{IsTook};
-ghost use Rattle.rule_masks.specs.views.Kept.{SameTests};
+ghost use Rattle.rule_masks.specs.views.Kept.{TestsStay};
 ghost use Rattle.leaves.specs.views.Seeking.{Begins, beginOf, notedIn, passedBy};
 
 // The same number at another width.
@@ -44,7 +44,7 @@ pub fn rule_begins(s: &[u8], arity: usize, count: u8, notes: &mut [u64; 680], ke
     requires { ⌜ (arity ≤ 8) × IsTook (readRules arity count (now s)) × (length (now notes) ≡ 680)
         × (length (now kept) ≡ 324) × Begins (now s) arity count (now kept) ⌝ }
     ensures { λ _. ⌜ Begins (now (s .entry)) arity count (now (kept .exit))
-        × SameTests (now (kept .entry)) (now (kept .exit)) × (length (now (notes .exit)) ≡ 680) ⌝ }
+        × TestsStay (now (kept .entry)) (now (kept .exit)) × (length (now (notes .exit)) ≡ 680) ⌝ }
 {
     let mut at: usize = 0;
     let mut i: u8 = 0;

@@ -22,7 +22,7 @@ ghost use Rattle.test_list.specs.views.Tests.{Counted};
 ghost use Rattle.graph.specs.views.Rewriting.{readOr};
 ghost use Rattle.rule_masks.specs.views.RuleMasks.{notesMasks};
 ghost use Rattle.leaves.specs.views.LeafAnswers.{executedBy, executedOf};
-ghost use Rattle.leaves.specs.views.TakenNotes.{takenNotes, countOf};
+ghost use Rattle.leaves.specs.views.TakenNotes.{takenNotes, notesTaken};
 ghost use Rattle.rule_masks.specs.views.Kept.{listedTests};
 ghost use Rattle.leaves.specs.views.RuleRead.{RuleRead};
 ghost use Rattle.leaves.specs.views.Seeking.{BeginAt};
@@ -42,8 +42,8 @@ pub fn notes_at(
     requires { ⌜ BeginAt (now s) arity count rule begin ⌝ }
     ensures { λ r. ⌜ takenNotes (now (notes .exit)) r
         ≡ some (ruleNotes (ruleAt (readOr [] (readRules arity count (now (s .entry)))) rule)) ⌝ }
-    ensures { λ r. ⌜ (countOf r ≤ 680) × (length (now (notes .exit)) ≡ 680)
-        × All Placed (notesIn (now (notes .exit)) (countOf r)) ⌝ }
+    ensures { λ r. ⌜ (notesTaken r ≤ 680) × (length (now (notes .exit)) ≡ 680)
+        × All Placed (notesIn (now (notes .exit)) (notesTaken r)) ⌝ }
 {
     let mut at = begin;
     let mut i = passed(begin, rule);

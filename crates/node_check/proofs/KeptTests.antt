@@ -13,7 +13,7 @@ use Rattle.masks.specs.Mask.{has}
 use Rattle.masks.proofs.Membership.{has-empty}
 use Rattle.basics.proofs.Booleans.{both-true, true-both, same-truth}
 use Rattle.sheet_tests.specs.views.TestedPlaces.{hasPlace}
-use Rattle.node_check.specs.views.CheckNode.{isPair}
+use Rattle.node_check.specs.views.CheckNode.{isCode}
 use Rattle.basics.specs.Lists.{anyOf}
 use Rattle.basics.proofs.Numbers.{eq-true}
 
@@ -23,9 +23,9 @@ place-lacking words n h =
     sym (ap (λ (x : ℕ). has x (n % 64)) (List·getD-eq-default words 0 h) ∙ has-empty (n % 64))
 
 -- The code of a pair of two-byte numbers is that pair's alone.
-code-same : (p q : ℕ) → q < 0x1_0000 → (code c : ℕ) → code ≡ p * 0x1_0000 + q → eqb code c ≡ isPair p q c
+code-same : (p q : ℕ) → q < 0x1_0000 → (code c : ℕ) → code ≡ p * 0x1_0000 + q → eqb code c ≡ isCode p q c
 code-same p q small code c e =
-    same-truth (eqb code c) (isPair p q c)
+    same-truth (eqb code c) (isCode p q c)
     (λ t.
     let f = eqb→eq code c t in
     true-both (eqb p (c / 0x1_0000)) (eqb q (c % 0x1_0000)) (eq-true p (c / 0x1_0000) (omega arith)) (eq-true q (c % 0x1_0000) (omega arith)))
@@ -36,22 +36,22 @@ code-same p q small code c e =
 -- The search for a pair among the first count codes, from i on.
 module _ (codes : List ℕ) (count p q i : ℕ) where
   abbrev pub among : Bool
-  among = anyOf (isPair p q) (take (count - i) (drop i codes))
+  among = anyOf (isCode p q) (take (count - i) (drop i codes))
 
   abbrev later : Bool
-  later = anyOf (isPair p q) (take (count - (i + 1)) (drop (i + 1) codes))
+  later = anyOf (isCode p q) (take (count - (i + 1)) (drop (i + 1) codes))
 
   -- Behind the last of them there is none.
   pub among-none : count ≤ i → false ≡ among
   among-none h =
       let none : count - i ≡ 0 = omega arith in
-      sym (ap (λ (k : ℕ). anyOf (isPair p q) (take k (drop i codes))) none)
+      sym (ap (λ (k : ℕ). anyOf (isCode p q) (take k (drop i codes))) none)
 
-  among-step : i < count → i < length codes → among ≡ (isPair p q (getD codes i 0) || later)
+  among-step : i < count → i < length codes → among ≡ (isCode p q (getD codes i 0) || later)
   among-step h k =
       let more : count - i ≡ suc (count - (i + 1)) = omega arith in
-      (λ j. anyOf (isPair p q) (take (more j) (drop-cons codes i 0 k j)))
-      ∙ ap (λ (m : ℕ). isPair p q (getD codes i 0) || anyOf (isPair p q) (take (count - (i + 1)) (drop m codes))) (sym (add-one i))
+      (λ j. anyOf (isCode p q) (take (more j) (drop-cons codes i 0 k j)))
+      ∙ ap (λ (m : ℕ). isCode p q (getD codes i 0) || anyOf (isCode p q) (take (count - (i + 1)) (drop m codes))) (sym (add-one i))
 
   module _ (h : i < count) (k : i < length codes) (small : q < 0x1_0000) where
     -- It stands at i,

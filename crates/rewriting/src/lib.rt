@@ -14,7 +14,7 @@ ghost use Rattle.decision.specs.GraphBytes.{nodesBytes};
 ghost use Rattle.graph.specs.views.Rewriting.{IsTook, readOr, readRecords};
 ghost use Rattle.rewriting.specs.declared.Copied.the-variants.{To};
 ghost use Rattle.graph_check.specs.Rewritten.{leftBy, rewritten};
-ghost use Rattle.graph_check.specs.views.Header.{headerBytes};
+ghost use Rattle.graph.specs.views.WriteNode.{headerBytes};
 
 // The copy of records: it ends at this byte, or the number of the question that got a no.
 pub enum Copied {

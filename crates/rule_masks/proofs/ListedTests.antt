@@ -23,7 +23,7 @@ use Rattle.test_list.specs.views.Tests.{testsPut, spotCode, Counted}
 use Rattle.test_list.proofs.TestsListed.{listed-tests, listed-place, listed-pair, listed-counted}
 use Rattle.test_list.proofs.SameTests.{same-counted}
 use Rattle.rule_masks.specs.views.TestNumbers.{codeTest}
-use Rattle.rule_masks.specs.views.Kept.{Arrays, listedCodes, listedTests, SameTests}
+use Rattle.rule_masks.specs.views.Kept.{Arrays, listedCodes, listedTests, TestsStay}
 use Rattle.rule_masks.proofs.CodeNumbers.{code-place, code-pair, listed-length, listed-at}
 use Rattle.rule_masks.proofs.PairsApart.{pairs-apart}
 
@@ -92,7 +92,7 @@ module _ (ps cs s : List ℕ) (entries : length s ≡ 324) (few : length ps + le
       (λ c h. code-pair c (λ e. omega (arith, e, h))) cs apart) i)
 
 -- Tables with the same tests list the same.
-module _ (kept others : List ℕ) (counted : Counted kept) (stay : SameTests kept others) where
+module _ (kept others : List ℕ) (counted : Counted kept) (stay : TestsStay kept others) where
   pub stay-counted : Counted others
   stay-counted = same-counted kept others (stay .entries ∙ sym (counted .entries)) (stay .same) counted
 

@@ -9,7 +9,7 @@ use Rattle.masks.specs.Mask.{maskOf}
 use Rattle.masks.proofs.Loops.{maskOf-none, turns-short}
 use Rattle.places.specs.Numbering.{stride, levelsAt}
 use Rattle.tables.specs.views.Planes.{testIn}
-use Rattle.test_list.specs.views.Tests.{inside, under, isSettled}
+use Rattle.test_list.specs.views.Tests.{isWithin, under, isSettled}
 
 module _ (s : List ℕ) (t : ℕ) where
   -- No test before t is.
@@ -21,10 +21,10 @@ module _ (s : List ℕ) (t : ℕ) where
   -- From t on a test is by its places.
   pub settled-here
       : (u : ℕ) → t ≤ u → {x end code : ℕ} {b : Bool} → x ≡ testIn s t → end ≡ x % 0x1_0000 + stride (levelsAt (x % 0x1_0000))
-      → code ≡ testIn s u → b ≡ (inside (x % 0x1_0000) end (code / 0x1_0000) || inside (x % 0x1_0000) end (code % 0x1_0000))
+      → code ≡ testIn s u → b ≡ (isWithin (x % 0x1_0000) end (code / 0x1_0000) || isWithin (x % 0x1_0000) end (code % 0x1_0000))
       → isSettled s t u ≡ b
   settled-here u h {x} {end} {code} place ends other test =
       ap (λ (b : Bool). b && under (testIn s t % 0x1_0000) (testIn s u)) (le-leb t u h)
       ∙ (λ j. under (sym place j % 0x1_0000) (sym other j))
-      ∙ ap (λ (e : ℕ). inside (x % 0x1_0000) e (code / 0x1_0000) || inside (x % 0x1_0000) e (code % 0x1_0000)) (sym ends)
+      ∙ ap (λ (e : ℕ). isWithin (x % 0x1_0000) e (code / 0x1_0000) || isWithin (x % 0x1_0000) e (code % 0x1_0000)) (sym ends)
       ∙ sym test

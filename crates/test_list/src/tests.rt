@@ -12,7 +12,7 @@ ghost use Rattle.places.specs.Numbering.{stride, levelsAt};
 ghost use Rattle.sheet_tests.specs.views.TestedPlaces.{placesIn};
 ghost use Rattle.tables.specs.views.Planes.{testsIn};
 ghost use Rattle.test_list.specs.views.Numbers.{numberAll};
-ghost use Rattle.test_list.specs.views.Tests.{Counted, putAll, spotCode, testsPut, inside, settledBelow, underPut};
+ghost use Rattle.test_list.specs.views.Tests.{Counted, putAll, spotCode, testsPut, isWithin, settledBelow, underPut};
 
 // The same numbers at other widths.
 fn spot(x: u16) -> u64
@@ -74,14 +74,14 @@ fn below_end(p: usize) -> usize
 
 // Does a number stand from p on before an end?
 fn is_inside(p: usize, end: usize, x: usize) -> bool
-    ensures { λ r. ⌜ r ≡ inside p end x ⌝ }
+    ensures { λ r. ⌜ r ≡ isWithin p end x ⌝ }
 {
     p <= x && x < end
 }
 
 // Does a place of the test with this code stand there?
 fn is_under(p: usize, end: usize, code: u64) -> bool
-    ensures { λ r. ⌜ r ≡ (inside p end (code / 0x1_0000) || inside p end (code % 0x1_0000)) ⌝ }
+    ensures { λ r. ⌜ r ≡ (isWithin p end (code / 0x1_0000) || isWithin p end (code % 0x1_0000)) ⌝ }
 {
     if is_inside(p, end, (code / 0x1_0000) as usize) {
         return true;

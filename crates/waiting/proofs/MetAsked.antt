@@ -19,7 +19,7 @@ use Rattle.decision.specs.Walk.{asksTest, testNotKnown, suspendWaits}
 use Rattle.path.specs.views.Following.{askedCodes, metCodes}
 use Rattle.path.proofs.PathsAgree.{nodes-each}
 use Rattle.rule_masks.specs.views.TestNumbers.{codeTest}
-use Rattle.waiting.specs.views.OpenTests.{openCells, isMet, metWaits}
+use Rattle.waiting.specs.views.OpenTests.{openCells, isAmong, metWaits}
 
 -- The code of a node's test is that of no other.
 abbrev pub Coded : Node ℕ → Type 0
@@ -28,14 +28,14 @@ Coded (switch n cs x y) = codeTest (pairCode n n) ≡ place n
 Coded (pairNode p q x y) = codeTest (pairCode p q) ≡ pair p q
 
 module _ (t : Test) where
-  one-asked : (n : Node ℕ) → Coded n → isMet (askedCodes n) t ≡ asksTest t n
+  one-asked : (n : Node ℕ) → Coded n → isAmong (askedCodes n) t ≡ asksTest t n
   one-asked (end l) c = refl
   one-asked (switch n cs x y) c = or-false (sameTest t (codeTest (pairCode n n))) ∙ ap (sameTest t) c
   one-asked (pairNode p q x y) c = or-false (sameTest t (codeTest (pairCode p q))) ∙ ap (sameTest t) c
 
   pub met-asked
       : (nodes : List (Node ℕ)) → All Coded nodes → (walked : List ℕ)
-      → isMet (metCodes nodes walked) t ≡ anyOf (λ (n : ℕ). asksTest t (nodeAt nodes n)) walked
+      → isAmong (metCodes nodes walked) t ≡ anyOf (λ (n : ℕ). asksTest t (nodeAt nodes n)) walked
   met-asked nodes h [] = refl
   met-asked nodes h (n ∷ walked) =
       any-join (λ (c : ℕ). sameTest t (codeTest c)) (askedCodes (nodeAt nodes n)) (metCodes nodes walked)

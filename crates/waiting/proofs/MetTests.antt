@@ -22,7 +22,7 @@ use Rattle.basics.proofs.Positions.{mem-at}
 use Rattle.sheet_tests.specs.SheetTests.{Test, place}
 use Rattle.decision.specs.Rules.{sameTest}
 use Rattle.decision.proofs.rules.TestsOfRules.{same-test}
-use Rattle.waiting.specs.views.OpenTests.{openCells, isMet, metWaits}
+use Rattle.waiting.specs.views.OpenTests.{openCells, isAmong, metWaits}
 use Rattle.rule_masks.specs.views.TestNumbers.{testNumber, codeTest, Once, withIf, KeptCode}
 use Rattle.rule_masks.specs.views.Kept.{listedTests, Listed}
 use Rattle.rule_masks.proofs.CodeNumbers.{listed-few}
@@ -100,7 +100,7 @@ module _ (tests : List Test) (cells : List ℕ) where
       ≡ metWaits tests cells (met ++ c ∷ [])
   unfolding metWaits
   met-more few once met c there =
-      set-with tests few once (openCells cells) (λ j. isMet met (test j)) (codeTest c) there
+      set-with tests few once (openCells cells) (λ j. isAmong met (test j)) (codeTest c) there
       ∙ maskOf-same (length tests) _ _
       (λ t h.
       ap (λ (b : Bool). b && openCells cells (test t))

@@ -28,7 +28,7 @@ use Rattle.walk.specs.declared.Walked.{Walked}
 use Rattle.walk.specs.declared.Walked.the-variants.{Answered, Refused}
 use Rattle.test_list.specs.views.Tests.{testsPut, Counted}
 use Rattle.rule_masks.specs.views.TestNumbers.{Once}
-use Rattle.rule_masks.specs.views.Kept.{Arrays, listedTests, SameTests}
+use Rattle.rule_masks.specs.views.Kept.{Arrays, listedTests, TestsStay}
 use Rattle.path.specs.views.Following.{Index, cellsEnd, nodesAt}
 use Rattle.walk.specs.views.LeafWalks.{endWalk}
 use Rattle.walk.specs.views.Ready.{LeafNode, AsksKept, Ready, AcceptedKept, Checked}
@@ -147,13 +147,13 @@ module _ (s words codes : List ℕ) {arity count pairs : ℕ} (t : AcceptedTests
       kept-counted (t .read .sheet .arity) (t .read .sheet .rules) (read-sound .fewArguments) (read-sound .acceptedRules) words codes
       pairs (t .tests) arrays blank entries
 
-  pub kept-stays : {kept : List ℕ} → kept ≡ listed → SameTests listed kept
+  pub kept-stays : {kept : List ℕ} → kept ≡ listed → TestsStay listed kept
   kept-stays e =
       record { entries = ap length e ∙ listed-counted .entries; same = λ k h. ap (λ (l : List ℕ). getD l k 0) e }
 
   -- So a graph that is accepted for it can be walked over.
   pub checked-kept
-      : (g starts : List ℕ) {nodes : ℕ} {kept : List ℕ} → SameTests listed kept
+      : (g starts : List ℕ) {nodes : ℕ} {kept : List ℕ} → TestsStay listed kept
       → AcceptedGraphAs (t .read .sheet) g starts nodes → Checked s g starts kept arity count nodes
   checked-kept g starts {nodes} {kept} stay f = record {
     sheet = record {

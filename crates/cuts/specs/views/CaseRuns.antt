@@ -27,5 +27,5 @@ caseRuns points rs = take points rs ++ unionPairs (drop points rs)
 abbrev pub runsFrom : List ℕ → ℕ → ℕ → List Run
 runsFrom runs count k = map (runAt runs) (countFrom k (count - k))
 
-abbrev pub rowOf : List ℕ → ℕ → ℕ → List Run
-rowOf runs count k = unionRow (runAt runs k .low) 0 (runsFrom runs count k)
+abbrev pub pairsRow : List ℕ → ℕ → ℕ → List Run
+pairsRow runs count k = unionRow (runAt runs k .low) 0 (runsFrom runs count k)

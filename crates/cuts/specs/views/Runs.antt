@@ -43,8 +43,8 @@ abbrev pub withRun : List ℕ → ℕ → Run → List ℕ
 withRun runs n r = set (set (set runs (3 * n) (r .low)) (3 * n + 1) (r .high)) (3 * n + 2) (r .set)
 
 -- The case whose codes run from one to another.
-abbrev pub caseOf : ℕ → ℕ → Case
-caseOf low high =
+abbrev pub runCase : ℕ → ℕ → Case
+runCase low high =
     cond (ltb low 0x200_0000) (symbolCase (low % 0x1_0000))
     (cond (ltb low 0x300_0000) (compoundCase (low / 256 % 0x1_0000) (low % 256))
     (numbersCase (low % 0x1_0000) (high % 0x1_0000)))

@@ -12,8 +12,8 @@ use Rattle.edges.specs.declared.Asked.{Asked}
 use Rattle.edges.specs.views.VertexKey.{keyWith}
 
 -- What is in two sets of numbers below 64, in the first alone, and all numbers below n.
-unfoldable pub both : ℕ → ℕ → ℕ
-both a b = maskOf 64 (λ j. has a j && has b j)
+unfoldable pub common : ℕ → ℕ → ℕ
+common a b = maskOf 64 (λ j. has a j && has b j)
 
 unfoldable pub minus : ℕ → ℕ → ℕ
 minus a b = maskOf 64 (λ j. has a j && not (has b j))
@@ -39,7 +39,7 @@ module _ (s : List ℕ) where
   leadBy [] live left settled = keyWith 0 0
   leadBy (i ∷ []) live left settled = keyWith live 0
   leadBy (i ∷ (j ∷ l)) live left settled =
-      cond (twoOrMore (members 64 (both live settled))) (keyWith 0 1) (keyWith live (heldIn live left))
+      cond (twoOrMore (members 64 (common live settled))) (keyWith 0 1) (keyWith live (heldIn live left))
 
   abbrev pub leadIn : ℕ → ℕ → ℕ → Key
   leadIn live left settled = leadBy (members 64 live) live left settled

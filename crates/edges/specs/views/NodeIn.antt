@@ -8,14 +8,14 @@ use Rattle.decision.specs.Key.{Key, failNode, suspendNode, executeNode}
 use Rattle.decision.specs.Node.{Node, CaseEdge, end, switch, pairNode}
 use Rattle.tables.specs.views.Planes.{rulesIn, placeTestsIn, testIn, firstAskedIn}
 use Rattle.cuts.specs.views.Cuts.{partAt, cutsIn}
-use Rattle.cuts.specs.views.Runs.{Run, switchRuns, caseOf}
+use Rattle.cuts.specs.views.Runs.{Run, switchRuns, runCase}
 use Rattle.edges.specs.declared.Asked.{Asked}
 use Rattle.edges.specs.views.KeysBehind.{askedIn, noneBehind, otherBehind, runBehind, unknownBehind}
 
 module _ (s c : List ℕ) where
   -- The cases of the switch that asks a place, each with the key behind it.
   abbrev pub runEdge : Asked → Run → CaseEdge Key
-  runEdge a run = record { case = caseOf (run .low) (run .high); target = runBehind s a (run .set) }
+  runEdge a run = record { case = runCase (run .low) (run .high); target = runBehind s a (run .set) }
 
   abbrev pub switchEdges : Asked → List (CaseEdge Key)
   switchEdges a = map (runEdge a) (switchRuns (a .live) (cutsIn c (partAt (rulesIn s) (a .test))))

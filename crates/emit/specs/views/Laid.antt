@@ -4,7 +4,7 @@ use mathlib.Core.List.{List, [], _∷_, _++_}
 use Rattle.decision.specs.Key.{Key}
 use Rattle.decision.specs.Node.{mapNode}
 use Rattle.decision.specs.GraphBytes.{caseBytes, nodeBytes, nodesBytes}
-use Rattle.cuts.specs.views.Runs.{Run, caseOf}
+use Rattle.cuts.specs.views.Runs.{Run, runCase}
 use Rattle.edges.specs.declared.Asked.{Asked}
 use Rattle.edges.specs.views.KeysBehind.{runBehind}
 use Rattle.edges.specs.views.NodeIn.{askIn, nodeIn}
@@ -15,7 +15,7 @@ use Rattle.keys.specs.views.Grown.{nodesFrom}
 abbrev pub runBytes : List ℕ → List Key → Asked → List Run → List ℕ
 runBytes s keys asked [] = []
 runBytes s keys asked (run ∷ runs) =
-    caseBytes (caseOf (run .low) (run .high)) (keyNumber keys (runBehind s asked (run .set))) ++ runBytes s keys asked runs
+    caseBytes (runCase (run .low) (run .high)) (keyNumber keys (runBehind s asked (run .set))) ++ runBytes s keys asked runs
 
 module _ (s c : List ℕ) (keys : List Key) where
   -- The node that asks, the node of a key, and all nodes.

@@ -1,9 +1,8 @@
 -- Bytes written at a position of a lent buffer (document 01, "Records", "Graph").
 use Prim.Native.Nat.{ℕ, _+_, _≤_}
 use mathlib.Core.Path.{_≡_}
-use mathlib.Core.List.{List, [], _∷_}
+use mathlib.Core.List.{List}
 use lib.ListN.{length}
-use Rattle.records.specs.Fields.{wideThen}
 use Rattle.records.specs.Writing.{splice}
 
 -- The buffer has room for the bytes there.
@@ -13,7 +12,3 @@ Room buffer at bytes = at + length bytes ≤ length buffer
 -- The bytes were written there: no other byte changed, and the last position is the one behind them.
 abbrev pub Wrote : List ℕ → ℕ → List ℕ → ℕ → List ℕ → Type 0
 Wrote before at bytes behind after = (behind ≡ at + length bytes) × (after ≡ splice before at bytes)
-
--- "12 (arity, number of rules, wide node count), then nodes 0, 1, ..": what stands before the nodes.
-abbrev pub headerBytes : ℕ → ℕ → ℕ → List ℕ
-headerBytes arity rules nodes = 0x12 ∷ arity ∷ rules ∷ wideThen nodes []

@@ -19,3 +19,7 @@ abbrev pub caseRecordBytes : CaseRecord → List ℕ
 caseRecordBytes (Symbol a n) = caseBytes (symbolCase a) n
 caseRecordBytes (Compound a k n) = caseBytes (compoundCase a k) n
 caseRecordBytes (Numbers l h n) = caseBytes (numbersCase l h) n
+
+-- "12 (arity, number of rules, wide node count), then nodes 0, 1, ..": what stands before the nodes.
+abbrev pub headerBytes : ℕ → ℕ → ℕ → List ℕ
+headerBytes arity rules nodes = 0x12 ∷ arity ∷ rules ∷ wideThen nodes []

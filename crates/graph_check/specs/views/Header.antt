@@ -1,8 +1,7 @@
--- A graph's first record as it is handed back and written (document 01, "Records", "Graph").
+-- A graph's first record as it is handed back (document 01, "Records", "Graph").
 use Prim.Native.Nat.{ℕ}
-use mathlib.Core.List.{List, [], _∷_}
+use mathlib.Core.List.{List}
 use lib.ListN.{length}
-use Rattle.records.specs.Fields.{wideThen}
 use Rattle.records.specs.Reading.{Reading, took, refused, andThen, mapReading}
 use Rattle.sheet.specs.Sheet.{Sheet}
 use Rattle.sheet_tests.specs.CheckSheet.{acceptSheet}
@@ -27,7 +26,3 @@ fieldsReading s g = andThen (acceptSheet s) (λ _ sheet. mapReading (fieldsOf sh
 abbrev pub fieldsRead : ℕ → GraphHeader → Reading HeaderFields
 fieldsRead bytes (header.Of a r n) = took bytes (record { arity = a; rules = r; nodes = n })
 fieldsRead bytes (header.Refused q) = refused q
-
--- "12 (arity, number of rules, wide node count)".
-abbrev pub headerBytes : ℕ → ℕ → ℕ → List ℕ
-headerBytes arity rules nodes = 0x12 ∷ arity ∷ rules ∷ wideThen nodes []

@@ -30,8 +30,8 @@ Below most (Ask t) = t < most
 abbrev pub casesLength : List (CaseEdge Key) → ℕ
 casesLength cs = length (casesBytes (map (mapCase (λ (k : Key). 0)) cs))
 
-abbrev pub recordLength : Node Key → ℕ
-recordLength node = length (nodeBytes (mapNode (λ (k : Key). 0) node))
+abbrev pub nodeLength : Node Key → ℕ
+nodeLength node = length (nodeBytes (mapNode (λ (k : Key). 0) node))
 
 -- The bytes measured are at most so many.
 abbrev pub AtMost : ℕ → Measured → Type 0
@@ -54,4 +54,4 @@ abbrev pub CasesMet : List (CaseEdge Key) → List Key → Measured → List ℕ
 CasesMet cs keys r t = Met keys (map (λ (c : CaseEdge Key). c .target) cs) (casesLength cs) r t
 
 abbrev pub EdgesMet : Node Key → List Key → Measured → List ℕ → Type 0
-EdgesMet node keys r t = Met keys (edges node) (recordLength node) r t
+EdgesMet node keys r t = Met keys (edges node) (nodeLength node) r t

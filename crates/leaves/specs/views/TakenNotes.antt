@@ -8,9 +8,9 @@ use Rattle.patterns.specs.views.Note.{Note}
 use Rattle.sheet.specs.views.NoteArray.{notesIn}
 
 -- How many notes the rule made.
-abbrev pub countOf : Took → ℕ
-countOf (Used bytes n) = n
-countOf (Refused q) = 0
+abbrev pub notesTaken : Took → ℕ
+notesTaken (Used bytes n) = n
+notesTaken (Refused q) = 0
 
 -- The notes, where the rule was not refused.
 abbrev pub takenNotes : List ℕ → Took → Option (List Note)

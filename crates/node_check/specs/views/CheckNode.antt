@@ -20,11 +20,11 @@ use Rattle.basics.specs.Lists.{anyOf}
 use Rattle.graph.specs.views.NodeRecord.{switchLength, onNode}
 
 -- A pair is among the first so many codes, each of which has p in its two high bytes and q in its two low ones.
-abbrev pub isPair : ℕ → ℕ → ℕ → Bool
-isPair p q code = eqb p (code / 0x1_0000) && eqb q (code % 0x1_0000)
+abbrev pub isCode : ℕ → ℕ → ℕ → Bool
+isCode p q code = eqb p (code / 0x1_0000) && eqb q (code % 0x1_0000)
 
 abbrev pub hasPair : List ℕ → ℕ → ℕ → ℕ → Bool
-hasPair codes count p q = anyOf (isPair p q) (take count codes)
+hasPair codes count p q = anyOf (isCode p q) (take count codes)
 
 abbrev pub keptTest : List ℕ → List ℕ → ℕ → Test → Bool
 keptTest words codes count (place n) = hasPlace words n

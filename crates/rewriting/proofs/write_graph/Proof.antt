@@ -12,7 +12,7 @@ use Rattle.node_check.proofs.CopiedNodes.{both-written}
 use borrow.Author.Needs.{needs}
 use Rattle.rewriting.proofs.write_graph.Statement.{statement}
 use Rattle.rewriting.proofs.write_graph.Tie as tie
-use Rattle.graph_check.specs.views.Header.{headerBytes}
+use Rattle.graph.specs.views.WriteNode.{headerBytes}
 
 high-requires : tie.Need-high-requires
 high-requires c κs = search needs

@@ -28,6 +28,6 @@ pub record Listed (kept : List ℕ) : Type 0 where
   pub once : Once (listedTests kept)
 
 -- The counts and the tests of other tables are the same.
-pub record SameTests (kept others : List ℕ) : Type 0 where
+pub record TestsStay (kept others : List ℕ) : Type 0 where
   pub entries : length others ≡ 324
   pub same : (k : ℕ) → k < 68 → getD others k 0 ≡ getD kept k 0

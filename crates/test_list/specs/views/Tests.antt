@@ -39,13 +39,13 @@ abbrev pub pairsListed : List ℕ → List ℕ
 pairsListed s = take (testsIn s - placeTestsIn s) (drop (4 + placeTestsIn s) s)
 
 -- The places at and below place p stand in a row that begins with p.
-abbrev pub inside : ℕ → ℕ → ℕ → Bool
-inside p end x = leb p x && ltb x end
+abbrev pub isWithin : ℕ → ℕ → ℕ → Bool
+isWithin p end x = leb p x && ltb x end
 
 abbrev pub under : ℕ → ℕ → Bool
 under p code =
     let end = p + stride (levelsAt p) in
-    inside p end (code / 0x1_0000) || inside p end (code % 0x1_0000)
+    isWithin p end (code / 0x1_0000) || isWithin p end (code % 0x1_0000)
 
 -- Of the tests from t on those that an unknown at the place of test t settles; a test before t is at no place below it.
 module _ (s : List ℕ) (t : ℕ) where

@@ -3,7 +3,7 @@ use native.Mathlib.Omega.{arith}
 use borrow.Author.Needs.{needs}
 use Rattle.masks.specs.Mask.{members}
 use Rattle.masks.proofs.Members.{members-none, members-one, members-two}
-use Rattle.edges.specs.views.KeysBehind.{both}
+use Rattle.edges.specs.views.KeysBehind.{common}
 use Rattle.edges.proofs.TwoOrMore.{two-or-more, one-at-most}
 use Rattle.edges.proofs.keys.lead.Statement.{statement}
 use Rattle.edges.proofs.keys.lead.Tie as tie
@@ -21,7 +21,7 @@ size-requires : tie.Need-size-requires
 size-requires c κs = search needs
 
 returns-3 : tie.Need-returns-3
-unfolding both
+unfolding common
 returns-3 c =
     let a = c .before .before .before .before .before .args in
     rw (
@@ -35,7 +35,7 @@ held-requires : tie.Need-held-requires
 held-requires c κs = search needs
 
 returns-4 : tie.Need-returns-4
-unfolding both
+unfolding common
 returns-4 c =
     let a = c .before .before .before .before .before .before .args in
     rw (

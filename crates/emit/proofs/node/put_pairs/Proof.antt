@@ -4,7 +4,7 @@ use mathlib.Core.Path.{_≡_, refl, ap, _∙_}
 use native.Mathlib.Omega.{arith}
 use lib.ListN.{length}
 use denote.Ref.{now}
-use Rattle.cuts.specs.views.CaseRuns.{unionPairs, runsFrom, rowOf}
+use Rattle.cuts.specs.views.CaseRuns.{unionPairs, runsFrom, pairsRow}
 use Rattle.cuts.proofs.CaseRuns.{pairs-none}
 use Rattle.met.specs.views.KeysMet.{keysIn}
 use Rattle.emit.specs.views.Laid.{runBytes}
@@ -46,7 +46,7 @@ put-row-requires c κs =
       start .pre .0,
       test,
       start .pre .2,
-      left-room (start .pre .3) (at .inv .2) (runBytes s keys (a .asked) (rowOf runs count (at .first)))
+      left-room (start .pre .3) (at .inv .2) (runBytes s keys (a .asked) (pairsRow runs count (at .first)))
           (runBytes s keys (a .asked) (unionPairs (runsFrom runs count (at .first + 1))))
           (pairs-bytes s keys (a .asked) runs count (at .first) test),
     )
@@ -71,7 +71,7 @@ loop-again c =
     let test = c .before .before .before .before .loop-test .taken in (
       c .before .buf .given ∙ at .inv .0,
       omega (arith, test),
-      left-next (start .pre .3) (at .inv .2) (runBytes s keys (a .asked) (rowOf runs count (at .first)))
+      left-next (start .pre .3) (at .inv .2) (runBytes s keys (a .asked) (pairsRow runs count (at .first)))
           (runBytes s keys (a .asked) (unionPairs (runsFrom runs count (at .first + 1))))
           (pairs-bytes s keys (a .asked) runs count (at .first) test) (c .before .before .put-row .ensures),
     )

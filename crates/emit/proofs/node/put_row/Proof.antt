@@ -10,7 +10,7 @@ use denote.Ref.{now}
 use borrow.Author.Needs.{needs}
 use Rattle.graph.specs.views.WriteNode.{caseRecordBytes}
 use Rattle.cuts.specs.views.Runs.{Run, runAt}
-use Rattle.cuts.specs.views.CaseRuns.{unionRow, runsFrom, rowOf}
+use Rattle.cuts.specs.views.CaseRuns.{unionRow, runsFrom, pairsRow}
 use Rattle.cuts.proofs.CaseRuns.{row-begun, row-some, row-none}
 use Rattle.edges.specs.views.KeysBehind.{runBehind}
 use Rattle.met.specs.views.KeysMet.{keyNumber, keysIn}
@@ -23,7 +23,7 @@ use Rattle.emit.proofs.node.put_row.Tie as tie
 abbrev Inv-loop : tie.InvT-loop
 Inv-loop buf₀ start s asked runs keys first count low set₀ node₀ at₀ k₀ buf set node at k =
     (length buf ≡ length buf₀) × (k ≤ count) × (node ≡ keyNumber (keysIn keys) (runBehind s asked set))
-    × Left buf₀ start (runBytes s (keysIn keys) asked (rowOf runs count first)) buf at
+    × Left buf₀ start (runBytes s (keysIn keys) asked (pairsRow runs count first)) buf at
     (runBytes s (keysIn keys) asked (unionRow (runAt runs first .low) set (runsFrom runs count k)))
 
 abbrev μ-loop : tie.MeasureT-loop
@@ -71,7 +71,7 @@ loop-holds c =
       refl,
       omega (arith, start .pre .1),
       node-of .ensures ∙ ap (keyNumber keys) (by-run .ensures),
-      left-start (now (a .buf)) (a .start) (runBytes s keys (a .asked) (rowOf runs count (a .row .first)))
+      left-start (now (a .buf)) (a .start) (runBytes s keys (a .asked) (pairsRow runs count (a .row .first)))
           (runBytes s keys (a .asked) (unionRow low set (runsFrom runs count (a .row .first))))
           (ap (runBytes s keys (a .asked)) (row-begun runs count (a .row .first) (start .pre .1))),
     )

@@ -4,7 +4,7 @@ use borrow.Author.Needs.{needs}
 use Rattle.tables.specs.views.Planes.{rulesIn}
 use Rattle.met.specs.views.KeysMet.{keysIn}
 use Rattle.emit.specs.views.Laid.{keysBytes}
-use Rattle.emit.specs.views.Written.{headerBytes}
+use Rattle.graph.specs.views.WriteNode.{headerBytes}
 use Rattle.emit.proofs.WritingOn.{both-wrote}
 use Rattle.emit.proofs.GraphWritten.{graph-joined}
 use Rattle.emit.proofs.row.put_graph.Statement.{statement}

@@ -7,7 +7,7 @@ use denote.Ref.{now}
 use Rattle.terms.specs.Pattern.{pnil}
 use Rattle.sheet.specs.ReadSheet.{readRule}
 use Rattle.sheet_tests.proofs.Scanning.{bytes-known, rule-read}
-use Rattle.rule_masks.specs.views.Kept.{SameTests}
+use Rattle.rule_masks.specs.views.Kept.{TestsStay}
 use Rattle.leaves.specs.views.Seeking.{Seeking, Begins}
 use Rattle.leaves.proofs.RulesLeft.{seeking-starts, seeking-next}
 use Rattle.leaves.proofs.RuleBegins.{begins-noted, tests-start, tests-stay}
@@ -18,7 +18,7 @@ use Rattle.leaves.proofs.begins.rule_begins.Tie as tie
 abbrev Inv-loop : tie.InvT-loop
 Inv-loop s arity count notes₀ kept₀ at₀ i₀ notes kept at i =
     (length notes ≡ 680) × (length kept ≡ 324) × (at ≤ length s) × Begins s arity count kept
-    × ((k : ℕ) → i ≤ k → k < count → Seeking (readRule arity) pnil s count k at i) × SameTests kept₀ kept
+    × ((k : ℕ) → i ≤ k → k < count → Seeking (readRule arity) pnil s count k at i) × TestsStay kept₀ kept
 
 abbrev μ-loop : tie.MeasureT-loop
 μ-loop s arity count notes₀ kept₀ at₀ i₀ notes kept at i = count - i

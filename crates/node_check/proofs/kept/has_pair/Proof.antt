@@ -1,6 +1,6 @@
 -- `graph::kept::has_pair` meets its contract: what is left to search gives the same answer.
 use Rattle.node_check.proofs.KeptTests.{among, among-here, among-next, among-none}
-use Rattle.node_check.specs.views.CheckNode.{isPair, hasPair}
+use Rattle.node_check.specs.views.CheckNode.{isCode, hasPair}
 use lib.ListN.{take}
 use Prim.Native.Nat.{_-_, _≤_}
 use denote.Ref.{now}
@@ -24,7 +24,7 @@ add-code : tie.Need-add-code Inv-loop μ-loop
 add-code c = search needs
 
 loop-holds : tie.Need-loop-holds Inv-loop μ-loop
-loop-holds c = let a = c .args in let none : a .count ≡ a .count - 0 = omega arith in (omega arith, ap (λ n. anyOf (isPair (a .p) (a .q)) (take n (now (a .codes)))) none)
+loop-holds c = let a = c .args in let none : a .count ≡ a .count - 0 = omega arith in (omega arith, ap (λ n. anyOf (isCode (a .p) (a .q)) (take n (now (a .codes)))) none)
 
 mul-if1 : tie.Need-mul-if1 Inv-loop μ-loop
 mul-if1 c = search needs

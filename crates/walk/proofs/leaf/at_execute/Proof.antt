@@ -12,7 +12,7 @@ use Rattle.pairs.specs.views.NoteVariables.{Placed}
 use Rattle.steps.proofs.HandedBack.{same-thing, something}
 use Rattle.rule_masks.specs.views.Kept.{listedTests}
 use Rattle.leaves.specs.views.Seeking.{BeginAt}
-use Rattle.leaves.specs.views.TakenNotes.{takenNotes, countOf}
+use Rattle.leaves.specs.views.TakenNotes.{takenNotes, notesTaken}
 use Rattle.rule_masks.specs.views.RuleMasks.{notesMasks}
 use Rattle.leaves.specs.views.LeafAnswers.{RuleEnd, executedBy}
 use Rattle.walk.specs.views.LeafWalks.{walkAfter}
@@ -52,7 +52,7 @@ at-rule-requires : tie.Need-at-rule-requires
 at-rule-requires c κs =
     let call = c .before .before .before .before .notes-at in
     let few = call .ensures .1 in
-    let told = ap countOf (c .before .before .taken2 .given .1) in
+    let told = ap notesTaken (c .before .before .taken2 .given .1) in
     let pre = c .before .before .before .before .before .before .before .before .before .pre in (
       omega (arith, few .0, told),
       few .1,

@@ -20,7 +20,7 @@ use Rattle.accepted.proofs.FoundTests.{found-accepts}
 use Rattle.graph.specs.views.Rewriting.{IsTook}
 use Rattle.graph_check.proofs.FoundGraph.{index-accepts, index-refuses}
 use Rattle.test_list.specs.views.Tests.{testsPut}
-use Rattle.rule_masks.specs.views.Kept.{Arrays, SameTests}
+use Rattle.rule_masks.specs.views.Kept.{Arrays, TestsStay}
 use Rattle.leaves.specs.views.Seeking.{Begins}
 use Rattle.leaves.proofs.RuleBegins.{none-noted}
 use Rattle.walk.proofs.Replies.{kept-stays, checked-kept}
@@ -160,7 +160,7 @@ returns-3 c =
     let starts = call .last .1 .1 .1 .1 .1 .1 .0 in
     let noted = c .rule-begins .ensures in
     let kept = c .rule-begins .last .1 .1 .1 .1 .0 in
-    let stay = subst (λ (l : List ℕ). SameTests l kept) (c .before .before .before .before .keep-tests .ensures) (noted .1) in
+    let stay = subst (λ (l : List ℕ). TestsStay l kept) (c .before .before .before .before .keep-tests .ensures) (noted .1) in
     let made = index-accepts s graph (words told) (codes told) starts (read told) (call .result) (call .ensures .0) (c .before .before .before .before .before .before .before .before .before .index2 .given .1) in (
       record {
         nodes = made .nodes;
