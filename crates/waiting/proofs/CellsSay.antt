@@ -25,7 +25,7 @@ use Rattle.codes.specs.views.Codes.{termRun, unknownRun}
 use Rattle.codes.proofs.TermRuns.{run-some}
 use Rattle.piece.specs.views.Cells.{foundRun}
 use Rattle.piece.specs.views.LaidOut.{pieceCells}
-use Rattle.outcomes.specs.views.Look.{nearest, look}
+use Rattle.outcomes.specs.views.Look.{nearestCell, look}
 use Rattle.outcomes.proofs.FoundRuns.{run-unknown}
 use Rattle.outcomes.proofs.LookFinds.{look-finds}
 use Rattle.decision.specs.Walk.{isNotKnown, isContradicted, testNotKnown, ruleTestsWhere}
@@ -55,7 +55,7 @@ module _ (rules : List Patterns) (piece : Terms) where
 own-cell
     : (cells : List ℕ) (n : ℕ) {run : ℕ} → look cells n ≡ run → (run ≡ 0 → ⊥) → (run ≡ unknownRun → ⊥) → getD cells n 0 ≡ run
 own-cell cells n {run} e some known =
-    go (eqb (getD cells n 0) 0) (eqb (nearest 3 cells (parentAt n)) unknownRun) e
+    go (eqb (getD cells n 0) 0) (eqb (nearestCell 3 cells (parentAt n)) unknownRun) e
   where
     go : (b c : Bool) → cond b (cond c unknownRun 0) (getD cells n 0) ≡ run → getD cells n 0 ≡ run
     go true true k = absurd (known (sym k))
