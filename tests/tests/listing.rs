@@ -35,6 +35,7 @@ fn run(folder: &Path, pieces: &[u8]) -> String {
         .stdin(File::open(&input).expect("a file"))
         .output()
         .expect("the program starts");
+    assert!(output.status.success(), "{}", output.status);
     String::from_utf8(output.stdout).expect("text")
 }
 

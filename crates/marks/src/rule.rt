@@ -7,7 +7,6 @@ use sheet::Took;
 use sheet::rule::after;
 use sheet::rule::noted;
 ghost use mathlib.Core.Path.{_≡_};
-ghost use mathlib.Core.List.{[]};
 ghost use Prim.Native.Nat.{suc, _+_, _*_, _≤_, _<_};
 ghost use lib.ListN.{length};
 ghost use Rattle.places.specs.Numbering.{stride};

@@ -7,6 +7,6 @@ use Rattle.packing.specs.Packed.{Field, bits8, bits32}
 abbrev pub bits24 : ℕ → Field
 bits24 x = record { values = 0x100_0000; value = x }
 
--- "results written (bits 8 to 31), bytes of the input taken by pieces that were read (bits 32 to 63)"
+-- Results written (bits 8 to 31), bytes of the input taken by pieces that were read (bits 32 to 63).
 abbrev pub walkAllFields : WalkAll → List Field
 walkAllFields x = bits8 (x .refusal) ∷ bits24 (x .results) ∷ bits32 (x .bytes) ∷ []

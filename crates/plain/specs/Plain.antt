@@ -10,7 +10,7 @@ use Rattle.piece.specs.ReadPiece.{readPiece}
 use Rattle.plain.specs.declared.Answer as answer
 use Rattle.plain.specs.declared.Plain as plain
 
--- The answer for a piece of bytes p, where these are the rules of an accepted sheet: "the piece's [questions], then 20": "20 Are
+-- The answer for a piece of bytes p, where these are the rules of an accepted sheet: "the piece's, then 20": "20 Are
 -- the two arities equal?"
 abbrev pub pieceReading : ℕ → List Patterns → List ℕ → Reading Answer
 pieceReading arity rules p =

@@ -1,7 +1,6 @@
 // The numbers of a sheet's tests: the place of a test's code among those that are listed.
 use tables::Tables;
 ghost use mathlib.Core.Path.{_≡_};
-ghost use Prim.Native.Nat.{_≤_};
 ghost use Rattle.test_list.specs.views.Tests.{Counted};
 ghost use Rattle.rule_masks.specs.views.TestNumbers.{testNumber, codeTest};
 ghost use Rattle.rule_masks.specs.views.Kept.{listedTests};

@@ -49,7 +49,7 @@ module _ (s g input buffer : List ℕ) where
       (omega (arith, few .0, min-le-right (length buffer / resultLength) mostResults), few .1)
   by-reading (refused q) = (omega arith, omega arith)
 
-  -- "a run stops before either field would overflow"
+  -- A run stops before either field would overflow.
   pub all-few : (walkAll s g input buffer .results ≤ mostResults) × (walkAll s g input buffer .bytes ≤ mostTaken)
   unfolding walkAll
   all-few = by-reading (graphReading s g)

@@ -62,7 +62,7 @@ module _ (s g input buffer : List ℕ) (read : All WasRead (piecesFor input buff
   by-graph (took k nodes) j = goes-on-in (min (length buffer / resultLength) mostResults) mostTaken input read j
   by-graph (refused q) j = none-passed input j
 
-  -- "so that a caller goes on where it stopped": where each piece of the run was read, piece j of what is left is the piece so many
+  -- A caller goes on where a run stopped: where each piece of the run was read, piece j of what is left is the piece so many
   -- behind the run's.
   pub goes-on
       : (j : ℕ) → pieceAt (walkAll s g input buffer .results + j) input ≡ pieceAt j (drop (walkAll s g input buffer .bytes) input)

@@ -1,6 +1,6 @@
 -- The variables of a rule, and its pairs, read off its notes.
 use Prim.Native.Nat.{ℕ, _<_}
-use mathlib.Core.Bool.{Bool, true, false}
+use mathlib.Core.Bool.{Bool, false}
 use mathlib.Core.List.{List, [], _∷_, map}
 use lib.Dec.{eqb}
 use Rattle.terms.specs.RuleTests.{Occurrence, PairTest, pairsOf, pairsWith}
