@@ -24,9 +24,10 @@
  *               11  at most 64 tests
  *   piece       12  begins with a whole 11 record
  *               13  arity 1 to 8
- *               14  each term is a whole record of kinds 30 to 33
+ *               14  each term is a whole record of kinds 30 to 34
  *               15  a compound's depth is at most 3
  *               16  a compound's arity is 1 to 4
+ *               32  a span's low is at most its high; asked after 16 at that term, before the next term's 14
  *               17  no bytes are left
  *   building    18  the graph has at most 1,024 nodes
  *   writing     19  it fits the lent buffer
@@ -34,7 +35,7 @@
  *   graph       21  begins with a whole 12 record: the sheet's arity and rule count, 1 to 1,024 nodes
  *   each node   22  whole record of kinds 40 to 43 or 47, a switch with 1 case or more of kinds 44 to 46
  *               23  nodes and rule in range, place or pair among the sheet's tests
- *               24  cases strictly ascending, low at most high, no number in two
+ *               24  cases strictly ascending, numbers by low, then high, and low at most high
  *   graph's end 25  no bytes are left
  *   each switch 26  fewer than 64 edges have been walked
  *   or pair     27  each place that it tests is in the piece, or below an unknown
@@ -49,6 +50,11 @@
  *   drawing     38  the buffer has 1,360 bytes or more
  *
  * Kinds are hexadecimal, all other numbers decimal.
+ *
+ * A piece may hold record 34 (wide low, wide high), a span: a number known to lie between them. One with equal ends is
+ * that number. A switch of a graph is 43 (wide place, wide number of cases, wide node for neither, wide node for
+ * unknown), then its cases. Number cases, 46, may overlap: of those that contain it, a number or span follows the one
+ * with the highest low, then the lowest high.
  */
 #ifndef VOLTUNNIS_H
 #define VOLTUNNIS_H
@@ -75,11 +81,11 @@ static inline unsigned vt_refusal(uint64_t result) { return (unsigned)(result & 
  * Fields: arity (bits 8 to 15), rules (16 to 23), tests (24 to 31). */
 uint64_t vt_check_sheet(const uint8_t *sheet, size_t sheet_len);
 
-/* Checks a piece: questions 12 to 17.
+/* Checks a piece: questions 12 to 17, and 32 after 16 at each term.
  * Fields: arity (bits 8 to 15). */
 uint64_t vt_check_piece(const uint8_t *piece, size_t piece_len);
 
-/* The plain answer of a sheet on a piece: questions 1 to 11, 12 to 17, then 20.
+/* The plain answer of a sheet on a piece: questions 1 to 11, 12 to 17 with 32, then 20.
  * Fields: word (bits 8 to 15), rule (16 to 23), which is 0 for suspend and fail. */
 uint64_t vt_plain(const uint8_t *sheet, size_t sheet_len, const uint8_t *piece, size_t piece_len);
 
@@ -87,14 +93,22 @@ uint64_t vt_plain(const uint8_t *sheet, size_t sheet_len, const uint8_t *piece, 
  * Fields: nodes (bits 8 to 23). */
 uint64_t vt_check_graph(const uint8_t *sheet, size_t sheet_len, const uint8_t *graph, size_t graph_len);
 
+/* The most bytes that an accepted graph has: 5, and for each of 1,024 nodes 9 and 65,535 cases of 7. */
+#define VT_MOST_BYTES 469764101
+
+/* No built graph has more bytes: 5, and for each of 1,024 nodes 9 and 8,385 cases of 7. Most have far fewer: lend what there is,
+ * and more where question 19 gets a no, as a refusal changes no byte. */
+#define VT_MOST_BUILT_BYTES 60112901
+
 /* Writes the nodes of a graph again, at the start of the buffer: questions 1 to 11, 21 to 25, then 19.
- * The bytes after them stay as they are, and all do on a refusal. At most 1,836,037 bytes are written.
+ * The bytes after them stay as they are, and all do on a refusal. As many bytes are written as the graph has, at most
+ * VT_MOST_BYTES.
  * Fields: bytes written (bits 8 to 39). */
 uint64_t vt_rewrite(const uint8_t *sheet, size_t sheet_len, const uint8_t *graph, size_t graph_len,
                     uint8_t *buffer, size_t buffer_len);
 
 /* Builds a sheet's graph at the start of the buffer: questions 1 to 11, 18, then 19. The bytes after the
- * graph stay as they are, and all do on a refusal. At most 1,836,037 bytes are written.
+ * graph stay as they are, and all do on a refusal. At most VT_MOST_BUILT_BYTES are written.
  * Fields: nodes (bits 8 to 23), bytes written (bits 24 to 55). */
 uint64_t vt_build(const uint8_t *sheet, size_t sheet_len, uint8_t *buffer, size_t buffer_len);
 
@@ -106,9 +120,9 @@ uint64_t vt_build(const uint8_t *sheet, size_t sheet_len, uint8_t *buffer, size_
 uint64_t vt_check_order(const uint8_t *table, size_t table_len);
 
 /* Builds a sheet's graph in a reading order, at the start of the buffer: questions 1 to 11, 28 to 30, 18, then 19. The bytes
- * after the graph stay as they are, and all do on a refusal. At most 1,836,037 bytes are written. The places 0 to 679 in turn give
- * the graph of vt_build. Word and rule of a walk are the same in every order, its edges and its wait list may differ; the calls
- * that check, write again and walk a graph need no table.
+ * after the graph stay as they are, and all do on a refusal. At most VT_MOST_BUILT_BYTES are written. The places 0 to 679 in turn
+ * give the graph of vt_build. Word and rule of a walk are the same in every order, its edges and its wait list may differ; the
+ * calls that check, write again and walk a graph need no table.
  * Fields: nodes (bits 8 to 23), bytes written (bits 24 to 55). */
 uint64_t vt_build_ordered(const uint8_t *sheet, size_t sheet_len, const uint8_t *table, size_t table_len,
                           uint8_t *buffer, size_t buffer_len);
@@ -126,21 +140,23 @@ uint64_t vt_order(const uint8_t *positions, size_t positions_len, uint8_t *buffe
  * Fields: bytes written (bits 8 to 39). */
 uint64_t vt_tidy(const uint8_t *sheet, size_t sheet_len, uint8_t *buffer, size_t buffer_len);
 
-/* Walks a piece over a graph: questions 1 to 17, 20, 21 to 25, then 26 and 27 along the way.
+/* Walks a piece over a graph: questions 1 to 17 with 32, 20, 21 to 25, then 26 and 27 along the way.
  * Fields: word (bits 8 to 15), rule (bits 16 to 23, 0 for suspend and fail), edges walked (bits 24 to 31). */
 uint64_t vt_walk(const uint8_t *sheet, size_t sheet_len, const uint8_t *graph, size_t graph_len,
                  const uint8_t *piece, size_t piece_len);
 
-/* The wait list of the same walk, test t being bit t: for suspend the tests met that are not known, for execute the tests of the
- * rule that are not known, else none. The whole result is the list; on a refusal it is 0, so read it only where vt_walk is not
- * refused. */
+/* The wait list of the same walk, test t being bit t: for suspend the tests met that are not known, and each place met whose span
+ * lies partly inside and partly outside the range of a rule live there; for execute the tests of the rule that are not known; else
+ * none. On a built graph a suspended piece filled in further suspends while each listed place keeps the unknown or span that it
+ * held and each listed pair is still not known. The whole result is the list; on a refusal it is 0, so read it only where vt_walk
+ * is not refused. */
 uint64_t vt_wait(const uint8_t *sheet, size_t sheet_len, const uint8_t *graph, size_t graph_len,
                  const uint8_t *piece, size_t piece_len);
 
-/* Walks many pieces for one check: questions 1 to 11, 21 to 25, then for each piece 12 to 16, 20, 26 and 27. Pieces follow one
+/* Walks many pieces for one check: questions 1 to 11, 21 to 25, then for each piece 12 to 16, 32, 20, 26 and 27. Pieces follow one
  * another, each ending with its last term. For each piece a result of VT_RESULT bytes is written, the first at the start of the
  * buffer: refusal, word, rule, edges walked, four zeros, then the wait list, highest byte first; all zero but the refusal where the
- * piece is refused. It goes on after a piece that is refused by 20, 26 or 27; one that cannot be read (12 to 16) gets the last
+ * piece is refused. It goes on after a piece that is refused by 20, 26 or 27; one that cannot be read (12 to 16, 32) gets the last
  * result. It stops where the pieces end, where the buffer has no room for a result, or before a field would be too large. The
  * bytes after the results stay as they are, and all do where the sheet or the graph is refused.
  * Fields: results written (bits 8 to 31), bytes of the pieces that were read (bits 32 to 63), after which the next call goes on. */

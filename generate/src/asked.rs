@@ -4,7 +4,7 @@ use crate::trees::{Pattern, SheetTree};
 use std::collections::BTreeSet;
 
 /// How many places a place of depth 1, 2, 3, 4 has at or below it.
-pub const SPAN: [u16; 4] = [85, 21, 5, 1];
+pub const SUBTREE: [u16; 4] = [85, 21, 5, 1];
 
 /// What a graph has to know of its sheet: the two numbers of its header, and what its nodes may ask.
 #[derive(Clone, Debug, Default, PartialEq, Eq)]
@@ -28,7 +28,7 @@ fn collect(
     places: &mut BTreeSet<u16>,
     found: &mut Vec<Occurrence>,
 ) {
-    let Some(span) = SPAN.get(depth - 1) else { return };
+    let Some(subtree) = SUBTREE.get(depth - 1) else { return };
     for pattern in patterns {
         match pattern {
             Pattern::Anything => {}
@@ -40,7 +40,7 @@ fn collect(
                 collect(arguments, place + 1, depth + 1, places, found);
             }
         }
-        place += span;
+        place += subtree;
     }
 }
 

@@ -1,13 +1,44 @@
 //! Random graphs for a sheet: those of another maker, and mangled ones.
 //!
-//! Another maker's graph asks the sheet's tests in any order, comes back to nodes and cuts numbers
-//! as it likes. A mangled graph has faults in single fields, a damaged one in its bytes.
+//! Another maker's graph asks the sheet's tests in any order, comes back to nodes, and cuts numbers
+//! as it likes: apart, or into cases that overlap. A mangled graph has faults in single fields, a damaged one in its bytes.
 
 use crate::asked::Asked;
 use crate::damage::damaged;
 use crate::nodes::{graph_bytes, Case, Node};
 use crate::random::Random;
 use crate::stock::{IDS, NUMBERS};
+use std::collections::BTreeSet;
+
+/// Ends of number cases, ascending by low, then high: apart, overlapping, or now and then very many.
+fn numbers(random: &mut Random) -> BTreeSet<(u16, u16)> {
+    match random.below(100) {
+        0..=39 => apart(random),
+        40..=97 => {
+            let mut two = || (random.pick(&NUMBERS), random.pick(&NUMBERS));
+            let ends: Vec<(u16, u16)> = (0..12).map(|_| two()).collect();
+            let count = random.below(13);
+            ends[..count].iter().map(|(one, other)| (*one.min(other), *one.max(other))).collect()
+        }
+        _ => {
+            let cuts: BTreeSet<u16> = (0..28).map(|_| random.below(600) as u16).chain(NUMBERS).collect();
+            let pairs = |low: u16| cuts.range(low..).map(move |high| (low, *high));
+            cuts.iter().flat_map(|low| pairs(*low)).filter(|_| random.percent(90)).collect()
+        }
+    }
+}
+
+/// Ends of number cases none of which has a number of another.
+fn apart(random: &mut Random) -> BTreeSet<(u16, u16)> {
+    let (mut ends, mut from) = (BTreeSet::new(), 0);
+    for high in NUMBERS {
+        if random.percent(40) && from <= u32::from(high) {
+            ends.insert((from as u16, high));
+            from = u32::from(high) + 1 + random.below(2) as u32;
+        }
+    }
+    ends
+}
 
 /// Cases of all sorts in order, their nodes below this bound.
 fn cases(random: &mut Random, bound: usize) -> Vec<Case> {
@@ -25,12 +56,8 @@ fn cases(random: &mut Random, bound: usize) -> Vec<Case> {
             }
         }
     }
-    let mut from = 0;
-    for high in NUMBERS {
-        if random.percent(40) && from <= u32::from(high) {
-            cases.push(Case::Numbers { low: from as u16, high, node: node(random) });
-            from = u32::from(high) + 1 + random.below(2) as u32;
-        }
+    for (low, high) in numbers(random) {
+        cases.push(Case::Numbers { low, high, node: node(random) });
     }
     if cases.is_empty() {
         cases.push(Case::Symbol { id: random.pick(&IDS), node: node(random) });

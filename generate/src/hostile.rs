@@ -84,13 +84,23 @@ fn nested_term(random: &mut Random, levels: usize) -> Term {
     }
 }
 
+/// A span at or over a limit: from a number to one below it, to itself, or over all numbers.
+fn hostile_span(random: &mut Random) -> Term {
+    let (low, high) = random.pick(&[(2, 1), (0x0100, 0x00ff), (0xffff, 0), (5, 5), (0, 0xffff)]);
+    match random.percent(30) {
+        true => Term::Compound(3, vec![Term::Unknown, Term::Span(low, high)]),
+        false => Term::Span(low, high),
+    }
+}
+
 /// The piece's bytes with one limit broken, or just kept.
 pub fn hostile_piece(random: &mut Random, terms: &[Term]) -> Vec<u8> {
     let mut terms = terms.to_vec();
     let (at, levels) = (random.below(terms.len().max(1)), random.between(3, 5));
-    match (random.below(3), terms.get_mut(at)) {
+    match (random.below(4), terms.get_mut(at)) {
         (1, Some(term)) => *term = Term::Compound(2, vec![Term::Unknown; random.pick(&[0, 4, 5, 255])]),
         (2, Some(term)) => *term = nested_term(random, levels),
+        (3, Some(term)) => *term = hostile_span(random),
         _ => terms.resize(random.pick(&[0, 9, 255]), Term::Unknown),
     }
     piece_bytes(&terms)

@@ -36,7 +36,8 @@ pub fn three_alike() -> Vec<u8> {
 }
 
 /// Rules of 4 readings, alloy, diameter, thickness and weight, each a little above the last, so that
-/// it overlaps with the next two: 52 nodes for 8 rules, 172 for 32, 332 for 64.
+/// it overlaps with the next two: 80 nodes in 14,197 bytes for 8 rules, 312 in 144,441 for 16. As a span may take
+/// any rules that stand together, 28 rules have 960 nodes, and 32 too many.
 pub fn coins(count: u16) -> Vec<u8> {
     let range = |at: u16, step: u16, width: u16| Pattern::Range(at * step, at * step + width);
     let coin =
@@ -61,17 +62,18 @@ fn nested(count: u16, rule: impl Fn(u16, u16) -> Vec<Pattern>) -> Vec<u8> {
     SheetTree { arity: rules[0].len() as u8, rules }.bytes()
 }
 
-/// Nested ranges at 1 place: 4 nodes, one of them a switch with a case less than two for each rule.
+/// Nested ranges from 1 on at 1 place: 4 nodes, one of them a switch with as many cases as there may be, 2,145 for
+/// 32 rules, 8,385 for 64.
 pub fn nested_1(count: u16) -> Vec<u8> {
-    nested(count, |low, high| vec![Pattern::Range(low, high)])
+    nested(count, |low, high| vec![Pattern::Range(low + 1, high)])
 }
 
-/// Nested ranges at 8 places: 221 nodes in 52,321 bytes for 32 rules, 445 in 205,089 for 64.
+/// Nested ranges from 0 on at 8 places: 221 nodes in 1,163,376 bytes for 32 rules, 445 in 8,928,672 for 64.
 pub fn nested_8(count: u16) -> Vec<u8> {
     nested(count, |low, high| vec![Pattern::Range(low, high); 8])
 }
 
-/// Nested ranges at 16 places inside compounds: 687 nodes in 114,645 bytes for 32 rules.
+/// Nested ranges at 16 places inside compounds: 335 nodes in 335,454 bytes for 16 rules, 687 in 2,479,558 for 32.
 pub fn nested_16(count: u16) -> Vec<u8> {
     nested(count, |low, high| vec![Pattern::Compound(1, vec![Pattern::Range(low, high); 2]); 8])
 }
@@ -90,7 +92,7 @@ fn tied(rules: u16, places: u16, sets: &[u16], rule: impl Fn(Vec<Pattern>) -> Ve
     })
 }
 
-/// 32 rules with a long graph, the first two of their 9 places inside a compound: 1,023 nodes in 400,448 bytes.
+/// 32 rules with a long graph, the first two of their 9 places inside a compound: 1,023 nodes in 12,229,032 bytes.
 pub fn longest_32() -> Vec<u8> {
     tied(32, 9, &[0b1_1001_0111, 0b1_1001_1011, 0b1_1111_1110], |mut patterns| {
         let others = patterns.split_off(2);
@@ -98,7 +100,7 @@ pub fn longest_32() -> Vec<u8> {
     })
 }
 
-/// 64 rules with a long graph: 1,024 nodes in 718,292 bytes.
+/// 64 rules with a long graph: 1,024 nodes in 41,613,131 bytes.
 pub fn longest_64() -> Vec<u8> {
     tied(64, 8, &[0b10_0100, 0b111_0011, 0b1101_1101, 0b101_1111], |patterns| patterns)
 }

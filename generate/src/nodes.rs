@@ -66,6 +66,9 @@ impl Case {
     }
 }
 
+/// No case has fewer bytes.
+const LEAST_CASE: usize = 5;
+
 /// A wide field's two bytes.
 fn two(field: u16) -> [u8; 2] {
     field.to_be_bytes()
@@ -85,8 +88,9 @@ impl Node {
                 Node::Execute(rule)
             }
             0x43 => {
-                let [a, b, count, c, d, e, f] = from.take()?;
-                let mut cases = Vec::with_capacity(usize::from(count));
+                let [a, b, high, low, c, d, e, f] = from.take()?;
+                let count = wide(high, low);
+                let mut cases = Vec::with_capacity(usize::from(count).min(from.left() / LEAST_CASE));
                 for _ in 0..count {
                     cases.push(Case::read(from)?);
                 }
@@ -111,7 +115,8 @@ impl Node {
             Node::Execute(rule) => to.extend([0x42, *rule]),
             Node::Switch { place, neither, unknown, cases } => {
                 let ([a, b], [c, d], [e, f]) = (two(*place), two(*neither), two(*unknown));
-                to.extend([0x43, a, b, cases.len() as u8, c, d, e, f]);
+                let [high, low] = two(cases.len() as u16);
+                to.extend([0x43, a, b, high, low, c, d, e, f]);
                 cases.iter().for_each(|case| case.write(to));
             }
             Node::Pair { p, q, no, other } => {
@@ -124,7 +129,8 @@ impl Node {
 
 /// The bytes of a graph: its header, then its nodes.
 pub fn graph_bytes(arity: u8, rules: u8, nodes: &[Node]) -> Vec<u8> {
-    let mut to = Vec::with_capacity(32 * nodes.len());
+    let cases = |node: &Node| if let Node::Switch { cases, .. } = node { cases.len() } else { 0 };
+    let mut to = Vec::with_capacity(5 + nodes.iter().map(|node| 9 + 7 * cases(node)).sum::<usize>());
     let [a, b] = two(nodes.len() as u16);
     to.extend([0x12, arity, rules, a, b]);
     nodes.iter().for_each(|node| node.write(&mut to));

@@ -1,7 +1,7 @@
 //! Reading orders (document 02, request 1): all places in the order in which they are asked, each after its
 //! parent; and tables that are none.
 
-use crate::asked::SPAN;
+use crate::asked::SUBTREE;
 use crate::random::Random;
 use std::ops::Range;
 
@@ -9,16 +9,16 @@ use std::ops::Range;
 pub const PLACES: u16 = 680;
 
 /// How many places an argument has at or below it, and how many arguments there are.
-const ARGUMENT: u16 = SPAN[0];
+const ARGUMENT: u16 = SUBTREE[0];
 const ARGUMENTS: u16 = PLACES / ARGUMENT;
 
 /// The argument that a place is below, and so on down to the place.
 pub fn way(place: u16) -> Vec<u16> {
-    let mut offset = place % SPAN[0];
+    let mut offset = place % SUBTREE[0];
     let mut way = vec![place - offset];
-    for span in &SPAN[1..] {
+    for subtree in &SUBTREE[1..] {
         if offset > 0 {
-            offset = (offset - 1) % span;
+            offset = (offset - 1) % subtree;
             way.push(place - offset);
         }
     }
@@ -60,8 +60,8 @@ fn grown(mut next: impl FnMut(&[Deep]) -> usize) -> Vec<u16> {
     while !open.is_empty() {
         let (place, depth) = open.swap_remove(next(&open));
         places.push(place);
-        if let Some(span) = SPAN.get(depth) {
-            open.extend((0..4).map(|child| (place + 1 + child * span, depth + 1)));
+        if let Some(subtree) = SUBTREE.get(depth) {
+            open.extend((0..4).map(|child| (place + 1 + child * subtree, depth + 1)));
         }
     }
     places
@@ -79,8 +79,8 @@ pub fn deepest() -> Vec<u16> {
 pub fn levels() -> Vec<u16> {
     let mut places: Vec<u16> = (0..ARGUMENTS).map(|argument| ARGUMENT * argument).collect();
     let mut level = places.clone();
-    for span in &SPAN[1..] {
-        level = level.iter().flat_map(|place| (0..4).map(move |child| place + 1 + child * span)).collect();
+    for subtree in &SUBTREE[1..] {
+        level = level.iter().flat_map(|place| (0..4).map(move |child| place + 1 + child * subtree)).collect();
         places.extend(&level);
     }
     places

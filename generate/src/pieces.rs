@@ -1,4 +1,4 @@
-//! Random pieces, most of them close to a rule of a sheet, with unknowns at random places.
+//! Random pieces, most of them close to a rule of a sheet, with unknowns and spans at random places.
 
 use crate::random::Random;
 use crate::stock::Stock;
@@ -18,6 +18,10 @@ pub fn term(random: &mut Random, stock: &Stock, depth: usize) -> Term {
     match random.below(10) {
         0..=1 => Term::Unknown,
         2..=4 => Term::Symbol(id),
+        5..=7 if random.percent(stock.spans) => {
+            let (one, other) = (random.pick(stock.numbers), random.pick(stock.numbers));
+            Term::Span(one.min(other), one.max(other))
+        }
         5..=7 => Term::Number(random.pick(stock.numbers)),
         _ if depth > stock.deepest_compound => Term::Symbol(id),
         _ => {
@@ -28,16 +32,33 @@ pub fn term(random: &mut Random, stock: &Stock, depth: usize) -> Term {
 }
 
 /// A number from low to high, its ends likely.
-fn number(random: &mut Random, low: u16, high: u16) -> Term {
-    Term::Number(match random.below(3) {
+fn between(random: &mut Random, low: u16, high: u16) -> u16 {
+    match random.below(3) {
         0 => low,
         1 => high,
         _ => random.between(usize::from(low.min(high)), usize::from(low.max(high))) as u16,
-    })
+    }
+}
+
+/// A number from low to high, or a span that is mostly inside, partly inside or just outside.
+fn number(random: &mut Random, stock: &Stock, low: u16, high: u16) -> Term {
+    let inside = between(random, low, high);
+    if !random.percent(stock.spans) {
+        return Term::Number(inside);
+    }
+    let other = match random.below(8) {
+        0 => low.saturating_sub(1),
+        1 => high.saturating_add(1),
+        2 => random.pick(stock.numbers),
+        _ => between(random, low, high),
+    };
+    let inside = if random.percent(10) { other } else { inside };
+    Term::Span(inside.min(other), inside.max(other))
 }
 
 impl Mood {
     fn random(random: &mut Random, stock: Stock) -> Mood {
+        let stock = if random.percent(30) { stock.without_spans() } else { stock };
         Mood { unknown: random.pick(&[0, 5, 15, 40]), stray: random.pick(&[0, 0, 3, 10]), stock }
     }
 
@@ -60,6 +81,10 @@ impl Mood {
                 *id,
                 arguments.iter().map(|argument| self.spoil(random, argument, depth + 1)).collect(),
             ),
+            Term::Number(value) if random.percent(self.stock.spans) => {
+                number(random, &self.stock, value.saturating_sub(2), value.saturating_add(2))
+            }
+            Term::Span(low, high) if random.percent(50) => number(random, &self.stock, *low, *high),
             other => other.clone(),
         }
     }
@@ -79,7 +104,7 @@ impl Mood {
         match pattern {
             Pattern::Anything => term(random, &self.stock, depth),
             Pattern::Symbol(id) => Term::Symbol(*id),
-            Pattern::Range(low, high) => number(random, *low, *high),
+            Pattern::Range(low, high) => number(random, &self.stock, *low, *high),
             Pattern::Compound(id, arguments) => {
                 let parts = arguments.iter().map(|part| self.instance(random, part, depth + 1, bound));
                 Term::Compound(*id, parts.collect())
@@ -91,18 +116,24 @@ impl Mood {
                 self.spoil(random, &known, depth)
             }
             Pattern::Ranged(n, low, high) => {
-                bound[usize::from(*n) % 16].get_or_insert_with(|| number(random, *low, *high)).clone()
+                let known = bound[usize::from(*n) % 16]
+                    .get_or_insert_with(|| number(random, &self.stock, *low, *high))
+                    .clone();
+                match known {
+                    Term::Span(low, high) if random.percent(30) => number(random, &self.stock, low, high),
+                    known => known,
+                }
             }
         }
     }
 }
 
 /// The terms of a piece for this sheet: most are made from one of its rules. Now and then the
-/// arity is another than the sheet's.
+/// arity is another than the sheet's. With the full stock about half of all pieces have no span.
 pub fn piece(random: &mut Random, sheet: &SheetTree, stock: Stock) -> Vec<Term> {
     let mood = Mood::random(random, stock);
     let mut terms: Vec<Term> = if sheet.rules.is_empty() || random.percent(10) {
-        (0..sheet.arity).map(|_| term(random, &stock, 1)).collect()
+        (0..sheet.arity).map(|_| term(random, &mood.stock, 1)).collect()
     } else {
         let rule = &sheet.rules[random.below(sheet.rules.len())];
         let mut bound = vec![None; 16];
@@ -112,4 +143,25 @@ pub fn piece(random: &mut Random, sheet: &SheetTree, stock: Stock) -> Vec<Term> 
         terms.resize(random.between(1, 8), Term::Unknown);
     }
     terms
+}
+
+/// The terms with more filled in: an unknown, or a span, so many times out of a hundred each, is made a term, or a
+/// narrower span or a number of it.
+pub fn further(random: &mut Random, terms: &[Term], depth: usize, chance: usize) -> Vec<Term> {
+    let fill = |random: &mut Random, known: &Term| match known {
+        Term::Unknown if random.percent(chance) => term(random, &Stock::FULL, depth),
+        Term::Span(low, high) if random.percent(chance) => narrower(random, *low, *high),
+        Term::Compound(id, arguments) => Term::Compound(*id, further(random, arguments, depth + 1, chance)),
+        other => other.clone(),
+    };
+    terms.iter().map(|known| fill(random, known)).collect()
+}
+
+/// A number of a span, or a part of it.
+fn narrower(random: &mut Random, low: u16, high: u16) -> Term {
+    let (one, other) = (between(random, low, high), between(random, low, high));
+    match random.percent(30) {
+        true => Term::Number(one),
+        false => Term::Span(one.min(other), one.max(other)),
+    }
 }

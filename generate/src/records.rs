@@ -24,6 +24,7 @@ pub enum TermRecord {
     Symbol(u16),
     Number(u16),
     Compound { id: u16, arity: u8 },
+    Span { low: u16, high: u16 },
 }
 
 /// A wide field.
@@ -91,7 +92,7 @@ impl<'a> Reader<'a> {
         })
     }
 
-    /// The term's record that comes next, if it is whole and of kinds 30 to 33.
+    /// The term's record that comes next, if it is whole and of kinds 30 to 34.
     #[inline]
     pub fn term(&mut self) -> Option<TermRecord> {
         let [kind] = self.take()?;
@@ -108,6 +109,10 @@ impl<'a> Reader<'a> {
             0x33 => {
                 let [a, b, arity] = self.take()?;
                 TermRecord::Compound { id: wide(a, b), arity }
+            }
+            0x34 => {
+                let [a, b, c, d] = self.take()?;
+                TermRecord::Span { low: wide(a, b), high: wide(c, d) }
             }
             _ => return None,
         })

@@ -16,11 +16,19 @@ pub struct Stock {
     pub most_arguments: usize,
     /// The deepest depth at which a compound may stand.
     pub deepest_compound: usize,
+    /// How many numbers of a piece out of a hundred are spans.
+    pub spans: usize,
 }
 
 impl Stock {
     /// All of it.
-    pub const FULL: Stock = Stock { ids: &IDS, numbers: &NUMBERS, most_arguments: 4, deepest_compound: 3 };
+    pub const FULL: Stock =
+        Stock { ids: &IDS, numbers: &NUMBERS, most_arguments: 4, deepest_compound: 3, spans: 65 };
+
+    /// The same without spans.
+    pub fn without_spans(self) -> Stock {
+        Stock { spans: 0, ..self }
+    }
 
     /// A part of it.
     pub fn random(random: &mut Random) -> Stock {
@@ -29,6 +37,7 @@ impl Stock {
             numbers: &NUMBERS[..random.between(2, NUMBERS.len())],
             most_arguments: random.between(1, 4),
             deepest_compound: random.between(1, 3),
+            spans: random.pick(&[0, 65]),
         }
     }
 }

@@ -23,6 +23,8 @@ pub enum Term {
     Symbol(u16),
     Number(u16),
     Compound(u16, Vec<Term>),
+    /// A number known to lie between two.
+    Span(u16, u16),
 }
 
 /// A sheet: its rules, each one pattern for an argument.
@@ -95,6 +97,7 @@ impl Term {
                 let arguments = (0..arity).map(|_| Term::read(from, below));
                 Term::Compound(id, arguments.collect::<Option<_>>()?)
             }
+            TermRecord::Span { low, high } => Term::Span(low, high),
         })
     }
 
@@ -114,6 +117,11 @@ impl Term {
                 wide(to, *id);
                 to.push(arguments.len() as u8);
                 arguments.iter().for_each(|argument| argument.write(to));
+            }
+            Term::Span(low, high) => {
+                to.push(0x34);
+                wide(to, *low);
+                wide(to, *high);
             }
         }
     }

@@ -73,6 +73,11 @@ pub fn rewrite(sheet: &[u8], graph: &[u8], len: usize) -> (Result<Written, Refus
     (result, buffer)
 }
 
+/// More bytes than the graph of a sheet has, in a reading order if one is given; a hundred if it has none.
+pub fn enough(sheet: &[u8], table: Option<&[u8]>) -> usize {
+    reference::graph_in(sheet, table).map_or(0, |graph| graph.len()) + 100
+}
+
 /// Builds a graph in a buffer of this length; gives the result and the buffer.
 #[inline]
 pub fn build(sheet: &[u8], len: usize) -> (Result<Built, Refusal>, Vec<u8>) {

@@ -1,8 +1,9 @@
 //! The plain answer by trying fillings, on small sheets: a check of the reference that uses no
-//! places, no tests and no comparison of terms with unknowns.
+//! places, no tests and no comparison of terms with unknowns or spans.
 //!
-//! Document 01 fills unknowns with any terms without unknowns. Here they come from a finite set:
-//! every symbol and number that sheet or piece mention, the numbers beside them, two symbols that
+//! A filling puts a number of a span in its place: each is tried, and no span has many here. Document 01 fills
+//! unknowns with any terms without unknowns. Here they come from a finite set: every symbol and number that
+//! sheet or piece mention, all numbers of spans, the numbers beside those of ranges, two symbols that
 //! neither mentions, and every compound that they mention over these, up to a height. That is
 //! enough. If some filling meets a rule, so does one that puts at each unknown no more than what the
 //! rule and the other places of its variables ask there: a pattern with terms of the piece laid over
@@ -86,6 +87,7 @@ impl Mentioned {
                 self.compounds.insert((*id, arguments.len()));
                 arguments.iter().for_each(|argument| self.term(argument, level + 1));
             }
+            Term::Span(low, high) => self.numbers.extend(*low..=*high),
         }
     }
 
@@ -124,23 +126,35 @@ fn lists(over: &[Term], length: usize) -> Vec<Vec<Term>> {
     })
 }
 
-fn unknowns(terms: &[Term]) -> usize {
+/// What may be put in each unknown and span in turn: all of these terms, or the numbers of the span.
+fn choices(terms: &[Term], from: &[Term]) -> Vec<Vec<Term>> {
     terms
         .iter()
-        .map(|term| match term {
-            Term::Unknown => 1,
-            Term::Compound(_, arguments) => unknowns(arguments),
-            _ => 0,
+        .flat_map(|term| match term {
+            Term::Unknown => vec![from.to_vec()],
+            Term::Span(low, high) => vec![(*low..=*high).map(Term::Number).collect()],
+            Term::Compound(_, arguments) => choices(arguments, from),
+            _ => Vec::new(),
         })
-        .sum()
+        .collect()
 }
 
-/// The terms with the next of these put in each unknown in turn.
+/// The widest span of these terms has so many numbers more than one.
+fn widest(terms: &[Term]) -> u16 {
+    let width = |term: &Term| match term {
+        Term::Span(low, high) => high.saturating_sub(*low),
+        Term::Compound(_, arguments) => widest(arguments),
+        _ => 0,
+    };
+    terms.iter().map(width).max().unwrap_or(0)
+}
+
+/// The terms with the next of these put in each unknown and span in turn.
 fn filled<'a>(terms: &[Term], with: &mut impl Iterator<Item = &'a Term>) -> Vec<Term> {
     terms
         .iter()
         .map(|term| match term {
-            Term::Unknown => with.next().expect("a term for each unknown").clone(),
+            Term::Unknown | Term::Span(..) => with.next().expect("a term for each").clone(),
             Term::Compound(id, arguments) => Term::Compound(*id, filled(arguments, with)),
             other => other.clone(),
         })
@@ -154,12 +168,11 @@ struct Tried {
 }
 
 impl Tried {
-    fn all(sheet: &SheetTree, piece: &[Term], from: &[Term]) -> Tried {
-        let count = unknowns(piece);
+    fn all(sheet: &SheetTree, piece: &[Term], choices: &[Vec<Term>], count: usize) -> Tried {
         let rules = sheet.rules.len();
         let mut tried = Tried { met: vec![false; rules], missed: vec![false; rules] };
-        for mut number in 0..from.len().pow(count as u32) {
-            let mut chosen = (0..count).map(|_| {
+        for mut number in 0..count {
+            let mut chosen = choices.iter().map(|from| {
                 let term = &from[number % from.len()];
                 number /= from.len();
                 term
@@ -187,12 +200,19 @@ impl Tried {
     }
 }
 
-/// The plain answer by trying fillings; none if there are more than so many to try.
+/// A span of more numbers than 6 is not filled in.
+const WIDEST: u16 = 5;
+
+/// The plain answer by trying fillings; none if there are more than so many to try, or a span is wide.
 pub fn answer(sheet: &SheetTree, piece: &[Term], most: usize) -> Option<Plain> {
+    if widest(piece) > WIDEST {
+        return None;
+    }
     let mut mentioned = Mentioned::default();
     sheet.rules.iter().flatten().for_each(|pattern| mentioned.pattern(pattern, 1));
     piece.iter().for_each(|term| mentioned.term(term, 1));
     let from = mentioned.terms(most)?;
-    from.len().checked_pow(unknowns(piece) as u32).filter(|count| *count <= most)?;
-    Some(Tried::all(sheet, piece, &from).answer())
+    let choices = choices(piece, &from);
+    let count = choices.iter().try_fold(1, |count: usize, from| count.checked_mul(from.len()))?;
+    (count <= most).then(|| Tried::all(sheet, piece, &choices, count).answer())
 }

@@ -11,12 +11,16 @@ use std::thread;
 use voltunnis_tests::generate::known;
 use voltunnis_tests::generate::orders::{reversed, table};
 use voltunnis_tests::generate::tracks::{list, numbered};
+use voltunnis_tests::generate::trees::{piece_bytes, Term};
+use voltunnis_tests::reference::own_graph;
 use voltunnis_tests::reference::sheet::Sheet;
 
 const PAINT: u8 = 0xa5;
 /// The stack that is painted, and how far below the caller's frame the paint begins: the painter's own frame lies between.
 const DEEPEST: usize = 256 * 1024;
 const NEAREST: usize = 512;
+/// No graph of the inputs has more bytes.
+const LARGEST: usize = 9_000_000;
 
 fn repository() -> PathBuf {
     Path::new(env!("CARGO_MANIFEST_DIR")).join("..")
@@ -115,7 +119,7 @@ fn words_of_cuts(sheet: &[u8]) -> usize {
     (1 + 4 * read.rules.len()) * read.tests.places.len()
 }
 
-/// Sheets, their graphs and pieces: of document 01, large ones, and ones of full depth.
+/// Sheets, their graphs and pieces: of document 01, large ones, with spans, and ones of full depth.
 fn inputs() -> Vec<Input> {
     let mut deep_sheet = vec![0x10, 2, 2, 0x24, 0, 0x24, 0];
     (0..2).for_each(|_| full(0x23, &[0x20], 1, &mut deep_sheet));
@@ -134,8 +138,10 @@ fn inputs() -> Vec<Input> {
         let unknowns = [vec![0x11, sheet[1]], vec![0x30; sheet[1] as usize]].concat();
         inputs.push((sheet, unknowns));
     }
+    inputs.push((known::nested_1(64), piece_bytes(&[Term::Span(20, 990)])));
+    inputs.push((known::nested_8(64), piece_bytes(&vec![Term::Span(20, 990); 8])));
     let with_graph = |(sheet, piece): (Vec<u8>, Vec<u8>)| {
-        let graph = voltunnis::graph(&sheet).unwrap_or_default();
+        let graph = own_graph(&sheet).unwrap_or_default();
         (sheet, graph, piece)
     };
     inputs.into_iter().map(with_graph).collect()
@@ -184,7 +190,7 @@ fn the_stack_of_each_call_is_what_the_readme_says() {
 
 #[test]
 fn the_stack_of_each_writer_is_what_the_readme_says() {
-    let buffers = || vec![0; 600_000];
+    let buffers = || vec![0; LARGEST];
     let lent = std::sync::Mutex::new(buffers());
     holds(
         "`vt_build`",
@@ -235,7 +241,7 @@ fn the_stack_of_each_writer_is_what_the_readme_says() {
 fn a_build_takes_the_room_that_its_sheet_needs() {
     for (row, words) in [("`vt_build` in 320 words", 320), ("`vt_build` in 8,256 words", 8_256)] {
         let fitting = inputs().into_iter().filter(|(sheet, _, _)| words_of_cuts(sheet) <= words).collect();
-        let lent = std::sync::Mutex::new(vec![0; 600_000]);
+        let lent = std::sync::Mutex::new(vec![0; LARGEST]);
         holds(
             row,
             most_of(fitting, move |s, _, _| {

@@ -5,7 +5,7 @@ use voltunnis_tests::generate::crowded::crowded;
 use voltunnis_tests::generate::damage::damaged;
 use voltunnis_tests::generate::random::Random;
 use voltunnis_tests::generate::sheets::sheet;
-use voltunnis_tests::reference::{self, build::ENOUGH};
+use voltunnis_tests::reference;
 use voltunnis_tests::results::{Built, GraphSize, Refusal, Written};
 
 /// Builds to a buffer of this length; a refusal changes no byte, a graph none after it.
@@ -35,10 +35,10 @@ struct Tried {
 
 impl Tried {
     /// Builds the graph of a sheet to buffers of several lengths, checks it and writes it again.
-    fn sheet(&mut self, random: &mut Random, sheet: &[u8], enough: &mut [u8]) {
-        let expected = reference::build(sheet, enough);
-        let fits = expected.map_or(100, |built| built.bytes as usize);
-        let graph = &enough[..fits];
+    fn sheet(&mut self, random: &mut Random, sheet: &[u8]) {
+        let mut graph = reference::own_graph(sheet).unwrap_or_else(|| vec![0; 100]);
+        let expected = reference::build(sheet, &mut graph);
+        let (fits, graph) = (graph.len(), &graph[..]);
         for len in lengths(random, fits) {
             let (result, buffer) = built(sheet, len);
             assert_eq!(result, if len < fits { expected.and(Err(19)) } else { expected });
@@ -58,14 +58,13 @@ impl Tried {
 fn try_sheets(seed: u64) {
     let mut random = Random::new(seed);
     let mut tried = Tried::default();
-    let mut enough = vec![0; ENOUGH];
     for _ in 0..14_500 {
         let tree = if random.percent(10) { crowded(&mut random) } else { sheet(&mut random) };
         let mut bytes = tree.bytes();
         if random.percent(3) {
             bytes = damaged(&mut random, &bytes);
         }
-        tried.sheet(&mut random, &bytes, &mut enough);
+        tried.sheet(&mut random, &bytes);
     }
     let Tried { refusals, sizes, many_rules } = tried;
     let graphs: usize = sizes.iter().sum();

@@ -41,7 +41,7 @@ fn node(hex: &str, expected: Result<u16, u8>) {
 /// The same with a switch at place 0 that has these cases.
 #[track_caller]
 fn cases(cases: &[&str], expected: Result<u16, u8>) {
-    node(&format!("43 00 00 {:02x} 00 00 00 01 {}", cases.len(), cases.concat()), expected);
+    node(&format!("43 00 00 {:04x} 00 00 00 01 {}", cases.len(), cases.concat()), expected);
 }
 
 #[test]
@@ -62,14 +62,14 @@ fn question_22_asks_for_whole_records_of_the_right_kinds() {
     for kind in (0..=0xff).filter(|kind| !(0x40..=0x43).contains(kind) && *kind != 0x47) {
         node(&format!("{kind:02x} 00 00 00 00 00 00 00 00 00"), Err(22));
     }
-    node("43 00 00 00 00 00 00 01", Err(22));
+    node("43 00 00 00 00 00 00 00 01", Err(22));
     for kind in (0..=0xff).filter(|kind| !(0x44..=0x46).contains(kind)) {
         cases(&[&format!("{kind:02x} 00 00 00 00 00 00")], Err(22));
     }
     for whole in [
         "42 01",
-        "43 00 00 01 00 00 00 00 44 00 01 00 00",
-        "43 00 00 02 00 00 00 00 45 00 01 02 00 00 46 00 01 00 02 00 00",
+        "43 00 00 00 01 00 00 00 00 44 00 01 00 00",
+        "43 00 00 00 02 00 00 00 00 45 00 01 02 00 00 46 00 01 00 02 00 00",
         "47 00 00 00 55 00 00 00 00",
     ] {
         let graph = from_hex(&format!("12 02 02 00 01 {whole}"));
@@ -89,12 +89,12 @@ fn question_23_asks_for_nodes_and_rules_in_range() {
     node("42 03", Err(23));
     refused("10 02 00", "12 02 00 00 01 42 00", 23);
     refused("10 02 00", "12 02 00 00 01 42 01", 23);
-    node("43 00 00 01 00 01 00 01 44 00 01 00 01", Ok(2));
-    node("43 00 00 01 00 02 00 01 44 00 01 00 01", Err(23));
-    node("43 00 00 01 00 01 00 02 44 00 01 00 01", Err(23));
-    node("43 00 00 01 00 01 00 01 44 00 01 00 02", Err(23));
-    node("43 00 00 01 00 01 00 01 45 00 01 01 ff ff", Err(23));
-    node("43 00 00 01 00 01 00 01 46 00 01 00 02 01 00", Err(23));
+    node("43 00 00 00 01 00 01 00 01 44 00 01 00 01", Ok(2));
+    node("43 00 00 00 01 00 02 00 01 44 00 01 00 01", Err(23));
+    node("43 00 00 00 01 00 01 00 02 44 00 01 00 01", Err(23));
+    node("43 00 00 00 01 00 01 00 01 44 00 01 00 02", Err(23));
+    node("43 00 00 00 01 00 01 00 01 45 00 01 01 ff ff", Err(23));
+    node("43 00 00 00 01 00 01 00 01 46 00 01 00 02 01 00", Err(23));
     node("47 00 00 00 55 00 01 00 01", Ok(2));
     node("47 00 00 00 55 00 02 00 01", Err(23));
     node("47 00 00 00 55 00 01 00 02", Err(23));
@@ -102,15 +102,15 @@ fn question_23_asks_for_nodes_and_rules_in_range() {
 
 #[test]
 fn question_23_asks_for_a_test_of_the_sheet() {
-    node("43 00 55 01 00 00 00 00 44 00 01 00 00", Ok(2));
+    node("43 00 55 00 01 00 00 00 00 44 00 01 00 00", Ok(2));
     for place in ["00 01", "00 54", "00 aa", "02 a8", "ff ff"] {
-        node(&format!("43 {place} 01 00 00 00 00 44 00 01 00 00"), Err(23));
+        node(&format!("43 {place} 00 01 00 00 00 00 44 00 01 00 00"), Err(23));
     }
     for pair in ["00 55 00 00", "00 00 00 00", "00 00 00 aa", "00 55 00 55"] {
         node(&format!("47 {pair} 00 00 00 00"), Err(23));
     }
     // A place that stands only in a pair has no place test.
-    refused(PAIR, "12 02 01 00 01 43 00 00 01 00 00 00 00 44 00 01 00 00", 23);
+    refused(PAIR, "12 02 01 00 01 43 00 00 00 01 00 00 00 00 44 00 01 00 00", 23);
     accepted(PAIR, "12 02 01 00 01 47 00 00 00 55 00 00 00 00", 1);
 }
 
@@ -132,19 +132,28 @@ fn question_24_asks_for_cases_in_order() {
 }
 
 #[test]
-fn question_24_asks_for_numbers_apart() {
+fn question_24_asks_for_numbers_that_ascend_by_low_then_high() {
     let numbers = "46 00 05 00 09 00 01";
-    cases(&[numbers, "46 00 0a 00 0a 00 00"], Ok(2));
-    cases(&[numbers, "46 00 09 00 0a 00 00"], Err(24));
-    cases(&[numbers, "46 00 06 00 07 00 00"], Err(24));
-    cases(&[numbers, "46 00 00 00 04 00 00"], Err(24));
-    cases(&[numbers, numbers], Err(24));
+    for after in ["00 05 00 0a", "00 05 ff ff", "00 06 00 07", "00 09 00 0a", "00 0a 00 0a", "ff ff ff ff"] {
+        cases(&[numbers, &format!("46 {after} 00 00")], Ok(2));
+    }
+    for before in ["00 05 00 09", "00 05 00 08", "00 05 00 05", "00 04 00 0a", "00 04 ff ff", "00 00 00 04"] {
+        cases(&[numbers, &format!("46 {before} 00 00")], Err(24));
+        cases(
+            &[&format!("46 {before} 00 00"), numbers],
+            if before == "00 05 00 09" { Err(24) } else { Ok(2) },
+        );
+    }
     cases(&["46 00 05 00 04 00 01"], Err(24));
+    cases(&[numbers, "46 00 07 00 06 00 01"], Err(24));
     cases(&["46 00 05 00 05 00 01"], Ok(2));
     cases(&["46 00 00 ff ff 00 01"], Ok(2));
-    cases(&["46 00 00 00 00 00 01", "46 ff ff ff ff 00 01"], Ok(2));
-    // A range with its ends swapped before one that it would not meet.
-    cases(&["46 00 09 00 05 00 01", "46 00 06 00 07 00 01"], Err(24));
+    cases(&["46 00 00 00 00 00 01", "46 00 00 ff ff 00 01", "46 ff ff ff ff 00 01"], Ok(2));
+    // High bytes count: 256 comes after 255, in low and in high.
+    cases(&["46 00 ff 01 00 00 01", "46 01 00 01 00 00 01"], Ok(2));
+    cases(&["46 01 00 01 00 00 01", "46 00 ff 01 00 00 01"], Err(24));
+    cases(&["46 00 00 00 ff 00 01", "46 00 00 01 00 00 01"], Ok(2));
+    cases(&["46 00 00 01 00 00 01", "46 00 00 00 ff 00 01"], Err(24));
 }
 
 #[test]
@@ -156,10 +165,10 @@ fn question_25_asks_that_no_bytes_are_left() {
 #[test]
 fn questions_come_node_by_node_in_number_order() {
     // A wrong place and then a cut case; a wrong place and cases out of order.
-    refused(EXAMPLE, "12 02 02 00 01 43 00 01 01 00 00 00 00 44 00 01 00", 22);
-    refused(EXAMPLE, "12 02 02 00 01 43 00 01 02 00 00 00 00 44 00 02 00 00 44 00 01 00 00", 23);
+    refused(EXAMPLE, "12 02 02 00 01 43 00 01 00 01 00 00 00 00 44 00 01 00", 22);
+    refused(EXAMPLE, "12 02 02 00 01 43 00 01 00 02 00 00 00 00 44 00 02 00 00 44 00 01 00 00", 23);
     // The first node's cases out of order, the second of a wrong kind; and the other way round.
-    refused(EXAMPLE, "12 02 02 00 02 43 00 00 02 00 00 00 00 44 00 02 00 00 44 00 01 00 00 48", 24);
+    refused(EXAMPLE, "12 02 02 00 02 43 00 00 00 02 00 00 00 00 44 00 02 00 00 44 00 01 00 00 48", 24);
     refused(EXAMPLE, "12 02 02 00 02 48", 22);
     refused(EXAMPLE, "12 02 02 00 02 42 00 48", 23);
     // The sheet's own questions come first.
@@ -167,12 +176,41 @@ fn questions_come_node_by_node_in_number_order() {
     refused("10 02 00 20", "12", 10);
 }
 
+/// A switch at place 0 of the example with so many number cases, each pair of these ends in turn.
+fn switch_of(count: usize) -> Node {
+    let pairs = (0..363).flat_map(|low| (low..363).map(move |high| (low, high)));
+    let cases: Vec<Case> =
+        pairs.take(count).map(|(low, high)| Case::Numbers { low, high, node: 0 }).collect();
+    assert_eq!(cases.len(), count);
+    Node::Switch { place: 0, neither: 0, unknown: 0, cases }
+}
+
 #[test]
-fn a_switch_may_have_255_cases() {
-    let cases: Vec<Case> = (0..255).map(|id| Case::Symbol { id, node: 0 }).collect();
-    let switch = Node::Switch { place: 0, neither: 0, unknown: 0, cases };
-    let graph = graph_bytes(2, 2, &[switch]);
-    assert_eq!(check_graph(&from_hex(EXAMPLE), &graph), Ok(GraphSize { nodes: 1 }));
+fn a_switch_may_have_65535_cases() {
+    let sheet = from_hex(EXAMPLE);
+    for count in [1, 255, 256, 257, 2_145, 8_385, 65_535] {
+        let graph = graph_bytes(2, 2, &[switch_of(count)]);
+        assert_eq!(graph[8..10], (count as u16).to_be_bytes());
+        assert_eq!(check_graph(&sheet, &graph), Ok(GraphSize { nodes: 1 }), "{count} cases");
+        assert_eq!(check_graph(&sheet, &graph[..graph.len() - 1]), Err(22), "{count} cases, the last cut");
+        // A case that is not counted is left over, one that is counted and not there is cut.
+        for (other, refusal) in [(count - 1, if count == 1 { 22 } else { 25 }), (count + 1, 22)] {
+            let mut wrong = graph.clone();
+            let Ok(other) = u16::try_from(other) else { continue };
+            wrong[8..10].copy_from_slice(&other.to_be_bytes());
+            assert_eq!(check_graph(&sheet, &wrong), Err(refusal), "{other} counted, {count} there");
+        }
+        // The last case counts too: twice, or to a node that is not there.
+        let end = graph.len() - 7;
+        let mut far = graph.clone();
+        far[end + 6] = 1;
+        assert_eq!(check_graph(&sheet, &far), Err(23), "{count} cases");
+        if count > 1 {
+            let mut twice = graph.clone();
+            twice.copy_within(end - 7..end, end);
+            assert_eq!(check_graph(&sheet, &twice), Err(24), "{count} cases");
+        }
+    }
 }
 
 #[test]

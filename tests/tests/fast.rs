@@ -2,7 +2,7 @@
 //! the sheets, pieces and graphs that are timed, on the stream of calls, and on more sheets to build.
 
 use std::collections::BTreeMap;
-use voltunnis_tests::both::{self, lend};
+use voltunnis_tests::both::{self, enough, lend};
 use voltunnis_tests::bytes::to_hex;
 use voltunnis_tests::fast;
 use voltunnis_tests::generate::calls::{Call, Name, Role};
@@ -14,11 +14,11 @@ use voltunnis_tests::generate::sheets::{sheet, MOST_RULES};
 use voltunnis_tests::generate::stock::Stock;
 use voltunnis_tests::generate::stream::Stream;
 use voltunnis_tests::generate::trees::{piece_bytes, Pattern, SheetTree};
-use voltunnis_tests::reference::build::ENOUGH;
 use voltunnis_tests::reference::{graph_in, own_graph};
 use voltunnis_tests::results::{Built, Refusal, Written};
 
 #[path = "../src/bin/bench/cases.rs"]
+#[allow(dead_code)]
 mod cases;
 
 /// How often each call was made, each refusal's number given, 0 for accepted, and each answer's word.
@@ -132,7 +132,7 @@ impl Count {
         }
         self.check_piece(piece);
         self.plain(sheet, piece);
-        let Some(graph) = own_graph(sheet) else { return self.build(sheet, ENOUGH) };
+        let Some(graph) = own_graph(sheet) else { return self.build(sheet, 100) };
         self.build(sheet, graph.len() - 1);
         self.build(sheet, graph.len());
         self.check_graph(sheet, &graph);
@@ -150,7 +150,7 @@ impl Count {
 #[test]
 fn the_fast_code_gives_the_same_where_it_is_timed() {
     let mut count = Count::default();
-    for case in cases::all().iter().chain(&cases::for_graphs()) {
+    for case in [cases::all(), cases::for_graphs(), cases::for_walks()].iter().flatten() {
         println!("{}: {:?}", case.name, count.all(&case.sheet, &case.piece));
     }
     count.print();
@@ -167,7 +167,7 @@ fn the_fast_code_gives_the_same_on_the_stream_of_calls() {
     for name in Name::ALL.into_iter().filter(|name| !not_here.contains(name)) {
         assert!(count.calls[name.text()] >= 3_000, "{}: few calls", name.text());
     }
-    for refusal in (0..=27).chain([31]) {
+    for refusal in (0..=27).chain([31, 32]) {
         let calls = count.refusals.get(&refusal).copied().unwrap_or(0);
         assert!(calls >= 20, "refusal {refusal}: {calls} calls");
     }
@@ -218,9 +218,10 @@ fn the_fast_code_stops_at_the_most_nodes() {
         known::nodes_1024(),
         known::nodes_1025(),
         known::nodes_1027(),
+        known::coins(28),
+        known::coins(32),
         known::longest_32(),
-        known::longest_64(),
     ];
-    let built = known.map(|sheet| count.build(&sheet, ENOUGH).map(|built| built.nodes));
-    assert_eq!(built, [Some(1024), None, None, Some(1023), Some(1024)]);
+    let built = known.map(|sheet| count.build(&sheet, enough(&sheet, None)).map(|built| built.nodes));
+    assert_eq!(built, [Some(1024), None, None, Some(960), None, Some(1023)]);
 }

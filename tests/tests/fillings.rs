@@ -1,5 +1,5 @@
-//! The reference against fillings: on small sheets its plain answer is the one that trying every
-//! filling gives. The library plays no part here.
+//! The reference against fillings: on small sheets its plain answer, and that of its walk on the built graph, is the
+//! one that trying every filling gives, each number of a span among them. The library plays no part here.
 
 use voltunnis_tests::bytes::{from_hex, to_hex};
 use voltunnis_tests::fillings;
@@ -15,11 +15,12 @@ use voltunnis_tests::results::{Plain, Word};
 const MOST: usize = 20_000;
 
 /// Few ids and numbers with wide compounds, or fewer still with deep ones.
-const STOCKS: [Stock; 4] = [
-    Stock { ids: &[1, 2], numbers: &[1, 2, 4], most_arguments: 2, deepest_compound: 1 },
-    Stock { ids: &[1], numbers: &[0, 0xffff], most_arguments: 1, deepest_compound: 3 },
-    Stock { ids: &[1, 2], numbers: &[3, 5], most_arguments: 1, deepest_compound: 2 },
-    Stock { ids: &[1], numbers: &[2], most_arguments: 2, deepest_compound: 2 },
+const STOCKS: [Stock; 5] = [
+    Stock { ids: &[1, 2], numbers: &[1, 2, 4], most_arguments: 2, deepest_compound: 1, spans: 50 },
+    Stock { ids: &[1], numbers: &[0, 0xffff], most_arguments: 1, deepest_compound: 3, spans: 20 },
+    Stock { ids: &[1, 2], numbers: &[3, 5], most_arguments: 1, deepest_compound: 2, spans: 50 },
+    Stock { ids: &[1], numbers: &[2], most_arguments: 2, deepest_compound: 2, spans: 50 },
+    Stock { ids: &[1], numbers: &[0, 1, 2, 3, 4, 5], most_arguments: 2, deepest_compound: 1, spans: 80 },
 ];
 
 /// The answer to compare, if sheet and piece are accepted and their fillings are few enough.
@@ -34,25 +35,116 @@ fn tried(sheet: &SheetTree, piece: &[Term]) -> Option<Plain> {
         to_hex(&sheet_bytes),
         to_hex(&piece_bytes)
     );
+    if let Some(graph) = reference::own_graph(&sheet_bytes) {
+        let walked = reference::walk(&sheet_bytes, &graph, &piece_bytes).expect("an answer").walk;
+        let walked = Plain { word: walked.word, rule: walked.rule };
+        assert_eq!(walked, answer, "walk: sheet {} piece {}", to_hex(&sheet_bytes), to_hex(&piece_bytes));
+    }
     Some(answer)
 }
 
 #[test]
 fn the_plain_answer_is_the_one_over_fillings() {
     let mut random = Random::new(0x6669_6c6c);
-    let mut words = [0; 5];
-    for round in 0..20_000 {
+    let (mut words, mut spans) = ([0; 5], [0; 5]);
+    for round in 0..25_000 {
         let stock = STOCKS[round % STOCKS.len()];
         let sheet = small_sheet(&mut random, stock);
         let piece = piece(&mut random, &sheet, stock);
         if let Some(answer) = tried(&sheet, &piece) {
+            let words = if has_span(&piece) { &mut spans } else { &mut words };
+            words[answer.word as usize] += 1;
+        }
+    }
+    println!("answers by word: {words:?}, of pieces with spans {spans:?}");
+    for word in [Word::Commit, Word::Execute, Word::Suspend, Word::Fail] {
+        assert!(words[word as usize] >= 1_000, "{}: {} answers", word.name(), words[word as usize]);
+        assert!(spans[word as usize] >= 150, "{}: {} answers", word.name(), spans[word as usize]);
+    }
+}
+
+/// Whether some term of a piece is a span of several numbers.
+fn has_span(terms: &[Term]) -> bool {
+    terms.iter().any(|term| match term {
+        Term::Span(low, high) => low < high,
+        Term::Compound(_, arguments) => has_span(arguments),
+        _ => false,
+    })
+}
+
+/// Two ends from 0 to 7, of up to 6 numbers.
+fn ends(random: &mut Random) -> (u16, u16) {
+    let low = random.below(8);
+    (low as u16, random.between(low, 7.min(low + 5)) as u16)
+}
+
+/// A pattern that numbers may meet.
+fn pattern(random: &mut Random, depth: usize) -> Pattern {
+    let (low, high) = ends(random);
+    match random.below(12) {
+        0..=4 => Pattern::Range(low, high),
+        5..=7 => Pattern::Variable(random.below(2) as u8),
+        8 => Pattern::Ranged(random.below(2) as u8, low, high),
+        9 if depth < 2 => Pattern::Compound(1, vec![pattern(random, depth + 1); 2]),
+        10 => Pattern::Symbol(1),
+        _ => Pattern::Anything,
+    }
+}
+
+/// A term, mostly a span, made for this pattern's place.
+fn spanned(random: &mut Random, pattern: &Pattern) -> Term {
+    let (low, high) = ends(random);
+    match (random.below(20), pattern) {
+        (0, _) => Term::Unknown,
+        (1, _) => Term::Symbol(1),
+        (2 | 3, _) => Term::Number(low),
+        (_, Pattern::Compound(id, parts)) => {
+            Term::Compound(*id, parts.iter().map(|part| spanned(random, part)).collect())
+        }
+        _ => Term::Span(low, high),
+    }
+}
+
+#[test]
+fn pieces_full_of_spans_have_the_answer_over_fillings() {
+    let mut random = Random::new(0x7370_616e);
+    let mut words = [0; 5];
+    for _ in 0..40_000 {
+        let arity = random.between(1, 3);
+        let rules = (0..random.between(1, 4)).map(|_| (0..arity).map(|_| pattern(&mut random, 1)).collect());
+        let sheet = SheetTree { arity: arity as u8, rules: rules.collect() };
+        let made_for = random.below(sheet.rules.len());
+        let piece: Vec<Term> = sheet.rules[made_for].iter().map(|part| spanned(&mut random, part)).collect();
+        if let Some(answer) = tried(&sheet, &piece).filter(|_| has_span(&piece)) {
             words[answer.word as usize] += 1;
         }
     }
     println!("answers by word: {words:?}");
     for word in [Word::Commit, Word::Execute, Word::Suspend, Word::Fail] {
-        assert!(words[word as usize] >= 1_000, "{}: {} answers", word.name(), words[word as usize]);
+        assert!(words[word as usize] >= 2_000, "{}: {} answers", word.name(), words[word as usize]);
     }
+}
+
+#[test]
+fn spans_that_meet_in_pairs_have_a_number_in_common() {
+    use Pattern::{Ranged, Variable};
+    let three = SheetTree { arity: 3, rules: vec![vec![Variable(0); 3]] };
+    let span = |low, high| Term::Span(low, high);
+    let said = |terms: [Term; 3]| tried(&three, &terms).expect("few fillings");
+    let (execute, fail) = (Plain { word: Word::Execute, rule: 1 }, Plain { word: Word::Fail, rule: 0 });
+    assert_eq!(said([span(1, 4), span(3, 6), span(2, 3)]), execute);
+    assert_eq!(said([span(1, 3), span(3, 6), span(4, 5)]), fail);
+    assert_eq!(said([span(1, 2), span(1, 2), span(1, 2)]), execute);
+    assert_eq!(said([span(2, 2), Term::Number(2), span(2, 2)]), Plain { word: Word::Commit, rule: 1 });
+    assert_eq!(said([span(2, 2), Term::Number(2), Term::Symbol(2)]), fail);
+    // The variable's range is one interval more.
+    let ranged = SheetTree { arity: 2, rules: vec![vec![Ranged(0, 4, 9), Variable(0)]] };
+    assert_eq!(tried(&ranged, &[span(1, 4), span(3, 6)]), Some(execute));
+    assert_eq!(tried(&ranged, &[span(1, 3), span(3, 6)]), Some(fail));
+    // Also inside compounds.
+    let f = |term| Term::Compound(1, vec![term]);
+    assert_eq!(said([f(span(1, 4)), f(span(3, 6)), Term::Unknown]), execute);
+    assert_eq!(said([f(span(1, 2)), f(span(3, 6)), Term::Unknown]), fail);
 }
 
 #[test]

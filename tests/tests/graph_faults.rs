@@ -1,116 +1,8 @@
 //! One fault at a time in graphs that are accepted, at every node: the number that refuses it, from the
 //! check and from writing again, to buffers of exact size and one byte shorter.
 
-use std::rc::Rc;
-use voltunnis_tests::both::{check_graph, lent, rewrite};
-use voltunnis_tests::generate::graphs::foreign;
-use voltunnis_tests::generate::random::Random;
-use voltunnis_tests::generate::sheets::sheet;
-use voltunnis_tests::reference::build::nodes;
+use voltunnis_tests::faults::{graphs, leads, led_to, with_cases, Made, Met};
 use voltunnis_tests::reference::nodes::{graph_bytes, Case, Node};
-use voltunnis_tests::reference::sheet::Sheet;
-use voltunnis_tests::results::{GraphSize, Refusal, Written};
-use voltunnis_tests::vectors;
-
-/// A graph that is accepted, with its sheet.
-struct Made {
-    bytes: Vec<u8>,
-    sheet: Rc<Sheet>,
-    nodes: Vec<Node>,
-}
-
-/// Graphs to put faults in, built and foreign, for the sheets of the vectors and random ones.
-fn graphs() -> Vec<Made> {
-    let mut random = Random::new(0x6661_756c);
-    let mut sheets: Vec<Vec<u8>> = vectors::all().into_iter().map(|vector| vector.sheet).collect();
-    sheets.extend((0..80).map(|_| sheet(&mut random).bytes()));
-    let mut graphs = Vec::new();
-    for bytes in sheets {
-        let Ok(sheet) = Sheet::read(&bytes).map(Rc::new) else { continue };
-        let both = [nodes(&sheet).unwrap_or_default(), foreign(&mut random, &sheet.asked())];
-        for nodes in both.into_iter().filter(|nodes| (1..=40).contains(&nodes.len())) {
-            graphs.push(Made { bytes: bytes.clone(), sheet: sheet.clone(), nodes });
-        }
-    }
-    graphs
-}
-
-/// How often each refusal was met, 0 being none.
-#[derive(Default)]
-struct Met([usize; 28]);
-
-impl Met {
-    /// A graph is checked and written again, and this is said.
-    fn says(&mut self, sheet: &[u8], graph: &[u8], expected: Result<u16, Refusal>) {
-        assert_eq!(check_graph(sheet, graph), expected.map(|nodes| GraphSize { nodes }));
-        let (result, buffer) = rewrite(sheet, graph, graph.len());
-        assert_eq!(result, expected.map(|_| Written { bytes: graph.len() as u32 }));
-        assert!(buffer == if expected.is_ok() { graph.to_vec() } else { lent(graph.len()) });
-        self.0[usize::from(expected.err().unwrap_or(0))] += 1;
-        if let Some(short) = graph.len().checked_sub(1) {
-            let (result, buffer) = rewrite(sheet, graph, short);
-            assert_eq!(result.err(), Some(expected.err().unwrap_or(19)));
-            assert!(buffer == lent(short), "a byte changed on a refusal");
-            self.0[usize::from(expected.err().unwrap_or(19))] += 1;
-        }
-    }
-
-    /// Changes every node of a graph on its own, in each of the ways that there are for it.
-    fn every_node(
-        &mut self,
-        made: &Made,
-        ways: impl Fn(&Made, &Node) -> Vec<Node>,
-        expected: Result<(), Refusal>,
-    ) {
-        for (at, node) in made.nodes.iter().enumerate() {
-            for changed in ways(made, node) {
-                let mut nodes = made.nodes.clone();
-                nodes[at] = changed;
-                let graph = graph_bytes(made.sheet.arity, made.sheet.rules.len() as u8, &nodes);
-                self.says(&made.bytes, &graph, expected.map(|()| nodes.len() as u16));
-            }
-        }
-    }
-
-    fn at_least(&self, count: usize, refusals: &[usize]) {
-        println!("by refusal {:?}", self.0);
-        for refusal in refusals {
-            assert!(self.0[*refusal] >= count, "{refusal}: {} calls", self.0[*refusal]);
-        }
-    }
-}
-
-/// Where a node leads.
-fn leads(node: &mut Node) -> Vec<&mut u16> {
-    match node {
-        Node::Switch { neither, unknown, cases, .. } => {
-            let cases = cases.iter_mut().map(|case| match case {
-                Case::Symbol { node, .. } | Case::Compound { node, .. } | Case::Numbers { node, .. } => node,
-            });
-            [neither, unknown].into_iter().chain(cases).collect()
-        }
-        Node::Pair { no, other, .. } => vec![no, other],
-        _ => Vec::new(),
-    }
-}
-
-/// The node with each of the places to which it leads set to this one.
-fn led_to(node: &Node, to: u16) -> Vec<Node> {
-    let count = leads(&mut node.clone()).len();
-    let changed = |at: usize| {
-        let mut node = node.clone();
-        *leads(&mut node)[at] = to;
-        node
-    };
-    (0..count).map(changed).collect()
-}
-
-/// The switch with its cases changed in each of these ways; none for other nodes.
-fn with_cases(node: &Node, ways: impl Fn(&[Case]) -> Vec<Vec<Case>>) -> Vec<Node> {
-    let Node::Switch { place, neither, unknown, cases } = node else { return Vec::new() };
-    let switch = |cases| Node::Switch { place: *place, neither: *neither, unknown: *unknown, cases };
-    ways(cases).into_iter().map(switch).collect()
-}
 
 #[test]
 fn a_node_that_is_not_there_is_refused_by_23() {
@@ -182,33 +74,6 @@ fn cases_out_of_order_or_doubled_are_refused_by_24() {
 }
 
 #[test]
-fn overlapping_or_reversed_numbers_are_refused_by_24() {
-    let mut met = Met::default();
-    let wrong = |cases: &[Case]| -> Vec<Vec<Case>> {
-        let mut all = Vec::new();
-        let mut with = |at: usize, low, high, node| {
-            let mut cases = cases.to_vec();
-            cases[at] = Case::Numbers { low, high, node };
-            all.push(cases);
-        };
-        for at in 0..cases.len() {
-            let Case::Numbers { low, high, node } = cases[at] else { continue };
-            if low < high {
-                with(at, high, low, node);
-            }
-            if let Some(Case::Numbers { low: next, high: last, .. }) = cases.get(at + 1) {
-                with(at, low, *next, node);
-                with(at, low, *last, node);
-                with(at, *next, high, node);
-            }
-        }
-        all
-    };
-    graphs().iter().for_each(|made| met.every_node(made, |_, node| with_cases(node, wrong), Err(24)));
-    met.at_least(500, &[24]);
-}
-
-#[test]
 fn compound_cases_may_have_any_arity() {
     let mut met = Met::default();
     let any = |cases: &[Case]| -> Vec<Vec<Case>> {
@@ -221,23 +86,6 @@ fn compound_cases_may_have_any_arity() {
     };
     graphs().iter().for_each(|made| met.every_node(made, |_, node| with_cases(node, any), Ok(())));
     met.at_least(500, &[0, 19]);
-}
-
-#[test]
-fn of_255_cases_the_last_counts_too() {
-    let all = |last: Case| -> Vec<Case> {
-        (0..254).map(|id| Case::Symbol { id: id * 2, node: 0 }).chain([last]).collect()
-    };
-    let (good, low, far) = ((508, 0), (505, 0), (508, 0xffff));
-    let [good, low, far] = [good, low, far].map(|(id, node)| all(Case::Symbol { id, node }));
-    let mut met = Met::default();
-    for made in graphs() {
-        for (cases, expected) in [(&good, Ok(())), (&low, Err(24)), (&far, Err(23))] {
-            met.every_node(&made, |_, node| with_cases(node, |_| vec![cases.clone()]), expected);
-        }
-        met.every_node(&made, |_, node| with_cases(node, |_| vec![Vec::new()]), Err(22));
-    }
-    met.at_least(400, &[0, 19, 22, 23, 24]);
 }
 
 #[test]

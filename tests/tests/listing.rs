@@ -75,36 +75,58 @@ fn refusals_end_the_run_and_leave_the_lines_before() {
     assert_eq!(listed("10 02 00 20", "11 02 30 30"), "refused 10\n");
     assert_eq!(listed("10 02 00", ""), "sheet 2 0 0 1\n");
     let first = "sheet 2 2 3 7\n1 suspend 0 2 0000000000000003\n";
-    for (rest, refusal) in
-        [("11", 12), ("11 09", 13), ("11 02 30", 14), ("11 02 33 00 01 05", 16), ("11 01 30", 20), ("00", 12)]
-    {
+    for (rest, refusal) in [
+        ("11", 12),
+        ("11 09", 13),
+        ("11 02 30", 14),
+        ("11 02 33 00 01 05", 16),
+        ("11 01 30", 20),
+        ("00", 12),
+        ("11 02 34 00 02 00 01 ff", 32),
+    ] {
         let pieces = format!("11 02 30 30 {rest}");
         assert_eq!(listed(EXAMPLE, &pieces), format!("{first}refused {refusal}\n"));
     }
     assert_eq!(lines(&folder, &known::nodes_1025(), &[]), "refused 18\n");
     assert_eq!(lines(&folder, &known::nodes_1024(), &[]), "sheet 8 4 23 1024\n");
-    assert_eq!(lines(&folder, &known::nested_8(32), &[]), "sheet 8 32 8 221\n");
-    assert_eq!(lines(&folder, &known::nested_16(32), &[]), "refused 19\n");
+    assert_eq!(lines(&folder, &known::nested_8(8), &[]), "sheet 8 8 8 53\n");
+    assert_eq!(lines(&folder, &known::nested_8(16), &[]), "refused 19\n");
+    assert_eq!(lines(&folder, &known::coins(32), &[]), "refused 18\n");
+}
+
+#[test]
+fn coins_with_spans_are_listed() {
+    let folder = folder("spans");
+    let coin = |diameter, weight| piece_bytes(&[Term::Symbol(3), diameter, Term::Number(9 + 4), weight]);
+    // Rule 4 takes a diameter of 120 to 210 and a weight of 75 to 115.
+    let pieces = [
+        coin(Term::Span(120, 210), Term::Span(80, 90)),
+        coin(Term::Span(119, 210), Term::Span(80, 90)),
+        coin(Term::Unknown, Term::Span(115, 116)),
+        coin(Term::Span(120, 119), Term::Unknown),
+    ];
+    let listed = "sheet 4 8 4 80\n\
+                  1 commit 4 2 0000000000000000\n\
+                  2 execute 4 2 0000000000000002\n\
+                  3 execute 4 3 000000000000000a\n\
+                  refused 32\n";
+    assert_eq!(lines(&folder, &known::coins(8), &pieces.concat()), listed);
 }
 
 #[test]
 fn sheets_of_64_rules_are_listed() {
     let folder = folder("many");
-    let coin = |weight| {
-        let readings = [Term::Symbol(3), Term::Number(63 * 40 + 85), Term::Number(31 * 9 + 4), weight];
-        piece_bytes(&readings)
-    };
-    let pieces = [coin(Term::Number(63 * 25 + 40)), coin(Term::Unknown), coin(Term::Number(0))].concat();
-    let listed = "sheet 4 64 4 332\n\
-                  1 commit 64 2 0000000000000000\n\
-                  2 execute 64 2 0000000000000008\n\
-                  3 fail 0 2 0000000000000000\n";
-    assert_eq!(lines(&folder, &known::coins(64), &pieces), listed);
+    let pieces = "11 01 30 11 01 32 00 01 11 01 34 00 00 00 01 11 01 34 00 02 00 03";
     assert_eq!(
-        lines(&folder, &known::nested_1(64), &from_hex("11 01 30")),
-        "sheet 1 64 1 4\n1 suspend 0 1 0000000000000001\n"
+        lines(&folder, &known::nested_1(64), &from_hex(pieces)),
+        "sheet 1 64 1 4\n\
+         1 suspend 0 1 0000000000000001\n\
+         2 commit 1 1 0000000000000000\n\
+         3 execute 1 1 0000000000000001\n\
+         4 suspend 0 1 0000000000000001\n"
     );
     assert_eq!(lines(&folder, &known::nested_8(64), &[]), "refused 19\n");
+    assert_eq!(lines(&folder, &known::coins(64), &[]), "refused 18\n");
     assert_eq!(lines(&folder, &from_hex(&format!("10 01 40 {}", "20".repeat(64))), &[]), "sheet 1 64 0 1\n");
     assert_eq!(lines(&folder, &from_hex(&format!("10 01 41 {}", "20".repeat(65))), &[]), "refused 3\n");
 }

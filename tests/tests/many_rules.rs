@@ -1,21 +1,21 @@
 //! Sheets of 33 to 64 rules (document 02, request 9): every rule up to 64 as an answer of each call, 64 rules of
-//! 64 tests each, switches of 127 cases, and question 3 in each call that reads a sheet.
+//! 64 tests each, switches of 8,385 cases, and question 3 in each call that reads a sheet.
 
 use voltunnis_tests::both::{
-    build, build_ordered, check_graph, check_sheet, lent, plain, rewrite, tidied, tidy, walk, walk_all,
+    build, build_ordered, check_graph, check_sheet, enough, lent, plain, rewrite, tidied, tidy, walk,
+    walk_all,
 };
 use voltunnis_tests::bytes::to_hex;
 use voltunnis_tests::generate::known;
 use voltunnis_tests::generate::orders::{reversed, table};
 use voltunnis_tests::generate::trees::{piece_bytes, Pattern, SheetTree, Term};
-use voltunnis_tests::reference::build::ENOUGH;
 use voltunnis_tests::results::{Built, GraphSize, Plain, Refusal, Run, SheetSize, Word};
 
-use Term::{Number, Symbol, Unknown};
+use Term::{Number, Span, Symbol, Unknown};
 
 /// The graph of an accepted sheet.
 fn graph(sheet: &[u8]) -> Vec<u8> {
-    let (built, mut buffer) = build(sheet, ENOUGH);
+    let (built, mut buffer) = build(sheet, enough(sheet, None));
     buffer.truncate(built.expect("a graph").bytes as usize);
     buffer
 }
@@ -29,9 +29,9 @@ fn said(sheet: &[u8], graph: &[u8], terms: &[Term]) -> String {
     answer.to_string()
 }
 
-/// 64 rules, each of which wants a symbol and a number of its own: rule i wants both to be i.
+/// 64 rules, each of which wants two symbols of its own: rule i wants both to be i.
 fn each_its_own() -> Vec<u8> {
-    let rule = |i| vec![Pattern::Symbol(i), Pattern::Range(i, i)];
+    let rule = |i| vec![Pattern::Symbol(i), Pattern::Symbol(i)];
     SheetTree { arity: 2, rules: (1..=64).map(rule).collect() }.bytes()
 }
 
@@ -42,15 +42,17 @@ fn each_of_64_rules_commits_executes_and_fails() {
     let graph = graph(&sheet);
     // Two switches of 64 cases, an execute for each rule, fail and suspend.
     assert_eq!(check_graph(&sheet, &graph), Ok(GraphSize { nodes: 68 }));
-    assert_eq!(graph.len(), 5 + (8 + 64 * 5) + (8 + 64 * 7) + 64 * 2 + 2);
-    let backwards = build_ordered(&sheet, &table(&reversed()), ENOUGH);
+    assert_eq!(graph.len(), 5 + 2 * (9 + 64 * 5) + 64 * 2 + 2);
+    let backwards = build_ordered(&sheet, &table(&reversed()), graph.len());
     assert_eq!(backwards.0, Ok(Built { nodes: 68, bytes: graph.len() as u32 }));
     for i in 1..=64 {
         let said = |terms: [Term; 2]| said(&sheet, &graph, &terms);
-        assert_eq!(said([Symbol(i), Number(i)]), format!("commit {i} 1 0000000000000000"));
+        assert_eq!(said([Symbol(i), Symbol(i)]), format!("commit {i} 1 0000000000000000"));
         assert_eq!(said([Symbol(i), Unknown]), format!("execute {i} 1 0000000000000002"));
-        assert_eq!(said([Unknown, Number(i)]), format!("execute {i} 2 0000000000000001"));
-        assert_eq!(said([Symbol(i), Number(65)]), "fail 0 1 0000000000000000");
+        assert_eq!(said([Unknown, Symbol(i)]), format!("execute {i} 2 0000000000000001"));
+        assert_eq!(said([Symbol(i), Symbol(65)]), "fail 0 1 0000000000000000");
+        assert_eq!(said([Symbol(i), Number(i)]), "fail 0 1 0000000000000000");
+        assert_eq!(said([Unknown, Span(1, i)]), "fail 0 2 0000000000000000");
     }
     assert_eq!(said(&sheet, &graph, &[Symbol(65), Unknown]), "fail 0 1 0000000000000000");
     assert_eq!(said(&sheet, &graph, &[Unknown, Unknown]), "suspend 0 2 0000000000000003");
@@ -60,7 +62,7 @@ fn each_of_64_rules_commits_executes_and_fails() {
 fn many_pieces_get_each_of_64_rules() {
     let sheet = each_its_own();
     let pieces: Vec<u8> = (1..=64)
-        .flat_map(|i| piece_bytes(&[Symbol(i), if i % 2 == 0 { Number(i) } else { Unknown }]))
+        .flat_map(|i| piece_bytes(&[Symbol(i), if i % 2 == 0 { Symbol(i) } else { Unknown }]))
         .collect();
     let (run, results) = walk_all(&sheet, &graph(&sheet), &pieces, 16 * 64);
     assert_eq!(run, Ok(Run { results: 64, bytes: pieces.len() as u32 }));
@@ -77,7 +79,7 @@ fn another_makers_graph_may_execute_64_and_no_more() {
     for rule in [32, 33, 64] {
         assert_eq!(check_graph(&sheet, &executes(rule)), Ok(GraphSize { nodes: 1 }));
         assert_eq!(rewrite(&sheet, &executes(rule), 7).1, executes(rule));
-        let both = [Symbol(rule.into()), Number(rule.into())];
+        let both = [Symbol(rule.into()), Symbol(rule.into())];
         let piece = piece_bytes(&both);
         assert_eq!(walk(&sheet, &executes(rule), &piece).map(|answer| answer.walk.rule), Ok(rule));
     }
@@ -114,24 +116,44 @@ fn sixty_four_rules_may_have_64_tests_each() {
     assert_eq!(said(&Unknown, Unknown), "suspend 0 44 8000000000000001");
 }
 
+/// What 64 nested ranges say of a number from low to high, the range of rule i being i to 1001 - i: some number of it
+/// meets a rule whose range has one, all do where the range holds it whole.
+fn nested_says(low: u16, high: u16) -> String {
+    let met = |i: &u16| *i <= high && low <= 1001 - i;
+    let part = |i: u16| low < i || 1001 - i < high;
+    let met: Vec<u16> = (1..=64).filter(met).collect();
+    match met[..] {
+        [] => "fail 0 1 0000000000000000".into(),
+        [only] if part(only) => format!("execute {only} 1 0000000000000001"),
+        [only] => format!("commit {only} 1 0000000000000000"),
+        _ => format!("suspend 0 1 {:016x}", u64::from(met.iter().any(|i| part(*i)))),
+    }
+}
+
 #[test]
 fn of_64_nested_ranges_all_cases_are_taken() {
     let sheet = known::nested_1(64);
     let graph = graph(&sheet);
-    assert_eq!(graph[8], 127);
+    assert_eq!(graph[8..10], 8_385_u16.to_be_bytes());
     for number in 0..=1002 {
-        // The range of rule i is i - 1 to 1001 - i.
-        let met: Vec<u16> = (1..=64).filter(|i| (i - 1..=1001 - i).contains(&number)).collect();
-        let answer = match met[..] {
-            [] => "fail 0".to_string(),
-            [only] => format!("commit {only}"),
-            _ => "suspend 0".to_string(),
-        };
-        assert_eq!(
-            said(&sheet, &graph, &[Number(number)]),
-            format!("{answer} 1 0000000000000000"),
-            "{number}"
-        );
+        assert_eq!(said(&sheet, &graph, &[Number(number)]), nested_says(number, number), "{number}");
+    }
+    let ends: Vec<u16> = (0..=65).chain([500]).chain(936..=1002).chain([0xffff]).collect();
+    // Each pair of runs has a span that begins and ends in it.
+    let (mut pieces, mut lines) = (Vec::new(), Vec::new());
+    for (at, low) in ends.iter().enumerate() {
+        for high in &ends[at..] {
+            pieces.extend(piece_bytes(&[Span(*low, *high)]));
+            lines.push(nested_says(*low, *high));
+        }
+    }
+    let (run, results) = walk_all(&sheet, &graph, &pieces, 16 * lines.len());
+    assert_eq!(run, Ok(Run { results: lines.len() as u32, bytes: pieces.len() as u32 }));
+    for (line, result) in lines.iter().zip(results.chunks(16)) {
+        let word =
+            (1..=4).filter_map(Word::from_number).find(|word| *word as u8 == result[1]).expect("a word");
+        let wait = u64::from_be_bytes(result[8..].try_into().expect("8 bytes"));
+        assert_eq!(format!("{} {} {} {wait:016x}", word.name(), result[2], result[3]), *line);
     }
     assert_eq!(said(&sheet, &graph, &[Unknown]), "suspend 0 1 0000000000000001");
 }
@@ -146,8 +168,11 @@ fn the_last_of_64_rules_may_be_the_only_one_left() {
     assert_eq!(said(&sheet, &graph, &[Number(0), Unknown]), "execute 64 1 0000000000000002");
     assert_eq!(said(&sheet, &graph, &[Number(0), Symbol(63)]), "fail 0 1 0000000000000000");
     for i in 1..=64 {
-        assert_eq!(said(&sheet, &graph, &[Number(100), Symbol(i)]), format!("commit {i} 2 0000000000000000"));
-        assert_eq!(said(&sheet, &graph, &[Unknown, Symbol(i)]), format!("execute {i} 2 0000000000000001"));
+        let said = |first, i| said(&sheet, &graph, &[first, Symbol(i)]);
+        assert_eq!(said(Number(100), i), format!("commit {i} 2 0000000000000000"));
+        assert_eq!(said(Unknown, i), format!("execute {i} 2 0000000000000001"));
+        assert_eq!(said(Span(64, 100), i), format!("commit {i} 2 0000000000000000"));
+        assert_eq!(said(Span(64, 101), i), format!("execute {i} 2 0000000000000001"));
     }
 }
 

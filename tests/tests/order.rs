@@ -1,25 +1,25 @@
 //! Reading orders (document 02, request 1): the shared vectors, graphs byte for byte, questions 28 to 30 at
 //! their limits and in their turn, and the buffer around the graph.
 
-use voltunnis_tests::both::{build, build_ordered, check_graph, check_order, lent, walk};
+use voltunnis_tests::both::{build, build_ordered, check_graph, check_order, enough, lent, walk};
 use voltunnis_tests::bytes::{from_hex, to_hex};
 use voltunnis_tests::generate::known;
 use voltunnis_tests::generate::orders::{any, ascending, deepest, last, levels, reversed, table, Fault};
 use voltunnis_tests::generate::random::Random;
-use voltunnis_tests::reference::build::ENOUGH;
 use voltunnis_tests::reference::listing::listing;
 use voltunnis_tests::results::{Built, GraphSize, Refusal};
 
-/// The vectors of request 1.
+/// The vectors of request 1, as request 4 makes them: the example's graph and listing.
 const VECTORS: &str = include_str!("../vectors/order.txt");
 
 /// The graph of an accepted sheet in an order, from a buffer that is larger.
 #[track_caller]
 fn graph(sheet: &[u8], places: &[u16]) -> (Built, Vec<u8>) {
-    let (result, mut buffer) = build_ordered(sheet, &table(places), ENOUGH);
+    let len = enough(sheet, Some(&table(places)));
+    let (result, mut buffer) = build_ordered(sheet, &table(places), len);
     let built = result.expect("a graph");
     let bytes = built.bytes as usize;
-    assert!(buffer[bytes..] == lent(ENOUGH)[bytes..], "a byte after the graph");
+    assert!(buffer[bytes..] == lent(len)[bytes..], "a byte after the graph");
     buffer.truncate(bytes);
     (built, buffer)
 }
@@ -36,7 +36,7 @@ fn refused(sheet: &[u8], table: &[u8], len: usize, refusal: Refusal) {
 fn the_shared_vectors_are_met() {
     let mut met = Vec::new();
     for line in VECTORS.lines() {
-        let (call, said) = line.strip_prefix("1|").and_then(|rest| rest.split_once('|')).expect("a vector");
+        let (call, said) = line.strip_prefix("4|").and_then(|rest| rest.split_once('|')).expect("a vector");
         let words: Vec<&str> = call.split(' ').collect();
         let said = match words[..] {
             ["build", sheet, len] => {
@@ -64,16 +64,16 @@ fn the_examples_graph_asks_argument_2_first() {
     let (built, bytes) = graph(&known::example(), &reversed());
     let nodes = [
         "12 02 02 00 07",
-        "43 00 55 01 00 02 00 03 44 00 02 00 01",
-        "43 00 00 01 00 02 00 05 44 00 01 00 04",
+        "43 00 55 00 01 00 02 00 03 44 00 02 00 01",
+        "43 00 00 00 01 00 02 00 05 44 00 01 00 04",
         "42 01",
-        "43 00 00 01 00 02 00 05 44 00 01 00 05",
+        "43 00 00 00 01 00 02 00 05 44 00 01 00 05",
         "47 00 00 00 55 00 06 00 05",
         "41",
         "42 02",
     ];
     assert_eq!(to_hex(&bytes), to_hex(&from_hex(&nodes.concat())));
-    assert_eq!(built, Built { nodes: 7, bytes: 58 });
+    assert_eq!(built, Built { nodes: 7, bytes: 61 });
     let said = known::example_pieces();
     let said =
         said.iter().map(|piece| walk(&known::example(), &bytes, piece).expect("an answer").to_string());
@@ -114,18 +114,17 @@ fn all_places_in_turn_give_the_plain_graph() {
     let ascending = table(&ascending());
     for sheet in [
         known::example(),
-        known::coins(32),
+        known::coins(16),
         known::zeros_and_ones(32),
         known::nested_16(32),
         known::nodes_1024(),
         known::nodes_1025(),
         known::nodes_1027(),
-        known::longest_32(),
-        known::longest_64(),
         known::coins(64),
+        known::nested_1(64),
         from_hex("10 03 00"),
     ] {
-        for len in [0, 5, 58, ENOUGH] {
+        for len in [0, 5, 61, enough(&sheet, None)] {
             assert!(build_ordered(&sheet, &ascending, len) == build(&sheet, len), "{}", to_hex(&sheet));
         }
     }
@@ -134,9 +133,9 @@ fn all_places_in_turn_give_the_plain_graph() {
 #[test]
 fn question_18_may_be_for_one_order_only() {
     let sheet = known::nodes_1025();
-    refused(&sheet, &table(&ascending()), ENOUGH, 18);
-    let sizes: Vec<Result<u16, Refusal>> =
-        (0..8).map(|a| build_ordered(&sheet, &table(&last(a)), ENOUGH).0.map(|built| built.nodes)).collect();
+    refused(&sheet, &table(&ascending()), 20_000, 18);
+    let size = |a| build_ordered(&sheet, &table(&last(a)), 20_000).0.map(|built| built.nodes);
+    let sizes: Vec<Result<u16, Refusal>> = (0..8).map(size).collect();
     println!("one argument last: {sizes:?}");
     assert!(sizes.iter().any(Result::is_ok) && sizes.contains(&Err(18)), "{sizes:?}");
 }
@@ -208,7 +207,7 @@ fn a_place_out_of_range_or_twice_anywhere_comes_before_one_before_its_parent() {
             let places = any(&mut random);
             let table = fault.put(&mut random, &places);
             assert_eq!(check_order(&table), Err(refusal), "{fault:?}");
-            refused(&known::example(), &table, random.pick(&[0, 57, 58, 100]), refusal);
+            refused(&known::example(), &table, random.pick(&[0, 60, 61, 100]), refusal);
         }
     }
 }
@@ -229,13 +228,13 @@ fn questions_28_to_30_come_after_the_sheets_and_before_18_and_19() {
         }
     }
     refused(&known::nodes_1027(), &table(&reversed()), 0, 18);
-    refused(&known::example(), &table(&reversed()), 57, 19);
+    refused(&known::example(), &table(&reversed()), 60, 19);
 }
 
 #[test]
 fn buffers_are_kept_to() {
     for places in [ascending(), reversed(), deepest()] {
-        for sheet in [known::example(), known::coins(8), known::nested_8(32), from_hex("10 01 00")] {
+        for sheet in [known::example(), known::coins(8), known::nested_8(16), from_hex("10 01 00")] {
             let (built, bytes) = graph(&sheet, &places);
             assert_eq!(check_graph(&sheet, &bytes), Ok(GraphSize { nodes: built.nodes }));
             let exact = build_ordered(&sheet, &table(&places), bytes.len());

@@ -12,7 +12,6 @@ use voltunnis_tests::generate::random::Random;
 use voltunnis_tests::generate::sheets::{sheet, small_sheet};
 use voltunnis_tests::generate::stock::Stock;
 use voltunnis_tests::generate::trees::{piece_bytes, SheetTree};
-use voltunnis_tests::reference::build::ENOUGH;
 use voltunnis_tests::results::{Built, GraphSize, Plain};
 use voltunnis_tests::{reference, voltunnis};
 
@@ -28,7 +27,7 @@ fn some_sheet(random: &mut Random) -> SheetTree {
 /// Builds in an order to buffers of several lengths, as the reference does: a refusal changes no byte, a graph none
 /// after it. Gives the graph, if there is one.
 fn built(random: &mut Random, count: &mut Count, sheet: &[u8], order: &[u8]) -> Option<Vec<u8>> {
-    let mut graph = vec![0; ENOUGH];
+    let mut graph = reference::graph_in(sheet, Some(order)).unwrap_or_default();
     let expected = reference::build_ordered(sheet, order, &mut graph);
     let fits = expected.map_or(60, |built| built.bytes as usize);
     let mut lengths = vec![fits + random.below(40)];
@@ -44,7 +43,6 @@ fn built(random: &mut Random, count: &mut Count, sheet: &[u8], order: &[u8]) -> 
         count.met(result.map_or_else(|refusal| format!("refused {refusal}"), |_| "built".into()));
     }
     let Built { nodes, .. } = expected.ok()?;
-    graph.truncate(fits);
     assert_eq!(voltunnis::check_graph(sheet, &graph), Ok(GraphSize { nodes }));
     Some(graph)
 }

@@ -1,4 +1,4 @@
-//! The questions at a piece, 12 to 17: each at its exact limit, and which of two comes first.
+//! The questions at a piece, 12 to 17 and 32: each at its exact limit, and which of two comes first.
 //! Then pieces that stand one after another, each ending with its last term.
 
 use voltunnis_tests::both::check_piece;
@@ -44,11 +44,13 @@ fn question_13_asks_for_an_arity_of_1_to_8() {
 }
 
 #[test]
-fn question_14_asks_for_whole_records_of_kinds_30_to_33() {
-    for kind in (0..=0xff).filter(|kind| !(0x30..=0x33).contains(kind)) {
+fn question_14_asks_for_whole_records_of_kinds_30_to_34() {
+    for kind in (0..=0xff).filter(|kind| !(0x30..=0x34).contains(kind)) {
         refused(&one(&format!("{kind:02x} 00 00 00 00 00")), 14);
     }
-    for term in ["31 00 01", "32 00 01", "33 00 01 01 30", "33 00 01 02 30 31 00 01"] {
+    let span = "33 00 01 02 30 34 00 01 00 02";
+    for term in ["31 00 01", "32 00 01", "34 00 01 00 02", "33 00 01 01 30", "33 00 01 02 30 31 00 01", span]
+    {
         let bytes = from_hex(&one(term));
         assert_eq!(check_piece(&bytes), Ok(PieceSize { arity: 1 }));
         for cut in 2..bytes.len() {
@@ -81,23 +83,48 @@ fn question_17_asks_that_no_bytes_are_left() {
 }
 
 #[test]
+fn question_32_asks_that_low_is_at_most_high() {
+    for (low, high) in [("00 02", "00 01"), ("01 00", "00 ff"), ("ff ff", "00 00"), ("00 01", "00 00")] {
+        refused(&one(&format!("34 {low} {high}")), 32);
+        accepted(&one(&format!("34 {high} {low}")), 1);
+        accepted(&one(&format!("34 {low} {low}")), 1);
+        refused(&one(&compound(&["30", &format!("34 {low} {high}")])), 32);
+    }
+    accepted(&one("34 00 00 ff ff"), 1);
+    // It comes after 16 at a term, and before the next term's 14.
+    let wrong = "34 00 02 00 01";
+    refused("11 01 33 00 01 05 34 00 02 00 01", 16);
+    refused(&format!("11 02 {wrong} ff"), 32);
+    refused(&format!("11 02 {wrong}"), 32);
+    refused(&format!("11 02 ff {wrong}"), 14);
+    refused(&format!("11 01 {wrong} 00"), 32);
+    refused(&format!("11 02 {wrong} 33 00 01 00"), 32);
+    refused(&format!("11 02 33 00 01 00 {wrong}"), 16);
+    refused("11 01 34 00 02 00", 14);
+    // A span may stand at the deepest depth, where a compound may not.
+    let three = |inside: &str| compound(&[&compound(&[&compound(&[inside])])]);
+    accepted(&one(&three("34 00 01 00 02")), 1);
+    refused(&one(&three(wrong)), 32);
+}
+
+#[test]
 fn questions_come_term_by_term_in_number_order() {
     let three = |inside: &str| compound(&[&compound(&[&compound(&[inside])])]);
     refused(&one(&three("33 00 01 00")), 15);
     refused(&one(&three("33 00 01")), 14);
-    refused("11 02 33 00 01 00 34", 16);
-    refused("11 02 34 33 00 01 00", 14);
-    refused("11 00 34", 13);
+    refused("11 02 33 00 01 00 35", 16);
+    refused("11 02 35 33 00 01 00", 14);
+    refused("11 00 35", 13);
 }
 
 #[test]
 fn a_piece_of_full_depth_is_accepted() {
-    let mut term = "32 ff ff".to_string();
+    let mut term = "34 ff fe ff ff".to_string();
     for _ in 0..3 {
         term = compound(&[&term[..]; 4]);
     }
     let bytes = from_hex(&format!("11 08 {}", term.repeat(8)));
-    assert_eq!(bytes.len(), 2210);
+    assert_eq!(bytes.len(), 3234);
     assert_eq!(check_piece(&bytes), Ok(PieceSize { arity: 8 }));
     for cut in 2..bytes.len() {
         assert_eq!(check_piece(&bytes[..cut]), Err(14), "cut to {cut}");
@@ -106,7 +133,8 @@ fn a_piece_of_full_depth_is_accepted() {
 
 #[test]
 fn the_first_of_several_pieces_ends_with_its_last_term() {
-    let pieces = ["11 01 30", "11 02 33 00 01 02 30 31 00 02 32 00 03", "11 01 31 11 01"];
+    let pieces =
+        ["11 01 30", "11 02 33 00 01 02 30 31 00 02 32 00 03", "11 01 34 11 01 11 01", "11 01 31 11 01"];
     let all = from_hex(&pieces.concat());
     let mut at = 0;
     for piece in pieces.map(from_hex) {

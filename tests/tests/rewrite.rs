@@ -7,9 +7,9 @@ use voltunnis_tests::generate::graphs::graph;
 use voltunnis_tests::generate::known;
 use voltunnis_tests::generate::random::Random;
 use voltunnis_tests::generate::sheets::sheet;
-use voltunnis_tests::reference::build::nodes;
 use voltunnis_tests::reference::nodes::{graph_bytes, Case, Node};
 use voltunnis_tests::reference::sheet::Sheet;
+use voltunnis_tests::reference::{self, build::nodes};
 use voltunnis_tests::results::Written;
 use voltunnis_tests::vectors;
 
@@ -42,17 +42,39 @@ fn the_vectors_graphs_are_written_again() {
     }
 }
 
+/// A switch at place 0 with so many number cases, which overlap, each to the node before.
+fn switch_of(count: usize) -> Node {
+    let pairs = (0..363).flat_map(|low| (low..363).map(move |high| (low, high)));
+    let cases = pairs.take(count).map(|(low, high)| Case::Numbers { low, high, node: 1023 }).collect();
+    Node::Switch { place: 0, neither: 1022, unknown: 1021, cases }
+}
+
 #[test]
-fn the_largest_graph_is_written_again() {
-    let cases: Vec<Case> =
-        (0..255).map(|at| Case::Numbers { low: at * 2, high: at * 2, node: 1023 }).collect();
-    let switch = Node::Switch { place: 0, neither: 1022, unknown: 1021, cases };
-    let graph = graph_bytes(1, 1, &vec![switch; 1024]);
-    assert_eq!(graph.len(), 5 + 1024 * (8 + 255 * 7));
+fn graphs_of_many_cases_are_written_again() {
     let sheet = from_hex("10 01 01 21 00 01");
+    let mut nodes = vec![switch_of(300); 1024];
+    let graph = graph_bytes(1, 1, &nodes);
+    assert_eq!(graph.len(), 5 + 1024 * (9 + 300 * 7));
     fits(&sheet, &graph, 0);
     fits(&sheet, &graph, 9);
     refused(&sheet, &graph, graph.len() - 1, 19);
+    // The first and the last switch with as many cases as there may be.
+    (nodes[0], nodes[1023]) = (switch_of(65_535), switch_of(65_535));
+    let graph = graph_bytes(1, 1, &nodes);
+    assert_eq!(graph.len(), 5 + 1022 * (9 + 300 * 7) + 2 * (9 + 65_535 * 7));
+    fits(&sheet, &graph, 3);
+    refused(&sheet, &graph, graph.len() - 1, 19);
+}
+
+#[test]
+fn a_built_graph_of_more_than_a_million_bytes_is_written_again() {
+    for sheet in [known::nested_8(32), known::coins(28)] {
+        let graph = reference::own_graph(&sheet).expect("a graph");
+        assert!(graph.len() > 1_000_000);
+        fits(&sheet, &graph, 0);
+        refused(&sheet, &graph, graph.len() - 1, 19);
+        refused(&sheet, &graph[..graph.len() - 1], graph.len(), 22);
+    }
 }
 
 #[test]
@@ -83,7 +105,7 @@ fn question_19_comes_after_the_graphs_questions() {
     }
     refused(
         &sheet,
-        &from_hex("12 01 01 00 01 43 00 00 02 00 00 00 00 44 00 01 00 00 44 00 01 00 00"),
+        &from_hex("12 01 01 00 01 43 00 00 00 02 00 00 00 00 44 00 01 00 00 44 00 01 00 00"),
         100,
         24,
     );

@@ -49,7 +49,7 @@ fn every_refusal_and_every_word_is_met_whatever_the_seed() {
         println!("seed {seed}: {counts:?}");
         let words = ["commit", "execute", "suspend", "fail"];
         let plain = words.map(|word| format!("plain {word}"));
-        let refusals = (1..=31).chain([37, 38]).map(|number| format!("refused {number}"));
+        let refusals = (1..=32).chain([37, 38]).map(|number| format!("refused {number}"));
         let written = ["tidy", "ordered", "built", "built in order", "rewritten", "walked all"];
         let accepted = ["sheet", "piece", "graph", "order"].into_iter().chain(written).map(String::from);
         for wanted in refusals.chain(words.map(String::from)).chain(plain).chain(accepted) {

@@ -1,7 +1,7 @@
 //! Tidy sheets over random ones (document 02, request 2): all writings with the same tests have one form, others
 //! another; a tidy sheet stays as it is, and has the same graph and the same answers.
 
-use voltunnis_tests::both::{self, tidied};
+use voltunnis_tests::both::{self, enough, tidied};
 use voltunnis_tests::bytes::to_hex;
 use voltunnis_tests::count::Count;
 use voltunnis_tests::generate::crowded::crowded;
@@ -12,7 +12,6 @@ use voltunnis_tests::generate::sheets::{sheet, small_sheet};
 use voltunnis_tests::generate::stock::Stock;
 use voltunnis_tests::generate::trees::{all, piece_bytes, Pattern, SheetTree};
 use voltunnis_tests::generate::variables::variables;
-use voltunnis_tests::reference::build::ENOUGH;
 use voltunnis_tests::reference::sheet::{Sheet, Want};
 use voltunnis_tests::results::Word;
 use voltunnis_tests::voltunnis;
@@ -164,11 +163,12 @@ fn tidying_a_tidy_sheet_changes_no_byte() {
 fn the_tidy_sheet_has_the_same_graph_and_the_same_answers() {
     let mut random = Random::new(0x6772_6166);
     let mut count = Count::default();
-    let (mut one, mut two) = (vec![0; ENOUGH], vec![0; ENOUGH]);
     for _ in 0..5_000 {
         let tree = accepted(&mut random);
         let bytes = disguise(&mut random, &tree).bytes();
         let form = tidied(&bytes);
+        let len = enough(&bytes, None);
+        let (mut one, mut two) = (vec![0; len], vec![0; len]);
         let built = voltunnis::build(&bytes, &mut one);
         assert_eq!(voltunnis::build(&form, &mut two), built, "{}", to_hex(&bytes));
         let size = built.map_or(0, |built| built.bytes as usize);

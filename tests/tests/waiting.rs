@@ -1,11 +1,12 @@
 //! What a walk promises, tried on random pieces: on a built graph, in any reading order, its answer is the plain
-//! answer, it is never refused, a piece filled in further keeps what was answered, and a suspended piece stays
-//! suspended while its listed tests are not known.
+//! answer, it is never refused, a piece filled in further keeps what was answered, narrower spans among it, and a
+//! suspended piece stays suspended while its listed places keep the unknown or span that they held and its listed
+//! pairs are not known. On another maker's graph the last need not be so.
 
-use voltunnis_tests::both::walk;
-use voltunnis_tests::generate::graphs::foreign;
+use voltunnis_tests::both::{check_graph, walk};
+use voltunnis_tests::bytes::{from_hex, to_hex};
 use voltunnis_tests::generate::orders::{order, table};
-use voltunnis_tests::generate::pieces::{piece, term};
+use voltunnis_tests::generate::pieces::{further, piece};
 use voltunnis_tests::generate::random::Random;
 use voltunnis_tests::generate::sheets::sheet;
 use voltunnis_tests::generate::stock::Stock;
@@ -13,13 +14,12 @@ use voltunnis_tests::generate::trees::{piece_bytes, SheetTree, Term};
 use voltunnis_tests::reference::{
     self,
     keys::members,
-    nodes::{graph_bytes, Node},
     piece::{Found, Piece},
     records::TermRecord,
     sheet::Sheet,
     truth::{equal, Truth},
 };
-use voltunnis_tests::results::{Plain, Word};
+use voltunnis_tests::results::{Plain, Refusal, Word};
 
 /// An accepted sheet with its graph.
 struct Made {
@@ -36,10 +36,6 @@ fn made(random: &mut Random) -> Option<Made> {
 }
 
 impl Made {
-    fn graph(&self, nodes: &[Node]) -> Vec<u8> {
-        graph_bytes(self.sheet.arity, self.sheet.rules.len() as u8, nodes)
-    }
-
     /// Its graph, with or without a reading order.
     fn built(&self, random: &mut Random) -> Option<Vec<u8>> {
         let order = random.percent(50).then(|| table(&order(random)));
@@ -53,51 +49,57 @@ impl Made {
         (fits && Piece::read(&piece_bytes(&piece)).is_ok()).then_some(piece)
     }
 
-    /// Whether test t is not known in a piece.
-    fn not_known(&self, test: usize, piece: &Piece) -> bool {
+    /// Whether test t is kept in a piece filled in further: a place holds the unknown or span that it held, a pair is
+    /// still not known.
+    fn keeps(&self, test: usize, before: &Piece, after: &Piece) -> bool {
         let tests = &self.sheet.tests;
         match tests.places.get(test) {
-            Some(place) => match piece.find(*place) {
-                Found::Term(cells) => cells[0].term == TermRecord::Unknown,
-                Found::Unknown => true,
-                Found::Lacking => false,
-            },
+            Some(place) => held(before, *place) == held(after, *place),
             None => {
                 let (p, q) = tests.pairs[test - tests.places.len()];
-                equal(piece, p, q) == Truth::NotKnown
+                equal(after, p, q) == Truth::NotKnown
             }
         }
     }
 }
 
-/// The terms with some unknowns filled in, each so many times out of a hundred.
-fn filled_in(random: &mut Random, terms: &[Term], depth: usize, chance: usize) -> Vec<Term> {
-    let fill = |random: &mut Random, known: &Term| match known {
-        Term::Unknown if random.percent(chance) => term(random, &Stock::FULL, depth),
-        Term::Compound(id, arguments) => Term::Compound(*id, filled_in(random, arguments, depth + 1, chance)),
-        other => other.clone(),
-    };
-    terms.iter().map(|known| fill(random, known)).collect()
+/// What a piece holds at a place: unknown below an unknown, none where the place lacks.
+fn held(piece: &Piece, place: u16) -> Option<TermRecord> {
+    match piece.find(place) {
+        Found::Term(cells) => Some(cells[0].term),
+        Found::Unknown => Some(TermRecord::Unknown),
+        Found::Lacking => None,
+    }
+}
+
+/// Whether some term of a piece is a span of several numbers.
+fn has_span(terms: &[Term]) -> bool {
+    terms.iter().any(|term| match term {
+        Term::Span(low, high) => low < high,
+        Term::Compound(_, arguments) => has_span(arguments),
+        _ => false,
+    })
 }
 
 #[test]
 fn a_walk_on_a_built_graph_gives_the_plain_answer() {
     let mut random = Random::new(0x706c_6169);
-    let mut words = [0; 5];
+    let (mut words, mut spans) = ([0; 5], [0; 5]);
     for _ in 0..4_000 {
         let Some(made) = made(&mut random) else { continue };
         let Some(graph) = made.built(&mut random) else { continue };
         for _ in 0..4 {
-            let Some(piece) = made.piece(&mut random) else { continue };
-            let piece = piece_bytes(&piece);
+            let Some(terms) = made.piece(&mut random) else { continue };
+            let piece = piece_bytes(&terms);
             let walked = walk(&made.bytes, &graph, &piece).expect("an answer").walk;
             let plain = reference::plain(&made.bytes, &piece);
             assert_eq!(plain, Ok(Plain { word: walked.word, rule: walked.rule }));
+            let words = if has_span(&terms) { &mut spans } else { &mut words };
             words[walked.word as usize] += 1;
         }
     }
-    println!("by word {words:?}");
-    assert!(words[1..].iter().all(|count| *count >= 300));
+    println!("by word {words:?}, with spans {spans:?}");
+    assert!(words[1..].iter().chain(&spans[1..]).all(|count| *count >= 150), "{words:?} {spans:?}");
 }
 
 /// Whether an answer keeps what the one for the same piece with less filled in promised.
@@ -114,7 +116,7 @@ fn keeps(before: Plain, after: Plain) -> bool {
 #[test]
 fn a_piece_filled_in_further_keeps_the_promise() {
     let mut random = Random::new(0x6b65_6570);
-    let mut changed = [0; 5];
+    let (mut changed, mut narrowed) = ([0; 5], [0; 5]);
     for _ in 0..6_000 {
         let Some(made) = made(&mut random) else { continue };
         let Some(graph) = made.built(&mut random) else { continue };
@@ -126,49 +128,92 @@ fn a_piece_filled_in_further_keeps_the_promise() {
         let before = answer(&piece);
         for _ in 0..4 {
             let chance = random.pick(&[20, 50, 100]);
-            let further = filled_in(&mut random, &piece, 1, chance);
+            let further = further(&mut random, &piece, 1, chance);
             let after = answer(&further);
             assert!(keeps(before, after), "{before:?}, then {after:?}");
-            changed[before.word as usize] += usize::from(further != piece);
+            let words = if has_span(&piece) { &mut narrowed } else { &mut changed };
+            words[before.word as usize] += usize::from(further != piece);
         }
     }
-    println!("filled in further, by the word before {changed:?}");
-    assert!(changed[1..].iter().all(|count| *count >= 200), "{changed:?}");
-}
-
-/// A built graph or another maker's.
-fn any_graph(random: &mut Random, made: &Made) -> Option<Vec<u8>> {
-    match random.percent(50) {
-        true => made.built(random),
-        false => Some(made.graph(&foreign(random, &made.sheet.asked()))),
-    }
+    println!("filled in further, by the word before {changed:?}, with spans {narrowed:?}");
+    assert!(changed[1..].iter().chain(&narrowed[1..]).all(|count| *count >= 200), "{changed:?} {narrowed:?}");
 }
 
 #[test]
 fn a_suspended_piece_waits_for_a_listed_test() {
     let mut random = Random::new(0x7761_6974);
-    let (mut waiting, mut moved) = (0, 0);
+    let (mut waiting, mut narrowed, mut moved) = ([0; 2], [0; 2], 0);
     for _ in 0..12_000 {
         let Some(made) = made(&mut random) else { continue };
-        let Some(graph) = any_graph(&mut random, &made) else { continue };
+        let Some(graph) = made.built(&mut random) else { continue };
         let Some(piece) = made.piece(&mut random) else { continue };
         let bytes = piece_bytes(&piece);
-        let Ok(before) = walk(&made.bytes, &graph, &bytes) else { continue };
-        if before.walk.word != Word::Suspend || before.wait == 0 {
+        let before = walk(&made.bytes, &graph, &bytes).expect("an answer");
+        if before.walk.word != Word::Suspend {
             continue;
         }
+        let read_before = Piece::read(&bytes).expect("a piece");
         for _ in 0..8 {
             let chance = random.pick(&[10, 30, 60]);
-            let further = piece_bytes(&filled_in(&mut random, &piece, 1, chance));
+            let further = piece_bytes(&further(&mut random, &piece, 1, chance));
             let read = Piece::read(&further).expect("a piece filled in further");
-            if members(before.wait).any(|test| !made.not_known(test, &read)) {
+            if members(before.wait).any(|test| !made.keeps(test, &read_before, &read)) {
                 moved += 1;
             } else if further != bytes {
-                assert_eq!(walk(&made.bytes, &graph, &further), Ok(before), "suspend stays, and all of it");
-                waiting += 1;
+                let after = walk(&made.bytes, &graph, &further).expect("an answer");
+                let what = [&made.bytes, &bytes, &further].map(|bytes| to_hex(bytes));
+                assert_eq!(after.walk.word, Word::Suspend, "sheet, piece, further: {what:?}");
+                let listed = usize::from(before.wait != 0);
+                waiting[listed] += 1;
+                narrowed[listed] += usize::from(has_span(&piece));
             }
         }
     }
-    println!("{waiting} pieces filled in further still wait, {moved} have a listed test known");
-    assert!(waiting >= 500 && moved >= 500);
+    println!("still waiting, without and with a list {waiting:?}, with spans {narrowed:?}, moved {moved}");
+    assert!(waiting.iter().all(|count| *count >= 500), "{waiting:?}");
+    assert!(narrowed.iter().all(|count| *count >= 200), "{narrowed:?}");
+    assert!(moved >= 500, "{moved}");
+}
+
+/// What the walk of a sheet's own graph says of a piece, and of the piece filled in further.
+fn two_answers(sheet: &str, piece: &str, further: &str) -> [String; 2] {
+    let graph = reference::own_graph(&from_hex(sheet)).expect("a graph");
+    [piece, further]
+        .map(|piece| walk(&from_hex(sheet), &graph, &from_hex(piece)).expect("an answer").to_string())
+}
+
+#[test]
+fn a_listed_place_has_to_keep_what_it_held() {
+    // X from 3 to 4, or anything: the span of all numbers is partly inside, so that its place is listed.
+    let said = two_answers("10010225000003000420", "1101340000ffff", "1101322a6a");
+    assert_eq!(said, ["suspend 0 1 0000000000000001", "commit 2 1 0000000000000000"]);
+    // X from 1 to 3, or symbol 2: the unknown becomes a span, for which rule 1's test is still not known.
+    let said = two_answers("100102250000010003210002", "110130", "11013400000002");
+    assert_eq!(said, ["suspend 0 1 0000000000000001", "execute 1 1 0000000000000001"]);
+}
+
+/// What the walk of another maker's graph says of a piece. The graph is accepted.
+fn foreign(sheet: &str, graph: &str, piece: &str) -> Result<String, Refusal> {
+    let (sheet, graph) = (from_hex(sheet), from_hex(graph));
+    assert!(check_graph(&sheet, &graph).is_ok());
+    walk(&sheet, &graph, &from_hex(piece)).map(|answer| answer.to_string())
+}
+
+#[test]
+fn on_another_makers_graph_a_piece_may_wait_for_what_is_not_listed() {
+    let waits = Ok("suspend 0 1 0000000000000000".to_string());
+    // Two rules from 1 to 9, and a graph that cuts inside their range: the span holds for both, no place is listed.
+    let (sheet, graph) = ("100102220001000922 00010009", "1201020003430000000100020002460001000400014201 41");
+    assert_eq!(foreign(sheet, graph, "11013400010009"), waits);
+    let narrowed = foreign(sheet, graph, "11013400010004");
+    assert_eq!(narrowed, Ok("commit 1 1 0000000000000000".into()));
+    // One rule from 1 to 9, and a graph whose case from 1 to 4 leads back to its own node.
+    let (sheet, graph) = ("1001012200010009", "12010100024300000001000100014600010004000041");
+    assert_eq!(foreign(sheet, graph, "11013400010009"), waits);
+    assert_eq!(foreign(sheet, graph, "11013400010004"), Err(26));
+    // Here the span of argument 2 is outside of all ranges, and its first number leads to a pair without end.
+    let sheet = "100403240024002400210001240a240a240a240a25000002000424002500000400052400";
+    let graph = "120403000343005500030002000245000101000146000100020001460002000400024700aa00ff0002000141";
+    assert_eq!(foreign(sheet, graph, "110434000400053400010003310001310001"), waits);
+    assert_eq!(foreign(sheet, graph, "110434000400053400010001310001310001"), Err(26));
 }

@@ -1,6 +1,7 @@
 //! The walk: answers, edges and wait lists on built graphs and on those of other makers, and questions
 //! 20 to 27 in order.
 
+use std::collections::BTreeMap;
 use voltunnis_tests::both::walk;
 use voltunnis_tests::bytes::from_hex;
 use voltunnis_tests::generate::crowded::crowded;
@@ -12,7 +13,7 @@ use voltunnis_tests::generate::sheets::sheet;
 use voltunnis_tests::generate::stock::Stock;
 use voltunnis_tests::generate::trees::{piece_bytes, Pattern, SheetTree, Term};
 use voltunnis_tests::reference::{self, nodes::graph_bytes, sheet::Sheet};
-use voltunnis_tests::results::Word;
+use voltunnis_tests::results::{Refusal, Word};
 use voltunnis_tests::vectors;
 
 /// f(X, X) and f(1, 2): tests 0 and 1 are places 0 and 85, test 2 is their pair.
@@ -47,7 +48,8 @@ fn the_vectors_pieces_are_walked_as_is_said() {
 fn questions_come_in_order() {
     let graph = "12 02 02 00 01 41";
     assert_eq!(said("10 02 02", "12", "11"), Err(4));
-    assert_eq!(said(EXAMPLE, "12", "11 01 34"), Err(14));
+    assert_eq!(said(EXAMPLE, "12", "11 01 35"), Err(14));
+    assert_eq!(said(EXAMPLE, "12", "11 01 34 00 01 00 00"), Err(32));
     assert_eq!(said(EXAMPLE, "12", "11 01 30"), Err(20));
     assert_eq!(said(EXAMPLE, "12", "11 02 30 30"), Err(21));
     assert_eq!(said(EXAMPLE, "12 02 02 00 01 42 03", "11 02 30 30"), Err(23));
@@ -75,7 +77,7 @@ fn execute_makes_all_tests_of_its_rule() {
 
 #[test]
 fn question_27_asks_that_the_piece_has_the_place() {
-    let graph = "12 01 02 00 02 43 00 01 01 00 01 00 01 44 00 01 00 01 41";
+    let graph = "12 01 02 00 02 43 00 01 00 01 00 01 00 01 44 00 01 00 01 41";
     assert_eq!(said(INSIDE, graph, "11 01 31 00 01"), Err(27));
     assert_eq!(said(INSIDE, graph, "11 01 32 00 01"), Err(27));
     assert_eq!(said(INSIDE, graph, "11 01 30"), Ok("suspend 0 1 0000000000000002".into()));
@@ -97,7 +99,7 @@ fn question_27_asks_that_the_piece_has_the_place() {
 
 #[test]
 fn question_26_asks_for_fewer_than_64_edges() {
-    let switch = |next: usize| format!("43 00 00 01 {next:04x} {next:04x} 44 00 01 {next:04x}");
+    let switch = |next: usize| format!("43 00 00 00 01 {next:04x} {next:04x} 44 00 01 {next:04x}");
     let chain = |edges: usize| {
         let switches: String = (1..=edges).map(switch).collect();
         format!("12 02 02 {:04x} {switches} 41", edges + 1)
@@ -111,7 +113,7 @@ fn question_26_asks_for_fewer_than_64_edges() {
     // 26 comes before 27: the 65th node asks a place that the piece lacks.
     let lacking = |edges: usize| {
         let switches: String = (1..=edges).map(switch).collect();
-        let last = "43 00 01 01 00 00 00 00 44 00 01 00 00";
+        let last = "43 00 01 00 01 00 00 00 00 44 00 01 00 00";
         format!("12 01 02 {:04x} {switches} {last}", edges + 1)
     };
     assert_eq!(said(INSIDE, &lacking(64), "11 01 31 00 02"), Err(26));
@@ -122,7 +124,7 @@ fn question_26_asks_for_fewer_than_64_edges() {
 fn cases_take_what_they_say() {
     let sheet = "10 01 02 21 00 01 22 00 05 00 09";
     let cases = "44 00 05 00 01 45 00 05 02 00 02 46 00 05 00 06 00 03 46 00 07 00 ff 00 01";
-    let graph = format!("12 01 02 00 05 43 00 00 04 00 04 00 04 {cases} 40 42 01 42 02 41");
+    let graph = format!("12 01 02 00 05 43 00 00 00 04 00 04 00 04 {cases} 40 42 01 42 02 41");
     for (term, line) in [
         ("31 00 05", "fail 0 1 0000000000000000"),
         ("33 00 05 02 30 30", "fail 0 1 0000000000000000"),
@@ -162,7 +164,7 @@ fn a_built_graph_may_take_64_edges() {
 /// How often walks were refused by each question, answered by each word, and by a rule above 32.
 #[derive(Default)]
 struct Seen {
-    refusals: [usize; 28],
+    refusals: BTreeMap<Refusal, usize>,
     words: [usize; 5],
     above_32: usize,
 }
@@ -182,7 +184,7 @@ impl Seen {
                 self.words[answer.walk.word as usize] += 1;
                 self.above_32 += usize::from(answer.walk.rule > 32);
             }
-            Err(refusal) => self.refusals[usize::from(refusal)] += 1,
+            Err(refusal) => *self.refusals.entry(refusal).or_default() += 1,
         }
     }
 }
@@ -202,11 +204,12 @@ fn library_and_reference_agree_on_random_walks() {
         }
     }
     let Seen { refusals, words, above_32 } = seen;
-    let walks = refusals.iter().sum::<usize>() + words.iter().sum::<usize>();
+    let walks = refusals.values().sum::<usize>() + words.iter().sum::<usize>();
     println!("{walks} walks, by refusal {refusals:?}, by word {words:?}, {above_32} by a rule above 32");
     assert!(walks >= 100_000, "{walks} walks");
-    for (refusal, calls) in refusals.iter().enumerate().skip(20) {
-        assert!(*calls >= 50, "{refusal}: {calls} calls");
+    for (refusal, least) in (20..=27).map(|refusal| (refusal, 50)).chain([(32, 20)]) {
+        let calls = refusals.get(&refusal).copied().unwrap_or(0);
+        assert!(calls >= least, "{refusal}: {calls} calls");
     }
     for word in [Word::Commit, Word::Execute, Word::Suspend, Word::Fail] {
         assert!(words[word as usize] >= 300, "{}: {} answers", word.name(), words[word as usize]);

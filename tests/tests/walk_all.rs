@@ -19,7 +19,7 @@ use voltunnis_tests::reference::{own_graph, piece::Piece};
 use voltunnis_tests::results::{Answer, Refusal, Run};
 
 /// A switch at which every edge leads back, for the sheet `f(1)`.
-const ROUND: &str = "12 01 01 00 01 43 00 00 01 00 00 00 00 44 00 01 00 00";
+const ROUND: &str = "12 01 01 00 01 43 00 00 00 01 00 00 00 00 44 00 01 00 00";
 const ROUND_SHEET: &str = "10 01 01 21 00 01";
 
 /// The results of an accepted run as text; the bytes after them stay.
@@ -103,7 +103,7 @@ fn the_sheet_is_asked_before_the_graph_and_the_graph_before_the_pieces() {
     refused(&[], &[], &[], 1);
     refused(&from_hex("10 01 01 21"), &[], &[0xff], 4);
     refused(&sheet, &[], &pieces, 21);
-    refused(&sheet, &graph[..57], &[0xff], 22);
+    refused(&sheet, &graph[..60], &[0xff], 22);
     refused(&sheet, &from_hex("12 02 02 00 01 42 03"), &from_hex("11 01 30"), 23);
     refused(&sheet, &[&graph[..], &[0x41]].concat(), &[], 25);
     assert_eq!(said(&sheet, &graph, &[0xff], 40).1, ["0c000000000000000000000000000000"]);
@@ -123,7 +123,7 @@ fn a_piece_refused_by_20_26_or_27_is_not_the_last() {
     assert_eq!((run, &results[..]), (Run { results: 2, bytes: 8 }, &vec![format!("1a{:030}", 0); 2][..]));
     // f(g(1)): the graph asks for the part at once.
     let inside = from_hex("10 01 01 23 00 01 01 21 00 01");
-    let part = from_hex("12 01 01 00 03 43 00 01 01 00 02 00 01 44 00 01 00 01 42 01 40");
+    let part = from_hex("12 01 01 00 03 43 00 01 00 01 00 02 00 01 44 00 01 00 01 42 01 40");
     let (run, results) = said(&inside, &part, &from_hex("11 01 31 00 01 11 01 30"), 64);
     assert_eq!(run, Run { results: 2, bytes: 8 });
     assert_eq!(results, ["1b000000000000000000000000000000", "00020101000000000000000000000003"]);
@@ -137,7 +137,9 @@ fn a_piece_that_cannot_be_read_gets_the_last_result() {
         ("11 00", 13),
         ("11 09 30", 13),
         ("11 02 30", 14),
-        ("11 02 34 30", 14),
+        ("11 02 35 30", 14),
+        ("11 02 34 00 01 30", 14),
+        ("11 02 34 00 02 00 01 30", 32),
         ("11 02 33 00 01 01 33 00 01 01 33 00 01 01 33 00 01 01 30 30", 15),
         ("11 02 33 00 01 05 30", 16),
     ] {
@@ -201,7 +203,7 @@ fn in_runs(random: &mut Random, sheet: &[u8], graph: &[u8], pieces: &[u8]) -> (V
             return (all, at);
         }
         // A piece that cannot be read, met again, would be told twice.
-        if all.last().is_some_and(|last| (12..=16).contains(&from_hex(last)[0])) {
+        if all.last().is_some_and(|last| matches!(from_hex(last)[0], 12..=16 | 32)) {
             return (all, at);
         }
     }
@@ -248,7 +250,7 @@ fn each_result_is_that_of_its_piece_alone() {
     }
     count.print();
     count.often(500, ["commit", "execute", "suspend", "fail", "all taken", "not all taken"]);
-    count.often(20, [12, 13, 14, 15, 16, 20, 26, 27].map(|refusal| format!("piece {refusal}")));
+    count.often(20, [12, 13, 14, 15, 16, 20, 26, 27, 32].map(|refusal| format!("piece {refusal}")));
     count.often(5, [1, 4, 10, 11, 21, 22, 23, 24, 25].map(|refusal| format!("refused {refusal}")));
 }
 

@@ -1,8 +1,8 @@
 //! A graph as a picture, in the language of Graphviz.
 
+use crate::dot_edges::{edges, has_spans, Edge, Sort};
 use crate::notation::{Graph, Kind, Names};
 use crate::retrace::Step;
-use std::collections::BTreeMap;
 use std::fmt::Write;
 
 /// What a picture shows.
@@ -38,9 +38,6 @@ const SMALL: usize = 40;
 /// A graph with more nodes than this is laid out in a hurry, with straight edges.
 const LARGE: usize = 150;
 
-/// At most so many cases stand beside an edge; the others are counted.
-const SHOWN: usize = 6;
-
 fn look(kind: &Kind) -> &'static Look {
     match kind {
         Kind::Switch { .. } => &SWITCH,
@@ -72,22 +69,6 @@ fn cut(text: &str, most: usize) -> String {
         true => text.chars().take(most - 1).chain(['…']).collect(),
         false => text.into(),
     }
-}
-
-/// The sort of an edge, by which it is drawn.
-#[derive(Clone, Copy, PartialEq, Eq, PartialOrd, Ord)]
-enum Sort {
-    Case,
-    Neither,
-    Unknown,
-}
-
-/// An edge as it is drawn.
-struct Edge {
-    to: u16,
-    sort: Sort,
-    label: String,
-    marked: bool,
 }
 
 impl Picture<'_> {
@@ -161,7 +142,7 @@ impl Picture<'_> {
     fn ways(&self) -> Vec<usize> {
         let mut ways = vec![0; self.graph.nodes.len()];
         for node in &self.graph.nodes {
-            let mut targets: Vec<u16> = node.kind.edges(self.names).into_iter().map(|(_, to)| to).collect();
+            let mut targets = node.kind.targets();
             targets.sort_unstable();
             targets.dedup();
             for to in targets {
@@ -191,6 +172,9 @@ impl Picture<'_> {
         let mut plain = |text: &str, colour: &str| cells += &format!("<TD>{}</TD>", small(text, colour));
         plain("double border: reached from several nodes", "#333333");
         plain("dashed: unknown", "#333333");
+        if has(has_spans) {
+            plain("span: a number between two", "#333333");
+        }
         if self.walk.is_some() {
             plain("thick: the way that was walked", MARK);
         }
@@ -200,13 +184,6 @@ impl Picture<'_> {
     /// Whether a walk that is marked comes to a node.
     fn on_walk(&self, number: u16) -> bool {
         self.walk.is_some_and(|(steps, end)| end == number || steps.iter().any(|step| step.node == number))
-    }
-
-    /// The numbers of the steps, from 1, that take this edge of a node on a walk that is marked.
-    fn steps(&self, number: u16, edge: usize) -> Vec<String> {
-        let steps = self.walk.map_or(&[][..], |(steps, _)| steps).iter().enumerate();
-        let taken = steps.filter(|(_, step)| step.node == number && step.edge == edge);
-        taken.map(|(at, _)| (at + 1).to_string()).collect()
     }
 
     /// A node: what it is or asks, its number, and a leaf's rule as it is written.
@@ -236,37 +213,9 @@ impl Picture<'_> {
         writeln!(to, "];")
     }
 
-    /// The edges of a node as they are drawn. Those of one sort to one node are one, but for those that a
-    /// marked walk takes.
+    /// The edges of a node as they are drawn.
     fn drawn(&self, number: u16, kind: &Kind) -> Vec<Edge> {
-        let edges = kind.edges(self.names);
-        let cases = if let Kind::Switch { cases, .. } = kind { cases.len() } else { edges.len() };
-        let mut drawn = Vec::new();
-        let mut grouped: BTreeMap<(u16, Sort), Vec<String>> = BTreeMap::new();
-        for (at, (words, to)) in edges.into_iter().enumerate() {
-            let sort = match at.checked_sub(cases) {
-                None => Sort::Case,
-                Some(0) => Sort::Neither,
-                Some(_) => Sort::Unknown,
-            };
-            let steps = self.steps(number, at);
-            match steps.is_empty() {
-                true => grouped.entry((to, sort)).or_default().push(words),
-                false => {
-                    let label = format!("{}: {words}", steps.join(", "));
-                    drawn.push(Edge { to, sort, label, marked: true });
-                }
-            }
-        }
-        for ((to, sort), mut words) in grouped {
-            let more = words.len().saturating_sub(SHOWN);
-            if more > 1 {
-                words.truncate(SHOWN);
-                words.push(format!("… {more} more"));
-            }
-            drawn.push(Edge { to, sort, label: words.join(" \n "), marked: false });
-        }
-        drawn
+        edges(number, kind, self.names, self.walk.map_or(&[], |(steps, _)| steps))
     }
 
     /// One edge.

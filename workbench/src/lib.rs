@@ -7,6 +7,7 @@
 pub mod cli;
 pub mod conform;
 pub mod dot;
+mod dot_edges;
 pub mod json;
 pub mod locate;
 pub mod notation;

@@ -14,7 +14,7 @@ pub enum Where {
     /// At the head, or nowhere in particular.
     Head,
     /// At a record after the head, counted from 0 (a pattern, a term, a node or a place of an order), with
-    /// its bytes. Patterns have the number of their rule, from 1.
+    /// its bytes. Patterns have the number of their rule, from 1, all others 0.
     Record { index: usize, rule: usize, at: Span },
     /// At the bytes from here on: a record that is not whole, or bytes that are left.
     Rest(usize),
@@ -27,7 +27,7 @@ fn record(bytes: &[u8]) -> Option<(usize, usize)> {
         0x24 => 2,
         0x21 | 0x31 | 0x32 => 3,
         0x23 | 0x33 => 4,
-        0x22 => 5,
+        0x22 | 0x34 => 5,
         0x25 => 6,
         _ => return None,
     };
@@ -42,8 +42,8 @@ fn node(bytes: &[u8]) -> Option<usize> {
         0x42 => 2,
         0x47 => 9,
         0x43 => {
-            let mut length = 8;
-            for _ in 0..*bytes.get(3)? {
+            let mut length = 9;
+            for _ in 0..u16::from_be_bytes(*bytes.get(3..)?.first_chunk()?) {
                 length += match bytes.get(length)? {
                     0x44 => 5,
                     0x45 => 6,
@@ -111,7 +111,8 @@ pub fn in_piece(bytes: &[u8], refusal: Refusal) -> Where {
     let (Some([_, arity]), 14..) = (bytes.first_chunk::<2>(), refusal.number()) else {
         return Where::Head;
     };
-    let (entries, rest) = entries(bytes, 2, 1, usize::from(*arity));
+    let (mut entries, rest) = entries(bytes, 2, 1, usize::from(*arity));
+    entries.iter_mut().for_each(|entry| entry.rule = 0);
     first(&entries, rest, |entry| {
         let mut start = bytes[..entry.at.end].to_vec();
         start.extend(vec![0x30; entry.due]);
@@ -196,12 +197,40 @@ mod tests {
         let piece = [0x11, 2, 0x30, 0x33, 0, 1, 5];
         let refusal = check_piece(&piece).expect_err("a refusal");
         assert_eq!(refusal.number(), 16);
-        assert_eq!(in_piece(&piece, refusal), Where::Record { index: 1, rule: 1, at: Span::new(3, 7) });
+        assert_eq!(in_piece(&piece, refusal), Where::Record { index: 1, rule: 0, at: Span::new(3, 7) });
         let sheet = [0x10, 1, 1, 0x20];
         let graph = [0x12, 1, 1, 0, 2, 0x41, 0x42, 2];
         let refusal = check_graph(&sheet, &graph).expect_err("a refusal");
         assert_eq!(refusal.number(), 23);
         let node = Where::Record { index: 1, rule: 0, at: Span::new(6, 8) };
+        assert_eq!(in_graph(&sheet, &graph, refusal), node);
+    }
+
+    #[test]
+    fn spans_are_found() {
+        let found = |piece: &[u8]| {
+            let refusal = check_piece(piece).expect_err("a refusal");
+            (refusal.number(), in_piece(piece, refusal))
+        };
+        let at = |index, start| Where::Record { index, rule: 0, at: Span::new(start, start + 5) };
+        // (5..5?, 9..5?), then a term that is not whole; and the second inside a compound.
+        let low = [0x11, 3, 0x34, 0, 5, 0, 5, 0x34, 0, 9, 0, 5, 0x31, 0];
+        assert_eq!(found(&low), (32, at(1, 7)));
+        let inside = [0x11, 1, 0x33, 0, 7, 2, 0x34, 0, 5, 0, 5, 0x34, 0, 9, 0, 5];
+        assert_eq!(found(&inside), (32, at(2, 11)));
+        assert_eq!(found(&low[..11]), (14, Where::Rest(7)));
+    }
+
+    #[test]
+    fn nodes_after_many_cases_are_found() {
+        // A number from 0 to 9; a graph with 300 cases, then a rule that the sheet lacks.
+        let sheet = [0x10, 1, 1, 0x22, 0, 0, 0, 9];
+        let mut graph = vec![0x12, 1, 1, 0, 2, 0x43, 0, 0, 1, 44, 0, 0, 0, 0];
+        (0..300u16).for_each(|high| graph.extend([0x46, 0, 0, (high >> 8) as u8, high as u8, 0, 0]));
+        graph.extend([0x42, 2]);
+        let refusal = check_graph(&sheet, &graph).expect_err("a refusal");
+        assert_eq!(refusal.number(), 23);
+        let node = Where::Record { index: 1, rule: 0, at: Span::new(2114, 2116) };
         assert_eq!(in_graph(&sheet, &graph, refusal), node);
     }
 

@@ -5,6 +5,7 @@
 use crate::notation::{Case, Graph, Kind, Piece, What};
 use crate::sheet_tests::{RuleTests, SheetTests, Test, Want};
 use crate::truth::{equal, find, wanted, Found, Truth};
+use std::cmp::Reverse;
 use voltunnis::{Answer, Walk, Word};
 
 /// The most edges that a walk may take.
@@ -19,8 +20,13 @@ pub struct Step {
     /// Which of the node's edges is taken, in their order.
     pub edge: usize,
     pub to: u16,
+    /// How many cases contain what stands there: of numbers and spans the one with the highest low, then the
+    /// lowest high is taken.
+    pub contain: usize,
     /// The rules that are left after it, rule i being bit i - 1.
     pub left: u64,
+    /// Those of them whose range has a part of the span there, but not all of it.
+    pub partly: u64,
 }
 
 /// A test of the rule at whose node a walk ended.
@@ -68,57 +74,67 @@ pub fn retrace(tests: &SheetTests, graph: &Graph, piece: &Piece) -> Way {
         if way.steps.len() == MOST_EDGES {
             return way;
         }
-        let Some((edge, truth)) = walker.edge(kind) else {
+        let Some(Taken { edge, contain, known }) = walker.edge(kind) else {
             way.answer = Err(27);
             return way;
         };
-        if truth == Some(Truth::NotKnown) {
+        left &= !walker.rules(asks, Truth::Contradicted);
+        let partly = if known { left & walker.rules(asks, Truth::NotKnown) } else { 0 };
+        if !known || partly != 0 {
             unknown |= tests.bit(asks);
         }
-        left &= !walker.dropped(asks);
-        let to = target(kind, edge);
-        way.steps.push(Step { node: way.node, asks, edge, to, left });
+        let to = kind.targets()[edge];
+        way.steps.push(Step { node: way.node, asks, edge, to, contain, left, partly });
         way.node = to;
     }
 }
 
-/// Where an edge leads, the edges in their order.
-fn target(kind: &Kind, edge: usize) -> u16 {
-    match kind {
-        Kind::Switch { neither, unknown, cases, .. } => match edge.checked_sub(cases.len()) {
-            None => cases[edge].1,
-            Some(0) => *neither,
-            Some(_) => *unknown,
-        },
-        Kind::Pair { no, other, .. } => [*no, *other][edge],
-        Kind::Fail | Kind::Suspend | Kind::Execute(_) => 0,
-    }
+/// The edge that a piece takes.
+struct Taken {
+    edge: usize,
+    /// How many cases contain what stands there.
+    contain: usize,
+    /// Whether more is known there than an unknown says, or of a pair whether its places are equal.
+    known: bool,
 }
 
-/// Whether a case takes a term.
-fn takes(case: &Case, what: &What) -> bool {
+/// Whether a case contains a term.
+fn contains(case: &Case, what: &What) -> bool {
     match (case, what) {
         (Case::Symbol(id), What::Symbol(other)) => id == other,
         (Case::Compound(id, arity), What::Compound(other, arguments)) => {
             id == other && usize::from(*arity) == arguments.len()
         }
-        (Case::Numbers(low, high), What::Number(n)) => (low..=high).contains(&n),
+        (Case::Numbers(low, high), what) => what.numbers().is_some_and(|(a, b)| *low <= a && b <= *high),
         _ => false,
     }
 }
 
+/// How narrow a case is: of those that contain a number or span the one with the highest low, then the lowest high is
+/// taken.
+fn narrowness(case: &Case) -> (u16, Reverse<u16>) {
+    match case {
+        Case::Numbers(low, high) => (*low, Reverse(*high)),
+        Case::Symbol(_) | Case::Compound(..) => (0, Reverse(0)),
+    }
+}
+
+/// The edge that a term takes at a switch with these cases.
+fn taken(cases: &[(Case, u16)], what: &What) -> Taken {
+    let containing = || cases.iter().enumerate().filter(|(_, (case, _))| contains(case, what));
+    let narrowest = containing().max_by_key(|(_, (case, _))| narrowness(case));
+    let edge = narrowest.map_or(cases.len(), |(at, _)| at);
+    Taken { edge, contain: containing().count(), known: true }
+}
+
 impl Walker<'_> {
-    /// The edge that the piece takes, and what is known of the test where that is more than its case.
-    /// None where the piece lacks a place that is tested.
-    fn edge(&self, kind: &Kind) -> Option<(usize, Option<Truth>)> {
+    /// The edge that the piece takes; none where the piece lacks a place that is tested.
+    fn edge(&self, kind: &Kind) -> Option<Taken> {
         match kind {
             Kind::Switch { place, cases, .. } => match find(self.piece, *place) {
                 Found::Lacking => None,
-                Found::Term(term) if !matches!(term.what, What::Unknown) => {
-                    let case = cases.iter().position(|(case, _)| takes(case, &term.what));
-                    Some((case.unwrap_or(cases.len()), None))
-                }
-                _ => Some((cases.len() + 1, Some(Truth::NotKnown))),
+                Found::Term(term) if !matches!(term.what, What::Unknown) => Some(taken(cases, &term.what)),
+                _ => Some(Taken { edge: cases.len() + 1, contain: 0, known: false }),
             },
             Kind::Pair { p, q, .. } => {
                 let lacks = |place: &u16| matches!(find(self.piece, *place), Found::Lacking);
@@ -126,23 +142,20 @@ impl Walker<'_> {
                     return None;
                 }
                 let truth = equal(self.piece, *p, *q);
-                Some((usize::from(truth != Truth::Contradicted), Some(truth)))
+                let edge = usize::from(truth != Truth::Contradicted);
+                Some(Taken { edge, contain: 0, known: truth != Truth::NotKnown })
             }
             Kind::Fail | Kind::Suspend | Kind::Execute(_) => None,
         }
     }
 
-    /// The rules that have this test, contradicted by the piece.
-    fn dropped(&self, asks: Test) -> u64 {
-        let contradicted = |(_, rule): &(usize, &RuleTests)| match asks {
-            Test::Place(place) => {
-                rule.at(place).is_some_and(|want| wanted(self.piece, place, want) == Truth::Contradicted)
-            }
-            Test::Pair(p, q) => {
-                rule.pairs.contains(&(p, q)) && equal(self.piece, p, q) == Truth::Contradicted
-            }
+    /// The rules of whose test here the piece says this.
+    fn rules(&self, asks: Test, truth: Truth) -> u64 {
+        let so = |(_, rule): &(usize, &RuleTests)| match asks {
+            Test::Place(place) => rule.at(place).is_some_and(|want| wanted(self.piece, place, want) == truth),
+            Test::Pair(p, q) => rule.pairs.contains(&(p, q)) && equal(self.piece, p, q) == truth,
         };
-        self.tests.rules.iter().enumerate().filter(contradicted).fold(0, |set, (at, _)| set | 1 << at)
+        self.tests.rules.iter().enumerate().filter(so).fold(0, |set, (at, _)| set | 1 << at)
     }
 
     /// The answer at a leaf.

@@ -64,11 +64,22 @@ pub fn wanted(piece: &Piece, place: u16, want: Want) -> Truth {
     match (&term.what, want) {
         (What::Unknown, _) => Truth::NotKnown,
         (What::Symbol(id), Want::Symbol(other)) => Truth::of(*id == other),
-        (What::Number(n), Want::Numbers(low, high)) => Truth::of((low..=high).contains(n)),
         (What::Compound(id, arguments), Want::Compound(other, arity)) => {
             Truth::of(*id == other && arguments.len() == usize::from(arity))
         }
+        (what, Want::Numbers(low, high)) => {
+            what.numbers().map_or(Truth::Contradicted, |numbers| within(numbers, (low, high)))
+        }
         _ => Truth::Contradicted,
+    }
+}
+
+/// Whether a number between two lies in a range: it does, it does not, or only the exact number tells.
+fn within((a, b): (u16, u16), (low, high): (u16, u16)) -> Truth {
+    match (low <= a && b <= high, b < low || high < a) {
+        (true, _) => Truth::Holds,
+        (_, true) => Truth::Contradicted,
+        _ => Truth::NotKnown,
     }
 }
 
@@ -85,7 +96,7 @@ pub fn equal(piece: &Piece, p: u16, q: u16) -> Truth {
 fn same(a: &Term, b: &Term) -> Truth {
     match (&a.what, &b.what) {
         (What::Unknown, _) | (_, What::Unknown) => Truth::NotKnown,
-        (What::Symbol(a), What::Symbol(b)) | (What::Number(a), What::Number(b)) => Truth::of(a == b),
+        (What::Symbol(a), What::Symbol(b)) => Truth::of(a == b),
         (What::Compound(f, xs), What::Compound(g, ys)) if f == g && xs.len() == ys.len() => {
             let each = xs.iter().zip(ys).map(|(x, y)| same(x, y));
             each.fold(Truth::Holds, |all, next| match (all, next) {
@@ -94,6 +105,78 @@ fn same(a: &Term, b: &Term) -> Truth {
                 _ => Truth::NotKnown,
             })
         }
-        _ => Truth::Contradicted,
+        (a, b) => match (a.numbers(), b.numbers()) {
+            (Some(a), Some(b)) => same_number(a, b),
+            _ => Truth::Contradicted,
+        },
+    }
+}
+
+/// Whether two numbers are the same, each known to lie between two: not known unless there is one each, or none in
+/// common.
+fn same_number((a, b): (u16, u16), (c, d): (u16, u16)) -> Truth {
+    match (b < c || d < a, a == b && c == d) {
+        (true, _) => Truth::Contradicted,
+        (_, true) => Truth::Holds,
+        _ => Truth::NotKnown,
+    }
+}
+
+#[cfg(test)]
+mod tests {
+    use super::*;
+    use crate::notation::{parse_piece, Names};
+
+    /// All pairs of low and high up to this number.
+    fn spans(most: u16) -> impl Iterator<Item = (u16, u16)> {
+        (0..=most).flat_map(move |low| (low..=most).map(move |high| (low, high)))
+    }
+
+    /// What is known if these are the answers of all fillings.
+    fn known(mut answers: impl Iterator<Item = bool>) -> Truth {
+        let first = answers.next().expect("a filling");
+        match answers.all(|answer| answer == first) {
+            true => Truth::of(first),
+            false => Truth::NotKnown,
+        }
+    }
+
+    fn read(text: String) -> Piece {
+        parse_piece(&text, &Names::default()).expect("a piece")
+    }
+
+    #[test]
+    fn a_range_is_tested_as_all_numbers_of_a_span_say() {
+        for ((a, b), (low, high)) in spans(6).flat_map(|span| spans(6).map(move |range| (span, range))) {
+            let piece = read(format!("({a}..{b}?)"));
+            let all = known((a..=b).map(|number| (low..=high).contains(&number)));
+            assert_eq!(wanted(&piece, 0, Want::Numbers(low, high)), all, "{a}..{b}? in {low}..{high}");
+        }
+    }
+
+    #[test]
+    fn spans_are_compared_as_all_their_numbers_are() {
+        for ((a, b), (c, d)) in spans(6).flat_map(|span| spans(6).map(move |other| (span, other))) {
+            let numbers = (a..=b).flat_map(|m| (c..=d).map(move |n| m == n));
+            let all = known(numbers);
+            let piece = read(format!("({a}..{b}?, {c}..{d}?, #1({a}..{b}?), #1({c}..{d}?))"));
+            assert_eq!(equal(&piece, 0, 85), all, "{a}..{b}? and {c}..{d}?");
+            assert_eq!(equal(&piece, 170, 255), all, "#1({a}..{b}?) and #1({c}..{d}?)");
+        }
+    }
+
+    #[test]
+    fn a_span_is_a_number_to_all_else() {
+        let piece = read("(5..9?, #5, #5(7), ?, 7)".into());
+        let [contradicted, unknown] = [Truth::Contradicted, Truth::NotKnown];
+        assert_eq!(
+            [85, 170, 255, 340].map(|other| equal(&piece, 0, other)),
+            [contradicted, contradicted, unknown, unknown]
+        );
+        assert_eq!(wanted(&piece, 0, Want::Symbol(5)), contradicted);
+        assert_eq!(wanted(&piece, 0, Want::Compound(5, 1)), contradicted);
+        // Nothing is below a span.
+        assert_eq!(wanted(&piece, 1, Want::Numbers(0, 9)), contradicted);
+        assert!(matches!(find(&piece, 1), Found::Lacking));
     }
 }

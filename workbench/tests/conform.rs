@@ -53,7 +53,7 @@ fn the_right_maker_passes_and_all_is_covered() {
         assert_eq!((problems.as_str(), status), ("", 0), "{said}");
         assert!(said.starts_with(&format!("10000 calls of seed {seed}: all equal.\n")), "{said}");
         assert!(!said.contains("never met"), "{said}");
-        for number in (1..=31).chain([37, 38]) {
+        for number in (1..=32).chain([37, 38]) {
             assert!(said.contains(&format!(" {number}: ")), "refusal {number}: {said}");
         }
     }
@@ -100,6 +100,12 @@ fn every_mistake_comes_down_to_a_few_bytes_whatever_the_seed() {
             ("touch", "build - 00", "refused 1 12"),
             ("number", "tidy 1001012400 00000000", "refused 31 00000000"),
             ("panic", "check_sheet 1001012200010000", "ended: exit status: 101"),
+            ("coarse", "plain 100101210000 11013400000000", "ok execute 1"),
+            (
+                "first",
+                "walk 100101210000 1201010002430000000200000000460000000100004600010001000140 1101320001",
+                "refused 26",
+            ),
         ] {
             let (said, _, status) = conform(&format!("--wrong {trap}"), &["--seed", seed]);
             assert_eq!((smallest(&said), status), ((call, words), 1), "{trap}: {said}");

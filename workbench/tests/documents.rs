@@ -75,6 +75,13 @@ fn the_readmes_section_can_be_followed() {
     assert!(section.contains("docs/pictures/example.svg"));
 }
 
+/// The text is the graph that is built for this sheet.
+#[track_caller]
+fn is_graph_of(text: &str, sheet: &str) {
+    let graph = parse_graph(text, &Default::default()).expect("a graph").bytes();
+    assert_eq!(Ok(graph), voltunnis::graph(&parse_sheet(sheet).expect("a sheet").sheet.bytes()));
+}
+
 #[test]
 fn the_notations_examples_are_accepted() {
     let mut names = Default::default();
@@ -89,11 +96,8 @@ fn the_notations_examples_are_accepted() {
                 let (pieces, _) = parse_pieces(text, &names).expect("pieces");
                 assert!(pieces.iter().all(|piece| voltunnis::check_piece(&piece.bytes()).is_ok()));
             }
-            "text example.graph" => {
-                let sheet = parse_sheet("sheet 2\n1: (X, X)\n2: (#1, #2)\n").expect("a sheet").sheet.bytes();
-                let graph = parse_graph(text, &names).expect("a graph").bytes();
-                assert_eq!(Ok(graph), voltunnis::graph(&sheet));
-            }
+            "text example.graph" => is_graph_of(text, "sheet 2\n1: (X, X)\n2: (#1, #2)\n"),
+            "text runs.graph" => is_graph_of(text, "sheet 1\n1: (10..19)\n2: (20..29)\n"),
             "text track.order" => {
                 let order = parse_order(text).expect("an order");
                 assert_eq!(voltunnis::check_order(&order.bytes()), Ok(()));

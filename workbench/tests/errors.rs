@@ -47,14 +47,50 @@ fn refusals_of_bytes_name_the_byte() {
     );
     refused(
         "f.bin",
-        &[0x11, 2, 0x30, 0x34],
-        ", piece 1: refused 14: Is each term a whole record of kinds 30 to 33?\n  byte 3: 34\n",
+        &[0x11, 2, 0x30, 0x35],
+        ", piece 1: refused 14: Is each term a whole record of kinds 30 to 34?\n  byte 3: 35\n",
     );
     refused("g.bin", &[0x11, 1, 0x30], ", piece 1: refused 20: Are the two arities equal?\n");
     folder.write("i.bin", [0x12, 1, 1, 0, 1, 0x44]);
     let whole = "i.bin: byte 5: expected a whole record of kinds 40 to 43 or 47, with its cases\n";
     folder.complains(&["text", "i.bin"], 1, whole);
     refused("h.bin", &[0x12, 2, 2, 0, 1, 0x41, 0x40], ": refused 25: Are no bytes left?\n  byte 6: 40\n");
+}
+
+#[test]
+fn refusals_of_spans_name_the_byte() {
+    let folder = Folder::new("span-byte");
+    let refused = |name: &str, bytes: &[u8], said: &str| {
+        folder.write(name, bytes);
+        folder.complains(&["check", "--sheet", "example.sheet", name], 1, &format!("{name}{said}"));
+    };
+    let low = ", piece 1: refused 32: If a span, is its low at most its high?\n  byte 3: 34 00 ef 00 e7\n";
+    refused("j.bin", &[0x11, 2, 0x30, 0x34, 0, 239, 0, 231], low);
+    // Before the next term, of which a byte is missing; but not before all of the span is there.
+    refused("k.bin", &[0x11, 3, 0x30, 0x34, 0, 239, 0, 231, 0x31, 0], low);
+    refused(
+        "l.bin",
+        &[0x11, 2, 0x30, 0x34, 0, 239, 0],
+        ", piece 1: refused 14: Is each term a whole record of kinds 30 to 34?\n  byte 3: 34 00 ef 00\n",
+    );
+}
+
+/// As many cases as two bytes count can be written, one more cannot.
+#[test]
+fn a_switch_has_as_many_cases_as_two_bytes_count() {
+    let folder = Folder::new("cases");
+    let graph = |count: u32| {
+        let cases: String = (0..count).map(|id| format!(" {} -> 0\n", id % 65_536)).collect();
+        format!("graph 2, 2 rules, 1 node\n0: argument 1\n{cases} neither -> 0\n unknown -> 0\n")
+    };
+    folder.write("most.graph", graph(65_535));
+    let said = "most.graph: graph, 1 node, 458759 bytes\n";
+    assert_eq!(folder.says(&["check", "--sheet", "example.sheet", "most.graph"]), said);
+    folder.write("more.graph", graph(65_536));
+    let more =
+        "more.graph:2:1: expected at most 65535 cases, as many as two bytes count\n  2 | 0: argument 1\n    \
+                | ^^^^^^^^^^^^^\n";
+    folder.complains(&["check", "--sheet", "example.sheet", "more.graph"], 1, more);
 }
 
 #[test]
@@ -65,6 +101,11 @@ fn refusals_are_said_to_programs_too() {
     let json = "{\n  \"file\": \"low.sheet\",\n  \"accepted\": false,\n  \"refusal\": 7,\n  \
                 \"question\": \"Is low at most high?\",\n  \"line\": 2,\n  \"column\": 5\n}\n";
     assert_eq!((ran.status, ran.stdout.as_str(), ran.stderr.as_str()), (1, json, ""));
+    folder.write("low.pieces", "(?, 239..231?)\n");
+    let ran = folder.run(&["check", "--json", "low.pieces"]);
+    let parts =
+        ["\"refusal\": 32", "\"question\": \"If a span, is its low at most its high?\"", "\"column\": 5\n"];
+    assert!(parts.iter().all(|part| ran.stdout.contains(part)), "{}", ran.stdout);
     folder.write("bad.sheet", "sheet 1\n1: 9\n");
     let ran = folder.run(&["check", "--json", "bad.sheet"]);
     assert!(ran.stdout.contains("\"message\": \"expected `(`, found `9`\""), "{}", ran.stdout);

@@ -1,6 +1,7 @@
 //! Walks retraced from the bytes of graphs, built and another maker's, come to the library's answer or
 //! refusal, wait list and edges included; and the tests are those that the library counts.
 
+use voltunnis::Word;
 use voltunnis_generate::asked::Asked;
 use voltunnis_generate::bytes::to_hex;
 use voltunnis_generate::crowded::crowded;
@@ -14,11 +15,14 @@ use voltunnis_workbench::notation::{Graph, Piece, Sheet};
 use voltunnis_workbench::retrace::retrace;
 use voltunnis_workbench::sheet_tests::SheetTests;
 
-/// How often each answer's word was met, and the refusals 26 and 27.
+/// How often each answer's word was met, and the refusals 26 and 27; steps at which several cases contain what stands
+/// there, and steps of suspended pieces at which a span lies partly inside a range.
 #[derive(Debug, Default)]
 struct Met {
     words: [usize; 5],
     refusals: [usize; 28],
+    chosen: usize,
+    partly: usize,
 }
 
 /// Retraces the walks of some pieces over a graph that the library accepts.
@@ -36,9 +40,14 @@ fn retraced(random: &mut Random, tree: &SheetTree, graph: &[u8], met: &mut Met) 
         let what = || format!("sheet {} graph {} piece {}", to_hex(&sheet), to_hex(graph), to_hex(&bytes));
         assert_eq!(way.answer, library, "here, library: {}", what());
         match library {
-            Ok(answer) => met.words[answer.walk.word as usize] += 1,
+            Ok(answer) => {
+                met.words[answer.walk.word as usize] += 1;
+                let partly = way.steps.iter().filter(|step| step.partly != 0).count();
+                met.partly += if answer.walk.word == Word::Suspend { partly } else { 0 };
+            }
             Err(number) => met.refusals[usize::from(number)] += 1,
         }
+        met.chosen += way.steps.iter().filter(|step| step.contain > 1).count();
     }
 }
 
@@ -63,4 +72,5 @@ fn retraced_walks_come_to_the_librarys_answer() {
     println!("{met:?}");
     assert!(met.words[1..].iter().all(|count| *count > 500), "{met:?}");
     assert!(met.refusals[26] > 20 && met.refusals[27] > 20, "{met:?}");
+    assert!(met.chosen > 500 && met.partly > 100, "{met:?}");
 }

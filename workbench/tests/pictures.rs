@@ -95,14 +95,46 @@ fn names_of_all_sorts_are_drawn() {
 #[test]
 fn large_graphs_are_drawn() {
     let folder = Folder::new("large");
-    folder.write("coins.bin", known::coins(32));
+    // 80 nodes, whose switches have 1,932 cases of numbers.
+    folder.write("coins.bin", known::coins(8));
     drawn(folder.says(&["draw", "coins.bin"]).as_bytes());
-    // 1,024 nodes and 718,292 bytes: the text for Graphviz is made.
-    folder.write("longest.bin", known::longest_64());
+    // 1,023 nodes and 12,229,032 bytes: the text for Graphviz is made, and is a tenth as long.
+    folder.write("longest.bin", known::longest_32());
     let dot = folder.says(&["draw", "longest.bin"]);
-    assert!(dot.matches("\n  n").count() > 1_024 && dot.contains("… "), "{} bytes", dot.len());
-    let said = folder.says(&["explain", "longest.bin", "(5, ?, 7, 8, 9, 1, 2, 3)"]);
+    assert!(dot.matches("\n  n").count() > 1_023 && dot.contains("… "), "{} bytes", dot.len());
+    assert!(dot.contains(" spans ") && dot.len() < 1_222_903, "{} bytes", dot.len());
+    let said = folder.says(&["explain", "longest.bin", "(#1(5, ?), 7, 8..12?, 9, 1, 2, 3, 4)"]);
     assert!(said.contains("suspend after"), "{said}");
+}
+
+/// Number cases are one for each pair of runs: those to one node are one edge, whose label says them shortly.
+#[test]
+fn overlapping_cases_are_summed_up() {
+    let folder = Folder::new("runs");
+    folder.write("three.sheet", "sheet 1\n1: (10..19)\n2: (15..29)\n3: (40..49)\n");
+    let dot = folder.says(&["draw", "three.sheet"]);
+    let edges: Vec<&str> = dot.lines().filter(|line| line.starts_with("  n0 -> ")).collect();
+    let label =
+        |text: &str| edges.iter().filter(|edge| edge.contains(&format!("label=\" {text} \""))).count();
+    // Runs 0..9, 10..14, 15..19, 20..29, 30..39, 40..49, 50..65535: none, 1, 1 2, 2, none, 3, none.
+    assert_eq!(edges.len(), 6, "{edges:#?}");
+    assert_eq!(label("0..9 \\n 30..39 \\n 50..65535 \\n neither"), 1, "{edges:#?}");
+    assert_eq!(label("10..14 \\n span 0..14"), 1, "{edges:#?}");
+    assert_eq!(label("20..29 \\n span 20..39"), 1, "{edges:#?}");
+    assert_eq!(label("40..49 \\n 3 spans"), 1, "{edges:#?}");
+    assert_eq!(label("15..19 \\n 16 spans"), 1, "{edges:#?}");
+    assert!(texts(&drawn(dot.as_bytes())).contains(&"span: a number between two".to_string()));
+}
+
+#[test]
+fn the_way_of_a_span_is_marked() {
+    let folder = Folder::new("span-marked");
+    folder.write("two.sheet", "sheet 1\n1: (10..19)\n2: (20..29)\n");
+    folder.says(&["explain", "two.sheet", "(12..25?)", "-o", "walk.dot"]);
+    let dot = String::from_utf8(folder.read("walk.dot")).expect("text");
+    let marked: Vec<&str> = dot.lines().filter(|line| line.contains("label=\" 1: 10..29 \"")).collect();
+    assert!(matches!(marked[..], [one] if one.contains("#d9480f")), "{dot}");
+    assert!(texts(&drawn(dot.as_bytes())).contains(&"(12..25?): suspend".to_string()));
 }
 
 #[test]

@@ -77,15 +77,32 @@ fn tidy_sheets_are_printed_by_letters_and_come_back() {
 #[test]
 fn accepted_pieces_come_back_as_they_were() {
     let mut random = Random::new(0x7069_6563);
-    let mut accepted = 0;
+    let (mut accepted, mut spans) = (0, 0);
     while accepted < ROUNDS {
         let tree = sheet(&mut random);
         for _ in 0..10 {
             let bytes = piece_bytes(&piece(&mut random, &tree, Stock::FULL));
             accepted += usize::from(voltunnis::check_piece(&bytes).is_ok());
             piece_again(&bytes);
+            spans += usize::from(print_piece(&bytes).is_ok_and(|text| text.contains("..")));
         }
     }
+    assert!(spans > ROUNDS / 10, "{spans} pieces with spans");
+}
+
+/// Spans of all sorts: of one number, which stays a span, and with low above high, which is refused.
+#[test]
+fn spans_come_back_as_they_were() {
+    let ends = [0, 1, 9, 10, 255, 256, 65534, 65535];
+    for (low, high) in ends.into_iter().flat_map(|low| ends.map(|high| (low, high))) {
+        let span = [&[0x34][..], &u16::to_be_bytes(low), &u16::to_be_bytes(high)].concat();
+        let bytes = [&[0x11, 3][..], &span, &[0x32, 0, 7, 0x33, 0, 1, 2, 0x30], &span].concat();
+        let text = format!("({low}..{high}?, 7, #1(?, {low}..{high}?))");
+        assert_eq!(print_piece(&bytes), Ok(text));
+        piece_again(&bytes);
+    }
+    let spaced = parse_piece("( 231 .. 239 ? )", &Names::default()).expect("a piece");
+    assert_eq!(spaced.bytes(), [0x11, 1, 0x34, 0, 231, 0, 239]);
 }
 
 #[test]
@@ -107,12 +124,13 @@ fn graphs_come_back_as_they_were() {
             graph_again(&graph);
         }
     }
+    // Among them a switch with 8,385 cases, and graphs of more than a million bytes.
     for sheet in [
         known::nodes_1024(),
-        known::longest_32(),
-        known::longest_64(),
+        known::nested_1(64),
+        known::nested_8(32),
         known::zeros_and_ones(32),
-        known::coins(64),
+        known::coins(28),
     ] {
         graph_again(&voltunnis::graph(&sheet).expect("a graph"));
     }

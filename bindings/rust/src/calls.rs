@@ -3,11 +3,9 @@
 //! Each takes byte slices as pointer and length, never a null pointer, and returns one u64, which
 //! `packed` unpacks. They are inlined, so that a program links only those that it calls.
 
+use crate::grown::grown;
 use crate::packed::unpack;
-use crate::{
-    Answer, Built, GraphSize, PieceSize, Plain, Refusal, SheetSize, Walk, Written, MOST_BYTES,
-    MOST_TIDY_BYTES,
-};
+use crate::{Answer, Built, GraphSize, PieceSize, Plain, Refusal, SheetSize, Walk, Written, MOST_TIDY_BYTES};
 
 extern "C" {
     fn vt_check_sheet(sheet: *const u8, sheet_len: usize) -> u64;
@@ -57,11 +55,15 @@ pub fn check_sheet(sheet: &[u8]) -> Result<SheetSize, Refusal> {
     unpack(unsafe { vt_check_sheet(sheet.as_ptr(), sheet.len()) })
 }
 
-/// Checks a piece: questions 12 to 17.
+/// Checks a piece: questions 12 to 17, and 32 after 16 at each term.
 ///
 /// ```
 /// // (?, 180)
 /// assert_eq!(voltunnis::check_piece(&[0x11, 2, 0x30, 0x32, 0, 180])?.arity, 2);
+/// // A number between 231 and 239, and the same the wrong way round.
+/// assert_eq!(voltunnis::check_piece(&[0x11, 1, 0x34, 0, 231, 0, 239])?.arity, 1);
+/// let refusal = voltunnis::check_piece(&[0x11, 1, 0x34, 0, 239, 0, 231]).unwrap_err();
+/// assert_eq!(refusal.to_string(), "refused 32: If a span, is its low at most its high?");
 /// # Ok::<(), voltunnis::Refusal>(())
 /// ```
 #[inline]
@@ -94,7 +96,7 @@ pub fn plain(sheet: &[u8], piece: &[u8]) -> Result<Plain, Refusal> {
 /// # let sheet = [0x10, 2, 2, 0x24, 0, 0x24, 0, 0x21, 0, 1, 0x21, 0, 2];
 /// let graph = voltunnis::graph(&sheet)?;
 /// assert_eq!(voltunnis::check_graph(&sheet, &graph)?.nodes, 7);
-/// let cut = voltunnis::check_graph(&sheet, &graph[..57]);
+/// let cut = voltunnis::check_graph(&sheet, &graph[..60]);
 /// assert_eq!(cut.unwrap_err().number(), 22);
 /// # Ok::<(), voltunnis::Refusal>(())
 /// ```
@@ -105,7 +107,7 @@ pub fn check_graph(sheet: &[u8], graph: &[u8]) -> Result<GraphSize, Refusal> {
 }
 
 /// Writes the nodes of a graph again, to the start of a buffer: the sheet's questions, 21 to 25, then
-/// 19. The bytes after them stay as they are, and all do on a refusal.
+/// 19. As many bytes are written as the graph has; those after them stay as they are, and all do on a refusal.
 ///
 /// ```
 /// # let sheet = [0x10, 2, 2, 0x24, 0, 0x24, 0, 0x21, 0, 1, 0x21, 0, 2];
@@ -132,14 +134,15 @@ pub fn rewrite(sheet: &[u8], graph: &[u8], buffer: &mut [u8]) -> Result<Written,
 }
 
 /// Builds the graph of a sheet, to the start of a buffer: the sheet's questions, then 18 and 19. The
-/// bytes after the graph stay as they are, and all do on a refusal.
+/// bytes after the graph stay as they are, and all do on a refusal. [`MOST_BUILT_BYTES`](crate::MOST_BUILT_BYTES) are
+/// always enough.
 ///
 /// ```
 /// # let sheet = [0x10, 2, 2, 0x24, 0, 0x24, 0, 0x21, 0, 1, 0x21, 0, 2];
 /// let mut buffer = [0; 100];
 /// let built = voltunnis::build(&sheet, &mut buffer)?;
-/// assert_eq!((built.nodes, built.bytes), (7, 58));
-/// assert_eq!(voltunnis::build(&sheet, &mut buffer[..57]).unwrap_err().number(), 19);
+/// assert_eq!((built.nodes, built.bytes), (7, 61));
+/// assert_eq!(voltunnis::build(&sheet, &mut buffer[..60]).unwrap_err().number(), 19);
 /// # Ok::<(), voltunnis::Refusal>(())
 /// ```
 #[inline]
@@ -190,13 +193,19 @@ pub fn walk(sheet: &[u8], graph: &[u8], piece: &[u8]) -> Result<Walk, Refusal> {
     })
 }
 
-/// The wait list of the same walk, test t being bit t; 0 on a refusal.
+/// The wait list of the same walk, test t being bit t; 0 on a refusal. On a built graph a piece filled in further
+/// suspends while each listed place keeps the unknown or span that it held and each listed pair is still not known.
 ///
 /// ```
 /// # let sheet = [0x10, 2, 2, 0x24, 0, 0x24, 0, 0x21, 0, 1, 0x21, 0, 2];
 /// let graph = voltunnis::graph(&sheet)?;
 /// // (?, ?) waits for tests 0 and 1: both arguments.
 /// assert_eq!(voltunnis::wait(&sheet, &graph, &[0x11, 2, 0x30, 0x30]), 0b11);
+/// // A number from 3 to 4, or anything: a span partly inside the range waits, one inside it does not.
+/// let sheet = [0x10, 1, 2, 0x22, 0, 3, 0, 4, 0x20];
+/// let graph = voltunnis::graph(&sheet)?;
+/// assert_eq!(voltunnis::wait(&sheet, &graph, &[0x11, 1, 0x34, 0, 2, 0, 4]), 0b1);
+/// assert_eq!(voltunnis::wait(&sheet, &graph, &[0x11, 1, 0x34, 0, 3, 0, 4]), 0);
 /// # Ok::<(), voltunnis::Refusal>(())
 /// ```
 #[inline]
@@ -205,23 +214,21 @@ pub fn wait(sheet: &[u8], graph: &[u8], piece: &[u8]) -> u64 {
     unsafe { vt_wait(sheet.as_ptr(), sheet.len(), graph.as_ptr(), graph.len(), piece.as_ptr(), piece.len()) }
 }
 
-/// The graph of a sheet, built in a buffer of its own: the sheet's questions, then 18.
+/// The graph of a sheet, built in a buffer of its own: the sheet's questions, then 18. The buffer has 64 KiB at
+/// first; while the graph does not fit it is doubled and the graph built again. To build in memory that is at hand
+/// already, call [`build`].
 ///
 /// ```
 /// // f(X, X) and f(1, 2), in symbols.
 /// let sheet = [0x10, 2, 2, 0x24, 0, 0x24, 0, 0x21, 0, 1, 0x21, 0, 2];
 /// let graph = voltunnis::graph(&sheet)?;
 /// assert_eq!(graph[..5], [0x12, 2, 2, 0, 7]);
-/// assert_eq!(graph.len(), 58);
+/// assert_eq!(graph.len(), 61);
 /// # Ok::<(), voltunnis::Refusal>(())
 /// ```
 #[inline]
 pub fn graph(sheet: &[u8]) -> Result<Vec<u8>, Refusal> {
-    let mut buffer = vec![0; MOST_BYTES];
-    let built = build(sheet, &mut buffer)?;
-    buffer.truncate(built.bytes as usize);
-    buffer.shrink_to_fit();
-    Ok(buffer)
+    grown(|buffer| build(sheet, buffer))
 }
 
 /// The tidy form of a sheet, written to a buffer of its own: the sheet's questions.

@@ -16,8 +16,25 @@
 //! assert_eq!(answer.to_string(), "execute 1 2 0000000000000004");
 //! # Ok::<(), voltunnis::Refusal>(())
 //! ```
+//!
+//! A reading may also be a span, record 34: a number known to lie between two. The gate can move before the exact
+//! number comes.
+//!
+//! ```
+//! use voltunnis::{plain, Word};
+//!
+//! // A diameter from 231 to 239, or from 240 to 260.
+//! let sheet = [0x10, 1, 2, 0x22, 0, 231, 0, 239, 0x22, 0, 240, 1, 4];
+//! // A number between 232 and 236: surely the first. One between 236 and 241: either.
+//! let (narrow, wide) = ([0x11, 1, 0x34, 0, 232, 0, 236], [0x11, 1, 0x34, 0, 236, 0, 241]);
+//! let answer = plain(&sheet, &narrow)?;
+//! assert_eq!((answer.word, answer.rule), (Word::Commit, 1));
+//! assert_eq!(plain(&sheet, &wide)?.word, Word::Suspend);
+//! # Ok::<(), voltunnis::Refusal>(())
+//! ```
 
 mod calls;
+mod grown;
 mod order;
 mod packed;
 mod refusal;
@@ -35,9 +52,13 @@ pub use results::{Answer, Built, GraphSize, PieceSize, Plain, Run, SheetSize, Wa
 pub use track::{order, track_order};
 pub use walks::{answers, results, walk_all, Answers, RESULT_BYTES};
 
-/// The most bytes that a graph has, built or accepted: 5, and for each of 1,024 nodes 8 and 255 cases
-/// of 7.
-pub const MOST_BYTES: usize = 1_836_037;
+/// The most bytes that an accepted graph has: 5, and for each of 1,024 nodes 9 and 65,535 cases of 7. One that is
+/// written again has as many as it had.
+pub const MOST_BYTES: usize = 469_764_101;
+
+/// No built graph has more bytes: 5, and for each of 1,024 nodes 9 and 8,385 cases of 7. The ranges of 64 rules cut
+/// all numbers into 129 runs at most, of which there are 8,385 pairs of first and last.
+pub const MOST_BUILT_BYTES: usize = 60_112_901;
 
 /// The bytes of a reading order, 680 wide places, and those of as many track positions.
 pub const ORDER_BYTES: usize = 1_360;

@@ -3,8 +3,9 @@
 //! The table replaces the ascending order of places. Pairs still come after all places, and tests keep
 //! their numbers. A graph's bytes hold places, so no other call needs the table.
 
+use crate::grown::grown;
 use crate::packed::unpack;
-use crate::{Built, Refusal, MOST_BYTES};
+use crate::{Built, Refusal};
 
 extern "C" {
     fn vt_check_order(table: *const u8, table_len: usize) -> u64;
@@ -48,7 +49,7 @@ pub fn check_order(table: &[u8]) -> Result<(), Refusal> {
 /// let table: Vec<u8> = places.flat_map(u16::to_be_bytes).collect();
 /// let mut buffer = [0; 100];
 /// let built = voltunnis::build_ordered(&sheet, &table, &mut buffer)?;
-/// assert_eq!((built.nodes, built.bytes), (7, 58));
+/// assert_eq!((built.nodes, built.bytes), (7, 61));
 /// // The root is a switch on place 85.
 /// assert_eq!(buffer[5..8], [0x43, 0, 85]);
 /// let short = voltunnis::build_ordered(&sheet, &table[2..], &mut buffer);
@@ -71,8 +72,8 @@ pub fn build_ordered(sheet: &[u8], table: &[u8], buffer: &mut [u8]) -> Result<Bu
     })
 }
 
-/// The graph of a sheet in a reading order, built in a buffer of its own: the sheet's questions, 28 to
-/// 30, then 18.
+/// The graph of a sheet in a reading order, built in a buffer of its own, which is doubled from 64 KiB on while it is
+/// too short: the sheet's questions, 28 to 30, then 18.
 ///
 /// ```
 /// # let sheet = [0x10, 2, 2, 0x24, 0, 0x24, 0, 0x21, 0, 1, 0x21, 0, 2];
@@ -82,9 +83,5 @@ pub fn build_ordered(sheet: &[u8], table: &[u8], buffer: &mut [u8]) -> Result<Bu
 /// ```
 #[inline]
 pub fn graph_ordered(sheet: &[u8], table: &[u8]) -> Result<Vec<u8>, Refusal> {
-    let mut buffer = vec![0; MOST_BYTES];
-    let built = build_ordered(sheet, table, &mut buffer)?;
-    buffer.truncate(built.bytes as usize);
-    buffer.shrink_to_fit();
-    Ok(buffer)
+    grown(|buffer| build_ordered(sheet, table, buffer))
 }

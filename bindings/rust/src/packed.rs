@@ -169,7 +169,7 @@ mod tests {
     #[test]
     #[should_panic(expected = "no result")]
     fn a_refusal_without_a_question_is_no_result() {
-        let _ = unpack::<PieceSize>(32);
+        let _ = unpack::<PieceSize>(33);
     }
 
     #[test]

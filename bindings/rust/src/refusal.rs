@@ -1,5 +1,6 @@
 //! Refusals: the questions of document 01, each in its words, and of requests of document 02. Question 3
-//! reads 64 by request 9.
+//! reads 64 by request 9; by request 4 question 14 admits record 34, 24 number cases that overlap, and 32 comes
+//! after 16 at each term.
 
 use std::error::Error;
 use std::fmt;
@@ -16,7 +17,7 @@ use std::fmt;
 pub struct Refusal(u8);
 
 /// The questions, ascending: the number, when it is asked, and its words.
-const QUESTIONS: [(u8, &str, &str); 34] = [
+const QUESTIONS: [(u8, &str, &str); 35] = [
     (1, SHEET, "Does it begin with a whole 10 record?"),
     (2, SHEET, "Is its arity 1 to 8?"),
     (3, SHEET, "Has it at most 64 rules (0 is allowed)?"),
@@ -30,7 +31,7 @@ const QUESTIONS: [(u8, &str, &str); 34] = [
     (11, SHEET_END, "Are there at most 64 tests?"),
     (12, PIECE, "Does it begin with a whole 11 record?"),
     (13, PIECE, "Is its arity 1 to 8?"),
-    (14, PIECE, "Is each term a whole record of kinds 30 to 33?"),
+    (14, PIECE, "Is each term a whole record of kinds 30 to 34?"),
     (15, PIECE, "If compound, is its depth at most 3?"),
     (16, PIECE, "Is its arity 1 to 4?"),
     (17, PIECE, "Are no bytes left?"),
@@ -47,7 +48,7 @@ const QUESTIONS: [(u8, &str, &str); 34] = [
          a switch with 1 case or more?",
     ),
     (23, NODE, "Are its nodes and rule in range, its place or pair among the sheet's tests?"),
-    (24, NODE, "Are cases strictly ascending, low at most high, no number in two?"),
+    (24, NODE, "Are cases strictly ascending, numbers by low, then high, and low at most high?"),
     (25, "Then", "Are no bytes left?"),
     (26, WALKED, "Have fewer than 64 edges been walked?"),
     (27, WALKED, "Is each place it tests in the piece, or below an unknown?"),
@@ -55,6 +56,7 @@ const QUESTIONS: [(u8, &str, &str); 34] = [
     (29, ORDER, "Is each of its places 0 to 679, and none twice?"),
     (30, ORDER, "Does none stand before its parent?"),
     (31, TIDYING, "Does the tidy sheet fit the lent buffer?"),
+    (32, PIECE, "If a span, is its low at most its high?"),
     (36, WINDOW, "Is the rule 1 to 64 for commit or execute, 0 for the others?"),
     (37, TRACK, "Is the list of positions 1,360 bytes?"),
     (38, TRACK, "Has the lent buffer 1,360 bytes or more?"),
@@ -81,7 +83,7 @@ impl Refusal {
     ///
     /// assert_eq!(Refusal::from_number(20).unwrap().question(), "Are the two arities equal?");
     /// assert_eq!(Refusal::from_number(0), None);
-    /// assert_eq!(Refusal::from_number(32), None);
+    /// assert_eq!(Refusal::from_number(33), None);
     /// ```
     pub fn from_number(number: u8) -> Option<Refusal> {
         QUESTIONS.iter().any(|row| row.0 == number).then_some(Refusal(number))
@@ -90,7 +92,7 @@ impl Refusal {
     /// All refusals, ascending.
     ///
     /// ```
-    /// assert_eq!(voltunnis::Refusal::all().count(), 34);
+    /// assert_eq!(voltunnis::Refusal::all().count(), 35);
     /// ```
     pub fn all() -> impl Iterator<Item = Refusal> {
         QUESTIONS.iter().map(|row| Refusal(row.0))

@@ -97,7 +97,7 @@ pub struct Answers<'a> {
 
 /// The answers for pieces one after another: the sheet's questions and 21 to 25 are asked at once, those of
 /// a piece when its turn comes. A piece that is refused by 20, 26 or 27 is an error among the answers; one
-/// that cannot be read is the last.
+/// that cannot be read, by 12 to 16 or 32, is the last.
 ///
 /// ```
 /// # let sheet = [0x10, 2, 2, 0x24, 0, 0x24, 0, 0x21, 0, 1, 0x21, 0, 2];
@@ -146,7 +146,7 @@ impl Iterator for Answers<'_> {
         }
         let at = self.left.next()? * RESULT_BYTES;
         let answer = results(&self.buffer[at..at + RESULT_BYTES]).next();
-        if matches!(answer, Some(Err(refusal)) if (12..=16).contains(&refusal.number())) {
+        if matches!(answer, Some(Err(refusal)) if matches!(refusal.number(), 12..=16 | 32)) {
             self.left = 0..0;
         }
         answer

@@ -79,6 +79,11 @@ pub true-is : (b : Bool) → T b → b ≡ true
 true-is true h = refl
 true-is false h = absurd h
 
+-- A test that is refuted is false.
+pub not-so : (b : Bool) → (T b → ⊥) → b ≡ false
+not-so true h = absurd (h tt)
+not-so false h = refl
+
 -- and its sentence holds where it is true.
 pub is-true : {b : Bool} → b ≡ true → T b
 is-true e = subst T (sym e) tt

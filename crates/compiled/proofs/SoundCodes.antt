@@ -11,20 +11,13 @@ use Rattle.basics.specs.Lists.{All}
 use Rattle.basics.proofs.Clash.{clash}
 use Rattle.basics.proofs.ListLaws.{all-at}
 use Rattle.terms.specs.Pattern.{Patterns, pnil}
-use Rattle.terms.specs.RuleTests.{Want, aSymbol, aNumber, aCompound, placeTests}
+use Rattle.terms.specs.RuleTests.{Want, placeTests}
 use Rattle.terms.specs.Answer.{ruleAt}
 use Rattle.terms.specs.Accepted.{AcceptedRule}
 use Rattle.decision.specs.Rules.{wantAt}
-use Rattle.decision.proofs.cases.Runs as runs
 use Rattle.decision.proofs.rules.TestsOfRules.{want-test}
 use Rattle.decision.proofs.rules.SoundWants.{SoundTest, rule-tests-sound, rule-accepted}
 use Rattle.codes.specs.views.Codes.{SoundWant}
-
--- What is sound for runs is so for codes.
-want-sound : (w : Want) → runs.SoundWant w → SoundWant w
-want-sound (aSymbol a) s = s
-want-sound (aNumber l h) s = s
-want-sound (aCompound a n) s = s
 
 -- What a rule wants is sound; beyond the rules nothing is wanted.
 pub rules-sound
@@ -35,7 +28,7 @@ rules-sound arity rules accepted i n w e =
     by-cases (decLt i (length rules))
     (λ (h : i < length rules).
     let sound = rule-tests-sound rule (rule-accepted arity rules accepted i h) in
-    want-sound w (all-at SoundTest (want-test (placeTests rule) n w e) sound))
+    all-at SoundTest (want-test (placeTests rule) n w e) sound)
     (λ (h : i < length rules → ⊥).
     let empty : rule ≡ pnil = List·getD-eq-default rules pnil (omega arith) in
     let d : wantAt (pnil ∷ []) 0 n ≡ some w = sym (ap (λ (r : Patterns). wantAt (r ∷ []) 0 n) empty) ∙ e in

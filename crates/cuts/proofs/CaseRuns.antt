@@ -1,12 +1,13 @@
 -- The runs in an array from one of them on, and the cases that they make, one run after another.
-use Prim.Native.Nat.{ℕ, suc, _+_, _*_, _-_, _≤_, _<_}
-use mathlib.Core.Path.{_≡_, sym, ap, _∙_}
-use mathlib.Core.List.{List, [], _∷_, _++_, map, append-nil}
+use Prim.Native.Nat.{ℕ, zero, suc, _+_, _*_, _-_, _≤_, _<_}
+use mathlib.Core.Path.{_≡_, sym, ap, subst, _∙_}
+use mathlib.Core.List.{List, [], _∷_, _++_, map}
+use native.Mathlib.Nat.{add-mul, mul-le-mul}
 use native.Mathlib.Omega.{arith}
 use native.Mathlib.Numerals.{add-one}
 use lib.Bits.{bitOr, or-zero-l, or-self}
 use lib.ListN.{length, length-append, length-map}
-use lib.Seq.{take-at, drop-at, take-length, drop-length}
+use lib.Seq.{take-at, drop-at}
 use Rattle.basics.specs.Lists.{countFrom}
 use Rattle.basics.proofs.Counting.{count-append, count-length}
 use Rattle.basics.proofs.Filters.{map-join}
@@ -15,12 +16,16 @@ use Rattle.cuts.specs.views.CaseRuns.{unionRow, unionPairs, caseRuns, ru
 use Rattle.cuts.proofs.FramedPass.{runs-length}
 use Rattle.cuts.proofs.UnionPairs.{union-count}
 
--- Where all runs are cases by themselves, they are the cases.
-pub all-points : (rs : List Run) {n : ℕ} → n ≡ length rs → caseRuns n rs ≡ rs
-all-points rs e =
-    ap (λ (n : ℕ). caseRuns n rs) e
-    ∙ (λ i. take-length rs i ++ unionPairs (drop-length rs i))
-    ∙ append-nil rs
+-- One run more that is paired makes at least as many cases more as one that is a case by itself.
+own-row : (n k : ℕ) → k * 2 ≤ k * suc (n + k)
+own-row n zero = omega arith
+own-row n (suc k) = mul-le-mul {n₁ = suc k} {m₁ = 2} {n₂ = suc k} {m₂ = suc (n + suc k)} (omega arith) (omega arith)
+
+pairs-outnumber : (n k : ℕ) → n * suc n + k * 2 ≤ (n + k) * suc (n + k)
+pairs-outnumber n k =
+    let others : n * suc n ≤ n * suc (n + k) =
+    mul-le-mul {n₁ = n} {m₁ = suc n} {n₂ = n} {m₂ = suc (n + k)} (omega arith) (omega arith) in
+    omega (arith, add-mul n k (suc (n + k)), own-row n k)
 
 module _ (runs : List ℕ) (count : ℕ) where
   -- All runs, the next one and those behind it, and none behind the last.
@@ -65,6 +70,17 @@ module _ (runs : List ℕ) (count : ℕ) where
       let pairs = union-count (runsFrom runs count k)
       ∙ ap (λ (n : ℕ). n * suc n) (from-length k) in
       omega (arith, runs-length runs k)
+
+  -- They are at most 8,385.
+  pub cases-most : (k : ℕ) → k ≤ count → count ≤ 129 → length (caseRuns k (runsIn runs count)) ≤ 8385
+  cases-most k h few =
+      let n = count - k in
+      let all : n + k ≡ count = omega arith in
+      let more : n * suc n + k * 2 ≤ count * suc count =
+      subst (λ (m : ℕ). n * suc n + k * 2 ≤ m * suc m) all (pairs-outnumber n k) in
+      let most : count * suc count ≤ 129 * 130 =
+      mul-le-mul {n₁ = count} {m₁ = suc count} {n₂ = 129} {m₂ = 130} few (omega arith) in
+      omega (arith, cases-counted k h)
 
   -- The pairs from a first run on are its row, then those of the first runs behind it.
   pub pairs-some : (k : ℕ) → k < count

@@ -1,18 +1,21 @@
--- What is wanted and what cases take, as ranges of codes: the sorts do not meet, cases that ascend are ranges that
--- ascend, and a case is wanted where a wanted range covers its own.
+-- What is wanted and what cases take, as ranges of codes: the sorts do not meet, cases of symbols and compounds that ascend are
+-- ranges that ascend, and such a case is wanted where a wanted range has its code.
 use Prim.Native.Nat.{ℕ, _≤_}
 use mathlib.Core.Path.{_≡_}
 use mathlib.Core.Bool.{Bool, false, _&&_}
 use mathlib.Core.Logic.{inl, inr}
+use mathlib.Core.List.{List}
 use native.Mathlib.Omega.{arith}
 use lib.Dec.{T, leb, eqb, eqb→eq}
+use Rattle.basics.specs.Lists.{All}
+use Rattle.basics.proofs.ListLaws.{all-at}
 use Rattle.terms.specs.RuleTests.{Want, aSymbol, aNumber, aCompound, Range}
 use Rattle.basics.proofs.Booleans.{both-true, true-both, same-truth}
 use Rattle.basics.proofs.Sorted.{pair-before}
 use Rattle.codes.specs.views.Codes.{symbolCode, compoundCode, numberCode}
-use Rattle.decision.specs.Runs.{covers}
 use Rattle.decision.specs.Cases.{Case, symbolCase, compoundCase, numbersCase, isWanted}
 use Rattle.decision.specs.AcceptedGraph.{CaseBefore, CaseFields}
+use Rattle.decision.proofs.cases.CaseList.{nameCases, names-all}
 use Rattle.decision.proofs.cases.Intervals.{EndsBefore}
 use Rattle.codes.specs.views.Codes.{wantLow, wantHigh, SoundWant}
 use Rattle.decision.specs.views.CaseCodes.{caseLow, caseHigh}
@@ -25,18 +28,31 @@ wantRange w = record { low = wantLow w; high = wantHigh w }
 abbrev pub caseRange : Case → Range
 caseRange c = record { low = caseLow c; high = caseHigh c }
 
--- Cases that ascend are ranges that ascend.
-pub case-before : (c d : Case) → CaseFields c → CaseFields d → CaseBefore c d → EndsBefore (caseRange c) (caseRange d)
+-- The case of a symbol or a compound, which are one code each.
+abbrev IsName : Case → Type 0
+IsName (symbolCase a) = Unit
+IsName (compoundCase a n) = Unit
+IsName (numbersCase l h) = ⊥
+
+abbrev pub NameFields : Case → Type 0
+NameFields c = IsName c × CaseFields c
+
+-- The cases of names that are wanted are such.
+pub names-fields : (ws : List Want) → All SoundWant ws → All NameFields (nameCases ws)
+names-fields ws sound =
+    names-all ws NameFields (λ a m. (tt, all-at SoundWant m sound))
+    (λ a n m. let s = all-at SoundWant m sound in (tt, (s .0, omega (arith, s .1))))
+
+-- Those that ascend are ranges that ascend.
+pub case-before : (c d : Case) → NameFields c → NameFields d → CaseBefore c d → EndsBefore (caseRange c) (caseRange d)
 case-before (symbolCase a) (symbolCase b) f g h = omega arith
-case-before (symbolCase a) (compoundCase b m) f g h = omega arith
-case-before (symbolCase a) (numbersCase x y) f g h = omega arith
+case-before (symbolCase a) (compoundCase b m) f g h = omega (arith, f .1)
+case-before (symbolCase a) (numbersCase x y) f g h = absurd (g .0)
 case-before (compoundCase a n) (symbolCase b) f g h = absurd h
 case-before (compoundCase a n) (compoundCase b m) f g h =
-    elim (pair-before a n b m h) [ inl l ↦ omega (arith, f .1) | inr r ↦ omega (arith, r .0, r .1) ]
-case-before (compoundCase a n) (numbersCase x y) f g h = omega (arith, f .0, f .1)
-case-before (numbersCase l h) (symbolCase b) f g k = absurd k
-case-before (numbersCase l h) (compoundCase b m) f g k = absurd k
-case-before (numbersCase l h) (numbersCase x y) f g k = omega arith
+    elim (pair-before a n b m h) [ inl l ↦ omega (arith, f .1 .1) | inr r ↦ omega (arith, r .0, r .1) ]
+case-before (compoundCase a n) (numbersCase x y) f g h = absurd (g .0)
+case-before (numbersCase l h) d f g k = absurd (f .0)
 
 -- A test is true exactly where one comparison of codes and another hold.
 by-codes : (b : Bool) (x y z u : ℕ) → (T b → (x ≤ y) × (z ≤ u)) → (x ≤ y → z ≤ u → T b) → b ≡ leb x y && leb z u
@@ -44,25 +60,26 @@ by-codes b x y z u f g =
     same-truth b (leb x y && leb z u) (λ h. both-le x y z u .1 (f h))
     (λ h. let s = both-le x y z u .0 h in g (s .0) (s .1))
 
--- A case is wanted where the want's range covers its own.
-pub wanted-covers
-    : (c : Case) (w : Want) → CaseFields c → SoundWant w → isWanted c w ≡ covers (wantRange w) (caseRange c)
-wanted-covers (symbolCase a) (aSymbol b) f s =
+-- A symbol or compound is wanted where its code is.
+pub wanted-holds
+    : (c : Case) (w : Want) → NameFields c → SoundWant w
+    → isWanted c w ≡ leb (wantLow w) (caseLow c) && leb (caseLow c) (wantHigh w)
+wanted-holds (symbolCase a) (aSymbol b) f s =
     by-codes (eqb a b) (symbolCode b) (symbolCode a) (symbolCode a) (symbolCode b)
     (λ h. let e = eqb→eq a b h in (omega arith, omega arith)) (λ h k. eq-true a b (omega arith))
-wanted-covers (symbolCase a) (aNumber l h) f s =
+wanted-holds (symbolCase a) (aNumber l h) f s =
     by-codes false (numberCode l) (symbolCode a) (symbolCode a) (numberCode h) (λ k. absurd k)
-    (λ k m. absurd (omega arith))
-wanted-covers (symbolCase a) (aCompound b m) f s =
+    (λ k m. absurd (omega (arith, f .1)))
+wanted-holds (symbolCase a) (aCompound b m) f s =
     by-codes false (compoundCode b m) (symbolCode a) (symbolCode a) (compoundCode b m) (λ k. absurd k)
-    (λ k m. absurd (omega arith))
-wanted-covers (compoundCase a n) (aSymbol b) f s =
+    (λ k m. absurd (omega (arith, f .1)))
+wanted-holds (compoundCase a n) (aSymbol b) f s =
     by-codes false (symbolCode b) (compoundCode a n) (compoundCode a n) (symbolCode b) (λ k. absurd k)
     (λ k m. absurd (omega arith))
-wanted-covers (compoundCase a n) (aNumber l h) f s =
+wanted-holds (compoundCase a n) (aNumber l h) f s =
     by-codes false (numberCode l) (compoundCode a n) (compoundCode a n) (numberCode h) (λ k. absurd k)
-    (λ k m. absurd (omega (arith, f .0, f .1)))
-wanted-covers (compoundCase a n) (aCompound b m) f s =
+    (λ k m. absurd (omega (arith, f .1 .0, f .1 .1)))
+wanted-holds (compoundCase a n) (aCompound b m) f s =
     by-codes (eqb a b && eqb n m) (compoundCode b m) (compoundCode a n) (compoundCode a n) (compoundCode b m)
     (λ h.
     let t = both-true (eqb a b) (eqb n m) h in
@@ -70,16 +87,7 @@ wanted-covers (compoundCase a n) (aCompound b m) f s =
     let e = eqb→eq n m (t .1) in
     (omega arith, omega arith))
     (λ h k.
-    let d : a ≡ b = omega (arith, f .1, s .1) in
-    let e : n ≡ m = omega (arith, f .1, s .1) in
+    let d : a ≡ b = omega (arith, f .1 .1, s .1) in
+    let e : n ≡ m = omega (arith, f .1 .1, s .1) in
     true-both (eqb a b) (eqb n m) (eq-true a b d) (eq-true n m e))
-wanted-covers (numbersCase x y) (aSymbol b) f s =
-    by-codes false (symbolCode b) (numberCode x) (numberCode y) (symbolCode b) (λ k. absurd k)
-    (λ k m. absurd (omega arith))
-wanted-covers (numbersCase x y) (aNumber l h) f s =
-    by-codes (leb l x && leb y h) (numberCode l) (numberCode x) (numberCode y) (numberCode h)
-    (λ k. let t = both-le l x y h .0 k in (omega (arith, t .0), omega (arith, t .1)))
-    (λ k m. both-le l x y h .1 (omega arith, omega arith))
-wanted-covers (numbersCase x y) (aCompound b m) f s =
-    by-codes false (compoundCode b m) (numberCode x) (numberCode y) (compoundCode b m) (λ k. absurd k)
-    (λ k n. absurd (omega (arith, s .0, s .1)))
+wanted-holds (numbersCase x y) w f s = absurd (f .0)

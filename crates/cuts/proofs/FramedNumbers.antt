@@ -1,4 +1,4 @@
--- The runs of numbers of a switch where pieces hold spans (document 02, request 4): "where a live rule has a range at a switch's
+-- The runs of numbers of a switch (document 02, request 4): "where a live rule has a range at a switch's
 -- place, all numbers are cut into maximal runs accepted by the same set of live rules tested there, the empty set included;
 -- elsewhere a switch has no number case."
 use Prim.Native.Nat.{ℕ, _^_, _<_}
@@ -21,14 +21,12 @@ use Rattle.masks.proofs.Extensionality.{maskOf-same}
 use Rattle.terms.specs.Pattern.{Patterns}
 use Rattle.terms.specs.RuleTests.{Want, aSymbol, aNumber, aCompound, Range}
 use Rattle.codes.specs.views.Codes.{numberCode, wantLow, wantHigh, SoundWant}
-use Rattle.decision.specs.Cases.{Case, rangesOf, numbersIn}
+use Rattle.decision.specs.Cases.{isWanted, rangesOf, numbersIn}
 use Rattle.decision.specs.Edges.{liveWants}
-use Rattle.decision.specs.Rules.{wantAt, rulesWhere}
-use Rattle.decision.specs.Runs.{cuts as rangeCuts, between, covers}
-use Rattle.decision.specs.views.CaseCodes.{caseLow, caseHigh}
-use Rattle.decision.proofs.cases.FramedRuns.{frame, framed, meets, frame-ascends, framed-filled, framed-uncut, framed-meets}
+use Rattle.decision.specs.Rules.{wantAt}
+use Rattle.decision.specs.Runs.{cuts as rangeCuts, between, frame, framed}
+use Rattle.decision.proofs.cases.FramedRuns.{frame-ascends, framed-filled, framed-meets}
 use Rattle.decision.proofs.cases.Intervals.{Contains}
-use Rattle.decision.proofs.cases.PairCases.{meetsWant}
 use Rattle.decision.proofs.cases.RangeOrder.{Filled}
 use Rattle.decision.proofs.cases.RangeRuns as ranges
 use Rattle.decision.proofs.cases.WantedRanges.{wanted-range}
@@ -46,21 +44,9 @@ abbrev pub numberFrames : List Range → List Range
 numberFrames [] = []
 numberFrames (w ∷ ws) = framed 0 65536 (w ∷ ws)
 
--- A case as a run, with the live rules that want something that it takes.
-module _ (rules : List Patterns) (n : ℕ) where
-  abbrev pub meetsFor : Case → Option Want → Bool
-  meetsFor c none = false
-  meetsFor c (some w) = meetsWant c w
-
-  abbrev pub pairRun : ℕ → Case → Run
-  pairRun live c = record {
-    low = caseLow c;
-    high = caseHigh c;
-    set = rulesWhere rules (λ i. has live i && meetsFor c (wantAt rules i n));
-  }
-
-  abbrev pub numberRun : ℕ → Range → Run
-  numberRun live r = pairRun live (numbersIn r)
+-- A run of numbers, with the live rules whose range has one of them.
+abbrev pub numberRun : List Patterns → ℕ → ℕ → Range → Run
+numberRun rules n live r = caseRun rules n live (numbersIn r)
 
 module _ (rules : List Patterns) (n live : ℕ) (fits : live < 2 ^ length rules)
     (sound : (i : ℕ) (w : Want) → wantAt rules i n ≡ some w → SoundWant w) where
@@ -78,7 +64,7 @@ module _ (rules : List Patterns) (n live : ℕ) (fits : live < 2 ^ length rules)
   number-set r m =
       ap (λ (s : ℕ). record { low = numberCode (r .low); high = numberCode (r .high); set = s })
       (maskOf-same (length rules) (λ i. has live i && holdsAt rules n live fits sound z (wantAt rules i n))
-      (λ i. has live i && meetsFor rules n (numbersIn r) (wantAt rules i n))
+      (λ i. has live i && takesFor rules n (numbersIn r) (wantAt rules i n))
       (λ i l.
       by-test (has live i) (λ y. ap (λ (b : Bool). has live i && b) (go i l y (wantAt rules i n) refl)) (λ y. rw y)))
     where
@@ -91,7 +77,7 @@ module _ (rules : List Patterns) (n live : ℕ) (fits : live < 2 ^ length rules)
           (λ t. let k = both-le (wantLow w) z z (wantHigh w) .0 t in omega (arith, k .1)) (λ t. absurd t)
 
       go : (i : ℕ) → i < length rules → has live i ≡ true → (x : Option Want) → wantAt rules i n ≡ x
-          → holdsAt rules n live fits sound z x ≡ meetsFor rules n (numbersIn r) x
+          → holdsAt rules n live fits sound z x ≡ takesFor rules n (numbersIn r) x
       go i l y none e = refl
       go i l y (some (aSymbol a)) e = let s = sound i (aSymbol a) e in apart (aSymbol a) (omega arith)
       go i l y (some (aCompound a j)) e = let s = sound i (aCompound a j) e in apart (aCompound a j) (omega (arith, s .0, s .1))
@@ -101,31 +87,9 @@ module _ (rules : List Patterns) (n live : ℕ) (fits : live < 2 ^ length rules)
           let first : Contains r (r .low) = (omega arith, all-at Filled m (framed-filled 0 65536 (rangesOf wants))) in
           let met = framed-meets 0 65536 (rangesOf wants) r w m listed (r .low) first in
           let codes = both-le (numberCode a) z z (numberCode b) in
-          same-truth (leb (numberCode a) z && leb z (numberCode b)) (meetsWant (numbersIn r) (aNumber a b))
+          same-truth (leb (numberCode a) z && leb z (numberCode b)) (isWanted (numbersIn r) (aNumber a b))
           (λ t. let k = codes .0 t in met .1 (omega (arith, k .0), omega (arith, k .1)))
           (λ t. let k = met .0 t in codes .1 (omega (arith, k .0), omega (arith, k .1)))
-
-  -- These rules have all numbers of the run: it is the same to ask for one of them.
-  pub covered-same : (r : Range) → Mem r (framed 0 65536 (rangesOf wants)) → caseRun rules n live (numbersIn r) ≡ asRun r
-  covered-same r m =
-      ap (λ (s : ℕ). record { low = numberCode (r .low); high = numberCode (r .high); set = s })
-      (maskOf-same (length rules) (λ i. has live i && takesFor rules n (numbersIn r) (wantAt rules i n))
-      (λ i. has live i && meetsFor rules n (numbersIn r) (wantAt rules i n))
-      (λ i l.
-      by-test (has live i) (λ y. ap (λ (b : Bool). has live i && b) (go i l y (wantAt rules i n) refl)) (λ y. rw y)))
-    where
-      go : (i : ℕ) → i < length rules → has live i ≡ true → (x : Option Want) → wantAt rules i n ≡ x
-          → takesFor rules n (numbersIn r) x ≡ meetsFor rules n (numbersIn r) x
-      go i l y none e = refl
-      go i l y (some (aSymbol a)) e = refl
-      go i l y (some (aCompound a j)) e = refl
-      go i l y (some (aNumber a b)) e =
-          let w : Range = record { low = a; high = b } in
-          let listed = wanted-range (want-listed rules live n i (aNumber a b) l (is-true y) e) in
-          let first : Contains r (r .low) = (omega arith, all-at Filled m (framed-filled 0 65536 (rangesOf wants))) in
-          let all = framed-uncut 0 65536 (rangesOf wants) r w m listed (r .low) first in
-          let met = framed-meets 0 65536 (rangesOf wants) r w m listed (r .low) first in
-          same-truth (covers w r) (meets w r) (λ t. met .1 (all .0 t)) (λ t. all .1 (met .0 t))
 
   some-frame : (zs : List ℕ) {z : ℕ} → Mem z zs
       → framedNumbers base top live reached zs

@@ -4,7 +4,7 @@ use Prim.Native.Nat.{ℕ, suc, _^_, _<_, _≤_}
 use mathlib.Core.Path.{_≡_, refl, sym, ap, subst, _∙_}
 use mathlib.Core.List.{List, _∷_, _++_, map}
 use mathlib.Core.Logic.{inl, inr}
-use mathlib.Core.Option.{some, none}
+use mathlib.Core.Option.{some}
 use native.Mathlib.Omega.{arith}
 use lib.ListN.{length}
 use Rattle.basics.specs.Lists.{Mem, All}
@@ -22,7 +22,7 @@ use Rattle.decision.specs.Runs.{cuts as rangeCuts}
 use Rattle.decision.proofs.cases.Intervals.{Contains}
 use Rattle.decision.proofs.cases.RangeOrder.{ascending-imply}
 use Rattle.decision.proofs.cases.RangeRuns as ranges
-use Rattle.decision.proofs.cases.Runs.{cut-wanted}
+use Rattle.decision.proofs.cases.WantedRanges.{cut-wanted}
 use Rattle.cuts.specs.views.Cuts.{Cut}
 use Rattle.cuts.specs.views.FramedRuns.{framedFrom, framedRuns}
 use Rattle.cuts.specs.views.CutsOf.{cutsTo}
@@ -120,22 +120,24 @@ module _ (rules : List Patterns) (n live : ℕ) (fits : live < 2 ^ length rules)
   zero-free (aNumber l h) m k = omega (arith, k .0)
   zero-free (aCompound a j) m k = omega (arith, k .0)
 
-  pub points-ascend : AscendingBy _<_ (0 ∷ points)
+  pub none-first : sets 0 ≡ 0
+  none-first = none-want rules n live fits sound 0 zero-free
+
+  points-ascend : AscendingBy _<_ (0 ∷ points)
   points-ascend = (
     all-map Below (λ (z : ℕ). 0 < z) (λ z h. h .0) points (points-below wants allSound),
     ranges.cuts-ascend (map wantRange (pointWants wants)),
   )
 
-  pub points-low : All (λ (z : ℕ). z < base) (0 ∷ points)
+  points-low : All (λ (z : ℕ). z < base) (0 ∷ points)
   points-low = (omega arith, all-map Below (λ (z : ℕ). z < base) (λ z h. h .1) points (points-below wants allSound))
 
   pub framed-switch : framedRuns live cuts ≡ setRuns sets (0 ∷ points) ++ framedNumbers base top live sets numbers
   framed-switch =
-      let none : sets 0 ≡ 0 = none-want rules n live fits sound 0 zero-free in
       let follows : Follows live sets 0 cuts =
       running-follows live sets 0 cuts (cuts-ascend rules n (length rules))
       (λ x m. sym (running-wanted rules n live fits sound (x .code))) in
-      ap (λ (s : ℕ). framedFrom base top live 0 s cuts) (sym none)
-      ∙ framed-codes base top live sets 0 cuts (subst (λ (s : ℕ). Follows live sets s cuts) (sym none) follows)
+      ap (λ (s : ℕ). framedFrom base top live 0 s cuts) (sym none-first)
+      ∙ framed-codes base top live sets 0 cuts (subst (λ (s : ℕ). Follows live sets s cuts) (sym none-first) follows)
       ∙ ap (framedCodes base top live sets 0) (turning-is rules n live fits sound ∙ cuts-parted wants allSound)
       ∙ framed-parted base top live sets 0 points numbers number-codes points-ascend points-low quiet-points

@@ -1,16 +1,13 @@
--- A pass over ascending cuts that leaves the runs of the empty set too, from base up to top. Without them the runs are those of a
--- switch.
-use Prim.Native.Nat.{ℕ, pred, max, _-_, _≤_, _<_}
+-- A pass over ascending cuts that leaves the runs of the empty set too, from base up to top.
+use Prim.Native.Nat.{ℕ, pred, max, _≤_, _<_}
 use mathlib.Core.Path.{_≡_, refl, sym, ap, subst, _∙_}
-use mathlib.Core.Bool.{Bool, false, not, cond}
+use mathlib.Core.Bool.{cond}
 use mathlib.Core.List.{List, [], _∷_, _++_, map}
 use mathlib.Core.Logic.{inl, inr}
 use native.Mathlib.Omega.{arith}
-use lib.Bits.{bitXor}
 use lib.Dec.{eqb, ltb}
-use lib.ListN.{length}
 use borrow.Author.Tests.{eqb-true, eq-eqb, lt-ltb, le-ltb, ltb-true}
-use Rattle.basics.specs.Lists.{All, filter}
+use Rattle.basics.specs.Lists.{All}
 use Rattle.basics.specs.Order.{insertBy}
 use Rattle.basics.proofs.Booleans.{by-test}
 use Rattle.basics.proofs.ListLaws.{all-map}
@@ -19,19 +16,9 @@ use Rattle.basics.proofs.Sorted.{AscendingBy}
 use Rattle.terms.specs.RuleTests.{Range}
 use Rattle.decision.specs.Runs.{between}
 use Rattle.cuts.specs.views.Cuts.{Cut}
-use Rattle.cuts.specs.views.Runs.{Run, cutRuns, switchRuns}
+use Rattle.cuts.specs.views.Runs.{Run}
 use Rattle.cuts.specs.views.FramedRuns.{gapRun, framedRun, framedFrom}
 use Rattle.cuts.proofs.RunningSets.{runOf, setRuns, turned, turning, Follows, unchanged}
-
--- Some live rule wants the codes of a run.
-abbrev pub isWantedRun : Run → Bool
-isWantedRun r = not (eqb (r .set) 0)
-
-gap-dropped : (start next : ℕ) (rest : List Run) → filter isWantedRun (gapRun start next rest) ≡ filter isWantedRun rest
-gap-dropped start next rest = by-test (ltb start next) (λ e. rw e) (λ e. rw e)
-
-wanted-kept : (r : Run) (rest : List Run) → eqb (r .set) 0 ≡ false → filter isWantedRun (r ∷ rest) ≡ r ∷ filter isWantedRun rest
-wanted-kept r rest e = rw e
 
 -- A range from one code up to the next comes before those between the next codes.
 top-behind : (z top : ℕ) (zs : List ℕ) → z ≤ top → (rest : List ℕ) × (insertBy ltb top (z ∷ zs) ≡ z ∷ rest)
@@ -55,55 +42,7 @@ between-first base z top zs h l =
     ∙ by-test (ltb base z) (λ e. rw e (ap (λ (l : List Range). record { low = base; high = pred z } ∷ l) same))
     (λ e. rw (e, le-ltb z base h) same)
 
--- A switch has at most as many cases as cuts but one.
-module _ (live : ℕ) where
-  cut-few : (start set : ℕ) (xs : List Cut) → length (cutRuns live start set xs) ≤ length xs
-  cut-few start set [] = omega arith
-  cut-few start set (x ∷ xs) =
-      let next = cut-few (x .code) (bitXor set (turned live x)) xs in
-      by-test (eqb (turned live x) 0) (λ e. rw e (omega (arith, cut-few start set xs)))
-      (λ e. rw e (by-test (eqb set 0) (λ d. rw d (omega arith)) (λ d. rw d (omega arith))))
-
-  pub switch-few : (xs : List Cut) → length (switchRuns live xs) ≤ length xs - 1
-  switch-few [] = omega arith
-  switch-few (x ∷ xs) =
-      by-test (eqb (turned live x) 0) (λ e. rw e (omega (arith, switch-few xs)))
-      (λ e. rw e (omega (arith, cut-few (x .code) (bitXor 0 (turned live x)) xs)))
-
 module _ (base top live : ℕ) where
-  -- The runs that some live rule wants are those of a switch.
-  pub framed-cut : (start set : ℕ) (xs : List Cut)
-      → filter isWantedRun (framedFrom base top live start set xs) ≡ cutRuns live start set xs
-  framed-cut start set [] = by-test (ltb start base) (λ e. rw e) (λ e. rw e (gap-dropped (max start base) top []))
-  framed-cut start set (x ∷ xs) =
-      let next = framed-cut (x .code) (bitXor set (turned live x)) xs in
-      let run : Run = record { low = start; high = pred (x .code); set = set } in
-      by-test (eqb (turned live x) 0) (λ e. rw e (framed-cut start set xs))
-      (λ e.
-      rw e
-      (by-test (eqb set 0)
-      (λ d.
-      rw d
-      (gap-dropped (max start base) (x .code) (framedFrom base top live (x .code) (bitXor set (turned live x)) xs) ∙ next))
-      (λ d.
-      rw d
-      (wanted-kept run (framedFrom base top live (x .code) (bitXor set (turned live x)) xs) d
-      ∙ ap (λ (l : List Run). run ∷ l) next))))
-
-  -- Where no code is above the base the runs are those of a switch.
-  pub unframed : top ≤ base → (start set : ℕ) (xs : List Cut) → All (λ (x : Cut). x .code ≤ base) xs
-      → framedFrom base top live start set xs ≡ cutRuns live start set xs
-  unframed o start set [] h =
-      by-test (ltb start base) (λ e. rw e) (λ e. rw (e, le-ltb (max start base) top (omega arith)))
-  unframed o start set (x ∷ xs) h =
-      let next = unframed o (x .code) (bitXor set (turned live x)) xs (h .1) in
-      let run : Run = record { low = start; high = pred (x .code); set = set } in
-      by-test (eqb (turned live x) 0) (λ e. rw e (unframed o start set xs (h .1)))
-      (λ e.
-      rw e
-      (by-test (eqb set 0) (λ d. rw (d, le-ltb (max start base) (x .code) (omega (arith, h .0))) next)
-      (λ d. rw d (ap (λ (l : List Run). run ∷ l) next))))
-
   module _ (sets : ℕ → ℕ) where
     -- The same pass over the codes at which live rules turn, with the sets that are reached.
     abbrev pub framedCodes : ℕ → List ℕ → List Run

@@ -1,4 +1,4 @@
--- The cases of a switch where pieces hold spans (document 02, request 4) are its runs of symbols and compounds, then the pairs of
+-- The cases of a switch (document 02, request 4) are its runs of symbols and compounds, then the pairs of
 -- its runs of numbers, each with the union of the sets from its first run to its last.
 use Prim.Native.Nat.{ℕ, suc, _+_, _*_, _^_, _<_, _≤_}
 use mathlib.Core.Path.{_≡_, refl, sym, ap, _∙_}
@@ -22,20 +22,19 @@ use Rattle.masks.proofs.Operations.{union-is}
 use Rattle.terms.specs.Pattern.{Patterns}
 use Rattle.terms.specs.RuleTests.{Want, aSymbol, aNumber, aCompound, Range}
 use Rattle.codes.specs.views.Codes.{numberCode, SoundWant}
-use Rattle.decision.specs.Cases.{rangesOf, numbersIn}
+use Rattle.decision.specs.Cases.{rangesOf, numbersIn, numberCases, casesOf}
 use Rattle.decision.specs.Edges.{liveWants}
 use Rattle.decision.specs.Rules.{wantAt}
-use Rattle.decision.proofs.cases.FramedRuns.{frame, framed, frame-ascends}
-use Rattle.decision.proofs.cases.NumberPairs.{numberPairs}
-use Rattle.decision.proofs.cases.PairCases.{pairCases}
+use Rattle.decision.specs.Runs.{frame, framed, fromTo, numberPairs}
+use Rattle.decision.proofs.cases.CaseList.{nameCases}
+use Rattle.decision.proofs.cases.FramedRuns.{frame-ascends}
 use Rattle.decision.proofs.cases.RangeOrder.{Filled}
-use Rattle.decision.proofs.cases.RunPairs.{fromTo}
 use Rattle.cuts.specs.views.Runs.{Run}
 use Rattle.cuts.specs.views.FramedRuns.{framedRuns, isPoint, pointRuns}
-use Rattle.cuts.specs.views.CaseRuns.{unionPairs, caseRuns}
-use Rattle.cuts.specs.views.CutsOf.{cutsTo}
-use Rattle.cuts.proofs.FramedCases.{pointCases, runs-of-numbers, runs-of-points, runs-are-framed}
-use Rattle.cuts.proofs.FramedNumbers.{numberFrames, meetsFor, pairRun, numberRun}
+use Rattle.cuts.specs.views.CaseRuns.{unionPairs, caseRuns, switchRuns}
+use Rattle.cuts.specs.views.CutsOf.{cutsTo, takesFor, caseRun}
+use Rattle.cuts.proofs.FramedCases.{runs-of-numbers, runs-of-points, runs-are-framed}
+use Rattle.cuts.proofs.FramedNumbers.{numberFrames, numberRun}
 use Rattle.cuts.proofs.FramedSwitch.{base}
 use Rattle.cuts.proofs.Parts.{left-part, right-part}
 use Rattle.cuts.proofs.SwitchCases.{map-same}
@@ -81,7 +80,7 @@ module _ (rules : List Patterns) (n live : ℕ) (fits : live < 2 ^ length rules)
   sets-join : (q r s : Range) → q .low ≤ s .low → s .low ≡ suc (r .high) → Filled s
       → bitOr (asRun (fromTo q r) .set) (asRun s .set) ≡ asRun (fromTo q s) .set
   sets-join q r s o e f =
-      let met : Range → ℕ → Bool = λ x i. has live i && meetsFor rules n (numbersIn x) (wantAt rules i n) in
+      let met : Range → ℕ → Bool = λ x i. has live i && takesFor rules n (numbersIn x) (wantAt rules i n) in
       let w = length rules in
       let first = maskOf w (met (fromTo q r)) in
       let last = maskOf w (met s) in
@@ -89,13 +88,13 @@ module _ (rules : List Patterns) (n live : ℕ) (fits : live < 2 ^ length rules)
       ∙ maskOf-same w (λ i. has first i || has last i) (met (fromTo q s))
       (λ i l.
       (λ j. has-maskOf w (met (fromTo q r)) i l j || has-maskOf w (met s) i l j)
-      ∙ and-or (has live i) (meetsFor rules n (numbersIn (fromTo q r)) (wantAt rules i n))
-      (meetsFor rules n (numbersIn s) (wantAt rules i n))
+      ∙ and-or (has live i) (takesFor rules n (numbersIn (fromTo q r)) (wantAt rules i n))
+      (takesFor rules n (numbersIn s) (wantAt rules i n))
       ∙ ap (λ (b : Bool). has live i && b) (go i (wantAt rules i n) refl))
     where
       go : (i : ℕ) (x : Option Want) → wantAt rules i n ≡ x
-          → meetsFor rules n (numbersIn (fromTo q r)) x || meetsFor rules n (numbersIn s) x
-          ≡ meetsFor rules n (numbersIn (fromTo q s)) x
+          → takesFor rules n (numbersIn (fromTo q r)) x || takesFor rules n (numbersIn s) x
+          ≡ takesFor rules n (numbersIn (fromTo q s)) x
       go i none d = refl
       go i (some (aSymbol a)) d = refl
       go i (some (aCompound a j)) d = refl
@@ -114,7 +113,7 @@ module _ (rules : List Patterns) (n live : ℕ) (fits : live < 2 ^ length rules)
   runs = framedRuns live (cutsTo rules n (length rules))
 
   abbrev pointPart : List Run
-  pointPart = map (pairRun rules n live) (pointCases wants)
+  pointPart = map (caseRun rules n live) (nameCases wants)
 
   abbrev numberPart : List Run
   numberPart = map asRun (numberFrames (rangesOf wants))
@@ -137,18 +136,18 @@ module _ (rules : List Patterns) (n live : ℕ) (fits : live < 2 ^ length rules)
 
   -- "Record 46 becomes one case for each pair of first and last run, ordered so, with low and high their ends. It keeps the rules
   -- whose range has a number that this case takes, from its low to its high."
-  pub switch-pairs : map (pairRun rules n live) (pairCases wants) ≡ pointRuns base runs ++ unionPairs (numberRuns base runs)
+  pub switch-pairs : map (caseRun rules n live) (casesOf wants) ≡ pointRuns base runs ++ unionPairs (numberRuns base runs)
   switch-pairs =
       let pairs = numberPairs 0 65536 (rangesOf wants) in
-      map-join (pairRun rules n live) (pointCases wants) (map numbersIn pairs)
+      map-join (caseRun rules n live) (nameCases wants) (numberCases wants)
       ∙ ap (λ (l : List Run). pointPart ++ l)
-      (map-same numbersIn (pairRun rules n live) asRun pairs
-      (all-always (λ (r : Range). pairRun rules n live (numbersIn r) ≡ asRun r) (λ r. refl) pairs)
+      (map-same numbersIn (caseRun rules n live) asRun pairs
+      (all-always (λ (r : Range). caseRun rules n live (numbersIn r) ≡ asRun r) (λ r. refl) pairs)
       ∙ numbers-paired (rangesOf wants))
       ∙ (λ i. sym points-part i ++ unionPairs (sym numbers-part i))
 
   -- They are what the runs make, where those of symbols and compounds are cases by themselves.
-  pub runs-make-pairs : map (pairRun rules n live) (pairCases wants) ≡ caseRuns (length (pointRuns base runs)) runs
+  pub runs-make-pairs : map (caseRun rules n live) (casesOf wants) ≡ switchRuns live (cutsTo rules n (length rules))
   runs-make-pairs =
       let points = pointRuns base runs in
       let numbers = numberRuns base runs in
@@ -157,10 +156,10 @@ module _ (rules : List Patterns) (n live : ℕ) (fits : live < 2 ^ length rules)
       ∙ ap (caseRuns (length points)) (sym points-first)
 
   -- There are as many as runs of symbols and compounds, and r (r + 1) / 2 for r runs of numbers.
-  pub pairs-counted : length (pairCases wants) * 2
+  pub pairs-counted : length (casesOf wants) * 2
       ≡ length (pointRuns base runs) * 2 + length (numberRuns base runs) * suc (length (numberRuns base runs))
   pairs-counted =
-      let all = length-map (pairCases wants) (pairRun rules n live) in
+      let all = length-map (casesOf wants) (caseRun rules n live) in
       let same = ap (λ (l : List Run). length l) switch-pairs in
       let both = length-append (pointRuns base runs) (unionPairs (numberRuns base runs)) in
       omega (arith, union-count (numberRuns base runs))

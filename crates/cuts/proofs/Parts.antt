@@ -11,13 +11,7 @@ left-part p [] [] h k = refl
 left-part p [] (y ∷ ys) h k = rw (k .0) (left-part p [] ys tt (k .1))
 left-part {A} p (x ∷ xs) ys h k = rw (h .0) (ap (λ (l : List A). x ∷ l) (left-part p xs ys (h .1) k))
 
--- and with others behind them come first.
-pub kept-part : {A : Type 0} (p : A → Bool) (xs ys : List A) → All (λ (x : A). p x ≡ true) xs
-    → filter p (xs ++ ys) ≡ xs ++ filter p ys
-kept-part p [] ys h = refl
-kept-part {A} p (x ∷ xs) ys h = rw (h .0) (ap (λ (l : List A). x ∷ l) (kept-part p xs ys (h .1)))
-
--- Those that do not pass are the others.
+-- and those that do not are the others.
 pub right-part : {A : Type 0} (p : A → Bool) (xs ys : List A) → All (λ (x : A). p x ≡ true) xs → All (λ (y : A). p y ≡ false) ys
     → filter (λ (x : A). not (p x)) (xs ++ ys) ≡ ys
 right-part p [] [] h k = refl

@@ -7,7 +7,7 @@ use native.Mathlib.Decide.{decLt}
 use native.Mathlib.Omega.{arith}
 use lib.Dec.{ltb}
 use borrow.Author.Tests.{lt-ltb, le-ltb}
-use Rattle.basics.specs.Lists.{All}
+use Rattle.basics.specs.Lists.{Mem, here, there, All}
 use Rattle.basics.specs.Order.{insertBy}
 use Rattle.basics.proofs.Booleans.{by-test}
 use Rattle.basics.proofs.Filters.{all-mapped, mapped-always}
@@ -26,6 +26,27 @@ pointWants [] = []
 pointWants (aSymbol a ∷ ws) = aSymbol a ∷ pointWants ws
 pointWants (aNumber l h ∷ ws) = pointWants ws
 pointWants (aCompound a n ∷ ws) = aCompound a n ∷ pointWants ws
+
+-- What holds of each wanted symbol and compound holds of these, and each is one of them.
+pub points-all
+    : (ws : List Want) (Q : Want → Type 0) → ((a : ℕ) → Mem (aSymbol a) ws → Q (aSymbol a))
+    → ((a n : ℕ) → Mem (aCompound a n) ws → Q (aCompound a n)) → All Q (pointWants ws)
+points-all [] Q f g = tt
+points-all (aSymbol a ∷ ws) Q f g = (f a here, points-all ws Q (λ b m. f b (there m)) (λ b n m. g b n (there m)))
+points-all (aNumber l h ∷ ws) Q f g = points-all ws Q (λ b m. f b (there m)) (λ b n m. g b n (there m))
+points-all (aCompound a n ∷ ws) Q f g = (g a n here, points-all ws Q (λ b m. f b (there m)) (λ b k m. g b k (there m)))
+
+pub symbol-point : {a : ℕ} {ws : List Want} → Mem (aSymbol a) ws → Mem (aSymbol a) (pointWants ws)
+symbol-point here = here
+symbol-point (there {y = aSymbol b} m) = there (symbol-point m)
+symbol-point (there {y = aNumber l h} m) = symbol-point m
+symbol-point (there {y = aCompound b n} m) = there (symbol-point m)
+
+pub compound-point : {a n : ℕ} {ws : List Want} → Mem (aCompound a n) ws → Mem (aCompound a n) (pointWants ws)
+compound-point here = here
+compound-point (there {y = aSymbol b} m) = there (compound-point m)
+compound-point (there {y = aNumber l h} m) = compound-point m
+compound-point (there {y = aCompound b n} m) = there (compound-point m)
 
 -- The codes of a range of numbers.
 abbrev pub codeRange : Range → Range
@@ -69,11 +90,10 @@ abbrev PointRange : Range → Type 0
 PointRange r = (0 < r .low) × (r .low ≤ r .high) × (suc (r .high) < 0x300_0000)
 
 points-sound : (ws : List Want) → All SoundWant ws → All (λ (w : Want). PointRange (wantRange w)) (pointWants ws)
-points-sound [] s = tt
-points-sound (aSymbol a ∷ ws) s = ((omega arith, omega arith, omega (arith, s .0)), points-sound ws (s .1))
-points-sound (aNumber l h ∷ ws) s = points-sound ws (s .1)
-points-sound (aCompound a n ∷ ws) s =
-    ((omega arith, omega arith, omega (arith, s .0 .0, s .0 .1)), points-sound ws (s .1))
+points-sound ws s =
+    points-all ws (λ (w : Want). PointRange (wantRange w))
+    (λ a m. (omega arith, omega arith, omega (arith, all-at SoundWant m s)))
+    (λ a n m. let k = all-at SoundWant m s in (omega arith, omega arith, omega (arith, k .0, k .1)))
 
 abbrev pub Below : ℕ → Type 0
 Below z = (0 < z) × (z < 0x300_0000)

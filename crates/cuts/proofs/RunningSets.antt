@@ -1,13 +1,13 @@
 -- A pass over ascending cuts that takes one set after another by `^`: the runs between the cuts at which live rules turn, each with
 -- the set that is reached where it begins.
-use Prim.Native.Nat.{ℕ, pred, _^_, _<_}
+use Prim.Native.Nat.{ℕ, _^_, _<_}
 use mathlib.Core.Path.{_≡_, refl, sym, ap, subst, _∙_}
 use mathlib.Core.Bool.{Bool, true, false, not, _&&_, cond}
 use mathlib.Core.List.{List, [], _∷_, map}
 use native.Mathlib.Omega.{arith}
 use lib.Bits.{bitAnd, bitXor, and-comm, xor-lt, xor-zero-r}
 use lib.Dec.{eqb, leb}
-use borrow.Author.Tests.{eqb-true, le-leb, lt-leb}
+use borrow.Author.Tests.{le-leb, lt-leb}
 use Rattle.basics.specs.Lists.{Mem, here, there, All, filter}
 use Rattle.basics.proofs.Booleans.{by-test, cond-holds}
 use Rattle.basics.proofs.ListLaws.{all-at}
@@ -18,7 +18,7 @@ use Rattle.masks.proofs.Operations.{and-fits}
 use Rattle.terms.specs.RuleTests.{Range}
 use Rattle.decision.specs.Runs.{between}
 use Rattle.cuts.specs.views.Cuts.{Cut}
-use Rattle.cuts.specs.views.Runs.{Run, endRun, cutRuns}
+use Rattle.cuts.specs.views.Runs.{Run}
 use Rattle.cuts.proofs.Parity.{apart, apart-false, has-xor, parity}
 use Rattle.cuts.proofs.AscendingCuts.{CutBefore}
 
@@ -112,45 +112,7 @@ module _ (live : ℕ) where
             ∙ ap (λ (s : ℕ). runningTo s xs (y .code)) (sym here-is)),
       )
 
-  module _ (sets : ℕ → ℕ) where
-    -- A cut at which no live rule turns changes nothing.
-    pub unchanged : (set : ℕ) (x : Cut) → turned x ≡ 0 → sets (x .code) ≡ bitXor set (turned x) → sets (x .code) ≡ set
-    unchanged set x e f = f ∙ ap (bitXor set) e ∙ xor-zero-r set
-
-    -- What is before the next cut is a run where it has a set.
-    runs-on
-        : (start : ℕ) (xs : List Cut) → Follows sets (sets start) xs
-        → cutRuns live start (sets start) xs ≡ setRuns sets (start ∷ turning xs)
-    runs-on start [] f = refl
-    runs-on start (x ∷ xs) f =
-        by-test (eqb (turned x) 0)
-        (λ y.
-        let same = unchanged (sets start) x (eqb-true (turned x) 0 y) (f .0) in
-        rw y (runs-on start xs (subst (λ (s : ℕ). Follows sets s xs) same (f .1))))
-        (λ y.
-        let next = ap (λ (s : ℕ). cutRuns live (x .code) s xs) (sym (f .0)) ∙ runs-on (x .code) xs (f .1) in
-        rw y
-        (ap (endRun start (x .code) (sets start)) next ∙ go (eqb (sets start) 0) (between (x .code ∷ turning xs))))
-      where
-        first : Range
-        first = record { low = start; high = pred (x .code) }
-
-        go : (b : Bool) (rs : List Range)
-            → cond b (map (runOf sets) (filter (λ (r : Range). not (eqb (sets (r .low)) 0)) rs))
-            (runOf sets first ∷ map (runOf sets) (filter (λ (r : Range). not (eqb (sets (r .low)) 0)) rs))
-            ≡ map (runOf sets)
-            (cond (not b) (first ∷ filter (λ (r : Range). not (eqb (sets (r .low)) 0)) rs)
-            (filter (λ (r : Range). not (eqb (sets (r .low)) 0)) rs))
-        go true rs = refl
-        go false rs = refl
-
-    -- Before the first cut at which a live rule turns there is no run.
-    pub runs-first
-        : (start : ℕ) (xs : List Cut) → Follows sets 0 xs → cutRuns live start 0 xs ≡ setRuns sets (turning xs)
-    runs-first start [] f = refl
-    runs-first start (x ∷ xs) f =
-        by-test (eqb (turned x) 0)
-        (λ y.
-        let same = unchanged 0 x (eqb-true (turned x) 0 y) (f .0) in
-        rw y (runs-first start xs (subst (λ (s : ℕ). Follows sets s xs) same (f .1))))
-        (λ y. rw y (ap (λ (s : ℕ). cutRuns live (x .code) s xs) (sym (f .0)) ∙ runs-on (x .code) xs (f .1)))
+  -- A cut at which no live rule turns changes nothing.
+  pub unchanged
+      : (sets : ℕ → ℕ) (set : ℕ) (x : Cut) → turned x ≡ 0 → sets (x .code) ≡ bitXor set (turned x) → sets (x .code) ≡ set
+  unchanged sets set x e f = f ∙ ap (bitXor set) e ∙ xor-zero-r set

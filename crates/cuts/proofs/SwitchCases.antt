@@ -1,6 +1,6 @@
--- The runs of a switch that is cut are the cases of what its live rules want at the place, in this order.
+-- Which live rules want what is between the cuts of a switch: the runs of symbols and compounds are their cases, in this order.
 use Prim.Native.Nat.{ℕ, suc, _^_, _<_, _≤_}
-use mathlib.Core.Path.{_≡_, refl, sym, ap, subst, fun-ext, _∙_}
+use mathlib.Core.Path.{_≡_, refl, sym, ap, subst, _∙_}
 use mathlib.Core.Bool.{Bool, true, false, not, _&&_, cond}
 use mathlib.Core.List.{List, [], _∷_, map}
 use mathlib.Core.Logic.{by-cases}
@@ -12,55 +12,35 @@ use lib.ListN.{length}
 use lib.Pow.{pow-pos}
 use borrow.Author.Tests.{eq-eqb, ne-eqb, le-leb, lt-leb, lt-ltb}
 use Rattle.basics.specs.Lists.{Mem, All, filter}
-use Rattle.basics.proofs.Booleans.{by-test, same-truth, is-true, true-is}
+use Rattle.basics.proofs.Booleans.{by-test, is-true, true-is}
 use Rattle.basics.proofs.Filters.{mem-map, all-mapped, any-mem, mem-any}
-use Rattle.basics.proofs.ListLaws.{all-at, all-from, all-map}
+use Rattle.basics.proofs.ListLaws.{all-at, all-map}
 use Rattle.basics.proofs.Numbers.{both-le}
 use Rattle.masks.specs.Mask.{has}
 use Rattle.masks.proofs.Extensionality.{has-maskOf, maskOf-same, maskOf-unique, maskOf-lt, empty-ext}
 use Rattle.masks.proofs.Membership.{has-empty, has-pos}
 use Rattle.terms.specs.Pattern.{Patterns}
-use Rattle.terms.specs.RuleTests.{Want, Range}
+use Rattle.terms.specs.RuleTests.{Want, aSymbol, aNumber, aCompound, Range}
 use Rattle.decision.specs.Rules.{wantAt, rulesWhere}
-use Rattle.decision.specs.Runs.{cuts as rangeCuts, between, covers, isCovered, runs as rangeRuns}
-use Rattle.decision.specs.Cases.{Case, isWanted, casesOf}
-use Rattle.decision.specs.AcceptedGraph.{CaseFields}
+use Rattle.decision.specs.Runs.{cuts as rangeCuts, between}
+use Rattle.decision.specs.Cases.{Case}
 use Rattle.decision.specs.Edges.{liveWants}
-use Rattle.decision.proofs.cases.CasesAccepted.{cases-fields}
+use Rattle.decision.proofs.cases.CaseList.{nameCases}
 use Rattle.decision.proofs.cases.Intervals.{Contains, Between, between-cuts}
 use Rattle.decision.proofs.cases.RangeRuns as ranges
-use Rattle.decision.proofs.cases.RangeRuns.{covers-contains, run-between}
+use Rattle.decision.proofs.cases.RangeRuns.{covers, isCovered, covers-contains}
 use Rattle.decision.proofs.rules.LiveWants.{want-listed}
 use Rattle.codes.specs.views.Codes.{wantLow, wantHigh, SoundWant}
 use Rattle.decision.specs.views.CaseCodes.{caseLow, caseHigh}
 use Rattle.cuts.specs.views.Cuts.{Cut}
-use Rattle.cuts.specs.views.Runs.{switchRuns}
 use Rattle.cuts.specs.views.CutsOf.{cutsTo, takesFor, caseRun}
-use Rattle.cuts.proofs.CodeRanges.{wantRange, caseRange, wanted-covers}
-use Rattle.cuts.proofs.CodeRuns.{cases-in-runs, cases-are-runs}
+use Rattle.cuts.proofs.CodeRanges.{wantRange, caseRange, NameFields, names-fields, wanted-holds}
+use Rattle.cuts.proofs.CodeRuns.{names-are-runs}
 use Rattle.cuts.proofs.Parity.{apart, parity, turnsBy, cuts-parity}
-use Rattle.cuts.proofs.AscendingCuts.{cuts-ascend}
-use Rattle.cuts.proofs.RunningSets.{runOf, setRuns, turning, runningTo, running-has, running-fits, running-follows}
-use Rattle.cuts.proofs.RunningSets.{runs-first}
+use Rattle.cuts.proofs.PointCodes.{pointWants, points-all, symbol-point, compound-point, Below, points-below}
+use Rattle.cuts.proofs.RunningSets.{runOf, setRuns, runningTo, running-has, running-fits}
 use Rattle.cuts.proofs.ListedWants.{listed-want, wants-sound}
-use Rattle.cuts.proofs.TurningCuts.{want-order, turning-is}
-
--- A case is wanted where the want holds its first code.
-wanted-holds
-    : (ws : List Want) → All SoundWant ws → (c : Case) (w : Want) → Mem c (casesOf ws) → Mem w ws
-    → leb (wantLow w) (caseLow c) && leb (caseLow c) (wantHigh w) ≡ isWanted c w
-wanted-holds ws sound c w m k =
-    let fields = all-at CaseFields m (cases-fields ws sound) in
-    let InRuns : Case → Type 0 = λ d. Mem (caseRange d) (rangeRuns (map wantRange ws)) in
-    let b = run-between (map wantRange ws) (caseRange c) (all-at InRuns m (cases-in-runs ws sound)) in
-    let all =
-    covers-contains (map wantRange ws) (caseRange c) (wantRange w) (caseLow c) b (mem-map wantRange k)
-    (omega arith, b .ordered) in
-    let holds = both-le (wantLow w) (caseLow c) (caseLow c) (wantHigh w) in
-    sym
-    (wanted-covers c w fields (all-at SoundWant k sound)
-    ∙ same-truth (covers (wantRange w) (caseRange c)) (leb (wantLow w) (caseLow c) && leb (caseLow c) (wantHigh w))
-    (λ h. holds .1 (all .0 h)) (λ h. all .1 (holds .0 h)))
+use Rattle.cuts.proofs.TurningCuts.{want-order}
 
 -- A code has been turned at by the low and not by the high: it is between.
 apart-between : (l h c : ℕ) → l ≤ h → apart (leb (suc h) c) (leb l c) ≡ leb l c && leb c h
@@ -146,32 +126,43 @@ module _ (rules : List Patterns) (n live : ℕ) (fits : live < 2 ^ length rules)
               (both-le (wantLow w) z z (wantHigh w) .0 (is-true d))))
               (λ d. d)
 
-  module _ (r : Range) (b : Between (rangeCuts (map wantRange wants)) r) where
+  -- The symbols and compounds that are wanted, as ranges of codes.
+  abbrev points : List Range
+  points = map wantRange (pointWants wants)
+
+  module _ (r : Range) (b : Between (rangeCuts points) r) where
     -- A run that is covered has its first code wanted,
-    covered-want : T (isCovered (map wantRange wants) r) → (w : Want) × Mem w wants × Contains (wantRange w) (r .low)
+    covered-want : T (isCovered points r) → (w : Want) × Mem w wants × Contains (wantRange w) (r .low)
     covered-want h =
         let Wanted : Range → Type 0 = λ s. Contains s (r .low) → (w : Want) × Mem w wants × Contains (wantRange w) (r .low) in
-        let each = all-mapped Wanted wantRange wants (all-from (λ (w : Want). Wanted (wantRange w)) wants (λ w m k. (w, m, k))) in
-        let s = any-mem (λ (s : Range). covers s r) (map wantRange wants) h in
+        let each = all-mapped Wanted wantRange (pointWants wants)
+        (points-all wants (λ (w : Want). Wanted (wantRange w)) (λ a m k. (aSymbol a, m, k)) (λ a j m k. (aCompound a j, m, k))) in
+        let s = any-mem (λ (s : Range). covers s r) points h in
         let k = both-le (s .0 .low) (r .low) (r .high) (s .0 .high) .0 (s .2) in
         all-at Wanted (s .1) each (k .0, omega (arith, k .1, b .ordered))
 
-    -- and one whose first code is wanted is covered.
-    want-covered : (w : Want) → Mem w wants → Contains (wantRange w) (r .low) → T (isCovered (map wantRange wants) r)
-    want-covered w m k =
+    point-covered : (w : Want) → Mem w (pointWants wants) → Contains (wantRange w) (r .low) → T (isCovered points r)
+    point-covered w m k =
         mem-any (λ (s : Range). covers s r) (mem-map wantRange m)
-        (covers-contains (map wantRange wants) r (wantRange w) (r .low) b (mem-map wantRange m) (omega arith, b .ordered) .1 k)
+        (covers-contains points r (wantRange w) (r .low) b (mem-map wantRange m) (omega arith, b .ordered) .1 k)
+
+    -- and one whose first code is wanted is covered: it is no number's.
+    want-covered : (w : Want) → Mem w wants → Contains (wantRange w) (r .low) → T (isCovered points r)
+    want-covered (aSymbol a) m k = point-covered (aSymbol a) (symbol-point m) k
+    want-covered (aNumber l h) m k =
+        let below = all-at Below (b .begins) (points-below wants (wants-sound rules live n sound)) in
+        absurd (omega (arith, k .0, below .1))
+    want-covered (aCompound a j) m k = point-covered (aCompound a j) (compound-point m) k
 
     -- So a run is a case where some live rule wants its first code.
-    covered-is : isCovered (map wantRange wants) r ≡ not (eqb (wantersAt (r .low)) 0)
+    covered-is : isCovered points r ≡ not (eqb (wantersAt (r .low)) 0)
     covered-is =
-        by-test (isCovered (map wantRange wants) r) (λ e. e ∙ sym (open-run (is-true e)))
-        (λ e. e ∙ sym (shut-run (λ h. subst T e h)))
+        by-test (isCovered points r) (λ e. e ∙ sym (open-run (is-true e))) (λ e. e ∙ sym (shut-run (λ h. subst T e h)))
       where
         wanting : ℕ → Bool
         wanting i = has live i && holdsAt (r .low) (wantAt rules i n)
 
-        open-run : T (isCovered (map wantRange wants) r) → not (eqb (wantersAt (r .low)) 0) ≡ true
+        open-run : T (isCovered points r) → not (eqb (wantersAt (r .low)) 0) ≡ true
         open-run h =
             let c = covered-want h in
             let i = listed-want rules live n (c .1) in
@@ -182,39 +173,31 @@ module _ (rules : List Patterns) (n live : ℕ) (fits : live < 2 ^ length rules)
             let some-rule = has-pos (wantersAt (r .low)) (i .0) in-it in
             ap not (ne-eqb (wantersAt (r .low)) 0 (λ e. omega arith))
 
-        shut-run : (T (isCovered (map wantRange wants) r) → ⊥) → not (eqb (wantersAt (r .low)) 0) ≡ false
+        shut-run : (T (isCovered points r) → ⊥) → not (eqb (wantersAt (r .low)) 0) ≡ false
         shut-run h = ap not (eq-eqb (wantersAt (r .low)) 0 (none-want (r .low) (λ w m k. h (want-covered w m k))))
 
   -- The set of a run is that of the live rules that want what the case takes.
-  case-set : (c : Case) → Mem c (casesOf wants) → runOf wantersAt (caseRange c) ≡ caseRun rules n live c
-  case-set c m =
+  case-set : (c : Case) → NameFields c → runOf wantersAt (caseRange c) ≡ caseRun rules n live c
+  case-set c f =
       ap (λ (s : ℕ). record { low = caseLow c; high = caseHigh c; set = s })
       (maskOf-same (length rules) (λ i. has live i && holdsAt (caseLow c) (wantAt rules i n))
       (λ i. has live i && takesFor rules n c (wantAt rules i n))
-      (λ i l.
-      by-test (has live i) (λ y. ap (λ (b : Bool). has live i && b) (go i l y (wantAt rules i n) refl)) (λ y. rw y)))
+      (λ i l. ap (λ (b : Bool). has live i && b) (go i (wantAt rules i n) refl)))
     where
-      go : (i : ℕ) → i < length rules → has live i ≡ true → (x : Option Want) → wantAt rules i n ≡ x
-          → holdsAt (caseLow c) x ≡ takesFor rules n c x
-      go i l y none e = refl
-      go i l y (some w) e =
-          wanted-holds wants (wants-sound rules live n sound) c w m (want-listed rules live n i w l (is-true y) e)
+      go : (i : ℕ) (x : Option Want) → wantAt rules i n ≡ x → holdsAt (caseLow c) x ≡ takesFor rules n c x
+      go i none e = refl
+      go i (some w) e = sym (wanted-holds c w f (sound i w e))
 
-  -- "A switch has a case for each symbol and compound that a live rule wants there, and one for each maximal run of numbers
-  -- accepted by the same non-empty set of those rules."
-  pub runs-are-cases : switchRuns live cuts ≡ map (caseRun rules n live) (casesOf wants)
-  runs-are-cases =
-      let wanted = map wantRange wants in
-      let follows =
-      running-follows live (runningTo live 0 cuts) 0 cuts (cuts-ascend rules n (length rules)) (λ x m. refl) in
-      runs-first live (runningTo live 0 cuts) 0 cuts follows
-      ∙ ap (λ (sets : ℕ → ℕ). setRuns sets (turning live cuts)) (fun-ext running-wanted)
-      ∙ ap (setRuns wantersAt) (turning-is rules n live fits sound)
-      ∙ ap (map (runOf wantersAt))
+  -- "A switch has a case for each symbol and compound that a live rule wants there."
+  pub names-are : setRuns wantersAt (rangeCuts points) ≡ map (caseRun rules n live) (nameCases wants)
+  names-are =
+      let known = wants-sound rules live n sound in
+      ap (map (runOf wantersAt))
       (sym
-      (filter-same (isCovered wanted) (λ (r : Range). not (eqb (wantersAt (r .low)) 0)) (between (rangeCuts wanted))
-      (all-map (Between (rangeCuts wanted)) (λ (r : Range). isCovered wanted r ≡ not (eqb (wantersAt (r .low)) 0)) covered-is
-      (between (rangeCuts wanted)) (between-cuts (rangeCuts wanted) (ranges.cuts-ascend wanted)))))
-      ∙ ap (map (runOf wantersAt)) (sym (cases-are-runs wants (wants-sound rules live n sound)))
-      ∙ map-same caseRange (runOf wantersAt) (caseRun rules n live) (casesOf wants)
-      (all-from (λ (c : Case). runOf wantersAt (caseRange c) ≡ caseRun rules n live c) (casesOf wants) case-set)
+      (filter-same (isCovered points) (λ (r : Range). not (eqb (wantersAt (r .low)) 0)) (between (rangeCuts points))
+      (all-map (Between (rangeCuts points)) (λ (r : Range). isCovered points r ≡ not (eqb (wantersAt (r .low)) 0)) covered-is
+      (between (rangeCuts points)) (between-cuts (rangeCuts points) (ranges.cuts-ascend points)))))
+      ∙ ap (map (runOf wantersAt)) (sym (names-are-runs wants known))
+      ∙ map-same caseRange (runOf wantersAt) (caseRun rules n live) (nameCases wants)
+      (all-map NameFields (λ (c : Case). runOf wantersAt (caseRange c) ≡ caseRun rules n live c) case-set (nameCases wants)
+      (names-fields wants known))

@@ -9,9 +9,9 @@ use lib.ListN.{length, length-map}
 use Rattle.basics.proofs.Filters.{map-join}
 use Rattle.basics.proofs.Sorted.{AscendingBy}
 use Rattle.terms.specs.RuleTests.{Range}
-use Rattle.decision.specs.Runs.{between}
+use Rattle.decision.specs.Runs.{between, fromTo, runPairs}
 use Rattle.decision.proofs.cases.RangeOrder.{Filled}
-use Rattle.decision.proofs.cases.RunPairs.{fromTo, runPairs, pairs-count}
+use Rattle.decision.proofs.cases.RunPairs.{pairs-count}
 use Rattle.cuts.specs.views.Runs.{Run}
 use Rattle.cuts.specs.views.CaseRuns.{unionRow, unionPairs}
 

@@ -1,4 +1,4 @@
-// Where the switches of a sheet are cut (document 01, "Nodes"): the cuts of each place test are sorted once a sheet, and a switch
+// Where the switches of a sheet are cut (document 02, request 4): the cuts of each place test are sorted once a sheet, and a switch
 // takes those of its live rules in one pass.
 ghost use mathlib.Core.Path.{_≡_};
 ghost use mathlib.Core.List.{List, [], _++_};
@@ -7,9 +7,9 @@ ghost use lib.ListN.{length};
 ghost use lib.Seq.{slice};
 ghost use Rattle.records.specs.Writing.{splice};
 ghost use Rattle.cuts.specs.views.Cuts.{partAt, countAt, cutAt, cutsIn, partWords, toggle, Spot};
-ghost use Rattle.cuts.specs.views.Runs.{switchRuns, runsIn, withRun};
+ghost use Rattle.cuts.specs.views.Runs.{runsIn, withRun};
 ghost use Rattle.cuts.specs.views.FramedRuns.{framedRun, framedFrom, pointRuns};
-ghost use Rattle.cuts.specs.views.CaseRuns.{caseRuns};
+ghost use Rattle.cuts.specs.views.CaseRuns.{caseRuns, switchRuns};
 
 // The runs of one switch: for each the lowest code, the highest and the live rules that want it. 64 rules make 129 at most.
 pub type Runs = [u64; 390];
@@ -149,7 +149,7 @@ fn end_run(runs: &mut Runs, done: Framed, base: u64, start: u64, next: u64, set:
 // Cuts a switch whose test has the part that begins there into runs for the live rules, each left in `runs`: below the base those
 // that a live rule wants, and all from the base up to the end of the numbers where one turns there. Not a run cut where only rules
 // turn that are not live, nor all but the first or the last.
-pub fn frame_switch(c: &[u64], from: usize, live: u64, base: u64, runs: &mut Runs) -> Framed
+fn frame_switch(c: &[u64], from: usize, live: u64, base: u64, runs: &mut Runs) -> Framed
     requires { ⌜ (from + 1 + 2 * countAt (now c) from ≤ length (now c)) × (countAt (now c) from ≤ 128)
         × (length (now runs) ≡ 390) ⌝ }
     requires { ⌜ ((k : ℕ) → k < countAt (now c) from → 0 < cutAt (now c) from k .code) ⌝ }
@@ -181,26 +181,22 @@ pub fn frame_switch(c: &[u64], from: usize, live: u64, base: u64, runs: &mut Run
     end_run(runs, framed, base, start, 0x301_0000, 0)
 }
 
-// From this code on all codes would be in runs, whose pairs are cases. No code is above it, since no piece holds a span.
-const BASE: u64 = 0xffff_ffff_ffff_ffff;
+// The code of the first number: from it on all codes are in runs, whose pairs are cases.
+const BASE: u64 = 0x300_0000;
 
-// Cuts a switch whose test has the part that begins there, for the live rules: the runs that make its cases are left in `runs`, and
-// each is a case by itself. Not a case that no live rule wants, nor one cut where only rules turn that are not live.
+// Cuts a switch whose test has the part that begins there, for the live rules: the runs that make its cases are left in `runs`.
+// Those of symbols and compounds are cases by themselves. Not a run cut where only rules turn that are not live, nor numbers in a
+// case by themselves alone.
 pub fn cut_switch(c: &[u64], from: usize, live: u64, runs: &mut Runs) -> Framed
     requires { ⌜ (from + 1 + 2 * countAt (now c) from ≤ length (now c)) × (countAt (now c) from ≤ 128)
         × (length (now runs) ≡ 390) ⌝ }
     requires { ⌜ ((k : ℕ) → k < countAt (now c) from → 0 < cutAt (now c) from k .code) ⌝ }
     ensures { λ r. ⌜ (caseRuns (r .points) (runsIn (now (runs .exit)) (r .count))
         ≡ switchRuns live (cutsIn (now (c .entry)) from))
-        × (length (switchRuns live (cutsIn (now (c .entry)) from)) ≤ 127)
+        × (length (switchRuns live (cutsIn (now (c .entry)) from)) ≤ 8385)
         × (r .points ≤ r .count) × (r .count ≤ 129) × (length (now (runs .exit)) ≡ 390) ⌝ }
 {
-    let framed = frame_switch(c, from, live, BASE, runs);
-    let count = framed.count;
-    Framed {
-        count: count,
-        points: count,
-    }
+    frame_switch(c, from, live, BASE, runs)
 }
 
 // How many cases the runs of a switch make. Not one for each run where there are pairs, nor a pair again with its last run first.

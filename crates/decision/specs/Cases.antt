@@ -1,4 +1,4 @@
--- The cases of a switch (document 01, "Nodes").
+-- The cases of a switch (document 01, "Nodes", and document 02, request 4).
 use Prim.Native.Nat.{ℕ}
 use mathlib.Core.Bool.{Bool, false, _&&_}
 use mathlib.Core.List.{List, [], _∷_, _++_, map}
@@ -6,7 +6,7 @@ use lib.Dec.{leb, ltb, eqb}
 use Rattle.basics.specs.Order.{insertBy, pairBefore}
 use Rattle.terms.specs.Term.{Term, count, unknown, symbol, numbers, compound}
 use Rattle.terms.specs.RuleTests.{Want, aSymbol, aNumber, aCompound, Range}
-use Rattle.decision.specs.Runs.{runs}
+use Rattle.decision.specs.Runs.{numberPairs}
 
 -- "44 symbol (wide id, ..), 45 compound (wide id, arity, ..), 46 numbers (wide low, wide high, ..)".
 pub data Case : Type 0 where
@@ -27,7 +27,8 @@ takes (numbersCase l h) (symbol b) = false
 takes (numbersCase l h) (numbers a b) = leb l a && leb b h
 takes (numbersCase l h) (compound b ts) = false
 
--- "A case drops the rules that want something else": what it takes is what is wanted.
+-- "A case drops the rules that want something else", and one of numbers "keeps the rules whose range has a number that this case
+-- takes, from its low to its high".
 abbrev pub isWanted : Case → Want → Bool
 isWanted (symbolCase a) (aSymbol b) = eqb a b
 isWanted (symbolCase a) (aNumber l h) = false
@@ -36,7 +37,7 @@ isWanted (compoundCase a n) (aSymbol b) = false
 isWanted (compoundCase a n) (aNumber l h) = false
 isWanted (compoundCase a n) (aCompound b m) = eqb a b && eqb n m
 isWanted (numbersCase x y) (aSymbol b) = false
-isWanted (numbersCase x y) (aNumber l h) = leb l x && leb y h
+isWanted (numbersCase x y) (aNumber l h) = leb l y && leb x h
 isWanted (numbersCase x y) (aCompound b m) = false
 
 -- "A case for each symbol and compound that a live rule wants there", "symbols ascend by id, then compounds by id and arity".
@@ -73,7 +74,11 @@ compoundOf f = compoundCase (f .name) (f .arity)
 abbrev pub numbersIn : Range → Case
 numbersIn r = numbersCase (r .low) (r .high)
 
--- The cases for what the live rules want at a place, in the order of the records; "one for each maximal run of numbers accepted by
--- the same non-empty set of those rules".
+-- "Record 46 becomes one case for each pair of first and last run, ordered so, with low and high their ends": of the numbers that a
+-- wide field holds, from 0 to 65,535, behind which 65,536 is the next.
+abbrev pub numberCases : List Want → List Case
+numberCases ws = map numbersIn (numberPairs 0 65536 (rangesOf ws))
+
+-- The cases for what the live rules want at a place, in the order of the records.
 abbrev pub casesOf : List Want → List Case
-casesOf ws = map symbolCase (symbolsOf ws) ++ map compoundOf (functorsOf ws) ++ map numbersIn (runs (rangesOf ws))
+casesOf ws = map symbolCase (symbolsOf ws) ++ map compoundOf (functorsOf ws) ++ numberCases ws

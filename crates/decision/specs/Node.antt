@@ -1,4 +1,4 @@
--- Nodes (document 01, "Records", "Graph").
+-- Nodes (document 01, "Records", "Graph"), and where a term leads at a switch (document 02, request 4).
 use Prim.Native.Nat.{ℕ}
 use mathlib.Core.List.{List, [], _∷_, _++_, map}
 use mathlib.Core.Option.{Option, some, none}

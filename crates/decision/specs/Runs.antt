@@ -1,9 +1,7 @@
--- Ranges of numbers, and the runs that they cut the numbers into (document 01, "Nodes").
+-- The runs that ranges cut all numbers into, and the pairs of a first and a last run (document 02, request 4).
 use Prim.Native.Nat.{ℕ, suc, pred}
-use mathlib.Core.Bool.{Bool, _&&_}
-use mathlib.Core.List.{List, [], _∷_}
-use lib.Dec.{leb, ltb}
-use Rattle.basics.specs.Lists.{filter, anyOf}
+use mathlib.Core.List.{List, [], _∷_, _++_, map}
+use lib.Dec.{ltb}
 use Rattle.basics.specs.Order.{insertBy}
 use Rattle.terms.specs.RuleTests.{Range}
 
@@ -19,14 +17,24 @@ between [] = []
 between (x ∷ []) = []
 between (x ∷ (y ∷ ys)) = record { low = x; high = pred y } ∷ between (y ∷ ys)
 
--- The range w accepts all numbers of r,
-abbrev pub covers : Range → Range → Bool
-covers w r = leb (w .low) (r .low) && leb (r .high) (w .high)
+-- "All numbers are cut into maximal runs accepted by the same set of live rules tested there, the empty set included": the lowest
+-- number is a cut too, and so is the one after the highest.
+abbrev pub frame : ℕ → ℕ → List Range → List ℕ
+frame base top ws = insertBy ltb base (insertBy ltb top (cuts ws))
 
--- or some range of the list does.
-abbrev pub isCovered : List Range → Range → Bool
-isCovered ws r = anyOf (λ (w : Range). covers w r) ws
+abbrev pub framed : ℕ → ℕ → List Range → List Range
+framed base top ws = between (frame base top ws)
 
--- "Maximal run of numbers accepted by the same non-empty set."
-abbrev pub runs : List Range → List Range
-runs ws = filter (isCovered ws) (between (cuts ws))
+-- "One case for each pair of first and last run, ordered so, with low and high their ends."
+abbrev pub fromTo : Range → Range → Range
+fromTo r s = record { low = r .low; high = s .high }
+
+abbrev pub runPairs : List Range → List Range
+runPairs [] = []
+runPairs (r ∷ rs) = map (fromTo r) (r ∷ rs) ++ runPairs rs
+
+-- "Where a live rule has a range at a switch's place, all numbers are cut into maximal runs ..; elsewhere a switch has no number
+-- case."
+abbrev pub numberPairs : ℕ → ℕ → List Range → List Range
+numberPairs base top [] = []
+numberPairs base top (w ∷ ws) = runPairs (framed base top (w ∷ ws))

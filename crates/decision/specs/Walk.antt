@@ -1,7 +1,7 @@
--- What the walk answers (document 01, "The walk").
+-- What the walk answers (document 01, "The walk", and document 02, request 4).
 use Prim.Native.Nat.{ℕ, pred}
-use mathlib.Core.Bool.{Bool, true, false, _&&_, not}
-use mathlib.Core.List.{List}
+use mathlib.Core.Bool.{Bool, true, false, _&&_, _||_, not}
+use mathlib.Core.List.{List, [], _∷_, _++_}
 use mathlib.Core.Option.{Option, some, none}
 use lib.ListN.{length}
 use Rattle.records.specs.Reading.{Reading, mapReading}
@@ -72,15 +72,38 @@ abbrev pub ruleTestsWhere : List Patterns → Terms → ℕ → (Outcome → Boo
 ruleTestsWhere rules piece i is =
     testsWhere rules (λ t. hasTest rules i t && is (testOutcome rules piece i (testAt rules t)))
 
--- "For suspend it holds the tests met not known on the walk, for execute those of rule i not known, else none."
+-- "On it a rule is live until a test of it met there is contradicted."
+abbrev pub liveOn : List Patterns → List (Node ℕ) → Terms → List ℕ → ℕ → Bool
+liveOn rules nodes piece walked i =
+    not
+    (anyBelow (length (sheetTests rules))
+    (λ t. isMet rules nodes walked t && hasTest rules i t && isContradicted (testOutcome rules piece i (testAt rules t))))
+
+-- "For execute those of rule i not known, else none."
 abbrev pub executeWaits : List Patterns → Terms → ℕ → Outcome → ℕ
 executeWaits rules piece i holds = 0
 executeWaits rules piece i notKnown = ruleTestsWhere rules piece (pred i) isNotKnown
 executeWaits rules piece i contradicted = 0
 
 module _ (rules : List Patterns) (nodes : List (Node ℕ)) (piece : Terms) where
+  -- A test is not known for a rule that is live when the walk, having walked the nodes before, comes to the node that asks it.
+  abbrev pub waitsFor : List ℕ → ℕ → ℕ → Bool
+  waitsFor before t i =
+      liveOn rules nodes piece before i && hasTest rules i t && isNotKnown (testOutcome rules piece i (testAt rules t))
+
+  -- "For suspend it holds the tests met not known on the walk", and "a place met is also listed if its span lies partly inside and
+  -- partly outside the range of a rule live there".
+  abbrev pub isListed : List ℕ → ℕ → Bool
+  isListed before t = testNotKnown piece (testAt rules t) || anyBelow (length rules) (waitsFor before t)
+
+  -- Of the nodes that are still to be walked, one asks the test and lists it.
+  abbrev pub listedFrom : List ℕ → List ℕ → ℕ → Bool
+  listedFrom before [] t = false
+  listedFrom before (n ∷ ns) t =
+      asksTest (testAt rules t) (nodeAt nodes n) && isListed before t || listedFrom (before ++ n ∷ []) ns t
+
   abbrev pub suspendWaits : List ℕ → ℕ
-  suspendWaits walked = testsWhere rules (λ t. isMet rules nodes walked t && testNotKnown piece (testAt rules t))
+  suspendWaits walked = testsWhere rules (listedFrom [] walked)
 
   -- "At execute i all tests of rule i are made: one contradicted gives fail, all holding gives commit i, else execute i."
   abbrev pub atLeaf : List ℕ → Leaf → Walk
@@ -99,10 +122,3 @@ module _ (rules : List Patterns) (nodes : List (Node ℕ)) (piece : Terms) where
   -- What the walk answers, or the number of the question that got a no.
   abbrev pub walk : Reading Walk
   walk = atEnd (path nodes piece)
-
--- "On it a rule is live until a test of it met there is contradicted."
-abbrev pub liveOn : List Patterns → List (Node ℕ) → Terms → List ℕ → ℕ → Bool
-liveOn rules nodes piece walked i =
-    not
-    (anyBelow (length (sheetTests rules))
-    (λ t. isMet rules nodes walked t && hasTest rules i t && isContradicted (testOutcome rules piece i (testAt rules t))))

@@ -28,11 +28,12 @@ use Rattle.tables.specs.views.TablesOf.{TablesOf, isPlace, testCode, Near}
 use Rattle.codes.specs.views.Codes.{SoundWant}
 use Rattle.decision.specs.views.CaseCodes.{caseLow, caseHigh}
 use Rattle.cuts.specs.views.Cuts.{partAt, cutsIn}
-use Rattle.cuts.specs.views.Runs.{switchRuns, runCase}
+use Rattle.cuts.specs.views.Runs.{runCase}
+use Rattle.cuts.specs.views.CaseRuns.{switchRuns}
 use Rattle.cuts.specs.views.CutsOf.{CutsOf, caseRun}
 use Rattle.cuts.proofs.ListedWants.{wants-sound}
 use Rattle.cuts.proofs.CaseCodes.{case-of-run}
-use Rattle.cuts.proofs.SwitchCases.{runs-are-cases}
+use Rattle.cuts.proofs.PairSwitch.{runs-make-pairs}
 use Rattle.edges.specs.views.VertexKey.{vertexKey, vertexBy, vertexIn, Fits}
 use Rattle.edges.specs.views.KeysBehind.{askedIn}
 use Rattle.edges.specs.views.NodeIn.{runEdge, switchEdges, askIn, nodeWith, nodeIn}
@@ -80,7 +81,7 @@ module _ (rules : List Patterns) (order s c : List ℕ) (tables : TablesOf rules
         let wants = liveWants rules (key .live) n in
         ap (λ (r : ℕ). map (runEdge s c a) (switchRuns (key .live) (cutsIn c (partAt r t)))) (tables .rulesAre)
         ∙ ap (λ l. map (runEdge s c a) (switchRuns (key .live) l)) (cuts t n below at)
-        ∙ ap (map (runEdge s c a)) (runs-are-cases rules n (key .live) lives (λ i w. sound i n w))
+        ∙ ap (map (runEdge s c a)) (sym (runs-make-pairs rules n (key .live) lives (λ i w. sound i n w)))
         ∙ edges-same Told (runEdge s c a) (caseRun rules n (key .live)) (mapCase vertexKey) _
         (λ d e. λ i. record { case = e i; target = run-is rules order s tables key t lives pends below n at d i })
         (casesOf wants) (case-of-run wants (wants-sound rules (key .live) n (λ i w. sound i n w)))

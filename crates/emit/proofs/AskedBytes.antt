@@ -14,7 +14,8 @@ use Rattle.graph.specs.declared.NodeRecord.the-variants.{End, Switch, Pair}
 use Rattle.graph.specs.views.WriteNode.{nodeRecordBytes, caseRecordBytes}
 use Rattle.tables.specs.views.Planes.{rulesIn, placeTestsIn, testIn}
 use Rattle.cuts.specs.views.Cuts.{partAt, cutsIn}
-use Rattle.cuts.specs.views.Runs.{Run, runCase, switchRuns}
+use Rattle.cuts.specs.views.Runs.{Run, runCase}
+use Rattle.cuts.specs.views.CaseRuns.{switchRuns}
 use Rattle.edges.specs.declared.Asked.{Asked}
 use Rattle.edges.specs.views.KeysBehind.{askedIn, noneBehind, otherBehind, runBehind, unknownBehind}
 use Rattle.edges.specs.views.NodeIn.{runEdge, nodeIn}
@@ -67,7 +68,7 @@ module _ (s : List ℕ) (keys : List Key) (asked : Asked) where
       ∙ (λ i.
       0x43
       ∷ wideThen (sym t i % 0x1_0000)
-      (counted i ∷ wideThen (sym first i) (wideThen (sym second i) (runs-bytes c rs i))))
+      (wideThen (counted i) (wideThen (sym first i) (wideThen (sym second i) (runs-bytes c rs i)))))
 
   -- and a pair its record.
   pub pair-bytes

@@ -195,7 +195,7 @@ fn put_switch(
     let behind = put_node(
         buf,
         at,
-        NodeRecord::Switch(place, count as u8, neither, unknown),
+        NodeRecord::Switch(place, count as u16, neither, unknown),
     );
     put_runs(buf, behind, s, asked, runs, framed, keys)
 }

@@ -28,7 +28,7 @@ use Rattle.graph.proofs.ByKinds.{node-by-kind}
 use Rattle.graph.proofs.Spelling.{Reads, Spelled, GoodRow, begins-read}
 use Rattle.graph.proofs.FieldBytes.{wide-at, byte-then, kind-then, wide-then}
 use Rattle.graph.proofs.SpelledCases.{kind-holds, EdgeFields, cases-spelled}
-use Rattle.records.proofs.ByteLists.{byte-at, bytes-drop}
+use Rattle.records.proofs.ByteLists.{bytes-drop}
 
 -- What the fields of a node's record can hold, its cases' too: one or more of them, and no more than can be counted.
 abbrev pub NodeFields : Node ℕ → Type 0
@@ -51,6 +51,7 @@ node-brought (switch n cs x y) rest h =
       ne-eqb (length s) 0 (λ e. omega arith),
       le-leb switchLength (length s) (omega arith),
       wide-of n (h .0),
+      wide-of (length cs) (omega (arith, h .4)),
       wide-of x (h .1),
       wide-of y (h .2),
       le-leb 1 (length cs) (h .3),
@@ -81,10 +82,10 @@ module _ (s : List ℕ) (h : All IsByte s) where
 
   -- How many cases a switch says it has, and the switch with these.
   abbrev count : ℕ
-  count = getD s 3 0
+  count = wideAt s 3
 
   abbrev switchOf : List (CaseEdge ℕ) → Node ℕ
-  switchOf cs = switch (wideAt s 1) cs (wideAt s 4) (wideAt s 6)
+  switchOf cs = switch (wideAt s 1) cs (wideAt s 5) (wideAt s 7)
 
   -- A switch, where its cases are read behind its record.
   module _ (there : switchLength ≤ length s) (kind : getD s 0 0 ≡ 0x43) where
@@ -98,22 +99,22 @@ module _ (s : List ℕ) (h : All IsByte s) where
         record {
           good = (
             wide-at s h 1,
-            wide-at s h 4,
-            wide-at s h 6,
+            wide-at s h 5,
+            wide-at s h 7,
             omega (arith, row .good .0),
-            omega (arith, row .good .0, byte-at s 3 h),
+            omega (arith, row .good .0, wide-at s h 3),
             row .good .1,
           );
           size = omega (arith, row .size);
           begins =
               kind-then s h kind (omega arith)
               (wide-then s h 1 (omega arith)
-              (byte-then s h 3 (omega arith)
-              (wide-then s h 4 (omega arith)
-              (wide-then s h 6 (omega arith)
+              (wide-then s h 3 (omega arith)
+              (wide-then s h 5 (omega arith)
+              (wide-then s h 7 (omega arith)
               (row .begins ∙ ap (λ (l : List ℕ). casesBytes cs ++ l) (drop-drop a switchLength s))))))
               ∙ ap
-              (λ (k : ℕ). nodeRecordBytes (Switch (wideAt s 1) k (wideAt s 4) (wideAt s 6)) ++ rest)
+              (λ (k : ℕ). nodeRecordBytes (Switch (wideAt s 1) k (wideAt s 5) (wideAt s 7)) ++ rest)
               (sym (row .good .0));
         }
     cases-told (refused q) e some = tt

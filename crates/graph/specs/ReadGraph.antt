@@ -1,5 +1,5 @@
 -- How a graph is read for a sheet: its nodes, or the number of the first question that gets a no (document 01, "Questions at the
--- counter", 21 to 25).
+-- counter", 21 to 25, and document 02, request 4).
 use Prim.Native.Nat.{ℕ, _+_, _-_}
 use mathlib.Core.Bool.{Bool, true, false, _&&_, _||_, cond}
 use mathlib.Core.List.{List, [], _∷_}
@@ -17,6 +17,7 @@ use Rattle.decision.specs.Cases.{Case, symbolCase, compoundCase, numbersCase, f
 use Rattle.decision.specs.Node.{Node, CaseEdge, end, switch, pairNode}
 use Rattle.decision.specs.Graph.{mostNodes}
 use Rattle.basics.specs.Lists.{anyOf}
+use Rattle.basics.specs.Order.{pairBefore}
 
 abbrev pub edge : Case → ℕ → CaseEdge ℕ
 edge c n = record { case = c; target = n }
@@ -36,12 +37,13 @@ readCase s = ask 22 (isWhole 0x44 0x46 s) (took (recordLength (kindOf s)) (caseO
 abbrev pub readCases : ℕ → List ℕ → Reading (List (CaseEdge ℕ))
 readCases n s = readRow [] _∷_ readCase n s
 
--- "43 switch (wide place, number of cases, wide node for neither, wide node for unknown), then its cases".
+-- "43 switch (wide place, number of cases, wide node for neither, wide node for unknown), then its cases", of which "the case count
+-- becomes wide".
 abbrev pub readSwitch : List ℕ → Reading (Node ℕ)
 readSwitch s =
-    ask 22 (leb 1 (getD s 3 0))
-    (after (recordLength 0x43) (λ cases. switch (wideAt s 1) cases (wideAt s 4) (wideAt s 6))
-    (readCases (getD s 3 0) (drop (recordLength 0x43) s)))
+    ask 22 (leb 1 (wideAt s 3))
+    (after (recordLength 0x43) (λ cases. switch (wideAt s 1) cases (wideAt s 5) (wideAt s 7))
+    (readCases (wideAt s 3) (drop (recordLength 0x43) s)))
 
 -- "40 fail, 41 suspend, no bodies. 42 execute (rule, from 1)", "47 pair (wide place p, wide place q, wide node for no, wide node
 -- for other)".
@@ -74,7 +76,7 @@ inRange test rules nodes (end (executeNode i)) = leb 1 i && leb i rules
 inRange test rules nodes (switch n cs x y) = test (place n) && ltb x nodes && ltb y nodes && allInside nodes cs
 inRange test rules nodes (pairNode p q x y) = test (pair p q) && ltb x nodes && ltb y nodes
 
--- "24 Are cases strictly ascending, low at most high, no number in two?"
+-- "24 Are cases strictly ascending, low at most high ..?" "In question 24 number cases ascend by low, then high, and may overlap."
 abbrev pub caseBefore : Case → Case → Bool
 caseBefore (symbolCase a) (symbolCase b) = ltb a b
 caseBefore (symbolCase a) (compoundCase b m) = true
@@ -84,7 +86,7 @@ caseBefore (compoundCase a n) (compoundCase b m) = functorBefore (record { name 
 caseBefore (compoundCase a n) (numbersCase x y) = true
 caseBefore (numbersCase l h) (symbolCase b) = false
 caseBefore (numbersCase l h) (compoundCase b m) = false
-caseBefore (numbersCase l h) (numbersCase x y) = ltb h x
+caseBefore (numbersCase l h) (numbersCase x y) = pairBefore l h x y
 
 abbrev pub lowAtMostHigh : Case → Bool
 lowAtMostHigh (symbolCase a) = true

@@ -7,7 +7,7 @@ pub use record::node_head;
 pub use record::node_refusal;
 
 // How many bytes a switch's record has, its cases not counted.
-pub const SWITCH_BYTES: usize = 8;
+pub const SWITCH_BYTES: usize = 9;
 
 // A node at which a walk ends.
 pub enum Leaf {
@@ -19,7 +19,7 @@ pub enum Leaf {
 // A node's record. The cases of a switch follow it and are read one at a time.
 pub enum NodeRecord {
     End(Leaf),
-    Switch(u16, u8, u16, u16),
+    Switch(u16, u16, u16, u16),
     Pair(u16, u16, u16, u16),
 }
 

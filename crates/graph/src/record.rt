@@ -17,11 +17,13 @@ fn switch_record(s: &[u8]) -> NodeRecord
     requires { ⌜ switchLength ≤ length (now s) ⌝ }
     ensures { λ r. ⌜ r ≡ switchRecord (now (s .entry)) ⌝ }
 {
+    let neither = records::wide(s[5], s[6]);
+    let unknown = records::wide(s[7], s[8]);
     NodeRecord::Switch(
         records::wide(s[1], s[2]),
-        s[3],
-        records::wide(s[4], s[5]),
-        records::wide(s[6], s[7]),
+        records::wide(s[3], s[4]),
+        neither,
+        unknown,
     )
 }
 

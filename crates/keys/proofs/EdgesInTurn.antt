@@ -193,16 +193,16 @@ module _ (place : ℕ) (cs : List (CaseEdge Key)) (keys : List Key) (neither unk
       ) in
       subst (λ (x : Measured). EdgesMet node keys x t) (sym e) all
 
-  -- and else the keys behind neither and unknown are met after them, and the record is 8 bytes and the cases.
+  -- and else the keys behind neither and unknown are met after them, and the record is 9 bytes and the cases.
   pub switch-met
       : (r : Measured) {bytes : ℕ} (t : List ℕ) → r ≡ Bytes bytes → CasesMet cs keys r t → (q : Measured) (u : List ℕ)
-      → {x y : Key} → x ≡ neither → y ≡ unknown → Met (keysIn t) (x ∷ y ∷ []) (bytes + 8) q u → EdgesMet node keys q u
+      → {x y : Key} → x ≡ neither → y ≡ unknown → Met (keysIn t) (x ∷ y ∷ []) (bytes + 9) q u → EdgesMet node keys q u
   switch-met r {bytes} t e met q u d f last =
       let first : CasesMet cs keys (Bytes bytes) t = subst (λ (x : Measured). CasesMet cs keys x t) e met in
-      go q (subst (λ (l : List Key). Met (keysIn t) l (bytes + 8) q u) (λ i. d i ∷ f i ∷ []) last) first
+      go q (subst (λ (l : List Key). Met (keysIn t) l (bytes + 9) q u) (λ i. d i ∷ f i ∷ []) last) first
     where
       go
-          : (q : Measured) → Met (keysIn t) (neither ∷ unknown ∷ []) (bytes + 8) q u → CasesMet cs keys (Bytes bytes) t
+          : (q : Measured) → Met (keysIn t) (neither ∷ unknown ∷ []) (bytes + 9) q u → CasesMet cs keys (Bytes bytes) t
           → EdgesMet node keys q u
       go (Bytes n) l f = (
         l .0

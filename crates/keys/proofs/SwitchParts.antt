@@ -9,7 +9,8 @@ use borrow.Author.Tests.{lt-ltb}
 use Rattle.decision.specs.Node.{switch}
 use Rattle.tables.specs.views.Planes.{rulesIn, placeTestsIn, testIn}
 use Rattle.cuts.specs.views.Cuts.{partAt, countAt, cutsIn, Parted}
-use Rattle.cuts.specs.views.Runs.{Run, switchRuns}
+use Rattle.cuts.specs.views.Runs.{Run}
+use Rattle.cuts.specs.views.CaseRuns.{switchRuns}
 use Rattle.edges.specs.declared.Asked.{Asked}
 use Rattle.edges.specs.views.KeysBehind.{noneBehind, unknownBehind}
 use Rattle.edges.specs.views.NodeIn.{runEdge, askIn}

@@ -186,7 +186,7 @@ fn expand_switch(keys: &mut Keys, s: &Tables, c: &[u64], asked: Asked, runs: &mu
     };
     let neither = by_none(s, asked);
     let unknown = by_unknown(s, asked);
-    meet_two(keys, neither, unknown, bytes + 8)
+    meet_two(keys, neither, unknown, bytes + graph::SWITCH_BYTES)
 }
 
 // A pair. Not other before no, nor the bytes of a switch.

@@ -26,7 +26,7 @@ use Rattle.node_check.specs.views.CaseRanges.{rangeOf, CasesFound, cases
 use Rattle.graph.proofs.Spelling.{Reads, GoodRow}
 use Rattle.graph.proofs.SpelledCases.{kind-holds, EdgeFields, cases-spelled}
 use Rattle.graph.proofs.AcceptedNodes.{fields-of}
-use Rattle.node_check.proofs.CodeOrder.{ascendAfter, ascend-codes, and-assoc}
+use Rattle.node_check.proofs.CodeOrder.{caseRank, ascendAfter, ascend-codes, and-assoc}
 use Rattle.graph.proofs.ByKinds.{case-read-by}
 
 -- What the head of a case says of its bytes: they are there, or question 22 got a no.
@@ -57,7 +57,7 @@ pub case-refused : (s : List ℕ) {q : ℕ} → caseHead s ≡ Refused q → rea
 case-refused s {q} e = case-read-by s e ∙ ap refused (sym (subst (HeadFits s) e (head-fits s)))
 
 module _ (nodes : ℕ) where
-  -- What all cases give where at bytes were read before, the last code was last, and this was found of them.
+  -- What all cases give where at bytes were read before, the last rank was last, and this was found of them.
   abbrev pub resume : ℕ → ℕ → Bool → Bool → Reading (List (CaseEdge ℕ)) → Reading CasesFound
   resume at last inside ascend (took b cs) =
       took (at + b) (record { inside = inside && allInside nodes cs; ascend = ascend && ascendAfter last cs })
@@ -84,14 +84,15 @@ module _ (nodes : ℕ) where
   resume-next
       : (at last : ℕ) (inside ascend : Bool) (a : ℕ) (c : CaseEdge ℕ) (r : Reading (List (CaseEdge ℕ)))
       → resume at last inside ascend (after a (_∷_ c) r)
-      ≡ resume (at + a) (caseHigh (c .case)) (inside && ltb (c .target) nodes)
-      (ascend && (ltb last (caseLow (c .case)) && leb (caseLow (c .case)) (caseHigh (c .case)))) r
+      ≡ resume (at + a) (caseRank (c .case)) (inside && ltb (c .target) nodes)
+      (ascend && (ltb last (caseRank (c .case)) && leb (caseLow (c .case)) (caseHigh (c .case)))) r
   resume-next at last inside ascend a c (took b cs) =
       let first = caseLow (c .case) in
       let end = caseHigh (c .case) in
+      let rank = caseRank (c .case) in
       let size : at + (a + b) ≡ at + a + b = sym (add-assoc at a b) in
       let in-range = sym (and-assoc inside (ltb (c .target) nodes) (allInside nodes cs)) in
-      let in-order = sym (and-assoc ascend (ltb last first && leb first end) (ascendAfter end cs)) in
+      let in-order = sym (and-assoc ascend (ltb last rank && leb first end) (ascendAfter rank cs)) in
       λ i. took (size i) (record { inside = in-range i; ascend = in-order i })
   resume-next at last inside ascend a c (refused q) = refl
 
@@ -105,24 +106,24 @@ module _ (nodes : ℕ) where
     read-next
         : (a : ℕ) (c : CaseEdge ℕ) → readCase (drop at s) ≡ took a c
         → Going
-        (resume (at + a) (caseHigh (c .case)) (inside && ltb (c .target) nodes)
-        (ascend && (ltb last (caseLow (c .case)) && leb (caseLow (c .case)) (caseHigh (c .case))))
+        (resume (at + a) (caseRank (c .case)) (inside && ltb (c .target) nodes)
+        (ascend && (ltb last (caseRank (c .case)) && leb (caseLow (c .case)) (caseHigh (c .case))))
         (readCases (count - (i + 1)) (drop (at + a) s)))
     read-next a c e =
         let fewer : count - i - 1 ≡ count - (i + 1) = omega arith in
         ap (resume at last inside ascend) (row-next [] _∷_ readCase (count - i) (drop at s) some-left e)
         ∙ resume-next at last inside ascend a c (readCases (count - i - 1) (drop a (drop at s)))
         ∙ (λ j.
-        resume (at + a) (caseHigh (c .case)) (inside && ltb (c .target) nodes)
-        (ascend && (ltb last (caseLow (c .case)) && leb (caseLow (c .case)) (caseHigh (c .case))))
+        resume (at + a) (caseRank (c .case)) (inside && ltb (c .target) nodes)
+        (ascend && (ltb last (caseRank (c .case)) && leb (caseLow (c .case)) (caseHigh (c .case))))
         (readCases (fewer j) (drop-drop a at s j)))
 
     -- A whole case is passed.
     pub pass-next
         : (c : CaseRecord) → caseHead (drop at s) ≡ Whole c
         → Going
-        (resume (at + rangeOf c .bytes) (rangeOf c .last) (inside && ltb (rangeOf c .node) nodes)
-        (ascend && (ltb last (rangeOf c .first) && leb (rangeOf c .first) (rangeOf c .last)))
+        (resume (at + rangeOf c .bytes) (rangeOf c .rank) (inside && ltb (rangeOf c .node) nodes)
+        (ascend && (ltb last (rangeOf c .rank) && leb (rangeOf c .first) (rangeOf c .last)))
         (readCases (count - (i + 1)) (drop (at + rangeOf c .bytes) s)))
     pass-next (Symbol a n) e = read-next 5 (edge (symbolCase a) n) (case-read-by (drop at s) e)
     pass-next (Compound a k n) e = read-next 6 (edge (compoundCase a k) n) (case-read-by (drop at s) e)

@@ -37,7 +37,7 @@ checked-refused (took b x) e = let z : _≡_ {A = ℕ} 0 1 = cc in absurd (omega
 checked-refused (refused q) e = cc
 
 -- A case has at most as many bytes as one of numbers.
-cases-size : (cs : List (CaseEdge ℕ)) → length (casesBytes cs) ≤ recordLength 0x46 * length cs
+pub cases-size : (cs : List (CaseEdge ℕ)) → length (casesBytes cs) ≤ recordLength 0x46 * length cs
 cases-size [] = omega arith
 cases-size (c ∷ cs) = one (c .case) (c .target) (cases-size cs)
   where

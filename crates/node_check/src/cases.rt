@@ -9,7 +9,20 @@ ghost use mathlib.Core.Path.{_≡_};
 ghost use mathlib.Core.Bool.{_&&_};
 ghost use Rattle.records.specs.Reading.{mapReading};
 ghost use Rattle.graph.specs.ReadGraph.{readCases};
-ghost use Rattle.node_check.specs.views.CaseRanges.{rangeOf, casesFound, checkedCases, casesRefusal};
+ghost use Rattle.node_check.specs.views.CaseRanges.{codesTo, rangeOf, casesFound, checkedCases, casesRefusal};
+
+// A range of codes. Its rank is the higher, the higher its first code is and then its last.
+fn range_to(first: u32, last: u32, node: u16, bytes: usize) -> CaseRange
+    ensures { λ r. ⌜ r ≡ codesTo first last node bytes ⌝ }
+{
+    CaseRange {
+        first: first,
+        last: last,
+        rank: (first as u64) * 0x1_0000_0000 + (last as u64),
+        node: node,
+        bytes: bytes,
+    }
+}
 
 // The range of a case.
 pub fn case_range(c: CaseRecord) -> CaseRange
@@ -18,28 +31,15 @@ pub fn case_range(c: CaseRecord) -> CaseRange
     match c {
         CaseRecord::Symbol(a, node) => {
             let code = codes::symbol_code(a);
-            CaseRange {
-                first: code,
-                last: code,
-                node: node,
-                bytes: 5,
-            }
+            range_to(code, code, node, 5)
         }
         CaseRecord::Compound(a, n, node) => {
             let code = codes::compound_code(a, n);
-            CaseRange {
-                first: code,
-                last: code,
-                node: node,
-                bytes: 6,
-            }
+            range_to(code, code, node, 6)
         }
-        CaseRecord::Numbers(low, high, node) => CaseRange {
-            first: codes::number_code(low),
-            last: codes::number_code(high),
-            node: node,
-            bytes: 7,
-        },
+        CaseRecord::Numbers(low, high, node) => {
+            range_to(codes::number_code(low), codes::number_code(high), node, 7)
+        }
     }
 }
 
@@ -55,7 +55,7 @@ pub fn check_cases(s: &[u8], count: u16, nodes: u16) -> CasesCheck
     ensures { λ r. ⌜ checkedCases r ≡ mapReading (casesFound nodes) (readCases count (now (s .entry))) ⌝ }
 {
     let mut at: usize = 0;
-    let mut last: u32 = 0;
+    let mut last: u64 = 0;
     let mut inside = true;
     let mut ascend = true;
     let mut i: u16 = 0;
@@ -66,8 +66,8 @@ pub fn check_cases(s: &[u8], count: u16, nodes: u16) -> CasesCheck
         };
         let range = case_range(c);
         inside = both(inside, range.node < nodes);
-        ascend = both(ascend, both(last < range.first, range.first <= range.last));
-        last = range.last;
+        ascend = both(ascend, both(last < range.rank, range.first <= range.last));
+        last = range.rank;
         at += range.bytes;
         i += 1;
     }

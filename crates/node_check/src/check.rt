@@ -81,7 +81,7 @@ fn check_node(
                 both(has_place(words, place), neither < nodes),
                 unknown < nodes,
             );
-            check_switch(&s[SWITCH_BYTES..], known, cases as u16, nodes)
+            check_switch(&s[SWITCH_BYTES..], known, cases, nodes)
         }
         NodeRecord::Pair(p, q, differ, other) => {
             if both(

@@ -6,10 +6,11 @@ pub mod kept; // the sheet's tests as they are kept
 pub use cases::check_cases;
 pub use check::check_nodes;
 
-// A case as a range of codes, with the node that it leads to and the bytes of its record.
+// A case as a range of codes, with the two as one number, the node that it leads to and the bytes of its record.
 pub struct CaseRange {
     pub first: u32,
     pub last: u32,
+    pub rank: u64,
     pub node: u16,
     pub bytes: usize,
 }

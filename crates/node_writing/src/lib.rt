@@ -26,7 +26,7 @@ fn put_leaf(buf: &mut [u8], at: usize, leaf: Leaf) -> usize
 }
 
 // A switch's record, without its cases, and the position behind it.
-fn put_switch(buf: &mut [u8], at: usize, n: u16, count: u8, neither: u16, unknown: u16) -> usize
+fn put_switch(buf: &mut [u8], at: usize, n: u16, count: u16, neither: u16, unknown: u16) -> usize
     requires { ⌜ at + length (nodeRecordBytes (Switch n count neither unknown)) ≤ length (now buf) ⌝ }
     ensures { λ r. ⌜ (r ≡ at + length (nodeRecordBytes (Switch n count neither unknown)))
         × (now (buf .exit) ≡ splice (now (buf .entry)) at (nodeRecordBytes (Switch n count neither unknown))) ⌝ }
@@ -38,7 +38,8 @@ fn put_switch(buf: &mut [u8], at: usize, n: u16, count: u8, neither: u16, unknow
             0x43,
             records::high(n),
             records::low(n),
-            count,
+            records::high(count),
+            records::low(count),
             records::high(neither),
             records::low(neither),
             records::high(unknown),

@@ -18,7 +18,8 @@ use Rattle.decision.specs.Node.{Node, CaseEdge, end, switch, pairNode, edges}
 use Rattle.decision.specs.Path.{Step, stop, goTo, noWay, byComparison}
 use Rattle.decision.proofs.cases.Narrowest.{leads-holds}
 use Rattle.codes.specs.views.Codes.{lowOf, highOf, unknownRun}
-use Rattle.steps.specs.views.CodeSteps.{takesCodes, narrowerCodes, stepCells}
+use Rattle.number_search.specs.views.CodeCases.{takesCodes, narrowerCodes}
+use Rattle.steps.specs.views.CodeSteps.{stepCells}
 use Rattle.path.specs.views.Following.{nodeFrom, nodesAt}
 use Rattle.basics.proofs.Counting.{count-length}
 

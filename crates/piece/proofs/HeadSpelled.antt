@@ -1,5 +1,5 @@
 -- Bytes begin with a record of a term exactly where they spell it.
-use Prim.Native.Nat.{ℕ, suc, _≤_}
+use Prim.Native.Nat.{ℕ, suc, _+_, _≤_}
 use mathlib.Core.Path.{_≡_, ap, ap₂, sym, _∙_}
 use mathlib.Core.List.{List, _∷_}
 use native.Mathlib.Omega.{arith}
@@ -7,11 +7,11 @@ use lib.ListN.{length, getD, drop}
 use lib.Seq.{drop-cons}
 use lib.Dec.{eqb·suc-zero}
 use borrow.Author.Tests.{le-leb}
-use Rattle.records.specs.Fields.{wideAt, wideThen, AreBytes}
+use Rattle.records.specs.Fields.{wideOf, wideAt, wideThen, AreBytes}
 use Rattle.records.proofs.WideFields.{wide-bound, high-of, low-of, wide-of}
 use Rattle.terms.specs.Term.{Wide}
 use Rattle.piece.specs.declared.TermRecord.{TermRecord}
-use Rattle.piece.specs.declared.TermRecord.the-variants.{Unknown, Symbol, Number, Compound}
+use Rattle.piece.specs.declared.TermRecord.the-variants.{Unknown, Symbol, Number, Compound, Span}
 use Rattle.piece.specs.declared.TermHead.{TermHead}
 use Rattle.piece.specs.declared.TermHead.the-variants.{Whole, Refused}
 use Rattle.piece.specs.views.TermRecord.{termHead}
@@ -24,13 +24,15 @@ recordThen Unknown rest = 0x30 ∷ rest
 recordThen (Symbol a) rest = 0x31 ∷ wideThen a rest
 recordThen (Number a) rest = 0x32 ∷ wideThen a rest
 recordThen (Compound a n) rest = 0x33 ∷ wideThen a (n ∷ rest)
+recordThen (Span l h) rest = 0x34 ∷ wideThen l (wideThen h rest)
 
--- The id or number of a record fits a wide field.
+-- The id or number of a record fits a wide field, and so do the ends of a span.
 abbrev pub WideRecord : TermRecord → Type 0
 WideRecord Unknown = Unit
 WideRecord (Symbol a) = Wide a
 WideRecord (Number a) = Wide a
 WideRecord (Compound a n) = Wide a
+WideRecord (Span l h) = Wide l × Wide h
 
 -- A head says that the bytes spell its record.
 abbrev pub HeadSpells : List ℕ → TermHead → Type 0
@@ -42,20 +44,34 @@ module _ (s : List ℕ) (bytes : AreBytes s) where
   first : 1 ≤ length s → s ≡ getD s 0 0 ∷ drop 1 s
   first there = drop-cons s 0 0 there
 
-  -- The bytes are the first one and then those of a wide field, whatever stands in it.
+  -- The bytes from i on are those of a wide field, whatever stands in it, and those after it.
+  field-at
+      : (i : ℕ) → suc (suc i) ≤ length s
+      → drop i s ≡ wideThen (wideOf (getD s i 0) (getD s (suc i) 0)) (drop (suc (suc i)) s)
+  field-at i there =
+      let high = byte-at s i bytes in
+      let low = byte-at s (suc i) bytes in
+      drop-cons s i 0 (omega arith)
+      ∙ ap₂ (λ x l. x ∷ l) (sym (high-of (getD s i 0) (getD s (suc i) 0) high low))
+      (drop-cons s (suc i) 0 there
+      ∙ ap (λ x. x ∷ drop (suc (suc i)) s) (sym (low-of (getD s i 0) (getD s (suc i) 0) high low)))
+
+  -- The number in it fits.
+  wide-at : (i : ℕ) → Wide (wideAt s i)
+  wide-at i = wide-bound (getD s i 0) (getD s (i + 1) 0) (byte-at s i bytes) (byte-at s (i + 1) bytes)
+
+  -- The bytes are the first one and then those of a wide field,
   wide-field : 3 ≤ length s → s ≡ getD s 0 0 ∷ wideThen (wideAt s 1) (drop 3 s)
-  wide-field there =
-      drop-cons s 0 0 (omega arith)
-      ∙ ap (λ l. getD s 0 0 ∷ l)
-      (drop-cons s 1 0 (omega arith)
-      ∙ ap₂ (λ x l. x ∷ l) (sym (high-of (getD s 1 0) (getD s 2 0) (byte-at s 1 bytes) (byte-at s 2 bytes)))
-      (drop-cons s 2 0 there
-      ∙ ap (λ x. x ∷ drop 3 s) (sym (low-of (getD s 1 0) (getD s 2 0) (byte-at s 1 bytes) (byte-at s 2 bytes)))))
+  wide-field there = drop-cons s 0 0 (omega arith) ∙ ap (λ l. getD s 0 0 ∷ l) (field-at 1 there)
+
+  -- or of two.
+  two-fields : 5 ≤ length s → s ≡ getD s 0 0 ∷ wideThen (wideAt s 1) (wideThen (wideAt s 3) (drop 5 s))
+  two-fields there = wide-field (omega arith) ∙ ap (λ l. getD s 0 0 ∷ wideThen (wideAt s 1) l) (field-at 3 there)
 
   -- What is read as a record is spelled.
   pub head-spells : HeadSpells s (termHead s)
   head-spells =
-      let wide = wide-bound (getD s 1 0) (getD s 2 0) (byte-at s 1 bytes) (byte-at s 2 bytes) in
+      let wide = wide-at 1 in
       head-cases (HeadSpells s) s tt
       (λ there kind. (first there ∙ ap (λ x. x ∷ drop 1 s) kind, tt))
       (λ there kind. (wide-field there ∙ ap (λ x. x ∷ wideThen (wideAt s 1) (drop 3 s)) kind, wide))
@@ -64,6 +80,10 @@ module _ (s : List ℕ) (bytes : AreBytes s) where
         wide-field (omega arith)
             ∙ ap₂ (λ x l. x ∷ wideThen (wideAt s 1) l) kind (drop-cons s 3 0 there),
         wide,
+      ))
+      (λ there kind. (
+        two-fields there ∙ ap (λ x. x ∷ wideThen (wideAt s 1) (wideThen (wideAt s 3) (drop 5 s))) kind,
+        (wide, wide-at 3),
       ))
 
 -- What is spelled is read as the record.
@@ -78,3 +98,7 @@ spelled-head (Number a) rest wide =
 spelled-head (Compound a n) rest wide =
     let k = length rest in
     simp (eqb·suc-zero (suc (suc (suc k))), le-leb 4 (suc (suc (suc (suc k)))) (omega arith), wide-of a wide)
+spelled-head (Span l h) rest wide =
+    let k = length rest in
+    let there = le-leb 5 (suc (suc (suc (suc (suc k))))) (omega arith) in
+    simp (eqb·suc-zero (suc (suc (suc (suc k)))), there, wide-of l (wide .0), wide-of h (wide .1))

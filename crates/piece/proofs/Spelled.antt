@@ -1,31 +1,34 @@
 -- Bytes are accepted exactly when they spell a piece that the meaning accepts, and every such piece is spelled by its
 -- written bytes.
-use Prim.Native.Nat.{ℕ, _+_, _≤_}
+use Prim.Native.Nat.{ℕ, suc, _+_, _≤_}
 use mathlib.Core.Path.{_≡_, refl, ap, ap₂, sym, subst, _∙_}
-use mathlib.Core.List.{List, _∷_, _++_, append-nil}
-use mathlib.Core.Logic.{_↔_}
+use mathlib.Core.Bool.{Bool, true, false, cond}
+use mathlib.Core.List.{List, [], _∷_, _++_, append-nil}
+use mathlib.Core.Logic.{_↔_, inl, inr}
 use native.Mathlib.Omega.{arith}
 use lib.ListN.{length, drop}
 use lib.Seq.{drop-cons, drop-drop, drop-length}
 use lib.Dec.{eqb}
 use borrow.Author.Tests.{eq-eqb, eqb-true}
 use Rattle.records.specs.Reading.{Reading, took, refused, ask, after, andThen}
-use Rattle.terms.specs.Term.{Terms}
+use Rattle.terms.specs.Term.{Term, Terms, unknown, symbol, numbers, compound, nil, cons}
 use Rattle.piece.specs.Piece.{Piece, SoundPiece}
 use Rattle.piece.specs.ReadPiece.{readTerms, readArity, readPrefix, readPiece}
-use Rattle.piece.specs.WritePiece.{termsBytes, pieceBytes}
+use Rattle.piece.specs.WritePiece.{SpellsTerm, SpellsTerms, SpellsPiece, termBytes, termsBytes, pieceBytes}
 use Rattle.piece.proofs.Readings.{asked, took-bytes}
 use Rattle.piece.proofs.PiecesRead.{ArityRead, arity-read, right-arity}
 use Rattle.piece.proofs.WrittenBytes.{piece-written}
 use Rattle.piece.proofs.TermSpelled.{TermsSpelled, TermsRead, terms-spelled, terms-read}
-use Rattle.records.specs.Fields.{AreBytes}
+use Rattle.records.specs.Fields.{wideThen, AreBytes}
 use Rattle.records.proofs.ByteLists.{bytes-drop}
 
--- The bytes s begin with the k bytes of an accepted piece.
+-- The bytes s begin with k bytes that spell an accepted piece.
 pub record Spells (s : List ℕ) (k : ℕ) (piece : Piece) : Type 0 where
   pub sound : SoundPiece piece
-  pub size : k ≡ length (pieceBytes piece)
-  pub bytes : s ≡ pieceBytes piece ++ drop k s
+  pub own : List ℕ
+  pub spells : SpellsPiece piece own
+  pub size : k ≡ length own
+  pub bytes : s ≡ own ++ drop k s
 
 -- What was read, if anything, is spelled.
 abbrev PrefixRead : List ℕ → Reading Piece → Type 0
@@ -44,9 +47,10 @@ piece-of s a n b ts head terms = record {
       arguments = terms .counted;
       wellFormed = terms .wellFormed;
       shallow = terms .shallow;
-      exact = terms .exact;
     };
   };
+  own = 0x11 ∷ n ∷ terms .own;
+  spells = (terms .own, refl, terms .spells);
   size = let two = head .bytes in let size = terms .size in omega arith;
   bytes =
       let there = head .there in
@@ -54,7 +58,7 @@ piece-of s a n b ts head terms = record {
       ∙ ap₂ (λ x l. x ∷ l) (head .kind)
       (drop-cons s 1 0 there
       ∙ ap₂ (λ x l. x ∷ l) (head .arity)
-      (ap (λ k. drop k s) (sym (head .bytes)) ∙ terms .bytes ∙ ap (λ l. termsBytes ts ++ l) (drop-drop b a s)));
+      (ap (λ k. drop k s) (sym (head .bytes)) ∙ terms .bytes ∙ ap (λ l. terms .own ++ l) (drop-drop b a s)));
 }
 
 -- What is read as a piece is accepted and spelled.
@@ -75,29 +79,30 @@ prefix-sound s bytes = head (readArity s) (λ a n read. arity-read s read)
         row a n (known a n refl) (readTerms 3 n (drop a s)) (terms-spelled 3 n (drop a s) (bytes-drop a s bytes))
     head (refused q) known = tt
 
--- The bytes of an accepted piece are read as the piece, whatever follows them.
+-- Bytes that spell an accepted piece are read as the piece, whatever follows them.
 pub prefix-reads
-    : (piece : Piece) (rest : List ℕ) → SoundPiece piece
-    → readPrefix (pieceBytes piece ++ rest) ≡ took (length (pieceBytes piece)) piece
+    : (piece : Piece) (own rest : List ℕ) → SoundPiece piece → SpellsPiece piece own
+    → readPrefix (own ++ rest) ≡ took (length own) piece
 unfolding readPrefix
-prefix-reads piece rest sound =
-    let s = pieceBytes piece ++ rest in
+prefix-reads piece own rest sound (others, is, spells) =
+    let s : List ℕ = 0x11 ∷ piece .arity ∷ (others ++ rest) in
     let there : 2 ≤ length s = omega arith in
     let read = right-arity s there refl (sound .someArgument) (sound .fewArguments) in
     let terms =
-    ap (λ n. readTerms 3 n (termsBytes (piece .terms) ++ rest)) (sym (sound .accepted .arguments))
-    ∙ terms-read (piece .terms) 3 rest (sound .accepted .wellFormed) (sound .accepted .shallow) (sound .accepted .exact) in
-    let size : 2 + length (termsBytes (piece .terms)) ≡ length (pieceBytes piece) = omega arith in
-    ap (λ r. andThen r (λ a n. after a (λ ts. record { arity = n; terms = ts }) (readTerms 3 n (drop a s)))) (sym read)
-    ∙ ap (after 2 (λ ts. record { arity = piece .arity; terms = ts })) terms ∙ ap (λ k. took k piece) size
+    ap (λ n. readTerms 3 n (others ++ rest)) (sym (sound .accepted .arguments))
+    ∙ terms-read (piece .terms) 3 others rest (sound .accepted .wellFormed) (sound .accepted .shallow) spells in
+    let size : 2 + length others ≡ suc (suc (length others)) = omega arith in
+    rw is
+    (ap (λ r. andThen r (λ a n. after a (λ ts. record { arity = n; terms = ts }) (readTerms 3 n (drop a s)))) (sym read)
+    ∙ ap (after 2 (λ ts. record { arity = piece .arity; terms = ts })) terms ∙ ap (λ k. took k piece) size)
 
--- Bytes begin with what reads as a piece exactly when they begin with the written bytes of an accepted piece.
+-- Bytes begin with what reads as a piece exactly when they begin with bytes that spell an accepted piece.
 pub prefix-spelled
     : (s : List ℕ) → AreBytes s → (k : ℕ) (piece : Piece) → (readPrefix s ≡ took k piece) ↔ Spells s k piece
 prefix-spelled s bytes k piece = (
   (λ read. subst (PrefixRead s) read (prefix-sound s bytes)),
   λ spells.
-      ap readPrefix (spells .bytes) ∙ prefix-reads piece (drop k s) (spells .sound)
+      ap readPrefix (spells .bytes) ∙ prefix-reads piece (spells .own) (drop k s) (spells .sound) (spells .spells)
       ∙ ap (λ n. took n piece) (sym (spells .size)),
 )
 
@@ -120,34 +125,50 @@ whole-piece s k piece = (
   λ prefix. rw (prefix .0, eq-eqb k (length s) (prefix .1)),
 )
 
--- Bytes are accepted exactly when they are the written bytes of an accepted piece.
+-- Bytes that spell an accepted piece are read as it.
+pub own-piece
+    : (piece : Piece) (own : List ℕ) → SoundPiece piece → SpellsPiece piece own → readPiece own ≡ took (length own) piece
+own-piece piece own sound spells =
+    whole-piece own (length own) piece .1
+    (ap readPrefix (sym (append-nil own)) ∙ prefix-reads piece own [] sound spells, refl)
+
+-- Bytes are accepted exactly when they spell an accepted piece.
 pub piece-spelled
     : (s : List ℕ) → AreBytes s → (k : ℕ) (piece : Piece)
-    → (readPiece s ≡ took k piece) ↔ (SoundPiece piece × (pieceBytes piece ≡ s) × (k ≡ length s))
+    → (readPiece s ≡ took k piece) ↔ (SoundPiece piece × SpellsPiece piece s × (k ≡ length s))
 piece-spelled s bytes k piece = (
   (λ read.
       let prefix = whole-piece s k piece .0 read in
       let spells = prefix-spelled s bytes k piece .0 (prefix .0) in
       let none = ap (λ n. drop n s) (prefix .1) ∙ drop-length s in
-      (spells .sound, sym (spells .bytes ∙ ap (λ l. pieceBytes piece ++ l) none ∙ append-nil (pieceBytes piece)), prefix .1)),
-  λ spelled.
-      let none = ap (λ n. drop n s) (spelled .2) ∙ drop-length s in
-      whole-piece s k piece .1 (
-        prefix-spelled s bytes k piece .1
-            record {
-              sound = spelled .0;
-              size = spelled .2 ∙ ap length (sym (spelled .1));
-              bytes =
-                  sym (spelled .1) ∙ sym (append-nil (pieceBytes piece)) ∙ ap (λ l. pieceBytes piece ++ l) (sym none);
-            },
-        spelled .2,
-      ),
+      let all = spells .bytes ∙ ap (λ l. spells .own ++ l) none ∙ append-nil (spells .own) in
+      (spells .sound, subst (SpellsPiece piece) (sym all) (spells .spells), prefix .1)),
+  λ spelled. own-piece piece s (spelled .0) (spelled .1) ∙ ap (λ n. took n piece) (sym (spelled .2)),
 )
+
+mutual
+  -- The written bytes of a term spell it,
+  term-spells : (t : Term) → SpellsTerm t (termBytes t)
+  term-spells unknown = refl
+  term-spells (symbol a) = refl
+  term-spells (numbers a b) = go (eqb a b) (eqb-true a b)
+    where
+      go
+          : (c : Bool) → (c ≡ true → a ≡ b)
+          → SpellsTerm (numbers a b) (cond c (0x32 ∷ wideThen a []) (0x34 ∷ wideThen a (wideThen b [])))
+      go true same = inr (same refl, refl)
+      go false same = inl refl
+  term-spells (compound a ts) = (termsBytes ts, refl, terms-spell ts)
+
+  -- and so do those of a row of terms.
+  terms-spell : (ts : Terms) → SpellsTerms ts (termsBytes ts)
+  terms-spell nil = refl
+  terms-spell (cons t ts) = (termBytes t, termsBytes ts, refl, term-spells t, terms-spell ts)
 
 -- An accepted piece is spelled by its written bytes.
 pub written-piece
     : (piece : Piece) → SoundPiece piece
     → AreBytes (pieceBytes piece) × (readPiece (pieceBytes piece) ≡ took (length (pieceBytes piece)) piece)
 written-piece piece sound =
-    let bytes = piece-written piece sound in
-    (bytes, piece-spelled (pieceBytes piece) bytes (length (pieceBytes piece)) piece .1 (sound, refl, refl))
+    let spells : SpellsPiece piece (pieceBytes piece) = (termsBytes (piece .terms), refl, terms-spell (piece .terms)) in
+    (piece-written piece sound, own-piece piece (pieceBytes piece) sound spells)

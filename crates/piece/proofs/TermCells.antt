@@ -1,16 +1,17 @@
 -- Laws of reading terms into cells, for any number of levels below them and of terms in a row.
 use Prim.Native.Nat.{ℕ, suc, _+_, _-_, _≤_, _<_}
-use mathlib.Core.Path.{_≡_, refl, ap, sym, _∙_}
+use mathlib.Core.Path.{_≡_, refl, ap, ap₂, sym, _∙_}
 use mathlib.Core.List.{List}
 use mathlib.Core.Logic.{_⊎_}
 use native.Mathlib.Numerals.{sub-one}
 use native.Mathlib.Omega.{arith}
 use lib.ListN.{length, drop, set}
-use Rattle.records.specs.Reading.{Reading, took, refused, mapReading}
+use borrow.Author.Tests.{le-leb, lt-leb}
+use Rattle.records.specs.Reading.{Reading, took, refused, ask, mapReading}
 use Rattle.records.proofs.RowSoFar.{later}
-use Rattle.terms.specs.Term.{Term, Terms, count, compound, nil, cons}
+use Rattle.terms.specs.Term.{Term, Terms, count, numbers, compound, nil, cons}
 use Rattle.piece.specs.declared.TermRecord.{TermRecord}
-use Rattle.piece.specs.declared.TermRecord.the-variants.{Compound}
+use Rattle.piece.specs.declared.TermRecord.the-variants.{Compound, Span}
 use Rattle.piece.specs.declared.TermHead.{TermHead}
 use Rattle.piece.specs.declared.TermHead.the-variants.{Whole}
 use Rattle.piece.specs.declared.Taken.{Taken}
@@ -18,7 +19,7 @@ use Rattle.piece.specs.declared.Taken.the-variants as taken
 use Rattle.piece.specs.declared.Taken.the-variants.{Bytes}
 use Rattle.piece.specs.views.TermRecord.{termHead, onHead}
 use Rattle.piece.specs.ReadPiece.{readTerm, readTerms}
-use Rattle.codes.specs.views.Codes.{compoundCode, runOf}
+use Rattle.codes.specs.views.Codes.{compoundCode, numberCode, runOf}
 use Rattle.piece.specs.views.Cells.{storeTerm, storeTerms}
 use Rattle.piece.specs.views.LaidOut.{tookCells, termCells, termsCells}
 use Rattle.piece.proofs.Readings.{bytesOf, bytes-map, map-after, same-views, row-took}
@@ -56,6 +57,18 @@ module _ (below : ℕ) (s : List ℕ) (p : ℕ) (cells : List ℕ) where
   pub by-record
       : {h : TermHead} → termHead s ≡ h → mapReading stored (onHead (readCompound below s) h) ≡ termCells below p cells s
   by-record head = ap (mapReading stored) (sym (by-head below s ∙ ap (onHead (readCompound below s)) head))
+
+  module _ (l h : ℕ) (head : termHead s ≡ Whole (Span l h)) where
+    -- A span with low above high is refused,
+    pub span-refused : h < l → refused 32 ≡ termCells below p cells s
+    span-refused above = ap (λ b. mapReading stored (ask 32 b (took 5 (numbers l h)))) (sym (lt-leb l h above)) ∙ by-record head
+
+    -- and any other is stored by the codes of its ends.
+    pub span-stored
+        : l ≤ h → {x y : ℕ} → x ≡ numberCode l → y ≡ numberCode h → took 5 (set cells p (runOf x y)) ≡ termCells below p cells s
+    span-stored most low high =
+        ap₂ (λ x y. took 5 (set cells p (runOf x y))) low high
+        ∙ ap (λ b. mapReading stored (ask 32 b (took 5 (numbers l h)))) (sym (le-leb l h most)) ∙ by-record head
 
   module _ (a n : ℕ) (head : termHead s ≡ Whole (Compound a n)) where
     -- A compound with no level below it is refused.

@@ -1,25 +1,26 @@
 -- Bytes are read as a term exactly where they spell an accepted one, for any number of levels below it; and so for
 -- terms in a row, any number of them.
-use Prim.Native.Nat.{ℕ, zero, suc, _+_, _≤_}
+use Prim.Native.Nat.{ℕ, zero, suc, _+_, _≤_, _<_}
 use mathlib.Core.Path.{_≡_, refl, ap, ap₂, sym, _∙_}
 use mathlib.Core.Bool.{Bool, true, false, _&&_, and-eq-true-iff}
-use mathlib.Core.List.{List, _∷_, _++_, append-assoc}
+use mathlib.Core.List.{List, [], _∷_, _++_, append-assoc}
+use mathlib.Core.Logic.{inl, inr}
 use native.Mathlib.Omega.{arith}
 use lib.ListN.{length, drop, length-append}
 use lib.Seq.{drop-drop, drop-append-seam}
 use lib.Dec.{leb}
-use borrow.Author.Tests.{leb-true}
+use borrow.Author.Tests.{leb-true, le-leb, lt-leb}
 use Rattle.records.specs.Fields.{wideThen, AreBytes}
 use Rattle.records.specs.Reading.{Reading, took, refused, ask, after, andThen, readRow}
-use Rattle.terms.specs.Term.{Term, Terms, count, unknown, symbol, number, numbers, compound, nil, cons, Wide}
+use Rattle.terms.specs.Term.{Term, Terms, count, unknown, symbol, numbers, compound, nil, cons, Wide}
 use Rattle.terms.specs.Filling.{WellFormed, WellFormeds}
-use Rattle.terms.specs.Accepted.{Shallow, Shallows, Exact, Exacts}
-use Rattle.piece.specs.declared.TermRecord.the-variants.{Unknown, Symbol, Number, Compound}
+use Rattle.terms.specs.Accepted.{Shallow, Shallows}
+use Rattle.piece.specs.declared.TermRecord.the-variants.{Unknown, Symbol, Number, Compound, Span}
 use Rattle.piece.specs.declared.TermHead.{TermHead}
 use Rattle.piece.specs.declared.TermHead.the-variants.{Whole, Refused}
 use Rattle.piece.specs.views.TermRecord.{termHead, onHead}
 use Rattle.piece.specs.ReadPiece.{readTerm, readTerms}
-use Rattle.piece.specs.WritePiece.{termBytes, termsBytes}
+use Rattle.piece.specs.WritePiece.{SpellsTerm, SpellsTerms}
 use Rattle.piece.proofs.Rooms.{no-arguments}
 use Rattle.piece.proofs.Readings.{inside}
 use Rattle.piece.proofs.TermsRead.{readCompound, by-head}
@@ -30,18 +31,20 @@ use Rattle.records.proofs.ByteLists.{bytes-drop}
 pub record TermSpelled (s : List ℕ) (below k : ℕ) (t : Term) : Type 0 where
   pub wellFormed : WellFormed t
   pub shallow : Shallow t (suc below)
-  pub exact : Exact t
-  pub size : k ≡ length (termBytes t)
-  pub bytes : s ≡ termBytes t ++ drop k s
+  pub own : List ℕ
+  pub spells : SpellsTerm t own
+  pub size : k ≡ length own
+  pub bytes : s ≡ own ++ drop k s
 
 -- and with those of n terms.
 pub record TermsSpelled (s : List ℕ) (below n k : ℕ) (ts : Terms) : Type 0 where
   pub counted : count ts ≡ n
   pub wellFormed : WellFormeds ts
   pub shallow : Shallows ts (suc below)
-  pub exact : Exacts ts
-  pub size : k ≡ length (termsBytes ts)
-  pub bytes : s ≡ termsBytes ts ++ drop k s
+  pub own : List ℕ
+  pub spells : SpellsTerms ts own
+  pub size : k ≡ length own
+  pub bytes : s ≡ own ++ drop k s
 
 -- What was read, if anything, is spelled.
 abbrev pub TermRead : List ℕ → ℕ → Reading Term → Type 0
@@ -61,14 +64,15 @@ cons-spelled s below n a b t ts first others = record {
   counted = ap suc (others .counted);
   wellFormed = (first .wellFormed, others .wellFormed);
   shallow = (first .shallow, others .shallow);
-  exact = (first .exact, others .exact);
+  own = first .own ++ others .own;
+  spells = (first .own, others .own, refl, first .spells, others .spells);
   size =
       let size-first = first .size in
       let size-others = others .size in
-      omega (arith, length-append (termBytes t) (termsBytes ts));
+      omega (arith, length-append (first .own) (others .own));
   bytes =
-      first .bytes ∙ ap (λ l. termBytes t ++ l) (others .bytes ∙ ap (λ l. termsBytes ts ++ l) (drop-drop b a s))
-      ∙ sym (append-assoc (termBytes t) (termsBytes ts) (drop (a + b) s));
+      first .bytes ∙ ap (λ l. first .own ++ l) (others .bytes ∙ ap (λ l. others .own ++ l) (drop-drop b a s))
+      ∙ sym (append-assoc (first .own) (others .own) (drop (a + b) s));
 }
 
 -- Terms in a row are spelled where each one is.
@@ -77,7 +81,7 @@ row-spelled
     → (n : ℕ) (s : List ℕ) → AreBytes s → TermsRead s below n (readTerms below n s)
 unfolding readRow
 row-spelled below one zero s bytes =
-    record { counted = refl; wellFormed = tt; shallow = tt; exact = tt; size = refl; bytes = refl }
+    record { counted = refl; wellFormed = tt; shallow = tt; own = []; spells = refl; size = refl; bytes = refl }
 row-spelled below one (suc n) s bytes =
     first (readTerm below s) (one s bytes) (λ a. row-spelled below one n (drop a s) (bytes-drop a s bytes))
   where
@@ -103,12 +107,13 @@ compound-spelled s below a n k ts head wide least most arguments =
     record {
       wellFormed = (wide, omega arith, omega arith, arguments .wellFormed);
       shallow = (omega arith, arguments .shallow);
-      exact = arguments .exact;
+      own = 0x33 ∷ wideThen a (count ts ∷ arguments .own);
+      spells = (arguments .own, refl, arguments .spells);
       size = let size = arguments .size in omega arith;
       bytes =
           head
           ∙ ap₂ (λ m l. 0x33 ∷ wideThen a (m ∷ l)) (sym counted)
-          (arguments .bytes ∙ ap (λ l. termsBytes ts ++ l) (drop-drop k 4 s));
+          (arguments .bytes ∙ ap (λ l. arguments .own ++ l) (drop-drop k 4 s));
     }
 
 -- What is read as a compound is spelled.
@@ -130,18 +135,44 @@ compound-read s below a n head wide row =
     go true asked (refused q) spelled = tt
     go false asked r spelled = tt
 
+-- What is read as a span is spelled.
+span-read
+    : (s : List ℕ) (below l h : ℕ) → s ≡ recordThen (Span l h) (drop 5 s) → Wide h
+    → TermRead s below (ask 32 (leb l h) (took 5 (numbers l h)))
+span-read s below l h head wide = go (leb l h) (leb-true l h)
+  where
+    go : (b : Bool) → (b ≡ true → l ≤ h) → TermRead s below (ask 32 b (took 5 (numbers l h)))
+    go true asked =
+        record {
+          wellFormed = (asked refl, wide);
+          shallow = omega arith;
+          own = 0x34 ∷ wideThen l (wideThen h []);
+          spells = inl refl;
+          size = refl;
+          bytes = head;
+        }
+    go false asked = tt
+
 -- A term is spelled by its record, and a compound as its arguments are.
 by-head-spelled
     : (s : List ℕ) (below : ℕ)
     → ((a n : ℕ) → s ≡ recordThen (Compound a n) (drop 4 s) → Wide a → TermRead s below (readCompound below s a n))
     → (h : TermHead) → HeadSpells s h → TermRead s below (onHead (readCompound below s) h)
 by-head-spelled s below compounds (Whole Unknown) spelled =
-    record { wellFormed = tt; shallow = omega arith; exact = tt; size = refl; bytes = spelled .0 }
+    record { wellFormed = tt; shallow = omega arith; own = _; spells = refl; size = refl; bytes = spelled .0 }
 by-head-spelled s below compounds (Whole (Symbol a)) spelled =
-    record { wellFormed = spelled .1; shallow = omega arith; exact = tt; size = refl; bytes = spelled .0 }
+    record { wellFormed = spelled .1; shallow = omega arith; own = _; spells = refl; size = refl; bytes = spelled .0 }
 by-head-spelled s below compounds (Whole (Number a)) spelled =
-    record { wellFormed = (omega arith, spelled .1); shallow = omega arith; exact = refl; size = refl; bytes = spelled .0 }
+    record {
+      wellFormed = (omega arith, spelled .1);
+      shallow = omega arith;
+      own = 0x32 ∷ wideThen a [];
+      spells = inr (refl, refl);
+      size = refl;
+      bytes = spelled .0;
+    }
 by-head-spelled s below compounds (Whole (Compound a n)) spelled = compounds a n (spelled .0) (spelled .1)
+by-head-spelled s below compounds (Whole (Span l h)) spelled = span-read s below l h (spelled .0) (spelled .1 .1)
 by-head-spelled s below compounds (Refused q) spelled = tt
 
 -- What is read as a term is accepted and spelled,
@@ -164,6 +195,13 @@ read-head
     : (below : ℕ) (s : List ℕ) {h : TermHead} → termHead s ≡ h → readTerm below s ≡ onHead (readCompound below s) h
 read-head below s head = by-head below s ∙ ap (onHead (readCompound below s)) head
 
+-- "A span with low above high is refused (32)."
+pub low-above-high-refused
+    : (below l h : ℕ) (rest : List ℕ) → Wide l → Wide h → h < l → readTerm below (0x34 ∷ wideThen l (wideThen h rest)) ≡ refused 32
+low-above-high-refused below l h rest wideLow wideHigh less =
+    read-head below (0x34 ∷ wideThen l (wideThen h rest)) (spelled-head (Span l h) rest (wideLow, wideHigh))
+    ∙ (rw (lt-leb l h less))
+
 -- A compound with 1 to 4 arguments is read on.
 compound-reads
     : (below : ℕ) (s : List ℕ) (a n : ℕ) → 1 ≤ n → n ≤ 4
@@ -184,36 +222,43 @@ unfolding readRow
 one-reads below n s read = rw read
 
 mutual
-  -- The bytes of an accepted term are read as the term, whatever follows them,
+  -- Bytes that spell an accepted term are read as the term, whatever follows them,
   pub term-reads
-      : (t : Term) (below : ℕ) (rest : List ℕ) → WellFormed t → Shallow t (suc below) → Exact t
-      → readTerm below (termBytes t ++ rest) ≡ took (length (termBytes t)) t
-  term-reads unknown below rest ok shallow exact =
-      read-head below (termBytes unknown ++ rest) (spelled-head Unknown rest tt)
-  term-reads (symbol a) below rest ok shallow exact =
-      read-head below (termBytes (symbol a) ++ rest) (spelled-head (Symbol a) rest ok)
-  term-reads (numbers a b) below rest ok shallow exact =
-      read-head below (termBytes (number a) ++ rest) (spelled-head (Number a) rest (omega (arith, ok .1)))
-      ∙ ap (λ c. took 3 (numbers a c)) exact
-  term-reads (compound a ts) zero rest ok shallow exact = absurd (no-arguments ts (ok .1) (shallow .1))
-  term-reads (compound a ts) (suc below) rest ok shallow exact =
-      let s = termBytes (compound a ts) ++ rest in
-      let size : 4 + length (termsBytes ts) ≡ length (termBytes (compound a ts)) = omega arith in
-      read-head (suc below) s (spelled-head (Compound a (count ts)) (termsBytes ts ++ rest) (ok .0))
+      : (t : Term) (below : ℕ) (own rest : List ℕ) → WellFormed t → Shallow t (suc below) → SpellsTerm t own
+      → readTerm below (own ++ rest) ≡ took (length own) t
+  term-reads unknown below own rest ok shallow spells =
+      rw spells (read-head below (0x30 ∷ rest) (spelled-head Unknown rest tt))
+  term-reads (symbol a) below own rest ok shallow spells =
+      rw spells (read-head below (0x31 ∷ wideThen a rest) (spelled-head (Symbol a) rest ok))
+  term-reads (numbers a b) below own rest ok shallow (inl spells) =
+      let wide : Wide a = omega (arith, ok .0, ok .1) in
+      rw spells
+      (read-head below (0x34 ∷ wideThen a (wideThen b rest)) (spelled-head (Span a b) rest (wide, ok .1))
+      ∙ (rw (le-leb a b (ok .0))))
+  term-reads (numbers a b) below own rest ok shallow (inr spells) =
+      rw (spells .1)
+      (read-head below (0x32 ∷ wideThen a rest) (spelled-head (Number a) rest (omega (arith, ok .0, ok .1)))
+      ∙ ap (λ c. took 3 (numbers a c)) (spells .0))
+  term-reads (compound a ts) zero own rest ok shallow spells = absurd (no-arguments ts (ok .1) (shallow .1))
+  term-reads (compound a ts) (suc below) own rest ok shallow (others, is, spells) =
+      let s : List ℕ = 0x33 ∷ wideThen a (count ts ∷ (others ++ rest)) in
+      let size : 4 + length others ≡ suc (suc (suc (suc (length others)))) = omega arith in
+      rw is
+      (read-head (suc below) s (spelled-head (Compound a (count ts)) (others ++ rest) (ok .0))
       ∙ compound-reads below s a (count ts) (ok .1) (ok .2)
-      ∙ ap (after 4 (compound a)) (terms-read ts below rest (ok .3) (shallow .1) exact)
-      ∙ ap (λ k. took k (compound a ts)) size
+      ∙ ap (after 4 (compound a)) (terms-read ts below others rest (ok .3) (shallow .1) spells)
+      ∙ ap (λ k. took k (compound a ts)) size)
 
-  -- and so are the bytes of a row of accepted terms.
+  -- and so are bytes that spell a row of accepted terms.
   pub terms-read
-      : (ts : Terms) (below : ℕ) (rest : List ℕ) → WellFormeds ts → Shallows ts (suc below) → Exacts ts
-      → readTerms below (count ts) (termsBytes ts ++ rest) ≡ took (length (termsBytes ts)) ts
-  terms-read nil below rest ok shallow exact = none-read below rest
-  terms-read (cons t ts) below rest ok shallow exact =
-      let s = termBytes t ++ (termsBytes ts ++ rest) in
-      ap (readTerms below (suc (count ts))) (append-assoc (termBytes t) (termsBytes ts) rest)
-      ∙ one-reads below (count ts) s (term-reads t below (termsBytes ts ++ rest) (ok .0) (shallow .0) (exact .0))
-      ∙ ap (λ l. after (length (termBytes t)) (cons t) (readTerms below (count ts) l))
-      (drop-append-seam (termBytes t) (termsBytes ts ++ rest))
-      ∙ ap (after (length (termBytes t)) (cons t)) (terms-read ts below rest (ok .1) (shallow .1) (exact .1))
-      ∙ ap (λ k. took k (cons t ts)) (sym (length-append (termBytes t) (termsBytes ts)))
+      : (ts : Terms) (below : ℕ) (own rest : List ℕ) → WellFormeds ts → Shallows ts (suc below) → SpellsTerms ts own
+      → readTerms below (count ts) (own ++ rest) ≡ took (length own) ts
+  terms-read nil below own rest ok shallow spells = rw spells (none-read below rest)
+  terms-read (cons t ts) below own rest ok shallow (first, others, is, spells, more) =
+      let s = first ++ (others ++ rest) in
+      rw is
+      (ap (readTerms below (suc (count ts))) (append-assoc first others rest)
+      ∙ one-reads below (count ts) s (term-reads t below first (others ++ rest) (ok .0) (shallow .0) spells)
+      ∙ ap (λ l. after (length first) (cons t) (readTerms below (count ts) l)) (drop-append-seam first (others ++ rest))
+      ∙ ap (after (length first) (cons t)) (terms-read ts below others rest (ok .1) (shallow .1) more)
+      ∙ ap (λ k. took k (cons t ts)) (sym (length-append first others)))

@@ -1,7 +1,9 @@
 -- The written bytes of an accepted piece are bytes.
+use mathlib.Core.Bool.{true, false, cond}
 use mathlib.Core.List.{[], _∷_}
 use native.Mathlib.Omega.{arith}
-use Rattle.records.specs.Fields.{AreBytes}
+use lib.Dec.{eqb}
+use Rattle.records.specs.Fields.{wideThen, AreBytes}
 use Rattle.records.proofs.ByteLists.{bytes-append, wide-bytes}
 use Rattle.terms.specs.Term.{Term, Terms, count, unknown, symbol, numbers, compound, nil, cons}
 use Rattle.terms.specs.Filling.{WellFormed, WellFormeds}
@@ -13,7 +15,9 @@ mutual
   term-written : (t : Term) → WellFormed t → AreBytes (termBytes t)
   term-written unknown ok = (omega arith, tt)
   term-written (symbol a) ok = (omega arith, wide-bytes a [] tt)
-  term-written (numbers a b) ok = (omega arith, wide-bytes a [] tt)
+  term-written (numbers a b) ok =
+      elim (eqb a b) as (λ c. AreBytes (cond c (0x32 ∷ wideThen a []) (0x34 ∷ wideThen a (wideThen b []))))
+      [ true ↦ (omega arith, wide-bytes a [] tt) | false ↦ (omega arith, wide-bytes a (wideThen b []) (wide-bytes b [] tt)) ]
   term-written (compound a ts) ok =
       (omega arith, wide-bytes a (count ts ∷ termsBytes ts) (omega (arith, ok .2), terms-written ts (ok .3)))
 

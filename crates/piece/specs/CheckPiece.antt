@@ -1,4 +1,4 @@
--- What the check of a piece says (document 01, "Questions at the counter", 12 to 17).
+-- What the check of a piece says (document 01, "Questions at the counter", 12 to 17; document 02, request 4, 32).
 use Prim.Native.Nat.{ℕ}
 use Rattle.records.specs.Reading.{Reading, took, refused}
 use Rattle.piece.specs.Piece.{Piece}

@@ -26,6 +26,7 @@ pub enum TermRecord {
     Symbol(u16),
     Number(u16),
     Compound(u16, u8),
+    Span(u16, u16),
 }
 
 // The record that the input begins with, or the number of the question that it got a no from.
@@ -81,7 +82,13 @@ pub fn term_head(s: &[u8]) -> TermHead
             }
             TermHead::Whole(TermRecord::Compound(records::wide(s[1], s[2]), s[3]))
         }
-        0..=0x2f | 0x34..=255 => TermHead::Refused(14),
+        0x34 => {
+            if s.len() < 5 {
+                return TermHead::Refused(14);
+            }
+            TermHead::Whole(TermRecord::Span(records::wide(s[1], s[2]), records::wide(s[3], s[4])))
+        }
+        0..=0x2f | 0x35..=255 => TermHead::Refused(14),
     }
 }
 
@@ -133,6 +140,13 @@ fn term(s: &[u8], below: usize, p: usize, cells: &mut Cells) -> Taken
                 return arguments;
             };
             Taken::Bytes(4 + bytes)
+        }
+        TermRecord::Span(low, high) => {
+            if high < low {
+                return Taken::Refused(32);
+            }
+            cells[p] = run_of(number_code(low), number_code(high));
+            Taken::Bytes(5)
         }
     }
 }

@@ -1,4 +1,4 @@
--- Document 01's example, through bytes: its sheet is built to its 58 bytes.
+-- Document 01's example, through bytes: its sheet is built to its 61 bytes.
 use Prim.Native.Nat.{ℕ}
 use mathlib.Core.Path.{_≡_, refl, sym, ap, _∙_}
 use mathlib.Core.List.{List, [], _∷_}
@@ -49,10 +49,10 @@ example-nodes : graphOf exampleRules ≡ some exampleNodes
 unfolding has maskOf members anyBelow
 example-nodes = refl
 
--- Building the example into a buffer of 58 bytes, all 0 before, writes its 7 nodes.
+-- Building the example into a buffer of 61 bytes, all 0 before, writes its 7 nodes.
 pub example-built
     : buildOutcome exampleSheet exampleBuffer
-    ≡ record { values = record { refusal = 0; nodes = 7; bytes = 58 }; buffer = exampleGraph }
+    ≡ record { values = record { refusal = 0; nodes = 7; bytes = 61 }; buffer = exampleGraph }
 example-built = built-outcome lowest exampleSheet exampleBuffer building ∙ refl
   where
     building : Building lowest exampleSheet exampleBuffer
@@ -68,7 +68,7 @@ example-built = built-outcome lowest exampleSheet exampleBuffer building ∙ ref
       fits = omega arith;
     }
 
--- So its 58 bytes are a built graph.
+-- So its 61 bytes are a built graph.
 pub example-graph : BuiltGraph lowest exampleSheet exampleBuffer exampleGraph
 example-graph = record {
   notRefused = ap (λ (y : BuildOutcome). y .values .refusal) example-built;

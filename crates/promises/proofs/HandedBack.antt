@@ -23,8 +23,8 @@ use Rattle.promises.specs.BuiltGraph.{BuiltGraph}
 use Rattle.promises.specs.Path.{EdgesOfPath}
 use Rattle.promises.proofs.PathEdges.{edges-are-the-path}
 use Rattle.promises.proofs.Demand3.{demand-3, walk-is-plain, monotone-promise}
-use Rattle.promises.proofs.Waiting.{wait-values, wait-word-kept}
-use Rattle.decision.specs.Waiting.{ListedNotKnown, ListedKept}
+use Rattle.promises.proofs.Waiting.{wait-word-kept}
+use Rattle.decision.specs.Waiting.{ListedKept}
 
 -- Word and rule determine the answer.
 pub answer-determined : (a b : Answer) → wordOf a ≡ wordOf b → ruleOf a ≡ ruleOf b → a ≡ b
@@ -157,18 +157,6 @@ module _ {asking : Asking} {s buffer g p : List ℕ} {sheet : Sheet} {piece : Pi
           subst (λ (x : Answer). Keeps x (answerOf (v .answer))) (sym same)
               (subst (λ (x : Answer). Keeps (due .answer) x) (sym sameLater) keeps),
         )
-
-    -- "If every listed test is still not known in a piece filled in further, suspend stays suspend": where `walk` hands back
-    -- suspend, and the list is the number that `vt_wait` hands back, the piece filled in further gets the same values.
-    pub walk-call-waits
-        : (waits : ℕ) → waits ≡ replyValues (walkReply s g p) .waits
-        → walkedValues r .word ≡ wordOf suspend → ListedNotKnown (sheet .rules) waits (further .terms)
-        → walkedValues t ≡ walkedValues r
-    walk-call-waits waits is word listed =
-        d
-        ∙ wait-values ok okFurther more built (ap (λ (x : WalkValues). x .word) (sym e) ∙ word)
-        (subst (λ (n : ℕ). ListedNotKnown (sheet .rules) n (further .terms)) is listed)
-        ∙ sym e
 
     -- "While each listed place keeps what it held and each listed pair is still not known, a piece filled in further suspends":
     -- where `walk` hands back suspend, it hands back suspend for the piece filled in further.

@@ -129,6 +129,15 @@ module _ (rules : List Patterns) (order : List ℕ) (vs : List Vertex) (listed :
       let one = one-node-exactly rules order vs listed k l first-met second-met in
       (λ e. one .0 (is-m ∙ e ∙ sym is-n), λ h. sym is-m ∙ one .1 h ∙ is-n)
 
+  -- At a number stands the node of the key behind it.
+  key-node
+      : {n : ℕ} {key : Key} → KeyBehind rules order nodes n key
+      → getD nodes n (end failNode) ≡ mapNode number (nodeOf rules order (vertexOf rules key))
+  key-node {n} {key} before =
+      let (member, numbers) = behind before in
+      subst (λ (x : ℕ). getD nodes x (end failNode) ≡ mapNode number (nodeOf rules order (vertexOf rules key))) numbers
+      (node-at rules order vs listed nil (vertexOf rules key) member)
+
 -- What is so of the nodes of every graph, in whatever order it asks the tests.
 pub record Shared (rules : List Patterns) (order : List ℕ) (nodes : List (Node ℕ)) : Type 0 where
   pub nodeKey : (n : ℕ) → n < length nodes → (key : Key) × KeyBehind rules order nodes n key
@@ -138,6 +147,10 @@ pub record Shared (rules : List Patterns) (order : List ℕ) (nodes : List (Node
   pub equalKeys
       : {m n : ℕ} {key other : Key} → KeyBehind rules order nodes m key → KeyBehind rules order nodes n other
       → (m ≡ n) ↔ ((key ≡ other) ⊎ SameLeaf rules key other)
+  pub number : Vertex → ℕ
+  pub keyNode
+      : {n : ℕ} {key : Key} → KeyBehind rules order nodes n key
+      → getD nodes n (end failNode) ≡ mapNode number (nodeOf rules order (vertexOf rules key))
 
 pub graph-shared
     : (rules : List Patterns) (order : List ℕ) (nodes : List (Node ℕ)) → graphIn rules order ≡ some nodes → Shared rules order nodes
@@ -153,4 +166,6 @@ graph-shared rules order nodes graph = go (vertices rules order) refl graph
           nodeKey = node-behind rules order vs d;
           edgeKey = next-behind rules order vs d;
           equalKeys = numbers-share rules order vs d;
+          number = numberOf rules order vs;
+          keyNode = key-node rules order vs d;
         }

@@ -19,6 +19,9 @@ pub mod Request1
 pub mod SameSheets
 pub mod TidyBytes
 pub mod Request2
+-- Request 4:
+pub mod Request4
+pub mod BuiltSize
 -- Request 9:
 pub mod Request9
 -- The cases that document 01 gives, its fakes, and its example by a table:

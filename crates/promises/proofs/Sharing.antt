@@ -48,7 +48,7 @@ module _ {asking : Asking} {s buffer g : List ℕ} {k : ℕ} {sheet : Sheet} (bu
 
   -- The keys behind its numbers, in the order in which the tests were asked: `lowestFirst`, or that of the table.
   module _ {size : ℕ} {order : List Patterns → List ℕ} (ordered : readAsking asking ≡ took size order) where
-    shared : Shared (sheet .rules) (order (sheet .rules)) nodes
+    pub shared : Shared (sheet .rules) (order (sheet .rules)) nodes
     shared =
         let same = order-is made ordered in
         subst (λ (f : List Patterns → List ℕ). Shared (sheet .rules) (f (sheet .rules)) nodes) same

@@ -1,33 +1,28 @@
--- The wait sentence, over bytes (document 01, "The walk"): "If every listed test is still not known in a piece filled in further,
--- suspend stays suspend"; on a built graph also (document 02, request 8) "while each listed place keeps what it held and each
--- listed pair is still not known".
+-- The wait sentence, over bytes (document 01, "The walk"), which "now speaks of built graphs only, as another maker's cases may cut
+-- inside a range, and asks that listed places keep the unknown or span that they held" (document 02, request 4): "while each listed
+-- place keeps what it held and each listed pair is still not known, a piece filled in further suspends" (request 8).
 use Prim.Native.Nat.{ℕ}
 use mathlib.Core.Path.{_≡_, refl, sym, ap, subst, _∙_}
 use mathlib.Core.List.{List}
 use native.Mathlib.Omega.{arith}
-use Rattle.records.specs.Fields.{AreBytes}
 use Rattle.records.specs.Reading.{Reading, took, refused}
 use Rattle.terms.specs.Filling.{FilledFurther}
 use Rattle.terms.specs.Answer.{Answer, commit, execute, suspend, fail, wordOf}
 use Rattle.sheet.specs.Sheet.{Sheet}
 use Rattle.piece.specs.Piece.{Piece}
-use Rattle.accepted.proofs.Acceptance.{sheet-accepted}
 use Rattle.promises.specs.AcceptedBytes.{AcceptedBytes}
 use Rattle.decision.specs.Node.{Node}
-use Rattle.decision.specs.AcceptedGraph.{AcceptedGraph}
 use Rattle.decision.specs.Walk.{Walk}
-use Rattle.decision.proofs.waiting.WaitSentence.{wait-sentence-accepted}
 use Rattle.decision.proofs.waiting.WaitSentenceKept as definitions
 use Rattle.graph.specs.ReadGraph.{readGraph}
-use Rattle.graph.proofs.Spelled.{graph-read}
 use Rattle.order.specs.Asking.{Asking}
 use Rattle.walk.specs.Walking.{walkReply, replyValues}
 use Rattle.promises.specs.BuiltGraph.{BuiltGraph}
 use Rattle.promises.proofs.PlainBytes.{terms-accepted}
-use Rattle.promises.proofs.Demand2.{building, accepted-sheet, built-asks, accepted-graph, graph-read-back}
+use Rattle.promises.proofs.Demand2.{building, accepted-sheet, built-asks, graph-read-back}
 use Rattle.promises.proofs.Demand3.{walk-over-nodes}
 use Rattle.promises.proofs.PathEdges.{walk-takes-none}
-use Rattle.decision.specs.Waiting.{ListedNotKnown, ListedKept}
+use Rattle.decision.specs.Waiting.{ListedKept}
 use Rattle.build.specs.Building.{Building}
 
 -- The word tells whether an answer is suspend.
@@ -54,65 +49,10 @@ reply-suspends {s} {p} {sheet} {piece} ok g {k} {nodes} read word = go (walkRepl
 
 module _ {s p q : List ℕ} {sheet : Sheet} {piece further : Piece} (ok : AcceptedBytes s p sheet piece)
     (okFurther : AcceptedBytes s q sheet further) (more : FilledFurther (piece .terms) (further .terms)) where
-  -- Every test that the list holds is not known in the piece filled in further.
-  abbrev StillListed : ℕ → Type 0
-  StillListed waits = ListedNotKnown (sheet .rules) waits (further .terms)
-
-  -- Over a graph that is read as accepted nodes.
-  module _ (g : List ℕ) {k : ℕ} {nodes : List (Node ℕ)} (read : readGraph sheet g ≡ took k nodes)
-      (graph : AcceptedGraph (sheet .rules) nodes) where
-    suspends-still
-        : {w : Walk} → walkReply s g p ≡ took 0 w → w .answer ≡ suspend → StillListed (w .waits) → walkReply s g q ≡ took 0 w
-    suspends-still {w} e suspends listed =
-        walk-over-nodes g okFurther read
-        ∙ wait-sentence-accepted (sheet .rules) nodes graph (piece .terms) (further .terms) (terms-accepted ok .exact) more w
-        (sym (walk-over-nodes g ok read) ∙ e) suspends listed
-
-    values-still
-        : replyValues (walkReply s g p) .word ≡ wordOf suspend → StillListed (replyValues (walkReply s g p) .waits)
-        → replyValues (walkReply s g q) ≡ replyValues (walkReply s g p)
-    values-still word listed =
-        let (w, answers, suspends) = reply-suspends ok g read word in
-        let here = subst (λ (x : Reading Walk). StillListed (replyValues x .waits)) answers listed in
-        ap replyValues (suspends-still answers suspends here ∙ sym answers)
-
-  -- Of every graph that the check accepts, built or another maker's: the walk of the piece filled in further suspends too, with the
-  -- same edges and the same wait list.
-  module _ (g : List ℕ) (areBytes : AreBytes g) {k : ℕ} {nodes : List (Node ℕ)} (read : readGraph sheet g ≡ took k nodes) where
-    graph-accepted : AcceptedGraph (sheet .rules) nodes
-    graph-accepted =
-        let sound = sheet-accepted s (ok .areBytes .0) (ok .sheetTook) sheet .0 (ok .sheetAccepted) .0 .sound in
-        graph-read sheet sound g areBytes read .accepted
-
-    pub wait-sentence-graph
-        : {w : Walk} → walkReply s g p ≡ took 0 w → w .answer ≡ suspend
-        → ListedNotKnown (sheet .rules) (w .waits) (further .terms) → walkReply s g q ≡ took 0 w
-    wait-sentence-graph = suspends-still g read graph-accepted
-
-    -- So it is of the values: of the word that `vt_walk` and of the wait list that `vt_wait` hands back.
-    pub wait-values-graph
-        : replyValues (walkReply s g p) .word ≡ wordOf suspend
-        → ListedNotKnown (sheet .rules) (replyValues (walkReply s g p) .waits) (further .terms)
-        → replyValues (walkReply s g q) ≡ replyValues (walkReply s g p)
-    wait-values-graph = values-still g read graph-accepted
-
   -- Of every built graph.
   module _ {asking : Asking} {buffer g : List ℕ} (built : BuiltGraph asking s buffer g) where
     abbrev built-as : Building asking s buffer
     built-as = building built (ok .sheetAccepted)
-
-    pub wait-sentence
-        : {w : Walk} → walkReply s g p ≡ took 0 w → w .answer ≡ suspend
-        → ListedNotKnown (sheet .rules) (w .waits) (further .terms) → walkReply s g q ≡ took 0 w
-    wait-sentence =
-        suspends-still g (graph-read-back built (ok .areBytes .0) built-as) (accepted-graph built (ok .areBytes .0) built-as)
-
-    pub wait-values
-        : replyValues (walkReply s g p) .word ≡ wordOf suspend
-        → ListedNotKnown (sheet .rules) (replyValues (walkReply s g p) .waits) (further .terms)
-        → replyValues (walkReply s g q) ≡ replyValues (walkReply s g p)
-    wait-values =
-        values-still g (graph-read-back built (ok .areBytes .0) built-as) (accepted-graph built (ok .areBytes .0) built-as)
 
     -- "While each listed place keeps what it held and each listed pair is still not known, a piece filled in further suspends,
     -- although its walk may take another way."

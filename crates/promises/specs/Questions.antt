@@ -8,9 +8,9 @@ use Rattle.order.specs.Asking.{Asking, lowest, byTable}
 use Rattle.build.specs.BuildOutcome.{BuildOutcome, notBuilt}
 use Rattle.accepted.specs.Questions.{Between, SheetQuestion}
 
--- "Piece": 12 to 17.
+-- "Piece": 12 to 17. Document 02, request 4: "a span with low above high is refused (32), after question 16 at that term".
 abbrev pub PieceQuestion : ℕ → Type 0
-PieceQuestion = Between 12 17
+PieceQuestion q = Between 12 17 q ⊎ (q ≡ 32)
 
 -- "21 to 25": those of a graph.
 abbrev pub GraphQuestion : ℕ → Type 0

@@ -59,7 +59,7 @@ fn copy_node(s: &[u8], buf: &mut [u8], start: usize) -> Copied
     let at = put_node(buf, start, node);
     match node {
         NodeRecord::End(_) => Copied::To(at),
-        NodeRecord::Switch(_, count, _, _) => copy_cases(s, buf, at, count as u16),
+        NodeRecord::Switch(_, count, _, _) => copy_cases(s, buf, at, count),
         NodeRecord::Pair(_, _, _, _) => Copied::To(at),
     }
 }

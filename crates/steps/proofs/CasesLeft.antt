@@ -22,7 +22,7 @@ use Rattle.node_check.proofs.CasesPass.{case-fits, case-refused}
 use Rattle.node_check.proofs.CopiedRecords.{edgeOf, edge-read}
 use Rattle.graph.proofs.RowsLeft.{row-there, others-left, first-others}
 use Rattle.steps.proofs.NarrowestPass.{passFrom, pass-follows}
-use Rattle.steps.specs.views.CodeSteps.{followCode, CodesAscend}
+use Rattle.number_search.specs.views.CodeCases.{followCode, CodesAscend}
 
 -- A record's range is that of its case, and leads where the case does.
 by-range

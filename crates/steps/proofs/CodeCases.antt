@@ -25,7 +25,7 @@ use Rattle.decision.specs.Node.{CaseEdge, leadsOr, follow}
 use Rattle.decision.specs.AcceptedGraph.{CaseFields}
 use Rattle.decision.specs.views.CaseCodes.{caseLow, caseHigh}
 use Rattle.decision.proofs.cases.Best.{best-same}
-use Rattle.steps.specs.views.CodeSteps.{takesCodes, narrowerCodes, followCode}
+use Rattle.number_search.specs.views.CodeCases.{takesCodes, narrowerCodes, followCode}
 
 -- Codes that end behind a range do not lie in it.
 ends-behind : (first last low high : ℕ) → last < high → leb first low && leb high last ≡ false

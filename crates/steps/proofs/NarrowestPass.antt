@@ -11,7 +11,7 @@ use lib.Dec.{T, leb, ltb, ltb→lt, lt→ltb, le→leb}
 use borrow.Author.Tests.{ltb-true, ltb-false}
 use Rattle.basics.specs.Lists.{All}
 use Rattle.basics.specs.Order.{pairBefore}
-use Rattle.basics.proofs.Booleans.{by-test, is-true, true-is, both-true, true-both}
+use Rattle.basics.proofs.Booleans.{not-so, by-test, is-true, true-is, both-true, true-both}
 use Rattle.basics.proofs.ListLaws.{all-map}
 use Rattle.basics.proofs.Numbers.{both-le}
 use Rattle.basics.proofs.Sorted.{pair-before, before-pair}
@@ -20,12 +20,8 @@ use Rattle.decision.specs.Node.{CaseEdge, leadsOr}
 use Rattle.decision.specs.views.CaseCodes.{caseLow, caseHigh}
 use Rattle.decision.proofs.cases.Best.{IfSome, best-holds}
 use Rattle.node_check.proofs.CodeOrder.{first-positive}
-use Rattle.steps.specs.views.CodeSteps.{takesCodes, narrowerCodes, followCode, CodesAscend}
-
--- A test that is refuted is false.
-not-so : (b : Bool) → (T b → ⊥) → b ≡ false
-not-so true h = absurd (h tt)
-not-so false h = refl
+use Rattle.number_search.proofs.FirstOfRow.{best-of-none}
+use Rattle.number_search.specs.views.CodeCases.{takesCodes, narrowerCodes, followCode, CodesAscend}
 
 -- The best of two more things: where the second comes before the first, and so do those behind it, the first is passed over; where
 -- it does not, and what does not come before it does not come before the first either, the second is.
@@ -88,11 +84,10 @@ module _ (low high : ℕ) where
 
   -- Cases that begin above the lowest code take nothing.
   none-above : (cs : List (CaseEdge ℕ)) → All (λ (d : CaseEdge ℕ). low < first d) cs → bestOf cs ≡ none
-  none-above [] h = refl
-  none-above (d ∷ ds) h =
-      ap (λ (b : Bool). better before b d (bestOf ds))
-      (not-so (taken d) (λ t. let k = both-le (first d) low high (last d) .0 t in omega (arith, k .0, h .0)))
-      ∙ none-above ds (h .1)
+  none-above cs h =
+      best-of-none taken before cs
+      (all-map (λ (d : CaseEdge ℕ). low < first d) (λ (d : CaseEdge ℕ). T (taken d) → ⊥)
+      (λ d l t. omega (arith, both-le (first d) low high (last d) .0 t .0, l)) cs h)
 
   all-above : (d : CaseEdge ℕ) (ds : List (CaseEdge ℕ)) → CodesAscend (d ∷ ds) → ltb low (first d) ≡ true → bestOf (d ∷ ds) ≡ none
   all-above d ds a e =

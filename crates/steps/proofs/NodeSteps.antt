@@ -27,7 +27,8 @@ use Rattle.node_check.proofs.CopiedNodes.{cases-there}
 use Rattle.steps.specs.declared.Led.{Led}
 use Rattle.steps.specs.declared.Led.the-variants.{To, Refused}
 use Rattle.steps.specs.declared.Step.the-variants.{GoTo, NoWay}
-use Rattle.steps.specs.views.CodeSteps.{followCode, runStep, runsStep, stepMade}
+use Rattle.number_search.specs.views.CodeCases.{followCode}
+use Rattle.steps.specs.views.CodeSteps.{runStep, runsStep, stepMade}
 use Rattle.graph.proofs.ByKinds.{node-read-by}
 
 -- The node that the cases of a switch lead to.

@@ -1,56 +1,86 @@
--- Cases that question 24 accepts ascend by their codes.
+-- Cases that question 24 accepts ascend by their first codes, then by their last ones.
 use Prim.Native.Nat.{ℕ, _<_}
-use mathlib.Core.Path.{sym, subst}
-use mathlib.Core.Bool.{_&&_}
-use mathlib.Core.Logic.{inl}
+use mathlib.Core.Path.{_≡_}
+use mathlib.Core.Logic.{_⊎_, inl, inr}
 use mathlib.Core.List.{List, [], _∷_}
 use native.Mathlib.Omega.{arith}
-use lib.Dec.{T, leb, ltb, leb→le, ltb→lt}
+use lib.Dec.{T}
 use Rattle.basics.specs.Lists.{All}
 use Rattle.basics.specs.Order.{pairBefore}
-use Rattle.basics.proofs.Booleans.{both-true}
-use Rattle.basics.proofs.ListLaws.{all-map}
-use Rattle.basics.proofs.Sorted.{before-pair}
+use Rattle.basics.proofs.Sorted.{pair-before, before-pair}
+use Rattle.codes.specs.views.Codes.{symbolCode, compoundCode, numberCode}
+use Rattle.decision.specs.Cases.{Case, symbolCase, compoundCase, numbersCase}
 use Rattle.decision.specs.Node.{Node, CaseEdge, end, switch, pairNode}
+use Rattle.decision.specs.AcceptedGraph.{CaseBefore, CaseFields, Ascend}
 use Rattle.decision.specs.views.CaseCodes.{caseLow, caseHigh}
 use Rattle.graph.specs.ReadGraph.{inOrder}
-use Rattle.node_check.proofs.CodeOrder.{ascendAfter, ascend-codes}
-use Rattle.steps.specs.views.CodeSteps.{CodesAscend, OrderedNode}
+use Rattle.graph.proofs.CaseOrder.{ascend-true}
+use Rattle.number_search.specs.views.CodeCases.{CodesAscend}
+use Rattle.steps.specs.views.CodeSteps.{OrderedNode}
 use Rattle.steps.proofs.StepsAgree.{FieldsFit}
 
-abbrev first : CaseEdge ℕ → ℕ
-first c = caseLow (c .case)
+-- Ranges of codes of which the one begins before the other come in this order.
+begins-before : (p q x y : ℕ) → p < x → T (pairBefore p q x y)
+begins-before p q x y h = before-pair p q x y (inl h)
 
-abbrev last : CaseEdge ℕ → ℕ
-last c = caseHigh (c .case)
+-- A compound of a lower id, or of the same id and a lower arity, has a lower code.
+compounds-before
+    : (a n b m : ℕ) → n < 256 → T (pairBefore a n b m)
+    → T (pairBefore (compoundCode a n) (compoundCode a n) (compoundCode b m) (compoundCode b m))
+compounds-before a n b m small h = go (pair-before a n b m h)
+  where
+    go
+        : (a < b) ⊎ ((a ≡ b) × (n < m)) → T (pairBefore (compoundCode a n) (compoundCode a n) (compoundCode b m) (compoundCode b m))
+    go (inl l) = begins-before (compoundCode a n) (compoundCode a n) (compoundCode b m) (compoundCode b m) (omega arith)
+    go (inr e) =
+        begins-before (compoundCode a n) (compoundCode a n) (compoundCode b m) (compoundCode b m) (omega (arith, e .0, e .1))
 
--- Ranges of codes that come one after another after a code begin above it,
-all-after : (code : ℕ) (cs : List (CaseEdge ℕ)) → T (ascendAfter code cs) → All (λ (d : CaseEdge ℕ). code < first d) cs
-all-after code [] h = tt
-all-after code (c ∷ cs) h =
-    let (here, behind) = both-true (ltb code (first c) && leb (first c) (last c)) (ascendAfter (last c) cs) h in
-    let k = both-true (ltb code (first c)) (leb (first c) (last c)) here in
-    let above = ltb→lt code (first c) (k .0) in
-    let ordered = leb→le (first c) (last c) (k .1) in (
-      above,
-      all-map (λ (d : CaseEdge ℕ). last c < first d) (λ (d : CaseEdge ℕ). code < first d) (λ d l. omega (arith, above, ordered, l)) cs
-          (all-after (last c) cs behind),
-    )
+-- Numbers' codes are in the order of the numbers.
+numbers-before
+    : (l h x y : ℕ) → T (pairBefore l h x y) → T (pairBefore (numberCode l) (numberCode h) (numberCode x) (numberCode y))
+numbers-before l h x y k = before-pair (numberCode l) (numberCode h) (numberCode x) (numberCode y) (go (pair-before l h x y k))
+  where
+    go
+        : (l < x) ⊎ ((l ≡ x) × (h < y))
+        → (numberCode l < numberCode x) ⊎ ((numberCode l ≡ numberCode x) × (numberCode h < numberCode y))
+    go (inl k) = inl (omega arith)
+    go (inr e) = inr (omega (arith, e .0), omega (arith, e .1))
 
--- so they ascend.
-after-ascend : (code : ℕ) (cs : List (CaseEdge ℕ)) → T (ascendAfter code cs) → CodesAscend cs
-after-ascend code [] h = tt
-after-ascend code (c ∷ cs) h =
-    let (here, behind) = both-true (ltb code (first c) && leb (first c) (last c)) (ascendAfter (last c) cs) h in
-    let k = both-true (ltb code (first c)) (leb (first c) (last c)) here in
-    let ordered = leb→le (first c) (last c) (k .1) in (
-      all-map (λ (d : CaseEdge ℕ). last c < first d) (λ (d : CaseEdge ℕ). T (pairBefore (first c) (last c) (first d) (last d)))
-          (λ d l. before-pair (first c) (last c) (first d) (last d) (inl (omega (arith, ordered, l)))) cs
-          (all-after (last c) cs behind),
-      after-ascend (last c) cs behind,
-    )
+-- A case before another is before it by its codes.
+abbrev CodesBefore : Case → Case → Type 0
+CodesBefore c d = T (pairBefore (caseLow c) (caseHigh c) (caseLow d) (caseHigh d))
+
+codes-before : (c d : Case) → CaseFields c → CaseFields d → CaseBefore c d → CodesBefore c d
+codes-before (symbolCase a) (symbolCase b) f g h =
+    begins-before (symbolCode a) (symbolCode a) (symbolCode b) (symbolCode b) (omega arith)
+codes-before (symbolCase a) (compoundCase b m) f g h =
+    begins-before (symbolCode a) (symbolCode a) (compoundCode b m) (compoundCode b m) (omega arith)
+codes-before (symbolCase a) (numbersCase x y) f g h =
+    begins-before (symbolCode a) (symbolCode a) (numberCode x) (numberCode y) (omega arith)
+codes-before (compoundCase a n) (symbolCase b) f g h = absurd h
+codes-before (compoundCase a n) (compoundCase b m) f g h = compounds-before a n b m (f .1) h
+codes-before (compoundCase a n) (numbersCase x y) f g h =
+    begins-before (compoundCode a n) (compoundCode a n) (numberCode x) (numberCode y) (omega (arith, f .0, f .1))
+codes-before (numbersCase l u) (symbolCase b) f g h = absurd h
+codes-before (numbersCase l u) (compoundCase b m) f g h = absurd h
+codes-before (numbersCase l u) (numbersCase x y) f g h = numbers-before l u x y h
+
+-- So cases that ascend ascend by their codes.
+abbrev AllFields : List (CaseEdge ℕ) → Type 0
+AllFields = All (λ (c : CaseEdge ℕ). CaseFields (c .case))
+
+before-all
+    : (c : Case) (ds : List (CaseEdge ℕ)) → CaseFields c → AllFields ds → All (λ (d : CaseEdge ℕ). CaseBefore c (d .case)) ds
+    → All (λ (d : CaseEdge ℕ). CodesBefore c (d .case)) ds
+before-all c [] f gs hs = tt
+before-all c (d ∷ ds) f gs hs =
+    (codes-before c (d .case) f (gs .0) (hs .0), before-all c ds f (gs .1) (hs .1))
+
+codes-ascend : (cs : List (CaseEdge ℕ)) → AllFields cs → Ascend cs → CodesAscend cs
+codes-ascend [] fs h = tt
+codes-ascend (c ∷ cs) fs h = (before-all (c .case) cs (fs .0) (fs .1) (h .0), codes-ascend cs (fs .1) (h .1))
 
 pub node-ordered : (n : Node ℕ) → FieldsFit n → T (inOrder n) → OrderedNode n
 node-ordered (end l) f h = tt
-node-ordered (switch n cs x y) f h = after-ascend 0 cs (subst T (sym (ascend-codes cs f)) h)
+node-ordered (switch n cs x y) f h = record { fields = f; ascend = codes-ascend cs f (ascend-true cs h .1) }
 node-ordered (pairNode p q x y) f h = tt

@@ -24,7 +24,8 @@ use Rattle.outcomes.proofs.PairTestsAgree.{pair-test-agrees}
 use Rattle.decision.specs.Node.{Node, CaseEdge, end, switch, pairNode, follow}
 use Rattle.decision.specs.AcceptedGraph.{CaseFields}
 use Rattle.decision.specs.Path.{goTo, noWay, switchStep, byComparison, pairStep, stepAt}
-use Rattle.steps.specs.views.CodeSteps.{followCode, runStep, stepCells, NearNode}
+use Rattle.number_search.specs.views.CodeCases.{followCode}
+use Rattle.steps.specs.views.CodeSteps.{runStep, stepCells, NearNode}
 use Rattle.steps.proofs.CodeCases.{follow-codes}
 
 -- The fields of a switch's cases are those of records.

@@ -14,10 +14,10 @@ use outcomes::TestOutcome;
 use outcomes::look;
 use outcomes::pair_outcome;
 use piece::Cells;
-ghost use Prim.Native.Nat.{_≤_, _<_};
+ghost use Prim.Native.Nat.{_<_};
 ghost use mathlib.Core.Path.{_≡_};
 ghost use mathlib.Core.List.{[]};
-ghost use lib.ListN.{length, drop};
+ghost use lib.ListN.{drop};
 ghost use Rattle.pairs.specs.views.KeptPairs.{pairCode};
 ghost use Rattle.outcomes.specs.views.Look.{look};
 ghost use Rattle.outcomes.specs.views.CompareCells.{Narrow};
@@ -25,8 +25,9 @@ ghost use Rattle.outcomes.specs.views.CellOutcome.{pairCells};
 ghost use Rattle.decision.specs.Key.{failNode};
 ghost use Rattle.decision.specs.Node.{end};
 ghost use Rattle.graph.specs.ReadGraph.{readCases, readRecord};
-ghost use Rattle.graph.specs.views.Rewriting.{IsTook, readOr};
-ghost use Rattle.steps.specs.views.CodeSteps.{runStep, runsStep, stepMade, nodeStep, CodesAscend, NodeStands};
+ghost use Rattle.graph.specs.views.Rewriting.{readOr};
+ghost use Rattle.number_search.specs.views.NumberRows.{CasesStand};
+ghost use Rattle.steps.specs.views.CodeSteps.{runStep, runsStep, stepMade, nodeStep, NodeStands};
 
 // A test as one number: the places of a pair, or one place twice.
 fn test_code(p: u16, q: u16) -> u32
@@ -45,8 +46,7 @@ fn switch_step(
     unknown: u16,
     cells: &Cells,
 ) -> Step
-    requires { ⌜ (start ≤ length (now graph)) × IsTook (readCases count (drop start (now graph))) × (tested < 680) ⌝ }
-    requires { ⌜ CodesAscend (readOr [] (readCases count (drop start (now graph)))) ⌝ }
+    requires { ⌜ CasesStand (now graph) start count × (tested < 680) ⌝ }
     ensures { λ r. ⌜ r
         ≡ stepMade (pairCode tested tested)
         (runStep (readOr [] (readCases count (drop start (now (graph .entry))))) neither unknown
@@ -103,11 +103,10 @@ pub fn step_at(graph: &[u8], at: usize, cells: &Cells) -> Step
     match node {
         NodeRecord::End(leaf) => Step::Stop(leaf),
         NodeRecord::Switch(tested, count, neither, unknown) => {
-            let cases = count as u16;
             switch_step(
                 graph,
                 at + SWITCH_BYTES,
-                cases,
+                count,
                 tested,
                 neither,
                 unknown,

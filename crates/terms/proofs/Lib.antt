@@ -8,7 +8,6 @@ pub mod Spans
 pub mod CompareSentences
 pub mod Stays
 pub mod TermPlaces
-pub mod Exact
 pub mod Numbered
 pub mod WellFormed
 pub mod ConstantFilling

@@ -46,21 +46,8 @@ abbrev mutual
   Shallows nil r = Unit
   Shallows (cons t ts) r = Shallow t r × Shallows ts r
 
--- Every number is known exactly: no record of a piece has a span of several numbers.
-abbrev mutual
-  pub Exact : Term → Type 0
-  Exact unknown = Unit
-  Exact (symbol a) = Unit
-  Exact (numbers a b) = a ≡ b
-  Exact (compound a ts) = Exacts ts
-
-  pub Exacts : Terms → Type 0
-  Exacts nil = Unit
-  Exacts (cons t ts) = Exact t × Exacts ts
-
 -- An accepted piece of that arity.
 pub record AcceptedPiece (arity : ℕ) (piece : Terms) : Type 0 where
   pub arguments : count piece ≡ arity
   pub wellFormed : WellFormeds piece
   pub shallow : Shallows piece 4
-  pub exact : Exacts piece

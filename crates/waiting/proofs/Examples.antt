@@ -12,7 +12,7 @@ use Rattle.sheet_tests.specs.SheetTests.{sheetTests}
 use Rattle.piece.specs.views.LaidOut.{emptyCells, pieceCells}
 use Rattle.decision.specs.Key.{suspendNode}
 use Rattle.decision.specs.Node.{Node, end, switch}
-use Rattle.decision.proofs.waiting.SpanWaits.{spanWaits}
+use Rattle.decision.specs.Walk.{suspendWaits}
 use Rattle.path.specs.views.Following.{metCodes}
 use Rattle.rule_masks.specs.views.RuleMasks.{notesMasks}
 use Rattle.waiting.specs.views.OpenTests.{metWaits}
@@ -39,7 +39,7 @@ pub first-then-second : listed (asking 0 85) ≡ 1
 unfolding spanList metWaits has maskOf notesMasks emptyCells
 first-then-second = refl
 
-pub first-then-second-waits : spanWaits rules (asking 0 85) piece walked ≡ 1
+pub first-then-second-waits : suspendWaits rules (asking 0 85) piece walked ≡ 1
 unfolding maskOf anyBelow
 first-then-second-waits = refl
 
@@ -48,6 +48,6 @@ pub second-then-first : listed (asking 85 0) ≡ 2
 unfolding spanList metWaits has maskOf notesMasks emptyCells
 second-then-first = refl
 
-pub second-then-first-waits : spanWaits rules (asking 85 0) piece walked ≡ 2
+pub second-then-first-waits : suspendWaits rules (asking 85 0) piece walked ≡ 2
 unfolding maskOf anyBelow
 second-then-first-waits = refl

@@ -20,8 +20,8 @@ use Rattle.decision.specs.Rules.{testAt, hasTest}
 use Rattle.decision.specs.Node.{Node}
 use Rattle.decision.specs.Path.{nodeAt}
 use Rattle.decision.specs.Walk.{isNotKnown, isContradicted, testNotKnown, asksTest, isMet, testOutcome, liveOn}
+use Rattle.decision.specs.Walk.{waitsFor, listedFrom}
 use Rattle.decision.proofs.keys.Sets.{in-any, any-in}
-use Rattle.decision.proofs.waiting.SpanWaits.{waitsFor, listedFrom}
 use Rattle.waiting.proofs.RuleAlong.{along}
 
 -- Of some number below n, in two parts,

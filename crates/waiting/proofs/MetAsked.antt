@@ -12,14 +12,18 @@ use Rattle.terms.specs.Term.{Terms}
 use Rattle.terms.specs.Pattern.{Patterns}
 use Rattle.sheet_tests.specs.SheetTests.{Test, place, pair, sheetTests}
 use Rattle.pairs.specs.views.KeptPairs.{pairCode}
-use Rattle.decision.specs.Rules.{sameTest}
+use Rattle.decision.specs.Rules.{sameTest, testAt, testsWhere}
 use Rattle.decision.specs.Node.{Node, end, switch, pairNode}
 use Rattle.decision.specs.Path.{nodeAt}
-use Rattle.decision.specs.Walk.{asksTest, testNotKnown, suspendWaits}
+use Rattle.decision.specs.Walk.{asksTest, testNotKnown, isMet}
 use Rattle.path.specs.views.Following.{askedCodes, metCodes}
 use Rattle.path.proofs.PathsAgree.{nodes-each}
 use Rattle.rule_masks.specs.views.TestNumbers.{codeTest}
 use Rattle.waiting.specs.views.OpenTests.{openCells, isAmong, metWaits}
+
+-- "The tests met not known on the walk", as document 01 has it.
+abbrev pub openMet : List Patterns → List (Node ℕ) → Terms → List ℕ → ℕ
+openMet rules nodes piece walked = testsWhere rules (λ t. isMet rules nodes walked t && testNotKnown piece (testAt rules t))
 
 -- The code of a node's test is that of no other.
 abbrev pub Coded : Node ℕ → Type 0
@@ -46,7 +50,7 @@ module _ (rules : List Patterns) (piece : Terms) (cells : List ℕ)
     (coded : All Coded nodes) where
   -- Where the cells say which tests are not known, the tests met that are not known are those of the piece.
   pub met-same
-      : (walked : List ℕ) → metWaits (sheetTests rules) cells (metCodes nodes walked) ≡ suspendWaits rules nodes piece walked
+      : (walked : List ℕ) → metWaits (sheetTests rules) cells (metCodes nodes walked) ≡ openMet rules nodes piece walked
   unfolding metWaits
   met-same walked =
       maskOf-same (length (sheetTests rules)) _ _

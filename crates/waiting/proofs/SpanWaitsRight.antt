@@ -29,9 +29,8 @@ use Rattle.pairs.specs.views.KeptPairs.{pairCode}
 use Rattle.decision.specs.Rules.{sameTest, testAt}
 use Rattle.decision.specs.Node.{Node, end, switch, pairNode}
 use Rattle.decision.specs.Path.{nodeAt}
-use Rattle.decision.specs.Walk.{isNotKnown, isContradicted, testNotKnown, isMet, suspendWaits, ruleTestsWhere}
+use Rattle.decision.specs.Walk.{isNotKnown, isContradicted, testNotKnown, isMet, listedFrom, suspendWaits, ruleTestsWhere}
 use Rattle.decision.proofs.keys.Sets.{in-where, where-in}
-use Rattle.decision.proofs.waiting.SpanWaits.{listedFrom, spanWaits}
 use Rattle.decision.proofs.waiting.SpanWaitsSentence.{span-waits-are}
 use Rattle.path.specs.views.Following.{askedCodes, metCodes}
 use Rattle.path.proofs.PathsAgree.{nodes-each}
@@ -40,7 +39,7 @@ use Rattle.rule_masks.specs.views.RuleMasks.{notesMasks}
 use Rattle.rule_masks.proofs.Numbers.{number-there, number-at, sheet-once}
 use Rattle.waiting.specs.views.OpenTests.{metWaits}
 use Rattle.waiting.specs.views.SpanTests.{spanAt, metNumbers, withRules, spanList}
-use Rattle.waiting.proofs.MetAsked.{Coded, met-same}
+use Rattle.waiting.proofs.MetAsked.{openMet, Coded, met-same}
 use Rattle.waiting.proofs.ListParts.{numbers-below, list-short, list-long}
 use Rattle.waiting.proofs.RuleAlong.{along, along-same, along-none, adds, has-rules, any-numbered}
 use Rattle.waiting.proofs.LiveTests.{against, unsure, waitsOn, listed-parts, live-first}
@@ -146,13 +145,13 @@ module _ (rules : List Patterns) (fewTests : length (sheetTests rules) ≤ 64) (
     abbrev open-part : ℕ
     open-part = metWaits tests cells met
 
-    open-is : open-part ≡ suspendWaits rules nodes piece walked
+    open-is : open-part ≡ openMet rules nodes piece walked
     open-is = met-same rules piece cells (say .unknowns) nodes coded walked
 
     -- with the tests met that are not known, is the list.
-    both-right : maskOf 64 (λ t. has open-part t || has added t) ≡ spanWaits rules nodes piece walked
+    both-right : maskOf 64 (λ t. has open-part t || has added t) ≡ suspendWaits rules nodes piece walked
     both-right =
-        ext 64 (maskOf 64 (λ t. has open-part t || has added t)) (spanWaits rules nodes piece walked) (maskOf-lt 64 _)
+        ext 64 (maskOf 64 (λ t. has open-part t || has added t)) (suspendWaits rules nodes piece walked) (maskOf-lt 64 _)
         (lt-of-lt-of-le (maskOf-lt (length tests) (listedFrom rules nodes piece [] walked)) (pow-mono fewTests))
         (λ t h.
         has-maskOf 64 (λ u. has open-part u || has added u) t h
@@ -165,12 +164,12 @@ module _ (rules : List Patterns) (fewTests : length (sheetTests rules) ≤ 64) (
         ∙ sym (has-maskOf (length tests) (listedFrom rules nodes piece [] walked) t l))
         (λ (l : t < length tests → ⊥).
         ap₂ (λ (x y : Bool). x || y)
-        (has-above (length tests) (suspendWaits rules nodes piece walked) t (maskOf-lt (length tests) _) (omega arith))
+        (has-above (length tests) (openMet rules nodes piece walked) t (maskOf-lt (length tests) _) (omega arith))
         (no-other t h (omega arith))
-        ∙ sym (has-above (length tests) (spanWaits rules nodes piece walked) t (maskOf-lt (length tests) _) (omega arith))))
+        ∙ sym (has-above (length tests) (suspendWaits rules nodes piece walked) t (maskOf-lt (length tests) _) (omega arith))))
 
     -- Where no span is met, they are the list alone.
-    open-right : anyOf (spanAt cells) met ≡ false → open-part ≡ spanWaits rules nodes piece walked
+    open-right : anyOf (spanAt cells) met ≡ false → open-part ≡ suspendWaits rules nodes piece walked
     open-right free =
         open-is
         ∙ maskOf-same (length tests) (λ u. isMet rules nodes walked u && testNotKnown piece (testAt rules u))
@@ -186,7 +185,7 @@ module _ (rules : List Patterns) (fewTests : length (sheetTests rules) ≤ 64) (
           | inr p ↦ absurd (no-partly rules piece cells say nodes coded walked free t l p)
         ]))
 
-    pub span-waits-right : spanList tests cells rules met ≡ spanWaits rules nodes piece walked
+    pub span-waits-right : spanList tests cells rules met ≡ suspendWaits rules nodes piece walked
     span-waits-right =
         by-test (anyOf (spanAt cells) met)
         (λ e. list-long tests cells rules met e ∙ both-right)

@@ -36,7 +36,6 @@ use Rattle.waiting.specs.views.SpanTests.{spanList}
 use Rattle.waiting.proofs.MetAsked.{Coded}
 use Rattle.waiting.proofs.CellsSay.{cells-say}
 use Rattle.waiting.proofs.SpanWaitsRight.{span-waits-right}
-use Rattle.decision.proofs.waiting.SpanWaits.{span-waits-exact}
 use Rattle.walk.proofs.Indexing.{near-test, nodes-near, nodes-fit, nodes-coded, nodes-asked, nodes-are, nodes-leaves}
 use Rattle.walk.proofs.LeafRules.{LeafPath, cells-leaf}
 
@@ -101,8 +100,7 @@ module _ (sheet : Sheet) (sound : SoundSheet sheet) where
         (ap (λ (ts : List Test). spanList ts cells rules (metCodes nodes walked)) are
         ∙ span-waits-right rules few-tests piece cells
         (cells-say (sheet .arity) rules (sound .fewArguments) (sound .acceptedRules) few-tests
-        (λ t m. near-test t (tests-near sheet sound t m)) piece ok) nodes coded asked walked
-        ∙ span-waits-exact rules nodes piece (ok .exact) walked)
+        (λ t m. near-test t (tests-near sheet sound t m)) piece ok) nodes coded asked walked)
     leaf-agrees coded asked walked (executeNode i) inside = ap (walkAfter (pred (length walked))) (rule-agrees i inside)
 
     -- and at the end of a path that takes no bytes.

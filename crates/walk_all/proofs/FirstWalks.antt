@@ -15,9 +15,8 @@ use Rattle.piece.specs.Piece.{Piece}
 use Rattle.piece.specs.declared.Prefix.{Prefix}
 use Rattle.piece.specs.declared.Prefix.the-variants as prefix
 use Rattle.piece.specs.ReadPiece.{readPrefix, readPiece}
-use Rattle.piece.specs.WritePiece.{pieceBytes}
 use Rattle.piece.specs.views.LaidOut.{LaidOut, layOut, prefixRead}
-use Rattle.piece.proofs.Spelled.{prefix-spelled, written-piece}
+use Rattle.piece.proofs.Spelled.{prefix-spelled, own-piece}
 use Rattle.plain.specs.views.ReadAs.{ReadAs}
 use Rattle.decision.specs.Walk.{Walk}
 use Rattle.walk.specs.views.Ready.{Checked}
@@ -38,12 +37,14 @@ module _ (s cells : List ℕ) (r : Prefix) (told : prefixRead cells r ≡ mapRea
   prefix-accepted {n} {k} e bytes =
       let (piece, read, same) = took-view layOut (readPrefix s) (sym (ap (prefixRead cells) e) ∙ told) in
       let spells = prefix-spelled s (bytes-all s bytes) k piece .0 read in
-      let own : take k s ≡ pieceBytes piece =
-      ap (take k) (spells .bytes) ∙ take-at (pieceBytes piece) (drop k s) k (sym (spells .size)) in
+      let own : take k s ≡ spells .own =
+      ap (take k) (spells .bytes) ∙ take-at (spells .own) (drop k s) k (sym (spells .size)) in
       let arity : piece .arity ≡ n = sym (ap (λ (x : LaidOut). x .arity) same) in (
         record {
           piece = piece;
-          read = subst (λ (l : List ℕ). readPiece l ≡ took (length l) piece) (sym own) (written-piece piece (spells .sound) .1);
+          read =
+              subst (λ (l : List ℕ). readPiece l ≡ took (length l) piece) (sym own)
+              (own-piece piece (spells .own) (spells .sound) (spells .spells));
           arityIs = arity;
           laid = ap (λ (x : LaidOut). x .cells) same;
           accepted = subst (λ (m : ℕ). AcceptedPiece m (piece .terms)) arity (spells .sound .accepted);

@@ -13,9 +13,9 @@ use Rattle.decision.specs.Walk.{Walk}
 use Rattle.graph_check.specs.CheckGraph.{graphReading}
 use Rattle.walk.specs.Walking.{WalkValues, walkReply, replyValues, walkRefusalValues}
 
--- The first piece of the input with its bytes, then more pieces behind it: a piece that cannot be read (12 to 16) gets its refusal
--- as the last result and ends the run. A run stops before either field would overflow: before a piece of more bytes than may still
--- be taken.
+-- The first piece of the input with its bytes, then more pieces behind it: a piece that cannot be read (12 to 16, 32) gets its
+-- refusal as the last result and ends the run. A run stops before either field would overflow: before a piece of more bytes than
+-- may still be taken.
 abbrev pub pieceThen : List ℕ → ℕ → (ℕ → List (Reading (List ℕ))) → Reading Piece → List (Reading (List ℕ))
 pieceThen input left more (took k piece) = cond (leb k left) (took k (take k input) ∷ more k) []
 pieceThen input left more (refused q) = refused q ∷ []

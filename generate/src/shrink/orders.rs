@@ -1,7 +1,7 @@
 //! Reading orders made simpler: ascending as far as can be, place 0 for what is no place's or stands twice.
 
 use super::{lower, parts, sheets};
-use crate::asked::SPAN;
+use crate::asked::SUBTREE;
 use crate::orders::{way, PLACES};
 use std::collections::BTreeSet;
 use std::ops::Range;
@@ -59,10 +59,10 @@ pub fn after(places: &[u16], step: &Step) -> Option<Vec<u16>> {
 /// stead, and it becomes the last.
 pub fn following(places: &[u16], step: &sheets::Step) -> Vec<u16> {
     let sheets::Step::Argument(gone) = step else { return places.to_vec() };
-    let first = SPAN[0] * *gone as u16;
+    let first = SUBTREE[0] * *gone as u16;
     let moved = |place: &u16| match place.checked_sub(first) {
-        Some(below) if below < SPAN[0] => PLACES - SPAN[0] + below,
-        Some(_) if *place < PLACES => place - SPAN[0],
+        Some(below) if below < SUBTREE[0] => PLACES - SUBTREE[0] + below,
+        Some(_) if *place < PLACES => place - SUBTREE[0],
         _ => *place,
     };
     places.iter().map(moved).collect()

@@ -1,4 +1,4 @@
-//! Pieces made simpler: fewer arguments, unknowns and simpler terms, smaller ids and numbers.
+//! Pieces made simpler: fewer arguments, unknowns and simpler terms, smaller ids, numbers and spans.
 
 use super::{lower, parts, sheets, Value};
 use crate::trees::{piece_bytes, read_piece, SheetTree, Term};
@@ -93,6 +93,10 @@ fn simpler(term: &Term) -> Vec<Term> {
             }));
             new.extend(lower(*id).map(|id| Term::Compound(id, arguments.clone())));
         }
+        Term::Span(low, high) => {
+            new.extend([Term::Symbol(0), Term::Number(*low), Term::Number(*high)]);
+            new.extend(sheets::ranges(*low, *high).map(|(low, high)| Term::Span(low, high)));
+        }
     }
     new
 }
@@ -130,6 +134,10 @@ pub fn each(terms: &mut [Term], which: Value, change: &mut dyn FnMut(&mut u16)) 
     visit(terms, &mut |term| match term {
         Term::Symbol(id) | Term::Compound(id, _) if which == Value::Id => change(id),
         Term::Number(value) if which == Value::Number => change(value),
+        Term::Span(low, high) if which == Value::Number => {
+            change(low);
+            change(high);
+        }
         _ => {}
     });
 }

@@ -21,7 +21,7 @@ pub enum Step {
 }
 
 /// Simpler ranges: one number, from 0, both ends lower by as much, or one end lower.
-fn ranges(low: u16, high: u16) -> impl Iterator<Item = (u16, u16)> {
+pub fn ranges(low: u16, high: u16) -> impl Iterator<Item = (u16, u16)> {
     let alike = lower(low).map(move |less| (less, high.saturating_sub(low - less)));
     let first = [(0, 0), (low, low), (0, high)].into_iter().chain(alike);
     first.chain(lower(low).map(move |low| (low, high))).chain(lower(high).map(move |high| (low, high)))

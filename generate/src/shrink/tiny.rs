@@ -26,11 +26,13 @@ fn sheets() -> Vec<SheetTree> {
 
 /// Pieces of one or two arguments.
 fn pieces() -> Vec<Vec<Term>> {
-    use Term::{Compound, Number, Symbol, Unknown};
+    use Term::{Compound, Number, Span, Symbol, Unknown};
     vec![
         vec![Unknown],
         vec![Symbol(0)],
         vec![Number(0)],
+        vec![Span(0, 0)],
+        vec![Span(0, 1)],
         vec![Compound(0, vec![Unknown])],
         vec![Unknown, Unknown],
         vec![Symbol(0), Unknown],

@@ -2,7 +2,7 @@
 
 use super::piece::{Piece, LACKING, NOT_KNOWN};
 use super::places::step_of_children;
-use super::records::{COMPOUND, UNKNOWN};
+use super::records::{ends, COMPOUND, NUMBER, SPAN, UNKNOWN};
 
 /// What a piece says about a test.
 #[derive(Clone, Copy, PartialEq, Eq)]
@@ -23,7 +23,7 @@ pub fn equal(piece: &Piece, p: usize, q: usize) -> Truth {
         return Truth::NotKnown;
     }
     if piece.bytes[a] != COMPOUND {
-        return if same_head(piece.bytes, a, b) { Truth::Holds } else { Truth::Contradicted };
+        return leaves(piece.bytes, a, b);
     }
     same(piece, p, q, step_of_children(p), step_of_children(q), 3)
 }
@@ -32,6 +32,31 @@ pub fn equal(piece: &Piece, p: usize, q: usize) -> Truth {
 #[inline(always)]
 fn same_head(bytes: &[u8], a: usize, b: usize) -> bool {
     bytes[a] == bytes[b] && bytes[a + 1] == bytes[b + 1] && bytes[a + 2] == bytes[b + 2]
+}
+
+/// Compares the terms at two offsets, of which the first is known and no compound.
+#[inline(always)]
+fn leaves(bytes: &[u8], a: usize, b: usize) -> Truth {
+    if bytes[a] != SPAN && bytes[b] != SPAN {
+        return if same_head(bytes, a, b) { Truth::Holds } else { Truth::Contradicted };
+    }
+    numbers(bytes, a, b)
+}
+
+/// The same where one of them is a span.
+fn numbers(bytes: &[u8], a: usize, b: usize) -> Truth {
+    let is_number = |kind: u8| kind == NUMBER || kind == SPAN;
+    if !is_number(bytes[a]) || !is_number(bytes[b]) {
+        return Truth::Contradicted;
+    }
+    let ((low, high), (first, last)) = (ends(bytes, a), ends(bytes, b));
+    if high < first || last < low {
+        Truth::Contradicted
+    } else if low == high && first == last {
+        Truth::Holds
+    } else {
+        Truth::NotKnown
+    }
 }
 
 /// Compares the terms at two places where terms stand, so many depths above the deepest. The steps are
@@ -44,13 +69,10 @@ fn same(piece: &Piece, p: usize, q: usize, step_p: usize, step_q: usize, left: u
     if kind == UNKNOWN || bytes[b] == UNKNOWN {
         return Truth::NotKnown;
     }
-    if !same_head(bytes, a, b) {
-        return Truth::Contradicted;
-    }
     if kind != COMPOUND {
-        return Truth::Holds;
+        return leaves(bytes, a, b);
     }
-    if bytes[a + 3] != bytes[b + 3] || left == 0 {
+    if !same_head(bytes, a, b) || bytes[a + 3] != bytes[b + 3] || left == 0 {
         return Truth::Contradicted;
     }
     same_arguments(piece, p + 1, q + 1, step_p, step_q, usize::from(bytes[a + 3]), left - 1)

@@ -2,7 +2,7 @@
 
 use super::pairs::{self, pair};
 use super::places;
-use super::records::{self, wide, Case, Node};
+use super::records::{self, wide, Case, Node, SWITCH};
 use super::sheet::Sheet;
 use crate::results::Refusal;
 
@@ -48,7 +48,7 @@ fn node(bytes: &[u8], sheet: &Sheet, count: u16) -> Result<usize, Refusal> {
             if cases == 0 {
                 return Err(22);
             }
-            let cases = self::cases(&bytes[8..], cases).ok_or(22)?;
+            let cases = self::cases(&bytes[SWITCH..], cases).ok_or(22)?;
             let nodes_in_range = neither < count && unknown < count && cases.highest < count;
             if !nodes_in_range || !places::holds(&sheet.tested, place) {
                 return Err(23);
@@ -56,7 +56,7 @@ fn node(bytes: &[u8], sheet: &Sheet, count: u16) -> Result<usize, Refusal> {
             if !cases.in_order {
                 return Err(24);
             }
-            Ok(8 + cases.used)
+            Ok(SWITCH + cases.used)
         }
         Some(Node::Pair { p, q, no, other }) => {
             let known = |pair| pairs::holds(&sheet.pairs, usize::from(sheet.pair_count), pair);
@@ -77,13 +77,12 @@ struct Cases {
 }
 
 /// Reads so many cases; none if one is cut or of another kind. What a case takes is a run of codes,
-/// symbols before compounds before numbers, so that cases are in order where each run begins after the
-/// last one.
-fn cases(bytes: &[u8], count: u8) -> Option<Cases> {
+/// symbols before compounds before numbers, so that cases are in order where runs ascend by first and last.
+fn cases(bytes: &[u8], count: u16) -> Option<Cases> {
     let mut cases = Cases { used: 0, highest: 0, in_order: true };
-    let mut least = 0;
+    let mut least: u64 = 0;
     for _ in 0..count {
-        let (first, last, node, used);
+        let (first, last, node, used): (u32, u32, u16, usize);
         match records::case(&bytes[cases.used..])? {
             Case::Symbol(id, to) => {
                 first = u32::from(id) << 8;
@@ -99,8 +98,9 @@ fn cases(bytes: &[u8], count: u8) -> Option<Cases> {
             }
         }
         cases.used += used;
-        cases.in_order &= first >= least && first <= last;
-        least = last + 1;
+        let turn = u64::from(first) << 32 | u64::from(last);
+        cases.in_order &= turn >= least && first <= last;
+        least = turn + 1;
         if node > cases.highest {
             cases.highest = node;
         }

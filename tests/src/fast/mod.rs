@@ -16,6 +16,7 @@ mod rule;
 mod sheet;
 mod tidy;
 mod variables;
+mod waits;
 mod walk;
 mod walks;
 
@@ -32,7 +33,7 @@ pub fn check_sheet(sheet: &[u8]) -> Result<SheetSize, Refusal> {
     Ok(SheetSize { arity: sheet.arity, rules: sheet.rules, tests: sheet.places + sheet.pair_count })
 }
 
-/// Checks a piece: questions 12 to 17.
+/// Checks a piece: questions 12 to 17, and 32.
 pub fn check_piece(piece: &[u8]) -> Result<PieceSize, Refusal> {
     piece::check(piece).map(|arity| PieceSize { arity })
 }

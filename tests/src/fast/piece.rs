@@ -1,4 +1,4 @@
-//! A piece's questions, 12 to 17, and where its terms stand.
+//! A piece's questions, 12 to 17 and 32, and where its terms stand.
 
 use super::places::{PARENT, PLACES, STEP};
 use super::records::{self, Term, UNKNOWN};
@@ -51,6 +51,12 @@ fn length(bytes: &[u8], depth: usize) -> Result<usize, Refusal> {
                 return Err(16);
             }
             Ok(lengths(&bytes[4..], usize::from(arity), depth + 1)? + 4)
+        }
+        Some(Term::Span(low, high)) => {
+            if low > high {
+                return Err(32);
+            }
+            Ok(5)
         }
     }
 }
@@ -143,6 +149,13 @@ fn term(
             }
             offsets[place] = from as u16;
             Ok(terms(&bytes[4..], from + 4, usize::from(arity), place + 1, depth + 1, offsets)? + 4)
+        }
+        Some(Term::Span(low, high)) => {
+            if low > high {
+                return Err(32);
+            }
+            offsets[place] = from as u16;
+            Ok(5)
         }
     }
 }

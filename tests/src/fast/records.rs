@@ -46,13 +46,15 @@ pub const UNKNOWN: u8 = 0x30;
 pub const SYMBOL: u8 = 0x31;
 pub const NUMBER: u8 = 0x32;
 pub const COMPOUND: u8 = 0x33;
+pub const SPAN: u8 = 0x34;
 
-/// A term of kinds 30 to 33, as far as reading on depends on it.
+/// A term of kinds 30 to 34, as far as reading on depends on it.
 #[derive(Clone, Copy)]
 pub enum Term {
     Unknown,
     SymbolOrNumber,
     Compound(u8),
+    Span(u16, u16),
 }
 
 #[inline(always)]
@@ -65,9 +67,20 @@ pub fn term(bytes: &[u8]) -> Option<Term> {
         UNKNOWN => Some(Term::Unknown),
         SYMBOL | NUMBER if len >= 3 => Some(Term::SymbolOrNumber),
         COMPOUND if len >= 4 => Some(Term::Compound(bytes[3])),
+        SPAN if len >= 5 => Some(Term::Span(wide(bytes, 1), wide(bytes, 3))),
         _ => None,
     }
 }
+
+/// The ends between which the number or span at an offset lies; a number is both.
+#[inline(always)]
+pub fn ends(bytes: &[u8], at: usize) -> (u16, u16) {
+    let low = wide(bytes, at + 1);
+    (low, if bytes[at] == SPAN { wide(bytes, at + 3) } else { low })
+}
+
+/// The bytes of a switch before its cases.
+pub const SWITCH: usize = 9;
 
 /// A node of kinds 40 to 43 and 47; a switch's cases follow as records of their own.
 #[derive(Clone, Copy)]
@@ -75,7 +88,7 @@ pub enum Node {
     Fail,
     Suspend,
     Execute(u8),
-    Switch { place: u16, cases: u8, neither: u16, unknown: u16 },
+    Switch { place: u16, cases: u16, neither: u16, unknown: u16 },
     Pair { p: u16, q: u16, no: u16, other: u16 },
 }
 
@@ -89,11 +102,11 @@ pub fn node(bytes: &[u8]) -> Option<Node> {
         0x40 => Some(Node::Fail),
         0x41 => Some(Node::Suspend),
         0x42 if len >= 2 => Some(Node::Execute(bytes[1])),
-        0x43 if len >= 8 => Some(Node::Switch {
+        0x43 if len >= SWITCH => Some(Node::Switch {
             place: wide(bytes, 1),
-            cases: bytes[3],
-            neither: wide(bytes, 4),
-            unknown: wide(bytes, 6),
+            cases: wide(bytes, 3),
+            neither: wide(bytes, 5),
+            unknown: wide(bytes, 7),
         }),
         0x47 if len >= 9 => Some(Node::Pair {
             p: wide(bytes, 1),

@@ -3,7 +3,7 @@
 use super::compare::{equal, Truth};
 use super::piece::{Piece, LACKING, NOT_KNOWN};
 use super::places::STEP;
-use super::records::{self, wide, Pattern, COMPOUND, NUMBER, SYMBOL};
+use super::records::{self, ends, wide, Pattern, COMPOUND, NUMBER, SPAN, SYMBOL};
 use super::sheet::Sheet;
 use super::variables::Variables;
 
@@ -38,22 +38,43 @@ fn place_test(sheet: &Sheet, place: usize, offset: usize, holds: bool, used: usi
 
 /// Whether a number from low to high stands at this offset.
 #[inline(always)]
-fn is_in_range(piece: &Piece, offset: usize, low: u16, high: u16) -> bool {
-    offset > NOT_KNOWN
-        && piece.bytes[offset] == NUMBER
-        && low <= wide(piece.bytes, offset + 1)
-        && wide(piece.bytes, offset + 1) <= high
+pub fn in_range(piece: &Piece, offset: usize, low: u16, high: u16) -> Truth {
+    if offset <= NOT_KNOWN {
+        return if offset == NOT_KNOWN { Truth::NotKnown } else { Truth::Contradicted };
+    }
+    let kind = piece.bytes[offset];
+    if kind != NUMBER && kind != SPAN {
+        return Truth::Contradicted;
+    }
+    let (first, last) = ends(piece.bytes, offset);
+    if low <= first && last <= high {
+        Truth::Holds
+    } else if last < low || high < first {
+        Truth::Contradicted
+    } else {
+        Truth::NotKnown
+    }
+}
+
+/// A range's test at a place: bytes read, and the test itself if it is not known.
+#[inline(always)]
+fn range_test(sheet: &Sheet, piece: &Piece, place: usize, (low, high): (u16, u16)) -> Option<Made> {
+    match in_range(piece, piece.find(place), low, high) {
+        Truth::Holds => Some(Made { used: 5, not_known: 0 }),
+        Truth::NotKnown => Some(Made { used: 5, not_known: 1 << sheet.place_test(place) }),
+        Truth::Contradicted => None,
+    }
 }
 
 /// Whether this symbol stands at this offset.
 #[inline(always)]
-fn is_symbol(piece: &Piece, offset: usize, id: u16) -> bool {
+pub fn is_symbol(piece: &Piece, offset: usize, id: u16) -> bool {
     offset > NOT_KNOWN && piece.bytes[offset] == SYMBOL && wide(piece.bytes, offset + 1) == id
 }
 
 /// Whether a compound of this id and arity stands at this offset.
 #[inline(always)]
-fn is_compound(piece: &Piece, offset: usize, id: u16, arity: u8) -> bool {
+pub fn is_compound(piece: &Piece, offset: usize, id: u16, arity: u8) -> bool {
     offset != LACKING
         && piece.bytes[offset] == COMPOUND
         && wide(piece.bytes, offset + 1) == id
@@ -75,10 +96,7 @@ fn pattern(
             let offset = piece.find(place);
             place_test(sheet, place, offset, is_symbol(piece, offset, id), 3)
         }
-        Pattern::Range(low, high) => {
-            let offset = piece.find(place);
-            place_test(sheet, place, offset, is_in_range(piece, offset, low, high), 5)
-        }
+        Pattern::Range(low, high) => range_test(sheet, piece, place, (low, high)),
         Pattern::Compound(id, arity) => {
             let offset = piece.find(place);
             let mut not_known = 0;
@@ -130,12 +148,8 @@ fn variable(variables: &Variables, number: usize, sheet: &Sheet, piece: &Piece) 
     for i in 0..count {
         let p = variables.place(number, i);
         if variables.is_ranged(number) {
-            let offset = piece.find(usize::from(p));
-            if offset == NOT_KNOWN {
-                not_known |= 1 << sheet.place_test(usize::from(p));
-            } else if !is_in_range(piece, offset, variables.low(number), variables.high(number)) {
-                return None;
-            }
+            let range = (variables.low(number), variables.high(number));
+            not_known |= range_test(sheet, piece, usize::from(p), range)?.not_known;
         }
         for j in i + 1..count {
             let q = variables.place(number, j);

@@ -3,14 +3,54 @@
 use super::compare::{equal, Truth};
 use super::graph::NodeStarts;
 use super::piece::{Piece, LACKING, NOT_KNOWN};
-use super::records::{self, wide, Node, COMPOUND, COMPOUND_CASE, SYMBOL, SYMBOL_CASE};
+use super::records::{self, ends, wide, Node, COMPOUND, COMPOUND_CASE, SPAN, SWITCH, SYMBOL, SYMBOL_CASE};
 use super::rule::make;
 use super::sheet::{RuleStarts, Sheet};
 use super::variables::Variables;
+use super::waits::for_live_rules;
 use crate::results::{Answer, Refusal, Walk, Word};
 
 /// The most edges that a walk may take.
-const MOST_EDGES: u8 = 64;
+const MOST_EDGES: usize = 64;
+
+/// The way of a walk: its nodes, how many edges it took, the tests met that are not known, and whether a span was met.
+struct Path {
+    nodes: [u16; MOST_EDGES],
+    edges: usize,
+    not_known: u64,
+    spans: bool,
+}
+
+impl Path {
+    /// Meets a place; gives the offset of the term there, none if it is unknown. Question 27 is asked first.
+    #[inline(always)]
+    fn place(&mut self, sheet: &Sheet, piece: &Piece, place: usize) -> Result<Option<usize>, Refusal> {
+        let offset = piece.find(place);
+        if offset == LACKING {
+            return Err(27);
+        }
+        if offset == NOT_KNOWN {
+            self.not_known |= 1 << sheet.place_test(place);
+            return Ok(None);
+        }
+        self.spans |= piece.bytes[offset] == SPAN;
+        Ok(Some(offset))
+    }
+
+    /// Meets a pair; gives whether its terms differ. Question 27 is asked first.
+    #[inline(always)]
+    fn pair(&mut self, sheet: &Sheet, piece: &Piece, p: u16, q: u16) -> Result<bool, Refusal> {
+        let (first, second) = (usize::from(p), usize::from(q));
+        if piece.find(first) == LACKING || piece.find(second) == LACKING {
+            return Err(27);
+        }
+        let truth = equal(piece, first, second);
+        if truth == Truth::NotKnown {
+            self.not_known |= 1 << sheet.pair_test(p, q);
+        }
+        Ok(truth == Truth::Contradicted)
+    }
+}
 
 /// Walks an accepted graph from node 0.
 pub fn walk(
@@ -22,56 +62,47 @@ pub fn walk(
     variables: &mut Variables,
 ) -> Result<Answer, Refusal> {
     let mut node = 0;
-    let mut edges = 0;
-    let mut not_known = 0;
+    let mut path = Path { nodes: [0; MOST_EDGES], edges: 0, not_known: 0, spans: false };
     loop {
         let bytes = &graph[nodes[usize::from(node)] as usize..];
-        match records::node(bytes) {
+        let next = match records::node(bytes) {
             None => return Err(22),
-            Some(Node::Fail) => return Ok(answer(Word::Fail, 0, edges, 0)),
-            Some(Node::Suspend) => return Ok(answer(Word::Suspend, 0, edges, not_known)),
+            Some(Node::Fail) => return Ok(answer(Word::Fail, 0, path.edges, 0)),
+            Some(Node::Suspend) => {
+                if path.spans {
+                    let met = &path.nodes[..path.edges];
+                    path.not_known |= for_live_rules(sheet, rules, graph, nodes, met, piece, variables);
+                }
+                return Ok(answer(Word::Suspend, 0, path.edges, path.not_known));
+            }
             Some(Node::Execute(rule)) => {
                 let bytes = &sheet.bytes[rules[usize::from(rule) - 1] as usize..];
-                return Ok(execute(bytes, sheet, piece, rule, edges, variables));
+                return Ok(execute(bytes, sheet, piece, rule, path.edges, variables));
             }
-            Some(_) if edges >= MOST_EDGES => return Err(26),
+            Some(_) if path.edges >= MOST_EDGES => return Err(26),
             Some(Node::Switch { place, cases, neither, unknown }) => {
-                let offset = piece.find(usize::from(place));
-                if offset == LACKING {
-                    return Err(27);
-                }
-                if offset == NOT_KNOWN {
-                    not_known |= 1 << sheet.place_test(usize::from(place));
-                    node = unknown;
-                } else {
-                    node = take(&bytes[8..], cases, piece.bytes, offset, neither);
+                match path.place(sheet, piece, usize::from(place))? {
+                    None => unknown,
+                    Some(at) => take(&bytes[SWITCH..], usize::from(cases), piece.bytes, at, neither),
                 }
             }
             Some(Node::Pair { p, q, no, other }) => {
-                let truth = pair(piece, p, q)?;
-                node = if truth == Truth::Contradicted { no } else { other };
-                if truth == Truth::NotKnown {
-                    not_known |= 1 << sheet.pair_test(p, q);
+                if path.pair(sheet, piece, p, q)? {
+                    no
+                } else {
+                    other
                 }
             }
-        }
-        edges += 1;
+        };
+        path.nodes[path.edges] = node;
+        path.edges += 1;
+        node = next;
     }
 }
 
-/// What the piece says about a pair; question 27 is asked first.
 #[inline(always)]
-fn pair(piece: &Piece, p: u16, q: u16) -> Result<Truth, Refusal> {
-    let (p, q) = (usize::from(p), usize::from(q));
-    if piece.find(p) == LACKING || piece.find(q) == LACKING {
-        return Err(27);
-    }
-    Ok(equal(piece, p, q))
-}
-
-#[inline(always)]
-fn answer(word: Word, rule: u8, edges: u8, wait: u64) -> Answer {
-    Answer { walk: Walk { word, rule, edges }, wait }
+fn answer(word: Word, rule: u8, edges: usize, wait: u64) -> Answer {
+    Answer { walk: Walk { word, rule, edges: edges as u8 }, wait }
 }
 
 /// The answer at execute: all tests of the rule are made, whose patterns begin these bytes.
@@ -80,7 +111,7 @@ fn execute(
     sheet: &Sheet,
     piece: &Piece,
     rule: u8,
-    edges: u8,
+    edges: usize,
     variables: &mut Variables,
 ) -> Answer {
     match make(bytes, sheet, piece, variables) {
@@ -93,7 +124,7 @@ fn execute(
 /// The node of the case that takes the known term at an offset of the piece, else neither's. Symbols come
 /// before compounds, compounds before numbers.
 #[inline(always)]
-fn take(cases: &[u8], count: u8, piece: &[u8], offset: usize, neither: u16) -> u16 {
+fn take(cases: &[u8], count: usize, piece: &[u8], offset: usize, neither: u16) -> u16 {
     let field = wide(piece, offset + 1);
     let kind = piece[offset];
     let mut at = 0;
@@ -118,12 +149,47 @@ fn take(cases: &[u8], count: u8, piece: &[u8], offset: usize, neither: u16) -> u
     if kind == COMPOUND {
         return neither;
     }
-    while i < count {
-        if field <= wide(cases, at + 3) {
-            return if wide(cases, at + 1) <= field { wide(cases, at + 5) } else { neither };
+    let (first, last) = ends(piece, offset);
+    narrowest(&cases[at..], count - i, first, last).unwrap_or(neither)
+}
+
+/// The bytes of a number case.
+const NUMBERS: usize = 7;
+
+/// Both ends of a number case as one number, which ascends as the cases do.
+#[inline(always)]
+fn turn(cases: &[u8], case: usize) -> u64 {
+    let at = NUMBERS * case + 1;
+    u64::from(wide(cases, at)) << 16 | u64::from(wide(cases, at + 2))
+}
+
+/// The first of so many number cases that does not come before these ends.
+#[inline(always)]
+fn first_from(cases: &[u8], count: usize, low: u64, high: u16) -> usize {
+    let ends = low << 16 | u64::from(high);
+    let (mut from, mut to) = (0, count);
+    while from < to {
+        let middle = (from + to) / 2;
+        if turn(cases, middle) < ends {
+            from = middle + 1;
+        } else {
+            to = middle;
         }
-        at += 7;
-        i += 1;
     }
-    neither
+    from
+}
+
+/// The node of the number case that has the highest low, then the lowest high, of those that contain all from
+/// first to last. Cases of one low are gone through by halves, from the highest low that may do downwards.
+fn narrowest(cases: &[u8], count: usize, first: u16, last: u16) -> Option<u16> {
+    let mut below = first_from(cases, count, u64::from(first) + 1, 0);
+    while below > 0 {
+        let low = turn(cases, below - 1) >> 16;
+        let case = first_from(cases, below, low, last);
+        if case < below {
+            return Some(wide(cases, NUMBERS * case + 5));
+        }
+        below = first_from(cases, below, low, 0);
+    }
+    None
 }

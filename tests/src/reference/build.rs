@@ -1,6 +1,6 @@
 //! Building the graph of a sheet: nodes breadth first from the root, then the buffer.
 
-use super::cases::Taken;
+use super::cases::{pairs, Named, Numbers};
 use super::graph::MOST_NODES;
 use super::keys::{Asking, Key, Kind};
 use super::nodes::{graph_bytes, Case, Node};
@@ -10,9 +10,11 @@ use crate::results::Refusal;
 /// Room for so many nodes is made at first.
 const FEW: usize = 32;
 
-/// Enough bytes for every graph that is built: 5, and for each node 8 and its cases of 7, which are fewer than the
-/// ends of ranges, two for each rule.
-pub const ENOUGH: usize = 5 + MOST_NODES as usize * (8 + 7 * (2 * MOST_RULES as usize - 1));
+/// The most runs of numbers at a place: one more than the ends of ranges, two for each rule.
+const MOST_RUNS: usize = 2 * MOST_RULES as usize + 1;
+
+/// The most bytes of a graph that is built: 5, and for each node 9 and its cases of 7, one for each pair of runs.
+pub const MOST_BUILT: usize = 5 + MOST_NODES as usize * (9 + 7 * (MOST_RUNS * (MOST_RUNS + 1) / 2));
 
 /// The nodes met so far: what each is, by number; the numbers of leaves; and the keys of those that
 /// ask, each with its number.
@@ -26,6 +28,8 @@ struct Known {
     /// That of each rule's execute.
     execute: Vec<Option<u16>>,
     keys: Vec<(Key, u16)>,
+    /// The runs of numbers at the place that is asked.
+    runs: Vec<Numbers>,
 }
 
 impl Known {
@@ -72,21 +76,42 @@ impl Known {
             let other = self.number(asking.kind(key.live, unsettled))?;
             return Ok(Node::Pair { p, q, no, other });
         };
-        let mut cases = Vec::with_capacity(2 * tested.count_ones() as usize);
-        for (taken, rules) in asked.cases.of(tested) {
-            cases.push(case(taken, self.number(asking.kind(others | rules, unsettled))?));
+        let mut cases = Vec::new();
+        for (name, rules) in asked.cases.named(tested) {
+            let node = self.number(asking.kind(others | rules, unsettled))?;
+            cases.push(match name {
+                Named::Symbol(id) => Case::Symbol { id, node },
+                Named::Compound(id, arity) => Case::Compound { id, arity, node },
+            });
         }
+        let mut runs = std::mem::take(&mut self.runs);
+        asked.cases.runs(tested, &mut runs);
+        let count = runs.len() * (runs.len() + 1) / 2;
+        cases.reserve(count);
+        self.numbers(&runs, |rules| asking.kind(others | rules, unsettled), &mut cases)?;
+        self.runs = runs;
         let neither = self.number(asking.kind(others, unsettled))?;
         let unknown = self.number(asking.kind(key.live, key.pending & !asked.settled))?;
         Ok(Node::Switch { place: asked.place, neither, unknown, cases })
     }
-}
 
-fn case(taken: Taken, node: u16) -> Case {
-    match taken {
-        Taken::Symbol(id) => Case::Symbol { id, node },
-        Taken::Compound(id, arity) => Case::Compound { id, arity, node },
-        Taken::Numbers(low, high) => Case::Numbers { low, high, node },
+    /// Adds the cases of pairs of runs. Where the rules are those of the case before, so is the node.
+    fn numbers(
+        &mut self,
+        runs: &[Numbers],
+        kind: impl Fn(u64) -> Kind,
+        cases: &mut Vec<Case>,
+    ) -> Result<(), Refusal> {
+        let mut before = None;
+        for Numbers { low, high, rules } in pairs(runs) {
+            let node = match before {
+                Some((same, node)) if same == rules => node,
+                _ => self.number(kind(rules))?,
+            };
+            before = Some((rules, node));
+            cases.push(Case::Numbers { low, high, node });
+        }
+        Ok(())
     }
 }
 

@@ -2,79 +2,102 @@
 
 use super::sheet::Want;
 
-/// What a case of a switch takes, ascending as cases do.
+/// The symbol or compound that a case of a switch takes, ascending as cases do.
 #[derive(Clone, Copy, Debug, PartialEq, Eq, PartialOrd, Ord)]
-pub enum Taken {
+pub enum Named {
     Symbol(u16),
     Compound(u16, u8),
-    Numbers(u16, u16),
 }
 
-impl Taken {
-    /// The numbers of both, if both are numbers and the other's come right after these.
-    fn joined(self, other: Taken) -> Option<Taken> {
-        match (self, other) {
-            (Taken::Numbers(low, high), Taken::Numbers(next, last)) if high.checked_add(1) == Some(next) => {
-                Some(Taken::Numbers(low, last))
-            }
-            _ => None,
-        }
-    }
+/// Numbers from the first to the last, and the rules that accept them.
+#[derive(Clone, Copy, Debug, PartialEq, Eq)]
+pub struct Numbers {
+    pub low: u16,
+    pub high: u16,
+    pub rules: u64,
 }
 
-/// The cases of a switch, in order, each with the rules that take it.
-pub struct Cases(Vec<(Taken, u64)>);
+/// What is wanted at a place.
+pub struct Cases {
+    /// The symbols and compounds, in order, each with the rules that want it.
+    named: Vec<(Named, u64)>,
+    /// The rules that want a range.
+    ranged: u64,
+    /// All numbers in runs that the same rules accept, none included, ascending; no runs if no range is wanted.
+    runs: Vec<Numbers>,
+}
 
 impl Cases {
-    /// The cases for these rules' wants.
+    /// What these rules want.
     pub fn new(wants: &[(usize, Want)]) -> Cases {
-        let mut cases: Vec<(Taken, u64)> = Vec::with_capacity(2 * wants.len());
+        let mut named: Vec<(Named, u64)> = Vec::new();
         let mut ends = Vec::new();
+        let mut ranged = 0;
         for &(rule, want) in wants {
-            let taken = match want {
-                Want::Symbol(id) => Taken::Symbol(id),
-                Want::Compound { id, arity } => Taken::Compound(id, arity),
+            let name = match want {
+                Want::Symbol(id) => Named::Symbol(id),
+                Want::Compound { id, arity } => Named::Compound(id, arity),
                 Want::Range { low, high } => {
-                    ends.extend([(u32::from(low), rule), (u32::from(high) + 1, rule)]);
+                    ends.extend([(u32::from(low), 1 << rule), (u32::from(high) + 1, 1 << rule)]);
+                    ranged |= 1 << rule;
                     continue;
                 }
             };
-            match cases.binary_search_by_key(&taken, |(known, _)| *known) {
-                Ok(at) => cases[at].1 |= 1 << rule,
-                Err(at) => cases.insert(at, (taken, 1 << rule)),
+            match named.binary_search_by_key(&name, |(known, _)| *known) {
+                Ok(at) => named[at].1 |= 1 << rule,
+                Err(at) => named.insert(at, (name, 1 << rule)),
             }
         }
         ends.sort_unstable();
-        cases.extend(runs(&ends));
-        Cases(cases)
+        let runs = if ranged == 0 { Vec::new() } else { runs(&ends) };
+        Cases { named, ranged, runs }
     }
 
-    /// The cases that are left if only these rules are live. Neighbouring runs of numbers that no
-    /// live rule tells apart are one.
-    pub fn of(&self, live: u64) -> impl Iterator<Item = (Taken, u64)> + '_ {
-        let wanted = self.0.iter().map(move |(taken, rules)| (*taken, rules & live));
-        let mut wanted = wanted.filter(|(_, rules)| *rules != 0).peekable();
-        std::iter::from_fn(move || {
-            let (mut taken, rules) = wanted.next()?;
-            while let Some(&(next, same)) = wanted.peek() {
-                match taken.joined(next) {
-                    Some(both) if same == rules => taken = both,
-                    _ => break,
-                }
-                wanted.next();
+    /// The symbols and compounds that one of these rules wants, each with those that do.
+    pub fn named(&self, live: u64) -> impl Iterator<Item = (Named, u64)> + '_ {
+        self.named.iter().map(move |(name, rules)| (*name, rules & live)).filter(|(_, rules)| *rules != 0)
+    }
+
+    /// All numbers in maximal runs that the same set of these rules accepts, none included; no runs if none of
+    /// them wants a range.
+    pub fn runs(&self, live: u64, to: &mut Vec<Numbers>) {
+        to.clear();
+        if self.ranged & live == 0 {
+            return;
+        }
+        for run in &self.runs {
+            let rules = run.rules & live;
+            match to.last_mut() {
+                Some(last) if last.rules == rules => last.high = run.high,
+                _ => to.push(Numbers { rules, ..*run }),
             }
-            Some((taken, rules))
-        })
+        }
     }
 }
 
-/// The maximal runs of numbers that the same non-empty set of rules takes, ascending. A rule's range
-/// begins at the first of its two ends and does not hold the second.
-fn runs(ends: &[(u32, usize)]) -> impl Iterator<Item = (Taken, u64)> + '_ {
-    let mut rules = 0;
-    ends.windows(2).filter_map(move |two| {
-        let ((low, rule), (next, _)) = (two[0], two[1]);
-        rules ^= 1_u64 << rule;
-        (low < next && rules != 0).then(|| (Taken::Numbers(low as u16, (next - 1) as u16), rules))
+/// A case for each pair of first and last run, ordered so, with the rules that accept a number of it.
+pub fn pairs(runs: &[Numbers]) -> impl Iterator<Item = Numbers> + '_ {
+    runs.iter().enumerate().flat_map(move |(at, first)| {
+        let mut some = 0;
+        runs[at..].iter().map(move |last| {
+            some |= last.rules;
+            Numbers { low: first.low, high: last.high, rules: some }
+        })
     })
+}
+
+/// All numbers in runs between ends of ranges. A rule's range begins at the first of its two ends and does not
+/// hold the second.
+fn runs(ends: &[(u32, u64)]) -> Vec<Numbers> {
+    const ALL: u32 = 0x1_0000;
+    let mut runs = Vec::with_capacity(ends.len() + 1);
+    let (mut low, mut rules) = (0, 0);
+    for &(end, rule) in ends.iter().chain(&[(ALL, 0)]) {
+        if low < end {
+            runs.push(Numbers { low: low as u16, high: (end - 1) as u16, rules });
+        }
+        low = end;
+        rules ^= rule;
+    }
+    runs
 }

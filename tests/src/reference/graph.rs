@@ -32,12 +32,12 @@ fn ascending(first: &Case, second: &Case) -> bool {
         (Symbol { .. }, _) => true,
         (Compound { id: f, arity: j, .. }, Compound { id: g, arity: k, .. }) => (f, j) < (g, k),
         (Compound { .. }, Numbers { .. }) => true,
-        (Numbers { high, .. }, Numbers { low, .. }) => high < low,
+        (Numbers { low: a, high: b, .. }, Numbers { low: c, high: d, .. }) => (a, b) < (c, d),
         _ => false,
     }
 }
 
-/// Question 24: are cases strictly ascending, low at most high, no number in two?
+/// Question 24: are cases strictly ascending, numbers by low, then high, and low at most high?
 fn in_order(node: &Node) -> bool {
     let Node::Switch { cases, .. } = node else {
         return true;

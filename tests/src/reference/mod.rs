@@ -36,7 +36,7 @@ pub fn check_sheet(sheet: &[u8]) -> Result<SheetSize, Refusal> {
     Ok(SheetSize { arity: sheet.arity, rules: sheet.rules.len() as u8, tests: sheet.tests.count() as u8 })
 }
 
-/// Checks a piece: questions 12 to 17.
+/// Checks a piece: questions 12 to 17, and 32.
 pub fn check_piece(piece: &[u8]) -> Result<PieceSize, Refusal> {
     Piece::read(piece).map(|piece| PieceSize { arity: piece.arity })
 }

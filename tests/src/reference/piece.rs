@@ -1,4 +1,4 @@
-//! Reading a piece to a list of its terms: questions 12 to 17.
+//! Reading a piece to a list of its terms: questions 12 to 17, and 32 after 16.
 //!
 //! Terms come in prefix order and places are numbered in preorder, so the list ascends by place,
 //! and what stands at a place is found by halving.
@@ -34,7 +34,7 @@ pub enum Found<'a> {
     Lacking,
 }
 
-/// Reads the term at a place: questions 14 to 16, then those of its arguments in turn.
+/// Reads the term at a place: questions 14 to 16 and 32, then those of its arguments in turn.
 fn term(from: &mut Reader, cells: &mut Vec<Cell>, place: u16, depth: usize) -> Result<(), Refusal> {
     let term_record = from.term().ok_or(14)?;
     let at = cells.len();
@@ -51,12 +51,15 @@ fn term(from: &mut Reader, cells: &mut Vec<Cell>, place: u16, depth: usize) -> R
         }
         cells[at].cells = (cells.len() - at) as u16;
     }
-    Ok(())
+    match term_record {
+        TermRecord::Span { low, high } if low > high => Err(32),
+        _ => Ok(()),
+    }
 }
 
 impl Piece {
     /// Reads the piece that ends with its last term at the start of these bytes: questions 12 to
-    /// 16. Gives the number of bytes that it took as well.
+    /// 16 and 32. Gives the number of bytes that it took as well.
     pub fn read_first(bytes: &[u8]) -> Result<(Piece, usize), Refusal> {
         let mut from = Reader::new(bytes);
         let [arity] = from.body_of(0x11).ok_or(12)?;
@@ -70,7 +73,7 @@ impl Piece {
         Ok((Piece { arity, cells }, bytes.len() - from.left()))
     }
 
-    /// Reads these bytes as one piece: questions 12 to 17.
+    /// Reads these bytes as one piece: questions 12 to 17, and 32.
     pub fn read(bytes: &[u8]) -> Result<Piece, Refusal> {
         match Piece::read_first(bytes)? {
             (piece, used) if used == bytes.len() => Ok(piece),

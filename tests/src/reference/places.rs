@@ -7,29 +7,29 @@ pub const PLACES: u16 = 680;
 pub const DEEPEST: usize = 4;
 
 /// How many places a place of depth 1, 2, 3, 4 has at or below it.
-const SPAN: [u16; DEEPEST] = [85, 21, 5, 1];
+const SUBTREE: [u16; DEEPEST] = [85, 21, 5, 1];
 
 /// The place of an argument, the first being 1.
 pub fn argument(a: u8) -> u16 {
-    SPAN[0] * (u16::from(a) - 1)
+    SUBTREE[0] * (u16::from(a) - 1)
 }
 
 /// The place of child j, the first being 1, of a place at this depth, 1 to 3.
 pub fn child(place: u16, depth: usize, j: u8) -> u16 {
-    place + 1 + (u16::from(j) - 1) * SPAN[depth]
+    place + 1 + (u16::from(j) - 1) * SUBTREE[depth]
 }
 
 /// The highest place at or below a place of this depth.
 pub fn last_below(place: u16, depth: usize) -> u16 {
-    place + SPAN[depth - 1] - 1
+    place + SUBTREE[depth - 1] - 1
 }
 
 /// The depth of a place.
 pub fn depth(place: u16) -> usize {
-    let mut offset = place % SPAN[0];
+    let mut offset = place % SUBTREE[0];
     let mut depth = 1;
     while offset > 0 {
-        offset = (offset - 1) % SPAN[depth];
+        offset = (offset - 1) % SUBTREE[depth];
         depth += 1;
     }
     depth
@@ -37,14 +37,14 @@ pub fn depth(place: u16) -> usize {
 
 /// The parent of a place; none of an argument.
 pub fn parent(place: u16) -> Option<u16> {
-    let mut offset = place % SPAN[0];
+    let mut offset = place % SUBTREE[0];
     let mut parent = None;
-    for span in &SPAN[1..] {
+    for subtree in &SUBTREE[1..] {
         if offset == 0 {
             break;
         }
         parent = Some(place - offset);
-        offset = (offset - 1) % span;
+        offset = (offset - 1) % subtree;
     }
     parent
 }

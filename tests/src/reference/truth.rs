@@ -42,11 +42,46 @@ pub fn wanted(piece: &Piece, place: u16, want: Want) -> Truth {
     match (cell.term, want) {
         (TermRecord::Unknown, _) => NotKnown,
         (TermRecord::Symbol(id), Want::Symbol(wanted)) => Truth::of(id == wanted),
-        (TermRecord::Number(n), Want::Range { low, high }) => Truth::of(low <= n && n <= high),
+        (TermRecord::Number(n), Want::Range { low, high }) => inside((n, n), low, high),
+        (TermRecord::Span { low: first, high: last }, Want::Range { low, high }) => {
+            inside((first, last), low, high)
+        }
         (TermRecord::Compound { id, arity }, Want::Compound { id: wanted, arity: many }) => {
             Truth::of(id == wanted && arity == many)
         }
         _ => Contradicted,
+    }
+}
+
+/// Whether a number that lies between two ends lies in a range: it does if both ends do, and does not if all
+/// numbers between them are outside.
+fn inside((first, last): (u16, u16), low: u16, high: u16) -> Truth {
+    if low <= first && last <= high {
+        Holds
+    } else if last < low || high < first {
+        Contradicted
+    } else {
+        NotKnown
+    }
+}
+
+/// Between which ends a number lies; none for other terms.
+pub fn ends(term: TermRecord) -> Option<(u16, u16)> {
+    match term {
+        TermRecord::Number(n) => Some((n, n)),
+        TermRecord::Span { low, high } => Some((low, high)),
+        _ => None,
+    }
+}
+
+/// Whether two numbers, each between its ends, are the same.
+fn same_numbers(a: (u16, u16), b: (u16, u16)) -> Truth {
+    if a.1 < b.0 || b.1 < a.0 {
+        Contradicted
+    } else if a.0 == a.1 && b.0 == b.1 {
+        Holds
+    } else {
+        NotKnown
     }
 }
 
@@ -61,11 +96,14 @@ pub fn equal(piece: &Piece, p: u16, q: u16) -> Truth {
 
 /// Compares two terms, each the first of its cells.
 pub fn same(a: &[Cell], b: &[Cell]) -> Truth {
-    use TermRecord::*;
-    match (a[0].term, b[0].term) {
+    use TermRecord::{Compound, Symbol, Unknown};
+    let (first, second) = (a[0].term, b[0].term);
+    if let (Some(m), Some(n)) = (ends(first), ends(second)) {
+        return same_numbers(m, n);
+    }
+    match (first, second) {
         (Unknown, _) | (_, Unknown) => NotKnown,
         (Symbol(s), Symbol(t)) => Truth::of(s == t),
-        (Number(m), Number(n)) => Truth::of(m == n),
         (Compound { id: f, arity: j }, Compound { id: g, arity: k }) if f == g && j == k => {
             same_arguments(&a[1..], &b[1..], j)
         }

@@ -3,6 +3,8 @@
 //! - `chain` links a variable's places in a chain only.
 //! - `hasty` commits at one live rule without making its tests.
 //! - `drop` drops a rule because its test is not known.
+//! - `coarse` takes a span of a piece for an unknown.
+//! - `first` takes the first case that contains a number or span, not the narrowest.
 //! - `lowest` asks the lowest test under every reading order.
 //! - `hurried` refuses by question 30 before it has asked 29 over the whole table.
 //! - `drift` puts places down by their positions alone, whether or not their parent is down.
@@ -20,11 +22,13 @@ use super::{call as right, size, Said};
 use std::cmp::Reverse;
 use std::collections::{BTreeSet, BinaryHeap};
 use std::sync::OnceLock;
-use voltunnis_tests::generate::trees::SheetTree;
-use voltunnis_tests::reference::piece::Piece;
+use voltunnis_tests::generate::trees::{piece_bytes, read_piece, SheetTree, Term};
+use voltunnis_tests::reference::nodes::{Case, Node};
+use voltunnis_tests::reference::piece::{Found, Piece};
 use voltunnis_tests::reference::places::{argument, child, depth, parent, DEEPEST, PLACES};
 use voltunnis_tests::reference::sheet::{Rule, Sheet};
-use voltunnis_tests::reference::{self, build, check_order, graph, plain, tidy, truth::Truth, walk};
+use voltunnis_tests::reference::truth::{ends, Truth};
+use voltunnis_tests::reference::{self, build, check_order, graph, plain, tidy, walk};
 use voltunnis_tests::results::Written;
 
 type Result<T> = std::result::Result<T, u8>;
@@ -97,6 +101,42 @@ fn dropping(sheet: &[u8], piece: &[u8]) -> Result<String> {
         1 => format!("commit {first}"),
         _ => "suspend 0".into(),
     })
+}
+
+/// Unknowns in the stead of spans.
+fn blurred(terms: Vec<Term>) -> Vec<Term> {
+    let blurred = |term| match term {
+        Term::Span(..) => Term::Unknown,
+        Term::Compound(id, arguments) => Term::Compound(id, self::blurred(arguments)),
+        other => other,
+    };
+    terms.into_iter().map(blurred).collect()
+}
+
+/// A call with unknowns for the spans of its last argument, an accepted piece.
+fn coarse(name: &str, arguments: &mut [Vec<u8>]) -> Option<Said> {
+    if let Some(piece) = arguments.last_mut().filter(|piece| Piece::read(piece).is_ok()) {
+        let (terms, _) = read_piece(piece)?;
+        *piece = piece_bytes(&blurred(terms));
+    }
+    right(name, arguments)
+}
+
+/// The walk over switches that have, of the cases that contain a number or span, the first one only.
+fn first_case(sheet: &[u8], graph: &[u8], piece: &[u8]) -> Result<String> {
+    let (sheet, piece) = both(Sheet::read(sheet)?, piece)?;
+    let mut nodes = graph::read(&sheet, graph)?;
+    for node in &mut nodes {
+        let Node::Switch { place, cases, .. } = node else { continue };
+        let Found::Term(cells) = piece.find(*place) else { continue };
+        let Some((a, b)) = ends(cells[0].term) else { continue };
+        let contains =
+            |case: &Case| matches!(case, Case::Numbers { low, high, .. } if *low <= a && b <= *high);
+        let first = cases.iter().position(contains);
+        cases.truncate(first.map_or(cases.len(), |at| at + 1));
+        cases.drain(..first.unwrap_or(0));
+    }
+    walk::walk(&sheet, &nodes, &piece).map(|answer| answer.to_string())
 }
 
 /// The tidy sheet in which each variable stands as if it were repeated.
@@ -174,6 +214,8 @@ pub fn call(trap: &str, name: &str, arguments: &mut [Vec<u8>]) -> Option<Said> {
         ("chain", ..) => chain(name, arguments),
         ("hasty", "walk", [sheet, graph, piece]) => Some(hasty(sheet, graph, piece)),
         ("drop", "plain", [sheet, piece]) => Some(dropping(sheet, piece)),
+        ("coarse", "plain" | "walk", _) => coarse(name, arguments),
+        ("first", "walk", [sheet, graph, piece]) => Some(first_case(sheet, graph, piece)),
         ("number", "tidy", [sheet, buffer]) => Some(numbered(sheet, buffer)),
         ("lowest", "build_ordered", [sheet, order, buffer]) => {
             let read = Sheet::read(sheet).and_then(|_| check_order(order));
@@ -193,7 +235,7 @@ pub fn call(trap: &str, name: &str, arguments: &mut [Vec<u8>]) -> Option<Said> {
             let result = right(name, arguments);
             let Some([results, bytes]) = fields(&result) else { return result };
             let last = arguments[3][..16 * results].chunks(16).last().map_or(0, |last| last[0]);
-            let taken = if (12..=16).contains(&last) { arguments[2].len() } else { bytes };
+            let taken = if matches!(last, 12..=16 | 32) { arguments[2].len() } else { bytes };
             Some(Ok(format!("{results} {taken}")))
         }
         ("spill", "build", _) => {

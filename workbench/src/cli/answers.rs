@@ -94,3 +94,12 @@ pub fn word(answer: &Answer) -> String {
         Word::Suspend | Word::Fail => answer.walk.word.to_string(),
     }
 }
+
+/// Items in words: "a", "a and b", "a, b and c".
+pub fn listed(items: &[String]) -> String {
+    match items {
+        [] => "none".into(),
+        [one] => one.clone(),
+        [first @ .., last] => format!("{} and {last}", first.join(", ")),
+    }
+}

@@ -1,12 +1,13 @@
 //! `vt explain`: the walk of a piece, step by step.
 
-use super::answers::{word, Bench};
+use super::answers::{listed, word, Bench};
 use super::args::{Args, BYTES, JSON, OUTPUT};
 use super::draw::GRAPH;
 use super::order::ORDER;
 use super::out::Out;
 use super::picture;
 use super::pieces::{piece, PieceInput};
+use super::spans::Spans;
 use super::stop::Stop;
 use super::table::Table;
 use super::Command;
@@ -23,8 +24,9 @@ pub const COMMAND: Command = Command {
     usage: "SHEET PIECE",
     summary: "retrace a piece's walk step by step, as a table or a picture",
     about: "Shows for each node what it asks, what the piece has there, the edge taken and the rules left; then\n\
-            the tests of the rule that is left, and what the piece waits for. The way is read from the graph's\n\
-            bytes and must come to the library's answer. With -o the picture has the way marked.",
+            the tests of the rule that is left, and what the piece waits for; of a span such as `231..239?` also\n\
+            why this case was taken and whose range it lies partly inside. The way is read from the graph's bytes\n\
+            and must come to the library's answer. With -o the picture has the way marked.",
     options: &[OUTPUT, GRAPH, ORDER, BYTES, JSON],
     examples: &[
         ("vt explain coins.sheet '(silver, ?, 25)'", "why this piece waits"),
@@ -84,16 +86,6 @@ fn rules(left: u64) -> Vec<u64> {
     (1..=64).filter(|rule| left >> (rule - 1) & 1 == 1).collect()
 }
 
-/// Numbers in words: "1", "1 and 2", "1, 2 and 3".
-fn listed(numbers: &[u64]) -> String {
-    let words: Vec<String> = numbers.iter().map(u64::to_string).collect();
-    match &words[..] {
-        [] => "none".into(),
-        [one] => one.clone(),
-        [first @ .., last] => format!("{} and {last}", first.join(", ")),
-    }
-}
-
 impl Explained<'_> {
     fn names(&self) -> &Names {
         &self.bench.sheet.names
@@ -138,13 +130,25 @@ impl Explained<'_> {
         table.row(vec![self.way.node.to_string(), self.end().words()]);
         let mut text =
             format!("{}\n\n{}\n", self.out.bold(self.shown), table.print(|head| self.out.dim(head)));
+        let spans = self.spans();
+        let chosen = spans.chosen();
+        if !chosen.is_empty() {
+            text += &format!("{chosen}\n");
+        }
         text +=
             &format!("{} {}\n", self.out.answer(self.answer.walk.word, &word(&self.answer)), self.because());
         text += &self.made();
         if let Some(waits) = self.bench.waits(&self.answer) {
             text += &format!("{waits}\n");
         }
+        if self.answer.walk.word == Word::Suspend {
+            text += &spans.waited();
+        }
         text
+    }
+
+    fn spans(&self) -> Spans<'_> {
+        Spans { bench: self.bench, piece: &self.piece.piece, way: self.way }
     }
 
     /// The node at which the walk ended.
@@ -163,7 +167,10 @@ impl Explained<'_> {
             }
             (_, []) => "no rule is left".into(),
             (_, [one]) => format!("rule {one} is left"),
-            (_, more) => format!("rules {} are left", listed(more)),
+            (_, more) => {
+                let more: Vec<String> = more.iter().map(u64::to_string).collect();
+                format!("rules {} are left", listed(&more))
+            }
         }
     }
 
@@ -229,9 +236,11 @@ impl Explained<'_> {
                 ("node", Json::number(step.node)),
                 ("asks", Json::text(step.asks.words())),
                 ("finds", Json::text(self.finds(step))),
+                ("contain", Json::count(step.contain)),
                 ("takes", Json::text(self.takes(step))),
                 ("to", Json::number(step.to)),
                 ("left", Json::List(rules(step.left).into_iter().map(Json::Number).collect())),
+                ("partly", Json::List(rules(step.partly).into_iter().map(Json::Number).collect())),
             ])
         };
         let made = |made: &Made| {

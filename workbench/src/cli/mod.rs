@@ -17,6 +17,7 @@ mod picture;
 pub mod pieces;
 mod refused;
 pub mod source;
+mod spans;
 pub mod stop;
 mod table;
 mod text;

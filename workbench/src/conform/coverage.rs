@@ -1,4 +1,4 @@
-//! What a run of calls covered: calls, refusals, answer words, kinds of nodes and cases, the largest graph.
+//! What a run of calls covered: calls, refusals, answer words, kinds of terms, nodes and cases, the largest graph.
 
 use super::replies::Reply;
 use crate::notation::count;
@@ -7,6 +7,7 @@ use std::fmt;
 use voltunnis::{Refusal, Word};
 use voltunnis_generate::calls::{Call, Name, Role};
 use voltunnis_generate::nodes::{Case, GraphNodes, Node};
+use voltunnis_generate::trees::{read_piece, Term};
 
 /// How often each thing was met.
 #[derive(Default)]
@@ -15,11 +16,15 @@ pub struct Coverage {
     unknown: BTreeMap<Name, usize>,
     refusals: BTreeMap<Refusal, usize>,
     words: BTreeMap<Word, usize>,
+    terms: [usize; TERMS.len()],
     nodes: [usize; NODES.len()],
     cases: [usize; CASES.len()],
     /// The nodes and bytes of the largest graph.
     largest: Option<(usize, usize)>,
 }
+
+/// The kinds of terms, in the order of their records.
+const TERMS: [&str; 5] = ["unknown", "symbol", "number", "compound", "span"];
 
 /// The kinds of nodes, in the order of their records.
 const NODES: [&str; 5] = ["fail", "suspend", "execute", "switch", "pair"];
@@ -47,6 +52,9 @@ impl Coverage {
         if let Some(word) = reply.word {
             *self.words.entry(word).or_default() += 1;
         }
+        if let Some((terms, _)) = call.argument(Role::Piece).and_then(read_piece) {
+            self.add_terms(&terms);
+        }
         let graph = match call.name() {
             Name::Build | Name::BuildOrdered => reply.buffer.as_deref(),
             _ => call.argument(Role::Graph),
@@ -61,6 +69,21 @@ impl Coverage {
     /// Counts a call that the program doesn't know.
     pub fn add_unknown(&mut self, call: &Call) {
         *self.unknown.entry(call.name()).or_default() += 1;
+    }
+
+    fn add_terms(&mut self, terms: &[Term]) {
+        for term in terms {
+            self.terms[match term {
+                Term::Unknown => 0,
+                Term::Symbol(_) => 1,
+                Term::Number(_) => 2,
+                Term::Compound(_, arguments) => {
+                    self.add_terms(arguments);
+                    3
+                }
+                Term::Span(..) => 4,
+            }] += 1;
+        }
     }
 
     fn add_node(&mut self, node: &Node) {
@@ -99,7 +122,7 @@ impl Coverage {
     }
 
     /// All that is counted.
-    pub fn sections(&self) -> [Section; 6] {
+    pub fn sections(&self) -> [Section; 7] {
         let of = |counts: &BTreeMap<Name, usize>| {
             Name::ALL.map(|name| (name.text().to_string(), counts.get(&name).copied().unwrap_or(0))).to_vec()
         };
@@ -116,6 +139,7 @@ impl Coverage {
             Section { title: "unknown", counts: of(&self.unknown) },
             Section { title: "answers", counts: words.to_vec() },
             Section { title: "refusals", counts: refusals.collect() },
+            Section { title: "terms", counts: named(&TERMS, &self.terms) },
             Section { title: "nodes", counts: named(&NODES, &self.nodes) },
             Section { title: "cases", counts: named(&CASES, &self.cases) },
         ]

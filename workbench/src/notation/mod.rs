@@ -55,6 +55,7 @@ pub fn print_sheet(bytes: &[u8]) -> Result<String, Unread> {
 /// use voltunnis_workbench::notation::print_piece;
 ///
 /// assert_eq!(print_piece(&[0x11, 2, 0x30, 0x33, 0, 7, 1, 0x32, 0, 180]).unwrap(), "(?, #7(180))");
+/// assert_eq!(print_piece(&[0x11, 1, 0x34, 0, 231, 0, 239]).unwrap(), "(231..239?)");
 /// ```
 pub fn print_piece(bytes: &[u8]) -> Result<String, Unread> {
     Piece::read(bytes).map(|piece| piece.print(&Names::default()))
@@ -65,7 +66,7 @@ pub fn print_piece(bytes: &[u8]) -> Result<String, Unread> {
 /// ```
 /// use voltunnis_workbench::notation::print_graph;
 ///
-/// let bytes = [0x12, 1, 1, 0, 3, 0x43, 0, 0, 1, 0, 2, 0, 1, 0x46, 0, 5, 0, 9, 0, 1, 0x42, 1, 0x40];
+/// let bytes = [0x12, 1, 1, 0, 3, 0x43, 0, 0, 0, 1, 0, 2, 0, 1, 0x46, 0, 5, 0, 9, 0, 1, 0x42, 1, 0x40];
 /// let text = "graph 1, 1 rule, 3 nodes\n0: argument 1\n   5..9    -> 1\n   neither -> 2\n   unknown -> 1\n\
 ///             1: execute 1\n2: fail\n";
 /// assert_eq!(print_graph(&bytes).unwrap(), text);

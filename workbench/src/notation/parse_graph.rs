@@ -18,7 +18,7 @@ use super::tree::{Case, Graph, Kind, Node};
 ///             1: execute 1\n2: fail\n";
 /// let graph = parse_graph(text, &Names::default()).unwrap();
 /// assert_eq!(graph.bytes(), [
-///     0x12, 1, 1, 0, 3, 0x43, 0, 0, 1, 0, 2, 0, 1, 0x44, 0, 17, 0, 1, 0x42, 1, 0x40,
+///     0x12, 1, 1, 0, 3, 0x43, 0, 0, 0, 1, 0, 2, 0, 1, 0x44, 0, 17, 0, 1, 0x42, 1, 0x40,
 /// ]);
 /// ```
 pub fn parse_graph(text: &str, names: &Names) -> Result<Graph, Fault> {
@@ -147,8 +147,8 @@ fn cases(parser: &mut Parser, switch: Span) -> Result<Vec<(Case, u16)>, Fault> {
             }
         };
         cases.push((case, target(parser)?));
-        if cases.len() > 255 {
-            return Err(Fault::new(switch, "expected at most 255 cases, as many as one byte counts"));
+        if cases.len() > usize::from(u16::MAX) {
+            return Err(Fault::new(switch, "expected at most 65535 cases, as many as two bytes count"));
         }
     }
 }

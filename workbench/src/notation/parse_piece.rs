@@ -11,8 +11,8 @@ use super::tree::{Piece, Term, What};
 /// ```
 /// use voltunnis_workbench::notation::{parse_piece, Names};
 ///
-/// let piece = parse_piece("(#17, ?, 180)", &Names::default()).unwrap();
-/// assert_eq!(piece.bytes(), [0x11, 3, 0x31, 0, 17, 0x30, 0x32, 0, 180]);
+/// let piece = parse_piece("(#17, ?, 180, 231..239?)", &Names::default()).unwrap();
+/// assert_eq!(piece.bytes(), [0x11, 4, 0x31, 0, 17, 0x30, 0x32, 0, 180, 0x34, 0, 231, 0, 239]);
 /// ```
 pub fn parse_piece(text: &str, names: &Names) -> Result<Piece, Fault> {
     let mut parser = Parser::new(text, names)?;
@@ -57,6 +57,30 @@ fn piece(parser: &mut Parser) -> Result<Piece, Fault> {
     Ok(Piece { at: start.to(parser.last()), terms })
 }
 
+/// A number, or a span: `231..239?`.
+fn number(parser: &mut Parser) -> Result<What, Fault> {
+    let low = parser.number("a number")?;
+    match parser.peek() {
+        Token::Mark("..") => {}
+        Token::Mark("?") => {
+            let help = "a number not known yet is `?`, one between two numbers `231..239?`";
+            return Err(parser.expected("`,` or `)`").help(help));
+        }
+        _ => return Ok(What::Number(low)),
+    }
+    parser.advance();
+    let high = parser.number("the end of the span")?;
+    match parser.accept("?") {
+        true => Ok(What::Between(low, high)),
+        false => {
+            let help = format!(
+                "a number between the two, not known yet, is `{low}..{high}?`; ranges stand in sheets"
+            );
+            Err(parser.expected("`?`").help(help))
+        }
+    }
+}
+
 /// One term.
 fn term(parser: &mut Parser, depth: usize) -> Result<Term, Fault> {
     let start = parser.span();
@@ -65,15 +89,7 @@ fn term(parser: &mut Parser, depth: usize) -> Result<Term, Fault> {
             parser.advance();
             What::Unknown
         }
-        Token::Number(_) => {
-            let number = parser.number("a number")?;
-            if *parser.peek() == Token::Mark("..") {
-                return Err(parser
-                    .expected("`,` or `)`")
-                    .help("a range stands in a sheet; a piece has one number"));
-            }
-            What::Number(number)
-        }
+        Token::Number(_) => number(parser)?,
         Token::Id(_) | Token::Word(_) => {
             let id = parser.id("a term")?;
             match parser.peek() {
@@ -84,10 +100,10 @@ fn term(parser: &mut Parser, depth: usize) -> Result<Term, Fault> {
             }
         }
         Token::Mark("_") | Token::Variable(_) => {
-            let fault = parser.expected("a term: `?`, a name or a number");
+            let fault = parser.expected("a term: `?`, a name, a number or a span");
             return Err(fault.help("`_` and variables stand in sheets; in a piece `?` is an unknown reading"));
         }
-        _ => return Err(parser.expected("a term: `?`, a name or a number")),
+        _ => return Err(parser.expected("a term: `?`, a name, a number or a span")),
     };
     Ok(Term { at: start.to(parser.last()), what })
 }

@@ -129,7 +129,7 @@ fn pattern(parser: &mut Parser, variables: &Variables, depth: usize) -> Result<P
             Form::Anything
         }
         Token::Number(_) => {
-            let (low, high) = range(parser)?;
+            let (low, high) = pattern_range(parser)?;
             Form::Range(low, high)
         }
         Token::Variable(name) => {
@@ -137,7 +137,7 @@ fn pattern(parser: &mut Parser, variables: &Variables, depth: usize) -> Result<P
             parser.advance();
             match parser.accept(":") {
                 true => {
-                    let (low, high) = range(parser)?;
+                    let (low, high) = pattern_range(parser)?;
                     Form::Ranged(number, low, high)
                 }
                 false => Form::Variable(number),
@@ -160,6 +160,18 @@ fn pattern(parser: &mut Parser, variables: &Variables, depth: usize) -> Result<P
         _ => return Err(parser.expected("a pattern: `_`, a name, a number, a range or a variable")),
     };
     Ok(Pattern { at: start.to(parser.last()), form })
+}
+
+/// The range of a pattern, which no `?` follows.
+fn pattern_range(parser: &mut Parser) -> Result<(u16, u16), Fault> {
+    let found = range(parser)?;
+    match parser.peek() {
+        Token::Mark("?") => {
+            let help = "`231..239?` is a reading of a piece; in a sheet a range is `231..239`";
+            Err(parser.expected("`,` or `)`").help(help))
+        }
+        _ => Ok(found),
+    }
 }
 
 /// A range: `low..high`, or one number.

@@ -108,6 +108,7 @@ impl Term {
             What::Unknown => "?".into(),
             What::Symbol(id) => names.show(*id),
             What::Number(value) => value.to_string(),
+            What::Between(low, high) => format!("{low}..{high}?"),
             What::Compound(id, arguments) => {
                 names.show(*id) + &list(arguments.iter().map(|argument| argument.print(names)))
             }

@@ -56,6 +56,17 @@ impl Kind {
             Kind::Pair { no, other, .. } => vec![("no".into(), *no), ("other".into(), *other)],
         }
     }
+
+    /// Where the node's edges lead, in their order.
+    pub fn targets(&self) -> Vec<u16> {
+        match self {
+            Kind::Fail | Kind::Suspend | Kind::Execute(_) => Vec::new(),
+            Kind::Switch { neither, unknown, cases, .. } => {
+                cases.iter().map(|(_, node)| *node).chain([*neither, *unknown]).collect()
+            }
+            Kind::Pair { no, other, .. } => vec![*no, *other],
+        }
+    }
 }
 
 impl Graph {

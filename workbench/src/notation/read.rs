@@ -109,13 +109,14 @@ impl<'a> Reader<'a> {
             0x31 => What::Symbol(self.wide()?),
             0x32 => What::Number(self.wide()?),
             0x33 => return Some((What::Compound(self.wide()?, Vec::new()), self.byte()?)),
+            0x34 => What::Between(self.wide()?, self.wide()?),
             _ => return None,
         };
         Some((what, 0))
     }
 
     fn term(&mut self, depth: usize) -> Result<Term, Unread> {
-        let ((mut what, arity), at) = self.record("a whole record of kinds 30 to 33", Reader::what)?;
+        let ((mut what, arity), at) = self.record("a whole record of kinds 30 to 34", Reader::what)?;
         if let What::Compound(_, arguments) = &mut what {
             self.shallow(depth, at)?;
             for _ in 0..arity {
@@ -154,7 +155,7 @@ impl<'a> Reader<'a> {
             0x41 => Kind::Suspend,
             0x42 => Kind::Execute(self.byte()?),
             0x43 => {
-                let (place, count) = (self.wide()?, self.byte()?);
+                let (place, count) = (self.wide()?, self.wide()?);
                 let (neither, unknown) = (self.wide()?, self.wide()?);
                 let cases = (0..count).map(|_| self.case()).collect::<Option<_>>()?;
                 Kind::Switch { place, neither, unknown, cases }

@@ -56,7 +56,20 @@ pub enum What {
     Unknown,
     Symbol(u16),
     Number(u16),
+    /// A number known to lie between two, low and high.
+    Between(u16, u16),
     Compound(u16, Vec<Term>),
+}
+
+impl What {
+    /// The lowest and the highest number that it may be, if it is a number or a span.
+    pub fn numbers(&self) -> Option<(u16, u16)> {
+        match self {
+            What::Number(value) => Some((*value, *value)),
+            What::Between(low, high) => Some((*low, *high)),
+            _ => None,
+        }
+    }
 }
 
 /// A graph, its nodes by number.

@@ -79,6 +79,11 @@ impl Term {
                 to.push(0x32);
                 wide(to, *value);
             }
+            What::Between(low, high) => {
+                to.push(0x34);
+                wide(to, *low);
+                wide(to, *high);
+            }
             What::Compound(id, arguments) => {
                 to.push(0x33);
                 wide(to, *id);
@@ -121,7 +126,7 @@ impl Kind {
             Kind::Switch { place, neither, unknown, cases } => {
                 to.push(0x43);
                 wide(to, *place);
-                to.push(cases.len() as u8);
+                wide(to, cases.len() as u16);
                 wide(to, *neither);
                 wide(to, *unknown);
                 cases.iter().for_each(|(case, node)| write_case(to, *case, *node));

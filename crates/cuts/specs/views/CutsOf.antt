@@ -27,7 +27,7 @@ module _ (rules : List Patterns) (n : ℕ) where
   cutsTo zero = []
   cutsTo (suc i) = turnRule i (wantAt rules i n) (cutsTo i)
 
-  -- A case as a run, with the live rules that want what it takes.
+  -- A case as a run, with the live rules that want something that it takes.
   abbrev pub takesFor : Case → Option Want → Bool
   takesFor c none = false
   takesFor c (some w) = isWanted c w

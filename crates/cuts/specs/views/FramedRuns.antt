@@ -1,4 +1,4 @@
--- The runs of a switch where pieces hold spans (document 02, request 4): "all numbers are cut into maximal runs accepted by the
+-- The runs of a switch (document 02, request 4): "all numbers are cut into maximal runs accepted by the
 -- same set of live rules tested there, the empty set included". Below `base` a run that no live rule wants is none; the codes from
 -- `base` up to `top` are all in runs where a live rule turns among them.
 use Prim.Native.Nat.{ℕ, pred, max}

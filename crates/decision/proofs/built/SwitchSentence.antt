@@ -39,8 +39,9 @@ live-wants rules live n w = (
   λ x. want-listed rules live n (x .0) w (x .1) (x .2) (x .3),
 )
 
--- "A switch has a case for each symbol and compound that a live rule wants there, and one for each maximal run of numbers
--- accepted by the same non-empty set of those rules": at each place, for each set of live rules of an accepted sheet.
+-- "A switch has a case for each symbol and compound that a live rule wants there" (document 01), and "where a live rule has a
+-- range at a switch's place" there is "one case for each pair of first and last run" (document 02, request 4): at each place, for
+-- each set of live rules of an accepted sheet.
 pub switch-cases
     : (arity : ℕ) (rules : List Patterns) → All (AcceptedRule arity) rules → length rules ≤ 64 → (live n : ℕ)
     → CasesAre (liveWants rules live n)

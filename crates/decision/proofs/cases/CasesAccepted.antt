@@ -1,105 +1,135 @@
--- The cases of a switch, where live rules want something there, are such as the check of a graph accepts: "24 Are cases
--- strictly ascending, low at most high, no number in two?", fields that hold them, one case or more and not too many.
-use Prim.Native.Nat.{ℕ, suc, _+_, _*_, _≤_, _<_}
-use mathlib.Core.Logic.{inl, inr}
-use mathlib.Core.List.{List, [], _∷_, _++_}
+-- The cases of a switch, where live rules want something there, are such as the check of a graph accepts: "In question 24 number
+-- cases ascend by low, then high, and may overlap"; low is at most high, fields hold them, there is one case or more, and the
+-- count, which "becomes wide", holds their number (document 02, request 4).
+use Prim.Native.Nat.{ℕ, suc, _+_, _*_, _≤_}
+use mathlib.Core.List.{List, [], _∷_}
+use native.Mathlib.Nat.{add-mul, mul-le-mul}
 use native.Mathlib.Omega.{arith}
 use lib.ListN.{length, length-append, length-map}
-use lib.Dec.{ltb}
 use Rattle.basics.specs.Lists.{Mem, here, All}
-use Rattle.basics.specs.Order.{insertBy}
-use Rattle.terms.specs.Term.{Wide}
-use Rattle.terms.specs.RuleTests.{Want, aSymbol, aNumber, aCompound}
-use Rattle.basics.proofs.ListLaws.{all-always, all-at, all-from}
-use Rattle.decision.specs.Runs.{cuts, between, isCovered, runs}
-use Rattle.decision.specs.Cases.{Case, symbolCase, compoundCase, numbersCase}
-use Rattle.decision.specs.Cases.{symbolsOf, Functor, functorsOf, rangesOf, compoundOf, numbersIn, casesOf}
+use Rattle.basics.proofs.ListLaws.{all-join, all-at, all-from, mem-none}
+use Rattle.basics.proofs.Filters.{mem-length, mem-right, mem-map, all-mapped, mapped-always}
+use Rattle.basics.proofs.Ascent.{ascending-map, ascending-join}
+use Rattle.basics.proofs.Sorted.{AscendingBy}
+use Rattle.terms.specs.RuleTests.{Want, aSymbol, aNumber, aCompound, Range}
+use Rattle.codes.specs.views.Codes.{SoundWant}
+use Rattle.decision.specs.Runs.{numberPairs}
+use Rattle.decision.specs.Cases.{Case, symbolCase, compoundCase, symbolsOf, functorsOf, rangesOf, compoundOf, numbersIn}
+use Rattle.decision.specs.Cases.{numberCases, casesOf}
 use Rattle.decision.specs.Node.{CaseEdge}
 use Rattle.decision.specs.GraphBytes.{mostCases}
 use Rattle.decision.specs.AcceptedGraph.{CaseBefore, LowAtMostHigh, Ascend, CaseFields}
-use Rattle.basics.proofs.Filters.{mem-length, all-mapped, filter-length}
-use Rattle.basics.proofs.Ascent.{ascending-map}
 use Rattle.decision.proofs.cases.Insertion.{number-inserted, functor-inserted}
-use Rattle.decision.proofs.cases.Insertion.{symbol-wanted, symbols-ascend, functor-wanted, functors-ascend}
-use Rattle.decision.proofs.cases.Intervals.{between-length}
-use Rattle.decision.proofs.cases.WantedRanges.{numberRuns, runs-all}
-use Rattle.decision.proofs.cases.Runs.{SoundWant, accepts-range, cut-wanted, run-ends}
-use Rattle.decision.proofs.cases.Runs.{runs-ordered, runs-ascend, in-run}
-use Rattle.decision.proofs.cases.CaseList.{symbolCases, compoundCases, joined-ascend, cases-all}
-use Rattle.decision.proofs.cases.CaseList.{symbol-listed, compound-listed, run-listed}
+use Rattle.decision.proofs.cases.FramedRuns.{InFrame}
+use Rattle.decision.proofs.cases.WantedRanges.{wanted-range}
+use Rattle.decision.proofs.cases.CaseList.{symbolCases, compoundCases, nameCases, names-all}
+use Rattle.decision.proofs.cases.CaseList.{symbol-listed, compound-listed, names-ascend}
 use Rattle.decision.proofs.cases.SwitchEdges.{edgesTo, edges-ascend}
-use Rattle.basics.proofs.Sorted.{AscendingBy as Ascending}
+use Rattle.decision.proofs.cases.NumberPairs.{pairs-most, number-pairs-ascend, number-pairs-inside, span-followed}
+use Rattle.decision.proofs.cases.CasesLaws.{wants-framed}
+
+-- A number pair of ranges that lie in a frame does so too.
+pairs-inside
+    : (base top : ℕ) → base ≤ top → (ws : List Range) → All (InFrame base top) ws → All (InFrame base top) (numberPairs base top ws)
+pairs-inside base top o [] inside = tt
+pairs-inside base top o (w ∷ ws) inside =
+    all-from (InFrame base top) (numberPairs base top (w ∷ ws)) (number-pairs-inside base top o w ws inside)
 
 module _ (ws : List Want) where
-  -- What comes before every run of numbers comes before these.
-  before-runs : (c : Case) → ((l h : ℕ) → CaseBefore c (numbersCase l h)) → All (CaseBefore c) (numberRuns ws)
-  before-runs c f = runs-all ws (CaseBefore c) (λ l h m. f l h)
-
   -- The cases ascend.
-  pub cases-ascend : Ascending CaseBefore (casesOf ws)
+  pub cases-ascend : AscendingBy CaseBefore (casesOf ws)
   cases-ascend =
-      joined-ascend ws (numberRuns ws) CaseBefore (ascending-map CaseBefore symbolCase (symbolsOf ws) (symbols-ascend ws))
-      (ascending-map CaseBefore compoundOf (functorsOf ws) (functors-ascend ws)) (runs-ascend ws) (λ a f. tt)
-      (λ a. before-runs (symbolCase a) (λ l h. tt)) (λ f. before-runs (compoundOf f) (λ l h. tt))
+      ascending-join CaseBefore (nameCases ws) (numberCases ws) (names-ascend ws)
+      (ascending-map CaseBefore numbersIn pairs (number-pairs-ascend 0 65536 (rangesOf ws)))
+      (names-all ws (λ (c : Case). All (CaseBefore c) (numberCases ws))
+      (λ a m. mapped-always (CaseBefore (symbolCase a)) numbersIn (λ x. tt) pairs)
+      (λ a n m. mapped-always (CaseBefore (compoundCase a n)) numbersIn (λ x. tt) pairs))
+    where
+      pairs : List Range
+      pairs = numberPairs 0 65536 (rangesOf ws)
 
-  -- Each low is at most its high.
-  pub cases-ordered : All LowAtMostHigh (casesOf ws)
-  cases-ordered =
-      cases-all ws LowAtMostHigh (all-always (λ (a : ℕ). Unit) (λ a. tt) (symbolsOf ws))
-      (all-always (λ (f : Functor). Unit) (λ f. tt) (functorsOf ws)) (runs-ordered ws)
+  module _ (sound : All SoundWant ws) where
+    -- Each number case is of wide numbers, its low at most its high.
+    pub number-cases-inside : All (InFrame 0 65536) (numberPairs 0 65536 (rangesOf ws))
+    number-cases-inside = pairs-inside 0 65536 (omega arith) (rangesOf ws) (wants-framed ws sound)
 
-  -- The low and the high of a run are wide: the run ends before a cut, which is at most one more than a wanted high.
-  run-fields : All SoundWant ws → (l h : ℕ) → Mem (numbersCase l h) (numberRuns ws) → Wide l × Wide h
-  run-fields sound l h m =
-      let low : l ≤ h = all-at LowAtMostHigh m (runs-ordered ws) in
-      let cut = cut-wanted ws (suc h) .0 (run-ends ws l h m .1) in
-      let want = all-at SoundWant (cut .2) sound in
-      let high : Wide h = elim (cut .3) [ inl e ↦ omega (arith, want .0, want .1) | inr e ↦ omega (arith, want .1) ] in
-      (omega arith, high)
+    numbers-all : (Q : Case → Type 0) → ((x : Range) → InFrame 0 65536 x → Q (numbersIn x)) → All Q (numberCases ws)
+    numbers-all Q f =
+        let pairs = numberPairs 0 65536 (rangesOf ws) in
+        all-mapped Q numbersIn pairs
+        (all-from (λ (x : Range). Q (numbersIn x)) pairs (λ x m. f x (all-at (InFrame 0 65536) m number-cases-inside)))
 
-  -- The fields of each case hold it.
-  pub cases-fields : All SoundWant ws → All CaseFields (casesOf ws)
-  cases-fields sound =
-      cases-all ws CaseFields
-      (all-from Wide (symbolsOf ws) (λ a m. all-at SoundWant (symbol-wanted ws a m) sound))
-      (all-from (λ (f : Functor). Wide (f .name) × (f .arity < 256)) (functorsOf ws)
-      (λ f m. let want = all-at SoundWant (functor-wanted ws f m) sound in (want .0, omega (arith, want .1))))
-      (runs-all ws CaseFields (run-fields sound))
+    -- Each low is at most its high,
+    pub cases-ordered : All LowAtMostHigh (casesOf ws)
+    cases-ordered =
+        all-join LowAtMostHigh (nameCases ws) (numberCases ws) (names-all ws LowAtMostHigh (λ a m. tt) (λ a n m. tt))
+        (numbers-all LowAtMostHigh (λ x k. k .1))
 
-  -- A sound want has a case.
-  want-case : (w : Want) → Mem w ws → SoundWant w → (c : Case) × Mem c (casesOf ws)
-  want-case (aSymbol a) m s = (symbolCase a, symbol-listed ws a m)
-  want-case (aNumber l h) m s =
-      let c = in-run ws (aNumber l h) l m (accepts-range (record { low = l; high = h }) l .1 (omega arith, s .0)) in
-      (c .0, run-listed ws (c .0) (c .1))
-  want-case (aCompound a n) m s = (compoundCase a n, compound-listed ws a n m)
+    -- and the fields of each case hold it.
+    pub cases-fields : All CaseFields (casesOf ws)
+    cases-fields =
+        all-join CaseFields (nameCases ws) (numberCases ws)
+        (names-all ws CaseFields (λ a m. all-at SoundWant m sound)
+        (λ a n m. let s = all-at SoundWant m sound in (s .0, omega (arith, s .1))))
+        (numbers-all CaseFields (λ x k. (omega (arith, k .1, k .2), k .2)))
+
+    -- A want has a case.
+    want-case : (w : Want) → Mem w ws → (c : Case) × Mem c (casesOf ws)
+    want-case (aSymbol a) m = (symbolCase a, symbol-listed ws a m)
+    want-case (aNumber l h) m = go (rangesOf ws) (wanted-range m) (wants-framed ws sound) (λ x k. k)
+      where
+        go
+            : (rs : List Range) → Mem (record { low = l; high = h }) rs → All (InFrame 0 65536) rs
+            → ((x : Range) → Mem x (numberPairs 0 65536 rs) → Mem x (numberPairs 0 65536 (rangesOf ws)))
+            → (c : Case) × Mem c (casesOf ws)
+        go [] k inside same = absurd (mem-none k)
+        go (r ∷ rs) k inside same =
+            let p = span-followed 0 65536 (omega arith) r rs inside 0 0 (omega arith) (omega arith) (omega arith) in
+            (numbersIn (p .pair), mem-right (nameCases ws) (mem-map numbersIn (same (p .pair) (p .listed))))
+    want-case (aCompound a n) m = (compoundCase a n, compound-listed ws a n m)
 
 -- There is a case where something is wanted.
 pub cases-some : (ws : List Want) → All SoundWant ws → 1 ≤ length ws → 1 ≤ length (casesOf ws)
 cases-some [] sound h = omega arith
-cases-some (w ∷ ws) sound h = mem-length (want-case (w ∷ ws) w here (sound .0) .1)
+cases-some (w ∷ ws) sound h = mem-length (want-case (w ∷ ws) sound w here .1)
 
--- Each want adds at most a symbol, a compound or two cuts.
-parts-length : (ws : List Want) → length (symbolsOf ws) + length (functorsOf ws) + length (cuts (rangesOf ws)) ≤ 2 * length ws
+-- Each want adds at most a symbol, a compound or a range.
+parts-length : (ws : List Want) → length (symbolsOf ws) + length (functorsOf ws) + length (rangesOf ws) ≤ length ws
 parts-length [] = omega arith
 parts-length (aSymbol a ∷ ws) = omega (arith, number-inserted a (symbolsOf ws) .longer, parts-length ws)
-parts-length (aNumber l h ∷ ws) =
-    let low = number-inserted l (insertBy ltb (suc h) (cuts (rangesOf ws))) .longer in
-    let high = number-inserted (suc h) (cuts (rangesOf ws)) .longer in
-    omega (arith, parts-length ws)
+parts-length (aNumber l h ∷ ws) = omega (arith, parts-length ws)
 parts-length (aCompound a n ∷ ws) =
     omega (arith, functor-inserted (record { name = a; arity = n }) (functorsOf ws) .longer, parts-length ws)
 
--- There are at most two cases for each want.
-pub cases-few : (ws : List Want) → length (casesOf ws) ≤ 2 * length ws
-cases-few ws =
-    let joined = length-append (symbolCases ws ++ compoundCases ws) (numberRuns ws) in
-    let names = length-append (symbolCases ws) (compoundCases ws) in
+-- One range more adds more pairs than one name more adds cases.
+pairs-outnumber : (n k : ℕ) → n * suc n + k ≤ (n + k) * suc (n + k)
+pairs-outnumber n k =
+    let room : (n + k) * suc n ≤ (n + k) * suc (n + k) =
+    mul-le-mul {n₁ = n + k} {m₁ = suc n} {n₂ = n + k} {m₂ = suc (n + k)} (omega arith) (omega arith) in
+    let own : k * 1 ≤ k * suc n = mul-le-mul {n₁ = k} {m₁ = 1} {n₂ = k} {m₂ = suc n} (omega arith) (omega arith) in
+    omega (arith, add-mul n k (suc n))
+
+-- There are at most (2 n + 1) (n + 1) cases for n wants.
+pub cases-few
+    : (ws : List Want) (n : ℕ) → length ws ≤ n → length (casesOf ws) * 2 ≤ suc (2 * n) * suc (suc (2 * n))
+cases-few ws n few =
+    let names = length (symbolsOf ws) + length (functorsOf ws) in
+    let ranges = length (rangesOf ws) in
+    let joined = length-append (nameCases ws) (numberCases ws) in
+    let both = length-append (symbolCases ws) (compoundCases ws) in
     let symbols = length-map (symbolsOf ws) symbolCase in
     let compounds = length-map (functorsOf ws) compoundOf in
-    let numbers = length-map (runs (rangesOf ws)) numbersIn in
-    let wanted = filter-length (isCovered (rangesOf ws)) (between (cuts (rangesOf ws))) in
-    omega (arith, between-length (cuts (rangesOf ws)), parts-length ws)
+    let numbers = length-map (numberPairs 0 65536 (rangesOf ws)) numbersIn in
+    let pairs = pairs-most 0 65536 (rangesOf ws) ranges (omega arith) in
+    let more = pairs-outnumber (suc (2 * ranges)) (2 * names) in
+    let most : (suc (2 * ranges) + 2 * names) * suc (suc (2 * ranges) + 2 * names) ≤ suc (2 * n) * suc (suc (2 * n)) =
+    mul-le-mul {n₁ = suc (2 * ranges) + 2 * names} {m₁ = suc (suc (2 * ranges) + 2 * names)} {n₂ = suc (2 * n)}
+    {m₂ = suc (suc (2 * n))} (omega (arith, parts-length ws)) (omega (arith, parts-length ws)) in
+    omega arith
+
+-- For 64 rules these are 8,385.
+pub cases-of-64 : (ws : List Want) → length ws ≤ 64 → length (casesOf ws) ≤ 8385
+cases-of-64 ws h = omega (arith, cases-few ws 64 h)
 
 -- What the check of a graph asks of the cases of a switch, whatever they lead to.
 pub record AcceptedCases (cs : List (CaseEdge ℕ)) : Type 0 where
@@ -109,19 +139,17 @@ pub record AcceptedCases (cs : List (CaseEdge ℕ)) : Type 0 where
   pub ordered : All (λ (c : CaseEdge ℕ). LowAtMostHigh (c .case)) cs
   pub ascend : Ascend cs
 
-module _ (f : Case → ℕ) where
-  abbrev edge : Case → CaseEdge ℕ
-  edge c = record { case = c; target = f c }
-
-  -- The edges of a switch's cases are accepted, where at most 64 live rules want something there.
-  pub cases-accepted
-      : (ws : List Want) → All SoundWant ws → 1 ≤ length ws → length ws ≤ 64 → AcceptedCases (edgesTo f (casesOf ws))
-  cases-accepted ws sound someWant fewWants =
-      let count = length-map (casesOf ws) edge in
-      record {
-        someCase = omega (arith, cases-some ws sound someWant);
-        fewCases = omega (arith, cases-few ws);
-        fields = all-mapped (λ (c : CaseEdge ℕ). CaseFields (c .case)) edge (casesOf ws) (cases-fields ws sound);
-        ordered = all-mapped (λ (c : CaseEdge ℕ). LowAtMostHigh (c .case)) edge (casesOf ws) (cases-ordered ws);
-        ascend = edges-ascend f (casesOf ws) (cases-ascend ws);
-      }
+-- The edges of a switch's cases are accepted, where at most 64 live rules want something there.
+pub cases-accepted
+    : (f : Case → ℕ) (ws : List Want) → All SoundWant ws → 1 ≤ length ws → length ws ≤ 64
+    → AcceptedCases (edgesTo f (casesOf ws))
+cases-accepted f ws sound someWant fewWants =
+    let edge : Case → CaseEdge ℕ = λ c. record { case = c; target = f c } in
+    let count = length-map (casesOf ws) edge in
+    record {
+      someCase = omega (arith, cases-some ws sound someWant);
+      fewCases = omega (arith, cases-of-64 ws fewWants);
+      fields = all-mapped (λ (c : CaseEdge ℕ). CaseFields (c .case)) edge (casesOf ws) (cases-fields ws sound);
+      ordered = all-mapped (λ (c : CaseEdge ℕ). LowAtMostHigh (c .case)) edge (casesOf ws) (cases-ordered ws sound);
+      ascend = edges-ascend f (casesOf ws) (cases-ascend ws);
+    }

@@ -1,144 +1,184 @@
--- Which edge of a switch a known term takes, if its numbers are known exactly: that of a case that keeps exactly the rules
--- which the term does not contradict, or neither, where it contradicts every rule that wants something there.
-use Prim.Native.Nat.{ℕ}
-use mathlib.Core.Path.{_≡_, refl, ap, subst, _∙_}
-use mathlib.Core.Bool.{Bool, _&&_}
-use mathlib.Core.Logic.{_⊎_, inl, inr}
-use mathlib.Core.List.{List}
+-- Which edge of a switch a known term takes: that of a case which keeps exactly the wants that the term does not contradict, or
+-- neither, where it contradicts every want.
+use Prim.Native.Nat.{ℕ, _≤_, _<_}
+use mathlib.Core.Path.{_≡_, refl, ap, sym, subst, _∙_}
+use mathlib.Core.Bool.{_&&_}
+use mathlib.Core.Logic.{_↔_, inl, inr}
+use mathlib.Core.List.{List, [], _∷_, map}
 use mathlib.Core.Option.{Option}
-use lib.Dec.{T, eqb, eqb→eq}
+use native.Mathlib.Omega.{arith}
+use lib.Dec.{T, leb, eqb, eqb→eq}
 use Rattle.basics.specs.Lists.{Mem, All}
-use Rattle.terms.specs.Term.{Term, Terms, count, unknown, symbol, number, numbers, compound}
-use Rattle.terms.specs.RuleTests.{Want, aSymbol, aNumber, aCompound}
+use Rattle.basics.proofs.ListLaws.{all-at, all-from, mem-none}
+use Rattle.basics.proofs.Booleans.{both-true, same-truth}
+use Rattle.basics.proofs.Filters.{mem-right, mem-map}
+use Rattle.basics.proofs.Numbers.{eqb-swap}
+use Rattle.terms.specs.Term.{Term, Terms, count, unknown, symbol, numbers, compound}
+use Rattle.terms.specs.RuleTests.{Want, aSymbol, aNumber, aCompound, Range}
 use Rattle.terms.specs.Lookup.{found}
-use Rattle.terms.specs.Outcome.{contradicted, Holds, known, fits}
-use Rattle.terms.specs.Accepted.{Exact}
+use Rattle.terms.specs.Outcome.{contradicted, inside, fits}
+use Rattle.terms.specs.Filling.{WellFormed}
 use Rattle.terms.specs.Answer.{isOpen}
 use Rattle.terms.proofs.Unknown.{IsUnknown}
-use Rattle.basics.proofs.ListLaws.{all-always, all-at}
-use Rattle.basics.proofs.Booleans.{both-true}
-use Rattle.decision.specs.Cases.{Case, symbolCase, compoundCase, numbersCase, takes, isWanted}
-use Rattle.decision.specs.Cases.{symbolsOf, Functor, functorsOf, compoundOf, casesOf}
+use Rattle.terms.proofs.Outcomes.{is-open}
+use Rattle.terms.proofs.KnownTests.{holds-true}
+use Rattle.terms.proofs.Spans.{range-open-at}
+use Rattle.codes.specs.views.Codes.{SoundWant}
+use Rattle.decision.specs.Runs.{numberPairs}
+use Rattle.decision.specs.Cases.{Case, symbolCase, compoundCase, numbersCase, takes, isWanted, rangesOf, numbersIn}
+use Rattle.decision.specs.Cases.{numberCases, casesOf}
 use Rattle.decision.specs.Node.{follow}
 use Rattle.decision.specs.Edges.{caseKeeps, gatherWants}
-use Rattle.terms.proofs.KnownTests.{holds-true}
-use Rattle.terms.proofs.Spans.{inside-number}
-use Rattle.decision.proofs.Truth.{known-contradicted, open-known}
-use Rattle.decision.proofs.cases.WantedRanges.{numberRuns, runs-all}
-use Rattle.decision.proofs.cases.Runs.{run-uncut, in-run}
-use Rattle.decision.proofs.cases.SwitchEdges.{edgesTo, follow-case, KeepsOpen, takes-keeps}
-use Rattle.decision.proofs.cases.CaseList.{cases-all, symbol-listed, compound-listed, run-listed}
-use Rattle.basics.proofs.Numbers.{eqb-swap}
+use Rattle.decision.proofs.Truth.{known-contradicted, open-known, open-is}
+use Rattle.decision.proofs.cases.FramedRuns.{InFrame}
+use Rattle.decision.proofs.cases.WantedRanges.{range-wanted, wanted-range}
+use Rattle.decision.proofs.cases.CaseList.{nameCases, names-all, symbol-listed, compound-listed}
+use Rattle.decision.proofs.cases.SwitchEdges.{edgesTo, follow-case, follow-past, KeepsOpen, TakesOpen, takes-keeps}
+use Rattle.decision.proofs.cases.NumberPairs.{Followed, span-followed, numbers-follow}
 
--- At a symbol a want holds if the symbol's case is wanted, and is contradicted if not;
-symbol-fits : (a : ℕ) (w : Want) → fits w (symbol a) ≡ known (isWanted (symbolCase a) w)
-symbol-fits a (aSymbol b) = ap known (eqb-swap b a)
-symbol-fits a (aNumber l h) = refl
-symbol-fits a (aCompound b n) = refl
+-- The case that takes a symbol is that symbol's, and keeps the wants that are open at it;
+symbol-taken : (c : Case) (b : ℕ) → T (takes c (symbol b)) → c ≡ symbolCase b
+symbol-taken (symbolCase a) b h = ap symbolCase (eqb→eq a b h)
+symbol-taken (compoundCase a n) b h = absurd h
+symbol-taken (numbersCase x y) b h = absurd h
 
--- so at a number, with the case of that number alone,
-number-fits : (v : ℕ) (w : Want) → fits w (number v) ≡ known (isWanted (numbersCase v v) w)
-number-fits v (aSymbol b) = refl
-number-fits v (aNumber l h) = inside-number l h v v refl
-number-fits v (aCompound b n) = refl
+symbol-open : (b : ℕ) (w : Want) → isOpen (fits w (symbol b)) ≡ isWanted (symbolCase b) w
+symbol-open b (aSymbol a) = open-known (eqb a b) ∙ eqb-swap a b
+symbol-open b (aNumber l h) = refl
+symbol-open b (aCompound a n) = refl
 
--- and so at a compound.
-compound-fits
-    : (a : ℕ) (ts : Terms) (w : Want) → fits w (compound a ts) ≡ known (isWanted (compoundCase a (count ts)) w)
-compound-fits a ts (aSymbol b) = refl
-compound-fits a ts (aNumber l h) = refl
-compound-fits a ts (aCompound b n) = λ i. known (eqb-swap b a i && eqb-swap n (count ts) i)
+-- so it is with compounds.
+compound-taken : (c : Case) (b : ℕ) (ts : Terms) → T (takes c (compound b ts)) → c ≡ compoundCase b (count ts)
+compound-taken (symbolCase a) b ts h = absurd h
+compound-taken (compoundCase a n) b ts h =
+    let s = both-true (eqb a b) (eqb n (count ts)) h in
+    rw (eqb→eq a b (s .0), eqb→eq n (count ts) (s .1))
+compound-taken (numbersCase x y) b ts h = absurd h
 
--- Hence at a known term a want holds or is contradicted.
-known-fits : (t : Term) (w : Want) → Exact t → (IsUnknown (found t) → ⊥) → (b : Bool) × (fits w t ≡ known b)
-known-fits unknown w exact k = absurd (k tt)
-known-fits (symbol a) w exact k = (isWanted (symbolCase a) w, symbol-fits a w)
-known-fits (numbers v y) w exact k =
-    subst (λ (z : ℕ). (b : Bool) × (fits w (numbers v z) ≡ known b)) exact (isWanted (numbersCase v v) w, number-fits v w)
-known-fits (compound a ts) w exact k = (isWanted (compoundCase a (count ts)) w, compound-fits a ts w)
+compound-open : (b : ℕ) (ts : Terms) (w : Want) → isOpen (fits w (compound b ts)) ≡ isWanted (compoundCase b (count ts)) w
+compound-open b ts (aSymbol a) = refl
+compound-open b ts (aNumber l h) = refl
+compound-open b ts (aCompound a n) =
+    open-known (eqb a b && eqb n (count ts)) ∙ (λ i. eqb-swap a b i && eqb-swap n (count ts) i)
 
--- At each term that the case takes, a want holds if it wants what the case takes, and is contradicted if not.
-abbrev Agrees : List Want → Case → Type 0
-Agrees ws c = (t : Term) (w : Want) → Exact t → T (takes c t) → Mem w ws → fits w t ≡ known (isWanted c w)
+-- A range is open at a span exactly where it has a number of a pair that meets the same ranges as the span.
+range-open
+    : (l h a b : ℕ) (x : Range) → a ≤ b → T (leb l (x .high) && leb (x .low) h) ↔ ((l ≤ b) × (a ≤ h))
+    → isOpen (inside l h a b) ≡ leb l (x .high) && leb (x .low) h
+range-open l h a b x o same =
+    same-truth (isOpen (inside l h a b)) (leb l (x .high) && leb (x .low) h)
+    (λ t. same .1 (range-open-at l h a b o .0 (is-open (inside l h a b) t)))
+    (λ t. open-is (inside l h a b) (range-open-at l h a b o .1 (same .0 t)))
 
 module _ (ws : List Want) where
-  -- This is so of a symbol's case,
-  symbol-agrees : (a : ℕ) → Agrees ws (symbolCase a)
-  symbol-agrees a unknown w exact h m = absurd h
-  symbol-agrees a (symbol b) w exact h m = rw (eqb→eq a b h) (symbol-fits b w)
-  symbol-agrees a (numbers b c) w exact h m = absurd h
-  symbol-agrees a (compound b ts) w exact h m = absurd h
+  -- No case of a name takes a number or span.
+  pub names-untaken : (a b : ℕ) → All (λ (c : Case). T (takes c (numbers a b)) → ⊥) (nameCases ws)
+  names-untaken a b = names-all ws (λ (c : Case). T (takes c (numbers a b)) → ⊥) (λ x m t. t) (λ x n m t. t)
 
-  -- of a compound's,
-  compound-agrees : (a n : ℕ) → Agrees ws (compoundCase a n)
-  compound-agrees a n unknown w exact h m = absurd h
-  compound-agrees a n (symbol b) w exact h m = absurd h
-  compound-agrees a n (numbers b c) w exact h m = absurd h
-  compound-agrees a n (compound b ts) w exact h m =
-      let s = both-true (eqb a b) (eqb n (count ts)) h in
-      rw (eqb→eq a b (s .0), eqb→eq n (count ts) (s .1)) (compound-fits b ts w)
+  -- Where no case takes a symbol, all wants are contradicted there,
+  symbol-none
+      : (b : ℕ) → All (λ (c : Case). T (takes c (symbol b)) → ⊥) (casesOf ws) → (w : Want) → Mem w ws
+      → fits w (symbol b) ≡ contradicted
+  symbol-none b untaken (aSymbol a) m =
+      known-contradicted (eqb a b) (λ h.
+      all-at (λ (c : Case). T (takes c (symbol b)) → ⊥) (symbol-listed ws a m) untaken (holds-true (eqb a b) h))
+  symbol-none b untaken (aNumber l h) m = refl
+  symbol-none b untaken (aCompound a n) m = refl
 
-  -- of a run's,
-  run-agrees : (l h : ℕ) → Mem (numbersCase l h) (numberRuns ws) → Agrees ws (numbersCase l h)
-  run-agrees l h k unknown w exact t m = absurd t
-  run-agrees l h k (symbol b) w exact t m = absurd t
-  run-agrees l h k (numbers v y) w exact t m =
-      let c = numbersCase l h in
-      subst (λ (z : ℕ). T (takes c (numbers v z)) → fits w (numbers v z) ≡ known (isWanted c w)) exact
-      (run-uncut ws l h v w k m) t
-  run-agrees l h k (compound b ts) w exact t m = absurd t
+  -- and so at a compound.
+  compound-none
+      : (b : ℕ) (ts : Terms) → All (λ (c : Case). T (takes c (compound b ts)) → ⊥) (casesOf ws) → (w : Want) → Mem w ws
+      → fits w (compound b ts) ≡ contradicted
+  compound-none b ts untaken (aSymbol a) m = refl
+  compound-none b ts untaken (aNumber l h) m = refl
+  compound-none b ts untaken (aCompound a n) m =
+      known-contradicted (eqb a b && eqb n (count ts)) (λ h.
+      all-at (λ (c : Case). T (takes c (compound b ts)) → ⊥) (compound-listed ws a n m) untaken
+      (holds-true (eqb a b && eqb n (count ts)) h))
 
-  -- and so of each case.
-  cases-agree : All (Agrees ws) (casesOf ws)
-  cases-agree =
-      cases-all ws (Agrees ws) (all-always (λ (a : ℕ). Agrees ws (symbolCase a)) symbol-agrees (symbolsOf ws))
-      (all-always (λ (f : Functor). Agrees ws (compoundOf f)) (λ f. compound-agrees (f .name) (f .arity))
-      (functorsOf ws))
-      (runs-all ws (Agrees ws) run-agrees)
+  -- The ranges that sound wants have are of wide numbers.
+  pub wants-framed : All SoundWant ws → All (InFrame 0 65536) (rangesOf ws)
+  wants-framed sound =
+      all-from (InFrame 0 65536) (rangesOf ws) (λ r m.
+      let s = all-at SoundWant (range-wanted ws r m) sound in (omega arith, s .0, s .1))
 
-  -- A term at which a want holds is taken by a case.
-  case-found
-      : (t : Term) (w : Want) → Exact t → Mem w ws → Holds (fits w t) → (c : Case) × Mem c (casesOf ws) × T (takes c t)
-  case-found unknown w exact m h = absurd h
-  case-found (symbol b) (aSymbol a) exact m h = (symbolCase a, symbol-listed ws a m, holds-true (eqb a b) h)
-  case-found (symbol b) (aNumber x y) exact m h = absurd h
-  case-found (symbol b) (aCompound a n) exact m h = absurd h
-  case-found (numbers v y) w exact m h =
-      subst (λ (z : ℕ). Holds (fits w (numbers v z)) → (c : Case) × Mem c (casesOf ws) × T (takes c (numbers v z))) exact
-      (λ k. let c = in-run ws w v m k in (c .0, run-listed ws (c .0) (c .1), c .2)) h
-  case-found (compound b ts) (aSymbol a) exact m h = absurd h
-  case-found (compound b ts) (aNumber x y) exact m h = absurd h
-  case-found (compound b ts) (aCompound a n) exact m h =
-      (compoundCase a n, compound-listed ws a n m, holds-true (eqb a b && eqb n (count ts)) h)
+  module _ {A : Type 0} (f : Case → A) (neither : A) where
+    -- A number or span follows a number case, or neither where there is none.
+    pub numbers-past
+        : (a b : ℕ)
+        → follow (edgesTo f (casesOf ws)) neither (numbers a b) ≡ follow (edgesTo f (numberCases ws)) neither (numbers a b)
+    numbers-past a b = follow-past f neither (numbers a b) (nameCases ws) (numberCases ws) (names-untaken a b)
 
--- A known term takes the edge of a case, and the wants that want what the case takes hold, the others being contradicted;
--- or it takes neither, and all wants are contradicted.
-pub edge-taken
-    : {A : Type 0} (ws : List Want) (f : Case → A) (neither : A) (t : Term) → Exact t → (IsUnknown (found t) → ⊥)
-    → ((c : Case) × Mem c (casesOf ws) × (follow (edgesTo f (casesOf ws)) neither t ≡ f c)
-    × ((w : Want) → Mem w ws → fits w t ≡ known (isWanted c w)))
-    ⊎ ((follow (edgesTo f (casesOf ws)) neither t ≡ neither) × ((w : Want) → Mem w ws → fits w t ≡ contradicted))
-edge-taken ws f neither t exact k =
-    elim (follow-case f neither t (casesOf ws)) [
-      | inl r ↦ inl (r .0, r .1, r .3, λ w m. all-at (Agrees ws) (r .1) (cases-agree ws) t w exact (r .2) m)
-      | inr r ↦ inr (r .1, λ w m. none-holds w m (r .0))
-    ]
-  where
-    none-holds : (w : Want) → Mem w ws → All (λ (c : Case). T (takes c t) → ⊥) (casesOf ws) → fits w t ≡ contradicted
-    none-holds w m untaken =
-        let b = known-fits t w exact k in
-        let never : Holds (fits w t) → ⊥ =
-        λ h. (let c = case-found ws t w exact m h in all-at (λ (d : Case). T (takes d t) → ⊥) (c .1) untaken (c .2)) in
-        b .1 ∙ known-contradicted (b .0) (λ h. never (rw (b .1) h))
+    -- Where ranges are wanted it is the pair of the runs of its two ends, and the wants that it keeps are those open at the span.
+    span-edge
+        : (a b : ℕ) → a ≤ b → b < 65536 → (rs : List Range) → rangesOf ws ≡ rs → All (InFrame 0 65536) rs
+        → TakesOpen isWanted (casesOf ws) f neither ws (numbers a b)
+    span-edge a b o wide [] none framed =
+        let nothing : (l h : ℕ) → Mem (aNumber l h) ws → ⊥ =
+        λ l h m. mem-none (subst (Mem (record { low = l; high = h })) none (wanted-range m)) in
+        inr (
+          numbers-past a b
+              ∙ ap (λ (xs : List Range). follow (edgesTo f (map numbersIn (numberPairs 0 65536 xs))) neither (numbers a b)) none,
+          against nothing,
+        )
+      where
+        against
+            : ((l h : ℕ) → Mem (aNumber l h) ws → ⊥) → (w : Want) → Mem w ws → fits w (numbers a b) ≡ contradicted
+        against nothing (aSymbol x) m = refl
+        against nothing (aNumber l h) m = absurd (nothing l h m)
+        against nothing (aCompound x n) m = refl
+    span-edge a b o wide (r ∷ rs) some framed =
+        let followed = span-followed 0 65536 (omega arith) r rs framed a b (omega arith) o wide in
+        let pair = followed .pair in
+        inl (
+          numbersIn pair,
+          mem-right (nameCases ws) (mem-map numbersIn
+              (subst (λ (xs : List Range). Mem pair (numberPairs 0 65536 xs)) (sym some) (followed .listed))),
+          numbers-past a b
+              ∙ ap (λ (xs : List Range). follow (edgesTo f (map numbersIn (numberPairs 0 65536 xs))) neither (numbers a b)) some
+              ∙ numbers-follow f neither a b (numberPairs 0 65536 (r ∷ rs)) pair (followed .follows),
+          keeps followed,
+        )
+      where
+        keeps
+            : (k : Followed 0 65536 (omega arith) r rs framed a b) → (w : Want) → Mem w ws
+            → isOpen (fits w (numbers a b)) ≡ isWanted (numbersIn (k .pair)) w
+        keeps k (aSymbol x) m = refl
+        keeps k (aNumber l h) m =
+            range-open l h a b (k .pair) o
+            (k .meetsSome (record { low = l; high = h }) (subst (Mem (record { low = l; high = h })) some (wanted-range m)))
+        keeps k (aCompound x n) m = refl
 
--- Where the live rules want xs, each something or nothing, a known term takes an edge that keeps exactly those which it does not
--- contradict: the edge of a case, or neither, which keeps those that want nothing there.
+    -- A known term takes the edge of a case that keeps exactly the wants which are open at it, or neither, and all wants are
+    -- contradicted.
+    pub edge-taken
+        : All SoundWant ws → (t : Term) → WellFormed t → (IsUnknown (found t) → ⊥)
+        → TakesOpen isWanted (casesOf ws) f neither ws t
+    edge-taken sound unknown ok k = absurd (k tt)
+    edge-taken sound (symbol b) ok k =
+        elim (follow-case f neither (symbol b) (casesOf ws)) [
+          | inl r ↦
+              inl (r .0, r .1, r .3, λ w m. symbol-open b w ∙ ap (λ (c : Case). isWanted c w) (sym (symbol-taken (r .0) b (r .2))))
+          | inr r ↦ inr (r .1, symbol-none b (r .0))
+        ]
+    edge-taken sound (numbers a b) ok k = span-edge a b (ok .0) (ok .1) (rangesOf ws) refl (wants-framed sound)
+    edge-taken sound (compound b ts) ok k =
+        elim (follow-case f neither (compound b ts) (casesOf ws)) [
+          | inl r ↦
+              inl (
+                r .0,
+                r .1,
+                r .3,
+                λ w m. compound-open b ts w ∙ ap (λ (c : Case). isWanted c w) (sym (compound-taken (r .0) b ts (r .2))),
+              )
+          | inr r ↦ inr (r .1, compound-none b ts (r .0))
+        ]
+
+-- So where the live rules want xs, each something or nothing, it takes an edge that keeps exactly those which it does not
+-- contradict.
 pub edge-keeps
-    : {A : Type 0} (xs : List (Option Want)) (t : Term) (f : Case → A) (neither : A) → Exact t → (IsUnknown (found t) → ⊥)
-    → KeepsOpen caseKeeps (casesOf (gatherWants xs)) f neither xs t
-edge-keeps xs t f neither exact k =
+    : {A : Type 0} (xs : List (Option Want)) (t : Term) (f : Case → A) (neither : A) → All SoundWant (gatherWants xs)
+    → WellFormed t → (IsUnknown (found t) → ⊥) → KeepsOpen caseKeeps (casesOf (gatherWants xs)) f neither xs t
+edge-keeps xs t f neither sound ok k =
     takes-keeps caseKeeps (λ c. refl) (casesOf (gatherWants xs)) f neither xs t
-    (elim (edge-taken (gatherWants xs) f neither t exact k) [
-      | inl r ↦ inl (r .0, r .1, r .2, λ w m. ap isOpen (r .3 w m) ∙ open-known (isWanted (r .0) w))
-      | inr r ↦ inr r
-    ])
+    (edge-taken (gatherWants xs) f neither sound t ok k)

@@ -1,128 +1,205 @@
--- "A switch has a case for each symbol and compound that a live rule wants there, and one for each maximal run of numbers
--- accepted by the same non-empty set of those rules", in the order of the records: one theorem on `casesOf`.
-use Prim.Native.Nat.{ℕ, suc, pred, _≤_, _<_}
-use mathlib.Core.Path.{sym, subst, _∙_}
-use mathlib.Core.Logic.{_↔_, inl, inr}
-use mathlib.Core.List.{List}
+-- The cases of a switch, sentence by sentence (document 02, request 4): which cases there are, which rules a
+-- number case keeps, and which case a number or span follows.
+use Prim.Native.Nat.{ℕ, suc, pred, _≤_}
+use mathlib.Core.Path.{_≡_, refl, ap, sym, subst, _∙_}
+use mathlib.Core.Logic.{_↔_, Iff·trans, Iff·symm}
+use mathlib.Core.List.{List, [], _∷_}
 use native.Mathlib.Omega.{arith}
 use lib.Dec.{T}
-use Rattle.basics.specs.Lists.{Mem, All}
-use Rattle.basics.proofs.ListLaws.{all-at, all-from}
+use Rattle.basics.specs.Lists.{Mem, here, All}
+use Rattle.basics.proofs.ListLaws.{all-join, all-at, all-from, mem-none}
+use Rattle.basics.proofs.Filters.{mem-right, mem-map, all-mapped}
 use Rattle.basics.proofs.Sorted.{AscendingBy}
-use Rattle.terms.specs.Term.{number}
-use Rattle.terms.specs.RuleTests.{Want, aSymbol, aCompound}
-use Rattle.terms.specs.Outcome.{Holds}
-use Rattle.terms.proofs.Outcomes.{true-holds}
-use Rattle.decision.specs.Cases.{Case, symbolCase, compoundCase, numbersCase, takes, isWanted, symbolsOf, functorsOf, Functor, casesOf}
-use Rattle.decision.specs.AcceptedGraph.{CaseBefore, LowAtMostHigh}
-use Rattle.decision.proofs.cases.Insertion.{symbol-wanted, functor-wanted}
-use Rattle.decision.proofs.cases.WantedRanges.{numberRuns, runs-all}
-use Rattle.decision.proofs.cases.Accepts.{Accepts, SameAccept}
-use Rattle.decision.proofs.cases.Runs.{SoundWant, Parted, in-run, run-uncut, run-wanted, run-maximal, runs-ordered}
-use Rattle.decision.proofs.cases.CaseList.{cases-all, symbol-listed, compound-listed, run-listed}
+use Rattle.terms.specs.Term.{Wide, numbers}
+use Rattle.terms.specs.RuleTests.{Want, aSymbol, aNumber, aCompound, Range}
+use Rattle.codes.specs.views.Codes.{SoundWant}
+use Rattle.decision.specs.Runs.{framed, fromTo, runPairs, numberPairs}
+use Rattle.decision.specs.Cases.{Case, symbolCase, compoundCase, numbersCase, isWanted, rangesOf, numbersIn}
+use Rattle.decision.specs.Cases.{numberCases, casesOf}
+use Rattle.decision.specs.Node.{follow}
+use Rattle.decision.specs.AcceptedGraph.{CaseBefore}
+use Rattle.decision.proofs.cases.Intervals.{Contains}
+use Rattle.decision.proofs.cases.FramedRuns.{InFrame, SameRanges, MaximalIn, framed-covers, framed-are}
+use Rattle.decision.proofs.cases.RunPairs.{InTurn, meets-number}
+use Rattle.decision.proofs.cases.WantedRanges.{range-wanted, wanted-range}
+use Rattle.decision.proofs.cases.Accepts.{accepts-range, SameAccept}
+use Rattle.decision.proofs.cases.CaseList.{nameCases, names-all, symbol-listed, compound-listed}
+use Rattle.decision.proofs.cases.SwitchEdges.{edgesTo}
+use Rattle.decision.proofs.cases.Narrowest.{narrowest, narrowest-pair}
+use Rattle.decision.proofs.cases.NumberPairs.{number-pairs-are, numbers-follow}
+use Rattle.decision.proofs.cases.CasesLaws.{wants-framed, numbers-past}
 use Rattle.decision.proofs.cases.CasesAccepted.{cases-ascend}
-use Rattle.basics.proofs.Numbers.{not-apart, both-le}
 
--- The numbers from l to h are a "maximal run of numbers accepted by the same non-empty set" of the wants.
-pub record MaximalRun (ws : List Want) (l h : ℕ) : Type 0 where
+-- "All numbers are cut into maximal runs accepted by the same set of live rules tested there, the empty set included": the numbers
+-- from l to h are such a run.
+pub record RunOfAll (ws : List Want) (l h : ℕ) : Type 0 where
   pub ordered : l ≤ h
+  pub wide : Wide h
   pub sameSet : (u v : ℕ) → l ≤ u → u ≤ h → l ≤ v → v ≤ h → SameAccept ws u v
-  pub nonEmpty : (w : Want) × Mem w ws × Accepts w l
   pub maximalBelow : 1 ≤ l → SameAccept ws (pred l) l → ⊥
-  pub maximalAbove : SameAccept ws h (suc h) → ⊥
+  pub maximalAbove : Wide (suc h) → SameAccept ws h (suc h) → ⊥
 
-module _ (ws : List Want) (sound : All SoundWant ws) where
-  -- Numbers of which a want accepts one and not the other are not accepted by the same set.
-  parted-other : (u v : ℕ) → Parted ws u v → SameAccept ws u v → ⊥
-  parted-other u v (w, m, d) same = elim d [ inl p ↦ p .1 (same w m .0 (p .0)) | inr p ↦ p .1 (same w m .1 (p .0)) ]
+-- "Where a live rule has a range at a switch's place, .. one case for each pair of first and last run, .. with low and high their
+-- ends".
+pub record PairOfRuns (ws : List Want) (x y : ℕ) : Type 0 where
+  pub someRange : (l h : ℕ) × Mem (aNumber l h) ws
+  pub first : Range
+  pub last : Range
+  pub firstRun : RunOfAll ws (first .low) (first .high)
+  pub lastRun : RunOfAll ws (last .low) (last .high)
+  pub inTurn : InTurn first last
+  pub low : x ≡ first .low
+  pub high : y ≡ last .high
 
-  -- A run's case takes the numbers from its low to its high.
-  taken : (l h v : ℕ) → l ≤ v → v ≤ h → T (takes (numbersCase l h) (number v))
-  taken l h v low high = both-le l v v h .1 (low, high)
-
-  -- Two numbers of a run's case are accepted by the same set.
-  case-same
-      : (l h : ℕ) → Mem (numbersCase l h) (numberRuns ws) → (u v : ℕ) → l ≤ u → u ≤ h → l ≤ v → v ≤ h → SameAccept ws u v
-  case-same l h m u v lu uh lv vh w n =
-      let first = run-uncut ws l h u w m n (taken l h u lu uh) in
-      let second = run-uncut ws l h v w m n (taken l h v lv vh) in
-      (λ k. subst Holds (first ∙ sym second) k, λ k. subst Holds (second ∙ sym first) k)
-
-  -- The case of a run is a run,
-  case-is-run : (l h : ℕ) → Mem (numbersCase l h) (numberRuns ws) → MaximalRun ws l h
-  case-is-run l h m =
-      let low : l ≤ h = all-at LowAtMostHigh m (runs-ordered ws) in
-      let want = run-wanted ws (numbersCase l h) m in
-      let accepts = run-uncut ws l h l (want .0) m (want .1) (taken l h l (omega arith) low) in
-      let ends = run-maximal ws sound l h m in
-      record {
-        ordered = low;
-        sameSet = case-same l h m;
-        nonEmpty = (want .0, want .1, subst Holds (sym accepts) (true-holds (isWanted (numbersCase l h) (want .0)) (want .2)));
-        maximalBelow = λ k. parted-other (pred l) l (ends .0 k);
-        maximalAbove = parted-other h (suc h) (ends .1);
-      }
-
-  -- Of two runs that share the number v, the one does not begin after the other, nor end before it.
-  begins-first
-      : (l h x y v : ℕ) → MaximalRun ws l h → MaximalRun ws x y → l ≤ v → v ≤ y → x < l → ⊥
-  begins-first l h x y v a b lv vy before =
-      a .maximalBelow (omega arith) (b .sameSet (pred l) l (omega arith) (omega arith) (omega arith) (omega arith))
-
-  ends-last
-      : (l h x y v : ℕ) → MaximalRun ws l h → MaximalRun ws x y → x ≤ v → v ≤ h → h < y → ⊥
-  ends-last l h x y v a b xv vh after =
-      a .maximalAbove (b .sameSet h (suc h) (omega arith) (omega arith) (omega arith) (omega arith))
-
-  -- So each run has its case: the one that takes its low is its own,
-  run-is-case : (l h : ℕ) → MaximalRun ws l h → Mem (numbersCase l h) (numberRuns ws)
-  run-is-case l h a =
-      let w = a .nonEmpty in
-      let c = in-run ws (w .0) l (w .1) (w .2) in
-      all-at Own (c .1) (runs-all ws Own own) (c .2)
-    where
-      Own : Case → Type 0
-      Own d = T (takes d (number l)) → Mem (numbersCase l h) (numberRuns ws)
-
-      own : (x y : ℕ) → Mem (numbersCase x y) (numberRuns ws) → Own (numbersCase x y)
-      own x y m k =
-          let b = case-is-run x y m in
-          let inside = both-le x l l y .0 k in
-          let low = not-apart l x (λ d. begins-first x y l h l b a (inside .0) (a .ordered) d)
-          (λ d. begins-first l h x y l a b (omega arith) (inside .1) d) in
-          let high = not-apart h y (λ d. ends-last l h x y l a b (inside .0) (a .ordered) d)
-          (λ d. ends-last x y l h l b a (omega arith) (inside .1) d) in
-          rw (low, high) m
-
--- A case is one of the symbols', of the compounds' or of the runs'.
 module _ (ws : List Want) where
+  -- The same of the wants accept two numbers exactly when the same of the wanted ranges do,
+  same-ranges : (u v : ℕ) → SameRanges (rangesOf ws) u v ↔ SameAccept ws u v
+  same-ranges u v = (
+    accept,
+    λ same r m. Iff·trans (Iff·symm (accepts-range r u))
+        (Iff·trans (same (aNumber (r .low) (r .high)) (range-wanted ws r m)) (accepts-range r v)),
+  )
+    where
+      accept : SameRanges (rangesOf ws) u v → SameAccept ws u v
+      accept same (aSymbol a) m = (λ h. h, λ h. h)
+      accept same (aNumber l h) m =
+          let r : Range = record { low = l; high = h } in
+          Iff·trans (accepts-range r u) (Iff·trans (same r (wanted-range m)) (Iff·symm (accepts-range r v)))
+      accept same (aCompound a n) m = (λ h. h, λ h. h)
+
+  -- so the runs that the wanted ranges cut all numbers into are those accepted by the same set of the wants.
+  run-is : (r : Range) → MaximalIn 0 65536 (rangesOf ws) r ↔ RunOfAll ws (r .low) (r .high)
+  run-is r = (
+    λ k. record {
+      ordered = k .inside .1;
+      wide = k .inside .2;
+      sameSet = λ u v a b c d. same-ranges u v .0 (k .sameSet u v (a, b) (c, d));
+      maximalBelow = λ a same. k .maximalBelow (omega arith) (same-ranges (pred (r .low)) (r .low) .1 same);
+      maximalAbove = λ a same. k .maximalAbove a (same-ranges (r .high) (suc (r .high)) .1 same);
+    },
+    λ k. record {
+      inside = (omega arith, k .ordered, k .wide);
+      sameSet = λ u v a b. same-ranges u v .1 (k .sameSet u v (a .0) (a .1) (b .0) (b .1));
+      maximalBelow = λ a same. k .maximalBelow (omega arith) (same-ranges (pred (r .low)) (r .low) .0 same);
+      maximalAbove = λ a same. k .maximalAbove a (same-ranges (r .high) (suc (r .high)) .0 same);
+    },
+  )
+
+  -- A case is a symbol's, a compound's or a pair's.
   abbrev Listed : Case → Type 0
   Listed (symbolCase a) = Mem (aSymbol a) ws
   Listed (compoundCase a n) = Mem (aCompound a n) ws
-  Listed (numbersCase l h) = Mem (numbersCase l h) (numberRuns ws)
+  Listed (numbersCase x y) = Mem (record { low = x; high = y }) (numberPairs 0 65536 (rangesOf ws))
 
   cases-listed : All Listed (casesOf ws)
   cases-listed =
-      cases-all ws Listed (all-from (λ (a : ℕ). Mem (aSymbol a) ws) (symbolsOf ws) (λ a m. symbol-wanted ws a m))
-      (all-from (λ (f : Functor). Mem (aCompound (f .name) (f .arity)) ws) (functorsOf ws) (λ f m. functor-wanted ws f m))
-      (runs-all ws Listed (λ l h m. m))
+      let pairs = numberPairs 0 65536 (rangesOf ws) in
+      all-join Listed (nameCases ws) (numberCases ws) (names-all ws Listed (λ a m. m) (λ a n m. m))
+      (all-mapped Listed numbersIn pairs (all-from (λ (x : Range). Listed (numbersIn x)) pairs (λ x m. m)))
 
--- The cases of a switch, for what the live rules want there.
+  listed : (c : Case) → Mem c (casesOf ws) → Listed c
+  listed c m = all-at Listed m cases-listed
+
+  module _ (sound : All SoundWant ws) where
+    -- A pair is one of two runs, where a range is wanted.
+    pair-is : (x : Range) → Mem x (numberPairs 0 65536 (rangesOf ws)) ↔ PairOfRuns ws (x .low) (x .high)
+    pair-is x = go (rangesOf ws) refl (wants-framed ws sound)
+      where
+        go
+            : (rs : List Range) → rangesOf ws ≡ rs → All (InFrame 0 65536) rs
+            → Mem x (numberPairs 0 65536 rs) ↔ PairOfRuns ws (x .low) (x .high)
+        go [] e inside = (
+          λ m. absurd (mem-none m),
+          λ p. absurd (mem-none (subst (Mem (record { low = p .someRange .0; high = p .someRange .1 })) e
+              (wanted-range (p .someRange .2)))),
+        )
+        go (r ∷ rs) e inside =
+            let are = number-pairs-are 0 65536 (omega arith) r rs inside x in (
+              λ m. let p = are .0 m in
+                  let own : Mem r (rangesOf ws) = subst (Mem r) (sym e) here in
+                  record {
+                    someRange = (r .low, r .high, range-wanted ws r own);
+                    first = p .0;
+                    last = p .1;
+                    firstRun = run-is (p .0) .0 (subst (λ (qs : List Range). MaximalIn 0 65536 qs (p .0)) (sym e) (p .2));
+                    lastRun = run-is (p .1) .0 (subst (λ (qs : List Range). MaximalIn 0 65536 qs (p .1)) (sym e) (p .3));
+                    inTurn = p .4;
+                    low = ap (λ (y : Range). y .low) (p .5);
+                    high = ap (λ (y : Range). y .high) (p .5);
+                  },
+              λ p. let low = p .low in
+                  let high = p .high in
+                  are .1 (
+                    p .first,
+                    p .last,
+                    subst (λ (qs : List Range). MaximalIn 0 65536 qs (p .first)) e (run-is (p .first) .1 (p .firstRun)),
+                    subst (λ (qs : List Range). MaximalIn 0 65536 qs (p .last)) e (run-is (p .last) .1 (p .lastRun)),
+                    p .inTurn,
+                    λ i. record { low = low i; high = high i },
+                  ),
+            )
+
+-- The cases of a switch, for what the live rules want there: "a case for each symbol and compound that a live rule wants there",
+-- and "one case for each pair of first and last run, ordered so, with low and high their ends"; "elsewhere a switch has no number
+-- case".
 pub record CasesAre (ws : List Want) : Type 0 where
   pub symbols : (a : ℕ) → Mem (symbolCase a) (casesOf ws) ↔ Mem (aSymbol a) ws
   pub compounds : (a n : ℕ) → Mem (compoundCase a n) (casesOf ws) ↔ Mem (aCompound a n) ws
-  pub runs : (l h : ℕ) → Mem (numbersCase l h) (casesOf ws) ↔ MaximalRun ws l h
+  pub pairs : (x y : ℕ) → Mem (numbersCase x y) (casesOf ws) ↔ PairOfRuns ws x y
   pub ascend : AscendingBy CaseBefore (casesOf ws)
 
 pub cases-are : (ws : List Want) → All SoundWant ws → CasesAre ws
-cases-are ws sound =
-    let listed : (c : Case) → Mem c (casesOf ws) → Listed ws c = λ c m. all-at (Listed ws) m (cases-listed ws) in
-    record {
-      symbols = λ a. (listed (symbolCase a), symbol-listed ws a);
-      compounds = λ a n. (listed (compoundCase a n), compound-listed ws a n);
-      runs = λ l h. (
-        λ m. case-is-run ws sound l h (listed (numbersCase l h) m),
-        λ r. run-listed ws (numbersCase l h) (run-is-case ws sound l h r),
-      );
-      ascend = cases-ascend ws;
-    }
+cases-are ws sound = record {
+  symbols = λ a. (listed ws (symbolCase a), symbol-listed ws a);
+  compounds = λ a n. (listed ws (compoundCase a n), compound-listed ws a n);
+  pairs = λ x y.
+      let is = pair-is ws sound (record { low = x; high = y }) in
+      (λ m. is .0 (listed ws (numbersCase x y) m), λ p. mem-right (nameCases ws) (mem-map numbersIn (is .1 p)));
+  ascend = cases-ascend ws;
+}
+
+-- "It keeps the rules whose range has a number that this case takes, from its low to its high."
+pub case-keeps
+    : (x y l h : ℕ) → x ≤ y → l ≤ h
+    → T (isWanted (numbersCase x y) (aNumber l h))
+    ↔ ((v : ℕ) × Contains (record { low = x; high = y }) v × Contains (record { low = l; high = h }) v)
+case-keeps x y l h o p = meets-number (record { low = l; high = h }) (record { low = x; high = y }) p o
+
+-- The runs of the two ends of a span.
+pub record RunsOfEnds (ws : List Want) (a b : ℕ) : Type 0 where
+  pub first : Range
+  pub last : Range
+  pub firstRun : RunOfAll ws (first .low) (first .high)
+  pub lastRun : RunOfAll ws (last .low) (last .high)
+  pub hasLow : Contains first a
+  pub hasHigh : Contains last b
+
+-- In a switch where a range is wanted, a number or span follows the case from the low of the run of its low to the high of the run
+-- of its high.
+pub ends-followed
+    : {A : Type 0} (f : Case → A) (neither : A) (a b : ℕ) (ws : List Want) → All SoundWant ws
+    → (l h : ℕ) → Mem (aNumber l h) ws → a ≤ b → Wide b
+    → (k : RunsOfEnds ws a b)
+    × (follow (edgesTo f (casesOf ws)) neither (numbers a b) ≡ f (numbersCase (k .first .low) (k .last .high)))
+ends-followed f neither a b ws sound l h m order wide =
+    let rs = rangesOf ws in
+    let runs = framed-are 0 65536 rs (omega arith) (wants-framed ws sound) in
+    let first = framed-covers 0 65536 rs a (omega arith) (omega arith) in
+    let last = framed-covers 0 65536 rs b (omega arith) wide in
+    let narrow = narrowest-pair 0 65536 rs (first .0) (last .0) a b (first .1) (last .1) (first .2) (last .2) order in (
+      record {
+        first = first .0;
+        last = last .0;
+        firstRun = run-is ws (first .0) .0 (runs (first .0) .0 (first .1));
+        lastRun = run-is ws (last .0) .0 (runs (last .0) .0 (last .1));
+        hasLow = first .2;
+        hasHigh = last .2;
+      },
+      numbers-past ws f neither a b
+          ∙ numbers-follow f neither a b (numberPairs 0 65536 rs) (fromTo (first .0) (last .0))
+          (ap (narrowest a b) (some-pairs rs (wanted-range m)) ∙ narrow),
+    )
+  where
+    some-pairs : {r : Range} (rs : List Range) → Mem r rs → numberPairs 0 65536 rs ≡ runPairs (framed 0 65536 rs)
+    some-pairs [] k = absurd (mem-none k)
+    some-pairs (q ∷ qs) k = refl

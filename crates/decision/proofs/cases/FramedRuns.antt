@@ -14,21 +14,13 @@ use Rattle.basics.proofs.ListLaws.{all-at, all-map}
 use Rattle.basics.proofs.Numbers.{not-apart, both-le}
 use Rattle.basics.proofs.Sorted.{AscendingBy as Ascending}
 use Rattle.terms.specs.RuleTests.{Range}
-use Rattle.decision.specs.Runs.{cuts, between, covers}
+use Rattle.decision.specs.Runs.{cuts, frame, framed}
 use Rattle.decision.proofs.cases.Insertion.{number-inserted}
 use Rattle.decision.proofs.cases.Intervals.{Contains, EndsBefore, Uncut, Between}
 use Rattle.decision.proofs.cases.Intervals.{between-cuts, between-ascends, between-covers, between-length, in-one-only}
-use Rattle.decision.proofs.cases.RangeRuns.{cuts-ascend, cuts-length, cut-wanted, wanted-cut, uncut-covers}
+use Rattle.decision.proofs.cases.RangeRuns.{covers, cuts-ascend, cuts-length, cut-wanted, wanted-cut, uncut-covers}
 use Rattle.decision.proofs.cases.RangeRuns.{Parted, cut-parted}
 use Rattle.decision.proofs.cases.RangeOrder.{Filled}
-
--- "All numbers are cut into maximal runs accepted by the same set of live rules tested there, the empty set included": base and top
--- are cuts too.
-abbrev pub frame : ℕ → ℕ → List Range → List ℕ
-frame base top ws = insertBy ltb base (insertBy ltb top (cuts ws))
-
-abbrev pub framed : ℕ → ℕ → List Range → List Range
-framed base top ws = between (frame base top ws)
 
 -- The range w has a number of r.
 abbrev pub meets : Range → Range → Bool

@@ -15,15 +15,16 @@ use Rattle.basics.proofs.Numbers.{le-or-lt, both-le}
 use Rattle.basics.proofs.Sorted.{pair-before, before-pair, pair-irreflexive, pair-transitive, pair-total}
 use Rattle.terms.specs.Term.{Term, unknown, symbol, numbers, compound}
 use Rattle.terms.specs.RuleTests.{Range}
-use Rattle.decision.specs.Runs.{covers}
+use Rattle.decision.specs.Runs.{framed, fromTo, runPairs}
 use Rattle.decision.specs.Cases.{Case, symbolCase, compoundCase, numbersCase, numbersIn, takes}
 use Rattle.decision.specs.Narrowest.{narrower, best}
 use Rattle.decision.specs.Node.{CaseEdge, leadsOr, follow}
 use Rattle.decision.proofs.cases.Best.{TakenOrder, Best, IsBest, IfSome, best-law, best-holds}
 use Rattle.decision.proofs.cases.Intervals.{Contains}
+use Rattle.decision.proofs.cases.RangeRuns.{covers}
 use Rattle.decision.proofs.cases.RangeOrder.{begins-below, ends-above}
-use Rattle.decision.proofs.cases.FramedRuns.{framed, framed-filled, framed-ascends}
-use Rattle.decision.proofs.cases.RunPairs.{fromTo, runPairs, pair-runs, runs-pair, span-turn}
+use Rattle.decision.proofs.cases.FramedRuns.{framed-filled, framed-ascends}
+use Rattle.decision.proofs.cases.RunPairs.{pair-runs, runs-pair, span-turn}
 
 -- Of the ranges a..b and x..y not each is narrower than the other; and where a..b is the narrower one, a third range v..w is either
 -- less narrow than a..b or narrower than x..y.

@@ -1,10 +1,10 @@
 -- The number cases of a switch by pairs of runs (document 02, request 4), for the ranges that are wanted there: which pairs they
 -- are, in what order and how many, and which of them a number or span follows.
 use Prim.Native.Nat.{ℕ, suc, _*_, _≤_, _<_}
-use mathlib.Core.Path.{_≡_, refl, ap, _∙_}
+use mathlib.Core.Path.{_≡_, ap, _∙_}
 use mathlib.Core.Logic.{_↔_}
 use mathlib.Core.List.{List, [], _∷_, map}
-use mathlib.Core.Option.{some, none}
+use mathlib.Core.Option.{some}
 use native.Mathlib.Omega.{arith}
 use lib.Dec.{T}
 use lib.ListN.{length}
@@ -12,25 +12,20 @@ use Rattle.basics.specs.Lists.{Mem, All}
 use Rattle.basics.proofs.Sorted.{Ascending}
 use Rattle.terms.specs.Term.{numbers}
 use Rattle.terms.specs.RuleTests.{Range}
-use Rattle.decision.specs.Runs.{covers}
+use Rattle.decision.specs.Runs.{framed, fromTo, numberPairs}
 use Rattle.decision.specs.Cases.{Case, numbersIn, takes}
 use Rattle.decision.specs.Narrowest.{narrower}
 use Rattle.decision.specs.Node.{CaseEdge, leadsOr, follow}
 use Rattle.decision.proofs.cases.Intervals.{Contains}
+use Rattle.decision.proofs.cases.RangeRuns.{covers}
 use Rattle.decision.proofs.cases.RangeOrder.{rangeBefore}
-use Rattle.decision.proofs.cases.FramedRuns.{framed, meets, InFrame, MaximalIn, framed-filled, framed-ascends, framed-covers}
+use Rattle.decision.proofs.cases.FramedRuns.{meets, InFrame, MaximalIn, framed-filled, framed-ascends, framed-covers}
 use Rattle.decision.proofs.cases.FramedRuns.{framed-inside, framed-few, framed-are}
-use Rattle.decision.proofs.cases.RunPairs.{fromTo, runPairs, InTurn, pairs-few, pair-runs, runs-pair, pair-filled}
+use Rattle.decision.proofs.cases.RunPairs.{InTurn, pairs-few, pair-runs, runs-pair, pair-filled}
 use Rattle.decision.proofs.cases.RunPairs.{pairs-ascend, span-turn, pair-covers, pair-meets}
 use Rattle.decision.proofs.cases.Best.{mapSome, best-map}
 use Rattle.decision.proofs.cases.Narrowest.{takesEdge, narrowerEdge, narrowest, narrowest-pair}
 use Rattle.decision.proofs.cases.SwitchEdges.{edgesTo}
-
--- "Where a live rule has a range at a switch's place, all numbers are cut into maximal runs ..; elsewhere a switch has no number
--- case."
-abbrev pub numberPairs : ℕ → ℕ → List Range → List Range
-numberPairs base top [] = []
-numberPairs base top (w ∷ ws) = runPairs (framed base top (w ∷ ws))
 
 -- There are at most (2 n + 1) (n + 1) pairs for n ranges.
 pub pairs-most : (base top : ℕ) (ws : List Range) (n : ℕ) → length ws ≤ n
@@ -38,13 +33,6 @@ pub pairs-most : (base top : ℕ) (ws : List Range) (n : ℕ) → length ws ≤ 
 pairs-most base top [] n h = omega arith
 pairs-most base top (w ∷ ws) n h =
     pairs-few (framed base top (w ∷ ws)) (suc (2 * n)) (omega (arith, framed-few base top (w ∷ ws)))
-
--- For 32 rules these are 2,145, and 8,385 for 64.
-pub pairs-of-32 : (base top : ℕ) (ws : List Range) → length ws ≤ 32 → length (numberPairs base top ws) ≤ 2145
-pairs-of-32 base top ws h = omega (arith, pairs-most base top ws 32 h)
-
-pub pairs-of-64 : (base top : ℕ) (ws : List Range) → length ws ≤ 64 → length (numberPairs base top ws) ≤ 8385
-pairs-of-64 base top ws h = omega (arith, pairs-most base top ws 64 h)
 
 -- They ascend by their lows, then by their highs.
 pub number-pairs-ascend : (base top : ℕ) (ws : List Range) → Ascending rangeBefore (numberPairs base top ws)
@@ -62,10 +50,6 @@ numbers-follow {A} f neither a b xs x e =
     ap (leadsOr neither)
     (best-map edgeTo (takesEdge span) narrowerEdge (map numbersIn xs)
     ∙ ap (mapSome edgeTo) (best-map numbersIn (λ (c : Case). takes c span) narrower xs ∙ ap (mapSome numbersIn) e))
-
--- Where no range is wanted no pair is followed.
-pub none-followed : (base top a b : ℕ) → narrowest a b (numberPairs base top []) ≡ none
-none-followed base top a b = refl
 
 module _ (base top : ℕ) (o : base ≤ top) (w : Range) (ws : List Range) (inside : All (InFrame base top) (w ∷ ws)) where
   abbrev wanted : List Range

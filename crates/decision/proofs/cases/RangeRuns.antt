@@ -1,17 +1,17 @@
--- The runs of the numbers that wanted ranges accept: numbers are cut at each low and after each high, and a run lies
--- between two cuts and is wanted.
+-- The cuts of wanted ranges, and the runs of the numbers that these accept: a run lies between two cuts and is wanted.
 use Prim.Native.Nat.{ℕ, suc, pred, _*_, _≤_, _<_}
 use mathlib.Core.Path.{_≡_, refl}
+use mathlib.Core.Bool.{Bool, _&&_}
 use mathlib.Core.Logic.{_↔_, _⊎_, inl, inr}
 use mathlib.Core.List.{List, [], _∷_}
 use native.Mathlib.Omega.{arith}
-use lib.Dec.{T, ltb}
+use lib.Dec.{T, leb, ltb}
 use lib.ListN.{length}
-use Rattle.basics.specs.Lists.{Mem, here, there, All}
+use Rattle.basics.specs.Lists.{Mem, here, there, All, filter, anyOf}
 use Rattle.basics.specs.Order.{insertBy}
 use Rattle.terms.specs.RuleTests.{Range}
 use Rattle.basics.proofs.ListLaws.{all-at, mem-none}
-use Rattle.decision.specs.Runs.{cuts, between, covers, isCovered, runs}
+use Rattle.decision.specs.Runs.{cuts, between}
 use Rattle.basics.proofs.Filters.{mem-filter, filter-mem, mem-any}
 use Rattle.basics.proofs.Ascent.{ascending-filter}
 use Rattle.decision.proofs.cases.Insertion.{number-inserted}
@@ -19,6 +19,18 @@ use Rattle.decision.proofs.cases.Intervals.{Contains, EndsBefore, Uncut
 use Rattle.decision.proofs.cases.Intervals.{between-cuts, between-ascends, between-covers}
 use Rattle.basics.proofs.Sorted.{AscendingBy as Ascending}
 use Rattle.basics.proofs.Numbers.{both-le}
+
+-- The range w accepts all numbers of r,
+abbrev pub covers : Range → Range → Bool
+covers w r = leb (w .low) (r .low) && leb (r .high) (w .high)
+
+-- or some range of the list does.
+abbrev pub isCovered : List Range → Range → Bool
+isCovered ws r = anyOf (λ (w : Range). covers w r) ws
+
+-- The maximal runs that some range accepts: of codes, where the codes of symbols and compounds are cut.
+abbrev pub runs : List Range → List Range
+runs ws = filter (isCovered ws) (between (cuts ws))
 
 -- The cuts ascend.
 pub cuts-ascend : (ws : List Range) → Ascending _<_ (cuts ws)
@@ -123,11 +135,3 @@ cut-parted ws ordered z positive m =
       | inl e ↦ (c .0, c .1, inr ((omega arith, omega arith), λ k. omega arith))
       | inr e ↦ (c .0, c .1, inl ((omega arith, omega arith), λ k. omega arith))
     ]
-
--- A run is maximal: the number before it and the number after it are accepted by another set of the wanted ranges.
-pub run-maximal
-    : (ws : List Range) → All (λ (w : Range). w .low ≤ w .high) ws → (r : Range) → Mem r (runs ws)
-    → (1 ≤ r .low → Parted ws (pred (r .low)) (r .low)) × Parted ws (r .high) (suc (r .high))
-run-maximal ws ordered r m =
-    let b = run-between ws r m in
-    (λ h. cut-parted ws ordered (r .low) h (b .begins), cut-parted ws ordered (suc (r .high)) (omega arith) (b .ends))

@@ -4,7 +4,7 @@
 use Prim.Native.Nat.{ℕ, suc, _+_, _*_, _≤_, max}
 use mathlib.Core.Path.{_≡_, refl, ap, sym, subst, _∙_}
 use mathlib.Core.Logic.{_↔_, _⊎_, inl, inr}
-use mathlib.Core.List.{List, [], _∷_, _++_, map}
+use mathlib.Core.List.{List, [], _∷_, map}
 use native.Mathlib.Nat.{suc-mul, mul-suc, mul-le-mul}
 use native.Mathlib.Omega.{arith}
 use lib.Dec.{T}
@@ -16,19 +16,12 @@ use Rattle.basics.proofs.Ascent.{ascending-map, ascending-join, ascending-two}
 use Rattle.basics.proofs.Sorted.{AscendingBy, Ascending, before-pair}
 use Rattle.basics.proofs.Numbers.{both-le}
 use Rattle.terms.specs.RuleTests.{Range}
-use Rattle.decision.specs.Runs.{covers}
+use Rattle.decision.specs.Runs.{framed, fromTo, runPairs}
 use Rattle.decision.proofs.cases.Intervals.{Contains, EndsBefore}
+use Rattle.decision.proofs.cases.RangeRuns.{covers}
 use Rattle.decision.proofs.cases.RangeOrder.{ascending-imply, rangeBefore, Filled, begins-below, ends-above}
-use Rattle.decision.proofs.cases.FramedRuns.{framed, meets, InFrame, framed-filled, framed-ascends, framed-covers}
+use Rattle.decision.proofs.cases.FramedRuns.{meets, InFrame, framed-filled, framed-ascends, framed-covers}
 use Rattle.decision.proofs.cases.FramedRuns.{framed-inside, low-uncut, high-uncut, framed-meets}
-
--- "One case for each pair of first and last run, ordered so, with low and high their ends."
-abbrev pub fromTo : Range → Range → Range
-fromTo r s = record { low = r .low; high = s .high }
-
-abbrev pub runPairs : List Range → List Range
-runPairs [] = []
-runPairs (r ∷ rs) = map (fromTo r) (r ∷ rs) ++ runPairs rs
 
 -- The last run is the first or comes after it.
 abbrev pub InTurn : Range → Range → Type 0

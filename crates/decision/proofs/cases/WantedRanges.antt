@@ -1,13 +1,14 @@
--- The ranges of numbers that are wanted, and the cases for their runs.
-use Prim.Native.Nat.{ℕ}
-use mathlib.Core.Logic.{inl, inr}
-use mathlib.Core.List.{List, [], _∷_, map}
-use Rattle.basics.specs.Lists.{Mem, here, there, All}
+-- The ranges of numbers that are wanted, and their cuts.
+use Prim.Native.Nat.{ℕ, suc}
+use mathlib.Core.Path.{_≡_}
+use mathlib.Core.Logic.{_↔_, _⊎_, inl, inr}
+use mathlib.Core.List.{List, [], _∷_}
+use Rattle.basics.specs.Lists.{Mem, here, there}
+use Rattle.basics.proofs.ListLaws.{mem-cases, mem-none}
 use Rattle.terms.specs.RuleTests.{Want, aSymbol, aNumber, aCompound, Range}
-use Rattle.basics.proofs.ListLaws.{all-at, all-from, mem-cases, mem-none}
-use Rattle.decision.specs.Runs.{runs}
-use Rattle.decision.specs.Cases.{Case, symbolCase, compoundCase, numbersCase, rangesOf, numbersIn}
-use Rattle.basics.proofs.Filters.{mem-map, all-mapped}
+use Rattle.decision.specs.Runs.{cuts}
+use Rattle.decision.specs.Cases.{rangesOf}
+use Rattle.decision.proofs.cases.RangeRuns as Ranges
 
 -- Each of these ranges is wanted,
 pub range-wanted : (ws : List Want) (r : Range) → Mem r (rangesOf ws) → Mem (aNumber (r .low) (r .high)) ws
@@ -24,30 +25,11 @@ wanted-range (there {y = aSymbol a} m) = wanted-range m
 wanted-range (there {y = aNumber l h} m) = there (wanted-range m)
 wanted-range (there {y = aCompound a n} m) = wanted-range m
 
-module _ (ws : List Want) where
-  -- The cases of a switch for runs of numbers.
-  abbrev pub numberRuns : List Case
-  numberRuns = map numbersIn (runs (rangesOf ws))
-
-  -- Each run of the wanted ranges has a case,
-  pub run-case : (r : Range) → Mem r (runs (rangesOf ws)) → Mem (numbersIn r) numberRuns
-  run-case r m = mem-map numbersIn m
-
-  -- what holds of each of these holds of each case of the list,
-  pub ranges-all : (Q : Case → Type 0) → ((r : Range) → Mem r (runs (rangesOf ws)) → Q (numbersIn r)) → All Q numberRuns
-  ranges-all Q f =
-      all-mapped Q numbersIn (runs (rangesOf ws)) (all-from (λ (r : Range). Q (numbersIn r)) (runs (rangesOf ws)) f)
-
-  abbrev IsRun : Case → Type 0
-  IsRun (symbolCase a) = Unit
-  IsRun (compoundCase a n) = Unit
-  IsRun (numbersCase l h) = Mem (record { low = l; high = h }) (runs (rangesOf ws))
-
-  -- and each case is that of a run.
-  pub case-run : (l h : ℕ) → Mem (numbersCase l h) numberRuns → Mem (record { low = l; high = h }) (runs (rangesOf ws))
-  case-run l h m = all-at IsRun m (ranges-all IsRun (λ r k. k))
-
-  -- What holds of each run's case holds of each case of the list.
-  pub runs-all
-      : (Q : Case → Type 0) → ((l h : ℕ) → Mem (numbersCase l h) numberRuns → Q (numbersCase l h)) → All Q numberRuns
-  runs-all Q f = ranges-all Q (λ r m. f (r .low) (r .high) (run-case r m))
+-- A number is a cut exactly when it is a wanted low or comes after a wanted high.
+pub cut-wanted
+    : (ws : List Want) (z : ℕ) → Mem z (cuts (rangesOf ws)) ↔ ((l h : ℕ) × Mem (aNumber l h) ws × ((z ≡ l) ⊎ (z ≡ suc h)))
+cut-wanted ws z = (
+  λ m. let c = Ranges.cut-wanted (rangesOf ws) z m in
+      (c .0 .low, c .0 .high, range-wanted ws (c .0) (c .1), c .2),
+  λ c. Ranges.wanted-cut (wanted-range (c .2)) z (c .3),
+)

@@ -55,7 +55,7 @@ module _ (arity : ℕ) (rules : List Patterns) (piece : Terms)
     at-place n at = go (termAt piece n) refl
       where
         owes : SwitchOwes rules piece graphSwitches
-        owes = switch-owes rules arity accepted piece (ok .exact)
+        owes = switch-owes rules arity accepted piece (ok .wellFormed)
 
         go
             : (x : Found) → termAt piece n ≡ x

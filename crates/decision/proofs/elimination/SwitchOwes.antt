@@ -1,6 +1,6 @@
 -- What a switch owes to the walk, whatever its cases are and whichever rules a case keeps: where a known term leads keeps, of the
 -- live rules, exactly those of which the term does not contradict what they want there. The switches of a built graph owe it to
--- pieces of which each number is known exactly; those with a case for each pair of runs (document 02, request 4) to all.
+-- every well-formed piece.
 use Prim.Native.Nat.{ℕ, _<_}
 use mathlib.Core.Path.{_≡_, subst, _∙_}
 use mathlib.Core.Bool.{Bool, _&&_, not}
@@ -16,10 +16,9 @@ use Rattle.terms.specs.Pattern.{Patterns}
 use Rattle.terms.specs.RuleTests.{Want}
 use Rattle.terms.specs.Lookup.{found, termAt}
 use Rattle.terms.specs.Filling.{WellFormed, WellFormeds}
-use Rattle.terms.specs.Accepted.{AcceptedRule, Exact, Exacts}
+use Rattle.terms.specs.Accepted.{AcceptedRule}
 use Rattle.terms.proofs.Unknown.{IsUnknown}
 use Rattle.terms.proofs.TermPlaces.{IfFound}
-use Rattle.terms.proofs.Exact.{finds-exact}
 use Rattle.terms.proofs.WellFormed.{finds-well-formed}
 use Rattle.sheet_tests.specs.SheetTests.{place}
 use Rattle.decision.specs.Rules.{testAt, hasTest, wantAt, rulesWhere}
@@ -29,8 +28,6 @@ use Rattle.decision.specs.Node.{CaseEdge, follow}
 use Rattle.decision.specs.Edges.{caseKeeps, liveWants, leadsTo, butTest, byNone}
 use Rattle.decision.proofs.cases.SwitchEdges.{edgesTo, openAt, KeepsOpen}
 use Rattle.decision.proofs.cases.CasesLaws.{edge-keeps}
-use Rattle.decision.proofs.cases.PairCases.{pairCases, pairKeeps}
-use Rattle.decision.proofs.cases.PairCasesLaws.{pair-edge-keeps}
 use Rattle.decision.proofs.rules.LiveWants.{eachWant, each-there}
 use Rattle.decision.proofs.rules.SoundWants.{wants-sound}
 use Rattle.decision.proofs.rules.TheWant.{without-want}
@@ -40,12 +37,9 @@ pub record Switches : Type 0 where
   pub cases : List Want → List Case
   pub keeps : Case → Option Want → Bool
 
--- Those of a graph, and those by pairs of runs.
+-- Those of a graph.
 abbrev pub graphSwitches : Switches
 graphSwitches = record { cases = casesOf; keeps = caseKeeps }
-
-abbrev pub pairSwitches : Switches
-pairSwitches = record { cases = pairCases; keeps = pairKeeps }
 
 module _ (rules : List Patterns) where
   -- The key's live rules that stay, with the test settled.
@@ -98,16 +92,9 @@ module _ (rules : List Patterns) where
           ];
     }
 
-    -- The switches of a built graph owe it to a piece of which each number is known exactly,
-    pub switch-owes : Exacts piece → SwitchOwes piece graphSwitches
-    switch-owes exact =
+    -- The switches of a graph owe it to every well-formed piece.
+    pub switch-owes : WellFormeds piece → SwitchOwes piece graphSwitches
+    switch-owes ok =
         keeps-owes graphSwitches (λ live n u there-is known f neither.
-        let own : Exact u = subst (IfFound Exact) there-is (finds-exact piece exact 4 n) in
-        edge-keeps (eachWant rules live n) u f neither own known)
-
-    -- and those with a case for each pair of runs to every well-formed piece.
-    pub pair-switch-owes : WellFormeds piece → SwitchOwes piece pairSwitches
-    pair-switch-owes ok =
-        keeps-owes pairSwitches (λ live n u there-is known f neither.
         let own : WellFormed u = subst (IfFound WellFormed) there-is (finds-well-formed piece ok 4 n) in
-        pair-edge-keeps (eachWant rules live n) u f neither (wants-sound arity rules accepted live n) own known)
+        edge-keeps (eachWant rules live n) u f neither (wants-sound arity rules accepted live n) own known)

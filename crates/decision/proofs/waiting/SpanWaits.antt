@@ -1,72 +1,49 @@
--- The list of a walk that suspends where pieces hold spans (document 02, request 4): "For suspend, a place met is also listed if
--- its span lies partly inside and partly outside the range of a rule live there." What is met and not known for a rule that is
--- open is listed; where every number is known exactly, the list is that of document 01.
+-- The list of a walk that suspends (document 02, request 4): "For suspend, a place met is also listed if its span lies partly
+-- inside and partly outside the range of a rule live there." What is met and not known for a rule that is open is listed.
 use Prim.Native.Nat.{ℕ, suc, _<_}
-use mathlib.Core.Path.{_≡_}
-use mathlib.Core.Bool.{Bool, false, _&&_, _||_}
+use mathlib.Core.Bool.{_&&_}
 use mathlib.Core.Logic.{inl, inr}
 use mathlib.Core.List.{List, [], _∷_, _++_}
-use mathlib.Core.Option.{Option, some, none}
 use lib.Dec.{T}
 use lib.ListN.{length}
 use Rattle.masks.specs.Mask.{has}
-use Rattle.masks.proofs.Extensionality.{maskOf-same}
-use Rattle.basics.specs.Lists.{All, anyBelow}
+use Rattle.basics.specs.Lists.{All}
 use Rattle.basics.proofs.ListLaws.{all-at}
-use Rattle.basics.proofs.Booleans.{both-true, true-both, either-true, true-left, true-right, same-truth}
+use Rattle.basics.proofs.Booleans.{true-both, either-true, true-left, true-right}
 use Rattle.terms.specs.Term.{Terms}
 use Rattle.terms.specs.Pattern.{Patterns}
-use Rattle.terms.specs.RuleTests.{Want, PlaceTest, PairTest, placeTests}
-use Rattle.terms.specs.Lookup.{termAt}
+use Rattle.terms.specs.RuleTests.{PlaceTest, PairTest, placeTests}
 use Rattle.terms.specs.Outcome.{Outcome, holds, notKnown, contradicted, NotKnown}
-use Rattle.terms.specs.Outcome.{atPlaces, placeOutcome, pairOutcome, ruleOutcome}
-use Rattle.terms.specs.Accepted.{AcceptedRule, Exacts}
+use Rattle.terms.specs.Outcome.{placeOutcome, pairOutcome, ruleOutcome}
+use Rattle.terms.specs.Accepted.{AcceptedRule}
 use Rattle.terms.specs.Answer.{ruleAt}
 use Rattle.terms.proofs.Outcomes.{Open}
 use Rattle.terms.proofs.RuleOutcomes.{outcome-open}
-use Rattle.terms.proofs.Exact.{finds-exact, not-known-unknown}
 use Rattle.sheet_tests.specs.SheetTests.{Test, place, pair, sheetTests}
-use Rattle.decision.specs.Rules.{testAt, hasTest, wantAt, testsWhere}
+use Rattle.decision.specs.Rules.{testAt, hasTest}
 use Rattle.decision.specs.Node.{Node}
 use Rattle.decision.specs.Path.{nodeAt}
-use Rattle.decision.specs.Walk.{isNotKnown, testNotKnown, asksTest, isMet, wantOutcome, testOutcome, isContradicted}
-use Rattle.decision.specs.Walk.{suspendWaits, liveOn}
+use Rattle.decision.specs.Walk.{isNotKnown, testNotKnown, asksTest, isMet, testOutcome, isContradicted, liveOn}
+use Rattle.decision.specs.Walk.{waitsFor, isListed, listedFrom, suspendWaits}
 use Rattle.decision.specs.Waiting.{IsTest}
-use Rattle.decision.proofs.keys.Sets.{in-where, in-any, any-in}
+use Rattle.decision.proofs.keys.Sets.{in-where, in-any}
 use Rattle.decision.proofs.rules.SoundWants.{rule-accepted}
 use Rattle.decision.proofs.rules.TestsOfRules.{HasTest, want-test, has-want, has-pair}
 use Rattle.decision.proofs.walking.LiveOn.{live-says}
-use Rattle.decision.proofs.waiting.KeptOpen.{Unsure, is-unknown}
+use Rattle.decision.proofs.waiting.KeptOpen.{Unsure}
 
 module _ (rules : List Patterns) (nodes : List (Node ℕ)) (piece : Terms) where
-  -- A test is not known for a rule that is live when the walk, having walked the nodes before, comes to the node that asks it.
-  abbrev pub waitsFor : List ℕ → ℕ → ℕ → Bool
-  waitsFor before t i =
-      liveOn rules nodes piece before i && hasTest rules i t && isNotKnown (testOutcome rules piece i (testAt rules t))
-
-  abbrev pub isListed : List ℕ → ℕ → Bool
-  isListed before t = testNotKnown piece (testAt rules t) || anyBelow (length rules) (waitsFor before t)
-
-  -- Of the nodes that are still to be walked, one asks the test and lists it.
-  abbrev pub listedFrom : List ℕ → List ℕ → ℕ → Bool
-  listedFrom before [] t = false
-  listedFrom before (n ∷ ns) t =
-      asksTest (testAt rules t) (nodeAt nodes n) && isListed before t || listedFrom (before ++ n ∷ []) ns t
-
-  abbrev pub spanWaits : List ℕ → ℕ
-  spanWaits walked = testsWhere rules (listedFrom [] walked)
-
   -- A test that is met and would be listed after any nodes is listed.
   pub met-listed
-      : (t : ℕ) → ((before : List ℕ) → T (isListed before t)) → (before ns : List ℕ) → T (isMet rules nodes ns t)
-      → T (listedFrom before ns t)
+      : (t : ℕ) → ((before : List ℕ) → T (isListed rules nodes piece before t)) → (before ns : List ℕ) → T (isMet rules nodes ns t)
+      → T (listedFrom rules nodes piece before ns t)
   met-listed t always before [] met = met
   met-listed t always before (n ∷ ns) met =
       let asked = asksTest (testAt rules t) (nodeAt nodes n) in
-      let now = asked && isListed before t in
-      let later = listedFrom (before ++ n ∷ []) ns t in
+      let now = asked && isListed rules nodes piece before t in
+      let later = listedFrom rules nodes piece (before ++ n ∷ []) ns t in
       elim (either-true asked (isMet rules nodes ns t) met) [
-        | inl k ↦ true-left now later (true-both asked (isListed before t) k (always before))
+        | inl k ↦ true-left now later (true-both asked (isListed rules nodes piece before t) k (always before))
         | inr k ↦ true-right now later (met-listed t always (before ++ n ∷ []) ns k)
       ]
 
@@ -112,7 +89,7 @@ module _ (arity : ℕ) (rules : List Patterns) (accepted : All (AcceptedRule ari
   -- A test met that is not known, whatever a rule wants or for a rule that is open, is listed.
   pub unsure-listed
       : (walked : List ℕ) (t : ℕ) → IsTest rules t → T (isMet rules nodes walked t) → Unsure rules piece t
-      → T (has (spanWaits rules nodes piece walked) t)
+      → T (has (suspendWaits rules nodes piece walked) t)
   unsure-listed walked t inside met unsure =
       in-where (length (sheetTests rules)) (listedFrom rules nodes piece [] walked) t inside
       (met-listed rules nodes piece t (always unsure) [] walked met)
@@ -126,51 +103,3 @@ module _ (arity : ℕ) (rules : List Patterns) (accepted : All (AcceptedRule ari
           (in-any (length rules) i (waitsFor rules nodes piece before t) l
           (true-both (liveOn rules nodes piece before i && hasTest rules i t) (isNotKnown outcome)
           (true-both (liveOn rules nodes piece before i) (hasTest rules i t) live own) (is-not-known outcome u)))
-
-module _ (rules : List Patterns) (nodes : List (Node ℕ)) (piece : Terms) (exact : Exacts piece) where
-  -- Where every number is known exactly, a test that is not known for a rule is not known whatever a rule wants,
-  exact-unknown : (i : ℕ) (x : Test) → NotKnown (testOutcome rules piece i x) → T (testNotKnown piece x)
-  exact-unknown i (place n) unsure = go (wantAt rules i n) unsure
-    where
-      go : (o : Option Want) → NotKnown (wantOutcome o (termAt piece n)) → T (testNotKnown piece (place n))
-      go none u = absurd u
-      go (some w) u = is-unknown (termAt piece n) (not-known-unknown w (termAt piece n) (finds-exact piece exact 4 n) u)
-  exact-unknown i (pair p q) unsure = is-not-known (atPlaces (termAt piece p) (termAt piece q)) unsure
-
-  listed-unknown : (before : List ℕ) (t : ℕ) → T (isListed rules nodes piece before t) → T (testNotKnown piece (testAt rules t))
-  listed-unknown before t h =
-      elim (either-true (testNotKnown piece (testAt rules t)) _ h) [
-        | inl u ↦ u
-        | inr k ↦
-            let r = any-in (length rules) (waitsFor rules nodes piece before t) k in
-            let outcome = testOutcome rules piece (r .0) (testAt rules t) in
-            let s = both-true (liveOn rules nodes piece before (r .0) && hasTest rules (r .0) t) (isNotKnown outcome) (r .2) in
-            exact-unknown (r .0) (testAt rules t) (not-known-is outcome (s .1))
-      ]
-
-  listed-met
-      : (t : ℕ) (before ns : List ℕ) → T (listedFrom rules nodes piece before ns t)
-      → T (isMet rules nodes ns t) × T (testNotKnown piece (testAt rules t))
-  listed-met t before [] h = absurd h
-  listed-met t before (n ∷ ns) h =
-      let asked = asksTest (testAt rules t) (nodeAt nodes n) in
-      elim (either-true (asked && isListed rules nodes piece before t) _ h) [
-        | inl k ↦
-            let s = both-true asked (isListed rules nodes piece before t) k in
-            (true-left asked (isMet rules nodes ns t) (s .0), listed-unknown before t (s .1))
-        | inr k ↦
-            let s = listed-met t (before ++ n ∷ []) ns k in
-            (true-right asked (isMet rules nodes ns t) (s .0), s .1)
-      ]
-
-  -- so the list is document 01's.
-  pub span-waits-exact : (walked : List ℕ) → spanWaits rules nodes piece walked ≡ suspendWaits rules nodes piece walked
-  span-waits-exact walked =
-      maskOf-same (length (sheetTests rules)) (listedFrom rules nodes piece [] walked)
-      (λ t. isMet rules nodes walked t && testNotKnown piece (testAt rules t)) (λ t l.
-      let met = isMet rules nodes walked t in
-      let unknown = testNotKnown piece (testAt rules t) in
-      same-truth (listedFrom rules nodes piece [] walked t) (met && unknown)
-      (λ h. let s = listed-met t [] walked h in true-both met unknown (s .0) (s .1))
-      (λ h. let s = both-true met unknown h in
-      met-listed rules nodes piece t (λ before. true-left unknown _ (s .1)) [] walked (s .0)))

@@ -1,4 +1,4 @@
--- What the list of a walk that suspends holds where pieces hold spans: "the tests met not known on the walk" (document 01, "The
+-- What the list of a walk that suspends holds: "the tests met not known on the walk" (document 01, "The
 -- walk"), and "a place met is also listed if its span lies partly inside and partly outside the range of a rule live there"
 -- (document 02, request 4). Live there is live at that node on the walk: on the nodes walked before it.
 use Prim.Native.Nat.{ℕ, suc, _<_}
@@ -24,11 +24,11 @@ use Rattle.decision.specs.Rules.{testAt, hasTest, wantAt}
 use Rattle.decision.specs.Node.{Node}
 use Rattle.decision.specs.Path.{nodeAt}
 use Rattle.decision.specs.Walk.{isNotKnown, isUnknown, testNotKnown, asksTest, isMet, wantOutcome, testOutcome, liveOn}
+use Rattle.decision.specs.Walk.{waitsFor, isListed, listedFrom, suspendWaits}
 use Rattle.decision.specs.Waiting.{IsTest}
 use Rattle.decision.proofs.keys.Sets.{in-where, where-in, in-any, any-in}
 use Rattle.decision.proofs.rules.TestsOfRules.{HasTest, want-has}
-use Rattle.decision.proofs.waiting.SpanWaits.{waitsFor, isListed, listedFrom, spanWaits, met-listed}
-use Rattle.decision.proofs.waiting.SpanWaits.{is-not-known, not-known-is}
+use Rattle.decision.proofs.waiting.SpanWaits.{met-listed, is-not-known, not-known-is}
 
 -- A want is not known only at an unknown, and at a span that lies partly inside its range.
 abbrev Partly : Found → Want → Type 0
@@ -172,7 +172,7 @@ module _ (rules : List Patterns) (nodes : List (Node ℕ)) (piece : Terms) where
   -- outside the range of a rule live there.
   pub span-waits-are
       : (walked : List ℕ) (t : ℕ) → IsTest rules t
-      → T (has (spanWaits rules nodes piece walked) t)
+      → T (has (suspendWaits rules nodes piece walked) t)
       ↔ ((T (isMet rules nodes walked t) × T (testNotKnown piece (testAt rules t))) ⊎ PartlyMet walked t)
   span-waits-are walked t l = (
     λ h. elim (listed-from t [] walked (where-in (length (sheetTests rules)) (listedFrom rules nodes piece [] walked) t h .1)) [

@@ -1,4 +1,4 @@
--- The wait sentence where pieces hold spans, for built graphs, in every asking order (document 02, request 4): "The wait sentence
+-- The wait sentence of a path that suspends, for built graphs, in every asking order (document 02, request 4): "The wait sentence
 -- now speaks of built graphs only, .. and asks that listed places keep the unknown or span that they held." While they do, and
 -- each listed pair is still not known, a piece filled in further suspends.
 use Prim.Native.Nat.{ℕ}
@@ -20,14 +20,14 @@ use Rattle.decision.specs.Node.{Node}
 use Rattle.decision.specs.Graph.{graphIn}
 use Rattle.decision.specs.AskingOrder.{AskingOrder}
 use Rattle.decision.specs.Path.{ends, path}
-use Rattle.decision.specs.Walk.{Walk, walk}
+use Rattle.decision.specs.Walk.{Walk, suspendWaits, walk}
 use Rattle.decision.specs.Waiting.{ListedKept}
 use Rattle.decision.proofs.elimination.RightKeys.{RightVertex}
 use Rattle.decision.proofs.walking.BuiltWalk.{MetOn, WalksRight, given, walk-answers}
 use Rattle.decision.proofs.walking.Demand3.{right-in-every-order}
 use Rattle.decision.proofs.waiting.Suspended.{way-same}
 use Rattle.decision.proofs.waiting.KeptOpen.{suspend-still}
-use Rattle.decision.proofs.waiting.SpanWaits.{spanWaits, unsure-listed}
+use Rattle.decision.proofs.waiting.SpanWaits.{unsure-listed}
 
 module _ (sheet : Sheet) (accepted : AcceptedSheet sheet) (order : List ℕ) (asks : AskingOrder (sheet .rules) order)
     (nodes : List (Node ℕ)) (built : graphIn (sheet .rules) order ≡ some nodes)
@@ -52,7 +52,7 @@ module _ (sheet : Sheet) (accepted : AcceptedSheet sheet) (order : List ℕ) (as
   -- If the walk of a built graph suspends, and each listed place keeps the unknown or span that it held and each listed pair is
   -- still not known in a piece filled in further, the walk of that piece suspends.
   pub wait-sentence-spans
-      : ListedKept rules (spanWaits rules nodes piece walked) piece further
+      : ListedKept rules (suspendWaits rules nodes piece walked) piece further
       → (v : Walk) × (walk rules nodes further ≡ took 0 v) × (v .answer ≡ answers.suspend)
   wait-sentence-spans listed =
       let acceptedRules = accepted .sound .acceptedRules in

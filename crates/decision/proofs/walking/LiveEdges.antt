@@ -1,5 +1,5 @@
 -- What an edge keeps: of the live rules of a key that asks a test, the step that a piece takes keeps exactly those for which
--- the test, if they have it, is not contradicted. For every piece of which each number is known exactly.
+-- the test, if they have it, is not contradicted. For every well-formed piece.
 use Prim.Native.Nat.{ℕ, suc, _<_}
 use mathlib.Core.Path.{_≡_, refl, sym, subst}
 use mathlib.Core.Bool.{Bool, _&&_, not}
@@ -17,7 +17,8 @@ use Rattle.terms.specs.Pattern.{Patterns}
 use Rattle.terms.specs.RuleTests.{Want}
 use Rattle.terms.specs.Lookup.{Found, lacking, found, termAt}
 use Rattle.terms.specs.Outcome.{Outcome, holds, notKnown, contradicted, fits, compare}
-use Rattle.terms.specs.Accepted.{AcceptedRule, Exacts}
+use Rattle.terms.specs.Filling.{WellFormeds}
+use Rattle.terms.specs.Accepted.{AcceptedRule}
 use Rattle.terms.specs.Answer.{ruleAt, isOpen}
 use Rattle.terms.proofs.Unknown.{IsUnknown}
 use Rattle.sheet_tests.specs.SheetTests.{Test, place, pair, sheetTests}
@@ -136,11 +137,11 @@ module _ (arity : ℕ) (rules : List Patterns) (accepted : All (AcceptedRule ari
 
         -- and so the step at a switch keeps what it should,
         place-kept
-            : Exacts piece → (w : Vertex) → stepAt piece (askNode rules key t (place n)) ≡ goTo w → KeptRules key t w
-        place-kept exact w = go (termAt piece n) refl
+            : WellFormeds piece → (w : Vertex) → stepAt piece (askNode rules key t (place n)) ≡ goTo w → KeptRules key t w
+        place-kept ok w = go (termAt piece n) refl
           where
             owes : SwitchOwes rules piece graphSwitches
-            owes = switch-owes rules arity accepted piece exact
+            owes = switch-owes rules arity accepted piece ok
 
             go
                 : (x : Found) → termAt piece n ≡ x
@@ -193,9 +194,9 @@ module _ (arity : ℕ) (rules : List Patterns) (accepted : All (AcceptedRule ari
 
       -- Hence the step at the node that asks the test.
       pub asked-kept
-          : Exacts piece → (w : Vertex) → stepAt piece (askNode rules key t (testAt rules t)) ≡ goTo w → KeptRules key t w
-      asked-kept exact w = go (testAt rules t) refl
+          : WellFormeds piece → (w : Vertex) → stepAt piece (askNode rules key t (testAt rules t)) ≡ goTo w → KeptRules key t w
+      asked-kept ok w = go (testAt rules t) refl
         where
           go : (x : Test) → testAt rules t ≡ x → stepAt piece (askNode rules key t x) ≡ goTo w → KeptRules key t w
-          go (place n) e s = place-kept n e exact w s
+          go (place n) e s = place-kept n e ok w s
           go (pair p q) e s = pair-kept p q e w s

@@ -1,6 +1,6 @@
 -- "On it a rule is live until a test of it met there is contradicted": on a built graph the live rules of each walked node's
--- key are those that `liveOn` says, of the nodes walked before it. In every asking order, and for every piece of which each
--- number is known exactly.
+-- key are those that `liveOn` says, of the nodes walked before it. In every asking order, and for every well-formed
+-- piece.
 use Prim.Native.Nat.{ℕ, zero, suc, _<_}
 use mathlib.Core.Path.{_≡_, refl, ap, sym, subst, _∙_}
 use mathlib.Core.Bool.{Bool, true, false, _&&_, _||_, cond}
@@ -16,7 +16,8 @@ use Rattle.basics.proofs.Clash.{clash}
 use Rattle.basics.proofs.Filters.{any-join}
 use Rattle.terms.specs.Term.{Terms}
 use Rattle.terms.specs.Pattern.{Patterns}
-use Rattle.terms.specs.Accepted.{AcceptedRule, Exacts}
+use Rattle.terms.specs.Filling.{WellFormeds}
+use Rattle.terms.specs.Accepted.{AcceptedRule}
 use Rattle.terms.specs.Answer.{ruleAt}
 use Rattle.sheet_tests.specs.SheetTests.{sheetTests}
 use Rattle.decision.specs.Rules.{sameTest, testAt, hasTest, rulesWhere}
@@ -181,16 +182,16 @@ module _ (arity : ℕ) (rules : List Patterns) (accepted : All (AcceptedRule ari
 
     -- A step from a vertex keeps the live rules right.
     next-live
-        : Exacts piece → (before : List ℕ) (v : Vertex) → Mem v vs → LiveAt before v → (w : Vertex)
+        : WellFormeds piece → (before : List ℕ) (v : Vertex) → Mem v vs → LiveAt before v → (w : Vertex)
         → stepAt piece (nodeOf rules order v) ≡ goTo w → LiveAt (before ++ numberAt v ∷ []) w
-    next-live exact before (leaf l) m here w e = clash (cc)
-    next-live exact before (asking k) m here w e = go (firstIn (k .pending) order) refl e
+    next-live ok before (leaf l) m here w e = clash (cc)
+    next-live ok before (asking k) m here w e = go (firstIn (k .pending) order) refl e
       where
         go
             : (o : Option ℕ) → firstIn (k .pending) order ≡ o → stepAt piece (askFirst rules k o) ≡ goTo w
             → LiveAt (before ++ numberAt (asking k) ∷ []) w
         go none d s = clash (cc)
-        go (some t) d s = step-live before k m t d here w (asked-kept arity rules accepted piece nodes k t exact w s)
+        go (some t) d s = step-live before k m t d here w (asked-kept arity rules accepted piece nodes k t ok w s)
 
     -- The node of that number is a vertex with such a key.
     abbrev pub LiveNode : List ℕ → ℕ → Type 0
@@ -227,9 +228,9 @@ module _ (arity : ℕ) (rules : List Patterns) (accepted : All (AcceptedRule ari
         (back : List ℕ) → walked ≡ front ++ n ∷ back → LiveNode (before ++ front) n
 
     path-live
-        : Exacts piece → (more : ℕ) (v : Vertex) → Mem v vs → (before : List ℕ) → LiveAt before v
+        : WellFormeds piece → (more : ℕ) (v : Vertex) → Mem v vs → (before : List ℕ) → LiveAt before v
         → AllLive more (numberAt v) before
-    path-live exact zero v m before here walked l e front n back d =
+    path-live ok zero v m before here walked l e front n back d =
         go (stepAt piece (nodeOf rules order v)) (sym (ap (lastStep (numberAt v)) (step-at rules order vs built piece v m)) ∙ e)
       where
         go
@@ -238,10 +239,10 @@ module _ (arity : ℕ) (rules : List Patterns) (accepted : All (AcceptedRule ari
         go (stop x) k = end-live before v m here front n back (ap nodesOn k ∙ d)
         go (goTo w) k = clash (cc)
         go noWay k = clash (cc)
-    path-live exact (suc more) v m before here walked l e front n back d =
+    path-live ok (suc more) v m before here walked l e front n back d =
         go (stepAt piece (nodeOf rules order v)) refl
         (sym (ap (nextStep (pathFrom nodes piece more) (numberAt v)) (step-at rules order vs built piece v m)) ∙ e)
-        (λ w k b h. path-live exact more w k b h)
+        (λ w k b h. path-live ok more w k b h)
       where
         Later : Type 0
         Later = (w : Vertex) → Mem w vs → (b : List ℕ) → LiveAt b w → AllLive more (numberAt w) b
@@ -255,7 +256,7 @@ module _ (arity : ℕ) (rules : List Patterns) (accepted : All (AcceptedRule ari
             let x = way .last in
             let whole : pathFrom nodes piece more (numberAt w) ≡ ends ns x = p ∙ ap (λ (b : ℕ). took b way) (ap bytesOn k) in
             let met = edges-met rules order vs built v m w (step-edge piece (nodeOf rules order v) s) in
-            let next = next-live exact before v m here w s in
+            let next = next-live ok before v m here w s in
             through-live before v m here ns front n back
             (λ fs f. later w met (before ++ numberAt v ∷ []) next ns x whole fs n back f) (ap nodesOn k ∙ d)
 
@@ -270,10 +271,10 @@ module _ (arity : ℕ) (rules : List Patterns) (accepted : All (AcceptedRule ari
     -- On a built graph, each node that a walk comes to is that of a key whose live rules are those that are live on the
     -- nodes walked before it.
     pub walked-live
-        : Exacts piece → (walked : List ℕ) (l : Leaf) → path nodes piece ≡ ends walked l → (front : List ℕ) (n : ℕ)
+        : WellFormeds piece → (walked : List ℕ) (l : Leaf) → path nodes piece ≡ ends walked l → (front : List ℕ) (n : ℕ)
         (back : List ℕ) → walked ≡ front ++ n ∷ back → LiveNode front n
-    walked-live exact walked l e front n back d =
+    walked-live ok walked l e front n back d =
         let met = root-met rules order vs built in
         let zero = root-number rules order vs built in
-        path-live exact mostEdges (rootVertex rules order) met [] root-live walked l
+        path-live ok mostEdges (rootVertex rules order) met [] root-live walked l
         (ap (pathFrom nodes piece mostEdges) zero ∙ e) front n back d

@@ -2,10 +2,10 @@
 -- the same equality tests get from any nodes the same answer, edges and wait list.
 use Prim.Native.Nat.{ℕ, pred}
 use mathlib.Core.Path.{_≡_, refl, ap, _∙_, fun-ext}
-use mathlib.Core.Bool.{_&&_}
-use mathlib.Core.List.{List, map}
+use mathlib.Core.Bool.{_&&_, _||_, not}
+use mathlib.Core.List.{List, [], _∷_, _++_, map}
 use lib.ListN.{length}
-use Rattle.basics.specs.Lists.{anyOf}
+use Rattle.basics.specs.Lists.{anyOf, anyBelow}
 use Rattle.records.specs.Reading.{took, refused}
 use Rattle.terms.specs.Term.{Terms}
 use Rattle.terms.specs.Pattern.{Patterns}
@@ -15,14 +15,14 @@ use Rattle.terms.specs.Answer.{ruleAt, onlyRule}
 use Rattle.terms.specs.Answer as answers
 use Rattle.terms.specs.Lookup.{termAt}
 use Rattle.sheet_tests.specs.SheetTests.{Test, place, pair}
-use Rattle.decision.specs.Rules.{testAt, testsWhere}
+use Rattle.decision.specs.Rules.{testAt, hasTest, testsWhere}
 use Rattle.decision.specs.Key.{Leaf, failNode, suspendNode, executeNode}
 use Rattle.decision.specs.Node.{Node}
 use Rattle.decision.specs.Path.{Path, nodeAt, path}
-use Rattle.decision.specs.Walk.{isNotKnown, asksTest, testNotKnown, suspendWaits, wantOutcome, testOutcome, executeWaits}
-use Rattle.decision.specs.Walk.{atLeaf, atEnd, walk}
+use Rattle.decision.specs.Walk.{isNotKnown, asksTest, testNotKnown, wantOutcome, testOutcome, isContradicted, liveOn}
+use Rattle.decision.specs.Walk.{executeWaits, waitsFor, isListed, listedFrom, suspendWaits, atLeaf, atEnd, walk}
 use Rattle.decision.proofs.rules.SameTests.{same-test-at, same-has-test, same-want-at, same-tests-where}
-use Rattle.decision.proofs.rules.SameTests.{same-tests-same-outcome}
+use Rattle.decision.proofs.rules.SameTests.{same-tests-same-count, same-tests-same-tests, same-tests-same-outcome}
 
 module _
     (rules others : List Patterns) (places : map placeTests rules ≡ map placeTests others)
@@ -34,24 +34,50 @@ module _
     tests-where : testsWhere rules ≡ testsWhere others
     tests-where = same-tests-where rules others places pairs
 
-    -- The wait lists are made alike,
-    suspend-waits : (walked : List ℕ) → suspendWaits rules nodes piece walked ≡ suspendWaits others nodes piece walked
-    suspend-waits walked =
-        λ i. tests-where i
-        (λ t. anyOf (λ (n : ℕ). asksTest (test-at i t) (nodeAt nodes n)) walked && testNotKnown piece (test-at i t))
+    has-test : hasTest rules ≡ hasTest others
+    has-test = same-has-test rules others places pairs
 
-    pub outcome-same : (n : ℕ) → testOutcome rules piece n ≡ testOutcome others piece n
+    -- A test comes to the same for a rule,
+    outcome-same : (n : ℕ) → testOutcome rules piece n ≡ testOutcome others piece n
     outcome-same n = fun-ext go
       where
         go : (t : Test) → testOutcome rules piece n t ≡ testOutcome others piece n t
         go (place p) = λ i. wantOutcome (same-want-at rules others places pairs i n p) (termAt piece p)
         go (pair p q) = refl
 
+    -- the same rules are live on a walk,
+    live-on : liveOn rules nodes piece ≡ liveOn others nodes piece
+    live-on =
+        let tests = same-tests-same-tests rules others places pairs in
+        λ i walked n. not (anyBelow (length (tests i))
+        (λ t. anyOf (λ (m : ℕ). asksTest (test-at i t) (nodeAt nodes m)) walked && has-test i n t
+        && isContradicted (outcome-same n i (test-at i t))))
+
+    -- the same tests are not known for them,
+    waits-for : waitsFor rules nodes piece ≡ waitsFor others nodes piece
+    waits-for = λ i before t n. live-on i before n && has-test i n t && isNotKnown (outcome-same n i (test-at i t))
+
+    is-listed : isListed rules nodes piece ≡ isListed others nodes piece
+    is-listed =
+        let count = same-tests-same-count rules others places pairs in
+        λ i before t. testNotKnown piece (test-at i t) || anyBelow (count i) (waits-for i before t)
+
+    listed-from
+        : (before ns : List ℕ) (t : ℕ) → listedFrom rules nodes piece before ns t ≡ listedFrom others nodes piece before ns t
+    listed-from before [] t = refl
+    listed-from before (n ∷ ns) t =
+        let later = listed-from (before ++ n ∷ []) ns t in
+        λ i. asksTest (test-at i t) (nodeAt nodes n) && is-listed i before t || later i
+
+    -- so the wait lists are the same,
+    suspend-waits : (walked : List ℕ) → suspendWaits rules nodes piece walked ≡ suspendWaits others nodes piece walked
+    suspend-waits walked = λ i. tests-where i (λ t. listed-from [] walked t i)
+
     execute-waits : (n : ℕ) (x : Outcome) → executeWaits rules piece n x ≡ executeWaits others piece n x
     execute-waits n holds = refl
     execute-waits n notKnown =
         λ i. tests-where i
-        (λ t. same-has-test rules others places pairs i (pred n) t && isNotKnown (outcome-same (pred n) i (test-at i t)))
+        (λ t. has-test i (pred n) t && isNotKnown (outcome-same (pred n) i (test-at i t)))
     execute-waits n contradicted = refl
 
     -- what a leaf answers is the same,

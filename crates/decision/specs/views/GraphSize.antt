@@ -1,4 +1,4 @@
--- The most bytes that a node and a graph can have (document 01, "Records").
+-- The most bytes that a node and a graph can have (document 01, "Records"; document 02, request 4: "The case count becomes wide").
 use Prim.Native.Nat.{ℕ, _+_, _*_}
 use Rattle.records.specs.Kinds.{recordLength}
 use Rattle.decision.specs.Graph.{mostNodes}

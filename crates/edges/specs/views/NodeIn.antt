@@ -8,7 +8,8 @@ use Rattle.decision.specs.Key.{Key, failNode, suspendNode, executeNode}
 use Rattle.decision.specs.Node.{Node, CaseEdge, end, switch, pairNode}
 use Rattle.tables.specs.views.Planes.{rulesIn, placeTestsIn, testIn, firstAskedIn}
 use Rattle.cuts.specs.views.Cuts.{partAt, cutsIn}
-use Rattle.cuts.specs.views.Runs.{Run, switchRuns, runCase}
+use Rattle.cuts.specs.views.Runs.{Run, runCase}
+use Rattle.cuts.specs.views.CaseRuns.{switchRuns}
 use Rattle.edges.specs.declared.Asked.{Asked}
 use Rattle.edges.specs.views.KeysBehind.{askedIn, noneBehind, otherBehind, runBehind, unknownBehind}
 

@@ -1,4 +1,5 @@
--- The record of a node, and of a case, that a list of bytes begins with (document 01, "Records", "Graph"; question 22).
+-- The record of a node, and of a case, that a list of bytes begins with (document 01, "Records", "Graph"; question 22; the
+-- wide count of document 02, request 4).
 use Prim.Native.Nat.{ℕ}
 use mathlib.Core.Bool.{Bool, true, false, cond}
 use mathlib.Core.List.{List}
@@ -38,7 +39,7 @@ switchLength = recordLength 0x43
 -- "43 switch (wide place, number of cases, wide node for neither, wide node for unknown)", "47 pair (wide place p, wide place q,
 -- wide node for no, wide node for other)".
 abbrev pub switchRecord : List ℕ → NodeRecord
-switchRecord s = Switch (wideAt s 1) (getD s 3 0) (wideAt s 4) (wideAt s 6)
+switchRecord s = Switch (wideAt s 1) (wideAt s 3) (wideAt s 5) (wideAt s 7)
 
 abbrev pub pairRecord : List ℕ → NodeRecord
 pairRecord s = Pair (wideAt s 1) (wideAt s 3) (wideAt s 5) (wideAt s 7)

@@ -12,7 +12,7 @@ use Rattle.graph.specs.views.NodeRecord.{leafOf}
 
 abbrev pub nodeRecordBytes : NodeRecord → List ℕ
 nodeRecordBytes (End l) = leafBytes (leafOf l)
-nodeRecordBytes (Switch n count x y) = 0x43 ∷ wideThen n (count ∷ wideThen x (wideThen y []))
+nodeRecordBytes (Switch n count x y) = 0x43 ∷ wideThen n (wideThen count (wideThen x (wideThen y [])))
 nodeRecordBytes (Pair p q x y) = 0x47 ∷ wideThen p (wideThen q (wideThen x (wideThen y [])))
 
 abbrev pub caseRecordBytes : CaseRecord → List ℕ

@@ -1,6 +1,6 @@
--- The cases of a switch as ranges of numbers: a case takes the terms whose codes lie from its first to its last, and cases that
--- ascend are ranges that ascend, one after another.
-use Prim.Native.Nat.{ℕ}
+-- The cases of a switch as ranges of codes: a case takes the terms whose codes lie from its first to its last, and cases that
+-- ascend are ranges that ascend by first, then by last.
+use Prim.Native.Nat.{ℕ, _+_, _*_}
 use mathlib.Core.Bool.{Bool}
 use mathlib.Core.List.{List}
 use Rattle.records.specs.Reading.{Reading, took, refused}
@@ -14,9 +14,16 @@ use Rattle.node_check.specs.declared.CasesCheck.{CasesCheck}
 use Rattle.node_check.specs.declared.CasesCheck.the-variants.{Used, Refused}
 use Rattle.graph.specs.ReadGraph.{allInside, casesAscend}
 
+-- The first and the last code of a range as one number, by which ranges ascend.
+abbrev pub rankOf : ℕ → ℕ → ℕ
+rankOf first last = first * 0x1_0000_0000 + last
+
+abbrev pub codesTo : ℕ → ℕ → ℕ → ℕ → CaseRange
+codesTo first last n bytes = record { first = first; last = last; rank = rankOf first last; node = n; bytes = bytes }
+
 -- The range of a case's record, with the node that it leads to and its bytes.
 abbrev pub rangeTo : Case → ℕ → ℕ → CaseRange
-rangeTo c n bytes = record { first = caseLow c; last = caseHigh c; node = n; bytes = bytes }
+rangeTo c n bytes = codesTo (caseLow c) (caseHigh c) n bytes
 
 abbrev pub rangeOf : CaseRecord → CaseRange
 rangeOf (Symbol a n) = rangeTo (symbolCase a) n 5

@@ -21,6 +21,12 @@ high-requires-3 c κs = search needs
 low-requires-3 : tie.Need-low-requires-3
 low-requires-3 c κs = search needs
 
+high-requires-4 : tie.Need-high-requires-4
+high-requires-4 c κs = search needs
+
+low-requires-4 : tie.Need-low-requires-4
+low-requires-4 c κs = search needs
+
 slice-aggregate-put : tie.Need-slice-aggregate-put
 slice-aggregate-put c = search needs
 
@@ -31,7 +37,7 @@ same-length : tie.Need-same-length
 same-length c = search needs
 
 returns : tie.Need-returns
-returns c = simp (c .before .before .before .before .before .before .before .before .before .high .ensures, c .before .before .before .before .before .before .before .before .low .ensures, c .before .before .before .before .before .before .before .high2 .ensures, c .before .before .before .before .before .before .low2 .ensures, c .before .before .before .before .before .high3 .ensures, c .before .before .before .before .low3 .ensures) at (c .before .before .put .ensures)
+returns c = simp (c .before .before .before .before .before .before .before .before .before .before .before .high .ensures, c .before .before .before .before .before .before .before .before .before .before .low .ensures, c .before .before .before .before .before .before .before .before .before .high2 .ensures, c .before .before .before .before .before .before .before .before .low2 .ensures, c .before .before .before .before .before .before .before .high3 .ensures, c .before .before .before .before .before .before .low3 .ensures, c .before .before .before .before .before .high4 .ensures, c .before .before .before .before .low4 .ensures) at (c .before .before .put .ensures)
 
 pub put-switch-spec : {M : Type 1} → statement M
 put-switch-spec =
@@ -43,6 +49,8 @@ put-switch-spec =
     low-requires-2
     high-requires-3
     low-requires-3
+    high-requires-4
+    low-requires-4
     slice-aggregate-put
     put-requires
     same-length

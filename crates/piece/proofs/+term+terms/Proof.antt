@@ -14,7 +14,7 @@ use Rattle.codes.specs.views.Codes.{runOf}
 use Rattle.records.proofs.RowSoFar.{row-begun, row-ended}
 use Rattle.piece.specs.views.TermRecord.{headRefusal}
 use Rattle.piece.proofs.Rooms.{arguments-room}
-use Rattle.piece.proofs.TermCells.{went-on, stopped, by-record, deep-refused, arity-refused}
+use Rattle.piece.proofs.TermCells.{went-on, stopped, by-record, span-refused, span-stored, deep-refused, arity-refused}
 use Rattle.piece.proofs.RowCells.{termRow}
 use Rattle.piece.proofs.term.Reads as term
 use Rattle.piece.proofs.terms.Reads as terms
@@ -22,7 +22,7 @@ use Rattle.piece.proofs.+term+terms.Lts-term as term-lts
 use Rattle.piece.proofs.+term+terms.Lts-terms as terms-lts
 use Rattle.piece.proofs.+term+terms.Tie.{close}
 use Rattle.piece.proofs.+term+terms.{statement}
-use Rattle.piece.proofs.+term+terms.Proof.Places.{μ-term, μ-terms, Inv-loop, μ-loop, term-at, terms-at, term-calls, terms-calls, head-start, whole-head, compound-start, id, arity, compound-head, compound-there, arguments-start, compound-read, arguments-fit, row-fits, row-step, turn, row-refuses, row-continues, bytes-there}
+use Rattle.piece.proofs.+term+terms.Proof.Places.{μ-term, μ-terms, Inv-loop, μ-loop, term-at, terms-at, term-calls, terms-calls, head-start, whole-head, compound-start, id, arity, compound-head, compound-there, span-start, low, high, span-head, arguments-start, compound-read, arguments-fit, row-fits, row-step, turn, row-refuses, row-continues, bytes-there}
 
 term-returns : (t : ℕ) → term-lts.Need-returns (term-calls t) (term-at t) term.Post
 term-returns t c =
@@ -62,32 +62,47 @@ term-terms-requires t c κs =
 term-returns-4 : (t : ℕ) → term-lts.Need-returns-4 (term-calls t) (term-at t) term.Post
 term-returns-4 t c = stopped 4 _ _ (compound-read (c .before .before)) (c .enum-told3 .given .1)
 
-term-add-t33 : (t : ℕ) → term-lts.Need-add-t33 (term-calls t) (term-at t) term.Post
-term-add-t33 t c =
+term-add-t35 : (t : ℕ) → term-lts.Need-add-t35 (term-calls t) (term-at t) term.Post
+term-add-t35 t c =
     let m = c .before .before .before in
     omega (arith, arguments-fit m (c .before .arguments .given .1), arguments-start m .good .0 .0)
 
 term-returns-5 : (t : ℕ) → term-lts.Need-returns-5 (term-calls t) (term-at t) term.Post
 term-returns-5 t c =
-    let a = head-start (c .before .before) .args in
-    by-record (a .below) (now (a .s)) (a .p) (now (a .cells)) (whole-head (c .before .before) (c .enum-told2 .given .1))
+    let k = c .before in
+    let a = span-start k .args in
+    span-refused (a .below) (now (a .s)) (a .p) (now (a .cells)) (low k) (high k) (span-head k) (c .if4 .taken)
 
 term-returns-6 : (t : ℕ) → term-lts.Need-returns-6 (term-calls t) (term-at t) term.Post
 term-returns-6 t c =
-    let known = c .before .before .before .before .before in
-    let a = head-start known .args in
-    ap (λ x. took 3 (set (now (a .cells)) (a .p) x)) (c .run-of .ensures ∙ ap (λ k. runOf k k) (c .before .symbol-code .ensures))
-    ∙ by-record (a .below) (now (a .s)) (a .p) (now (a .cells)) (whole-head known (c .before .before .before .«record» .given .1))
+    let a = head-start (c .before .before) .args in
+    by-record (a .below) (now (a .s)) (a .p) (now (a .cells)) (whole-head (c .before .before) (c .enum-told2 .given .1))
 
 term-returns-7 : (t : ℕ) → term-lts.Need-returns-7 (term-calls t) (term-at t) term.Post
 term-returns-7 t c =
     let known = c .before .before .before .before .before in
     let a = head-start known .args in
+    ap (λ x. took 3 (set (now (a .cells)) (a .p) x)) (c .run-of .ensures ∙ ap (λ k. runOf k k) (c .before .symbol-code .ensures))
+    ∙ by-record (a .below) (now (a .s)) (a .p) (now (a .cells)) (whole-head known (c .before .before .before .«record» .given .1))
+
+term-returns-8 : (t : ℕ) → term-lts.Need-returns-8 (term-calls t) (term-at t) term.Post
+term-returns-8 t c =
+    let known = c .before .before .before .before .before in
+    let a = head-start known .args in
     ap (λ x. took 3 (set (now (a .cells)) (a .p) x)) (c .run-of2 .ensures ∙ ap (λ k. runOf k k) (c .before .number-code .ensures))
     ∙ by-record (a .below) (now (a .s)) (a .p) (now (a .cells)) (whole-head known (c .before .before .before .record2 .given .1))
 
-term-returns-8 : (t : ℕ) → term-lts.Need-returns-8 (term-calls t) (term-at t) term.Post
-term-returns-8 t c = went-on 4 _ _ (compound-read (c .before .before .before)) (c .before .arguments .given .1)
+term-returns-9 : (t : ℕ) → term-lts.Need-returns-9 (term-calls t) (term-at t) term.Post
+term-returns-9 t c = went-on 4 _ _ (compound-read (c .before .before .before)) (c .before .arguments .given .1)
+
+term-returns-10 : (t : ℕ) → term-lts.Need-returns-10 (term-calls t) (term-at t) term.Post
+term-returns-10 t c =
+    let k = c .before .before .before .before in
+    let a = span-start k .args in
+    let most = c .before .before .before .if4 .left in
+    ap (λ x. took 5 (set (now (a .cells)) (a .p) x)) (c .run-of4 .ensures)
+    ∙ span-stored (a .below) (now (a .s)) (a .p) (now (a .cells)) (low k) (high k) (span-head k) most
+    (c .before .before .number-code2 .ensures) (c .before .number-code3 .ensures)
 
 terms-loop-holds : (t : ℕ) → terms-lts.Need-loop-holds (terms-calls t) (terms-at t) terms.Post Inv-loop μ-loop
 terms-loop-holds t c =
@@ -160,11 +175,19 @@ pub +term+terms-spec : {M : Type 1} → statement M
     (λ c. search needs)
     (λ c. search needs)
     (term-returns-4 t)
-    (term-add-t33 t)
+    (term-add-t35 t)
+    (λ c. search needs)
     (term-returns-5 t)
+    (λ c κs. search needs)
+    (λ c κs. search needs)
+    (λ c κs. search needs)
+    (λ c. search needs)
+    (λ c. search needs)
     (term-returns-6 t)
     (term-returns-7 t)
-    (term-returns-8 t))
+    (term-returns-8 t)
+    (term-returns-9 t)
+    (term-returns-10 t))
     λ t. terms-lts.spec (terms-calls t)
     (terms-at t)
     terms.Post

@@ -20,28 +20,38 @@ returns-4 c =
     let m = c .before in simp (ne-eqb _ _ (m .before .before .if1 .left), m .match .keys4, lt-leb _ _ (c .if4 .taken))
 
 returns-5 : tie.Need-returns-5
-returns-5 c = simp (ne-eqb _ _ (c .before .before .if1 .left), c .match .keys1)
+returns-5 c =
+    let m = c .before in simp (ne-eqb _ _ (m .before .before .if1 .left), m .match .keys5, lt-leb _ _ (c .if5 .taken))
 
 returns-6 : tie.Need-returns-6
-returns-6 c =
-    let m = c .before .before .before .before in
-    simp (ne-eqb _ _ (m .before .before .if1 .left), m .match .keys2, le-leb _ _ (c .before .before .before .if2 .left), c .wide .ensures)
+returns-6 c = simp (ne-eqb _ _ (c .before .before .if1 .left), c .match .keys1)
 
 returns-7 : tie.Need-returns-7
 returns-7 c =
     let m = c .before .before .before .before in
-    simp (ne-eqb _ _ (m .before .before .if1 .left), m .match .keys3, le-leb _ _ (c .before .before .before .if3 .left), c .wide2 .ensures)
+    simp (ne-eqb _ _ (m .before .before .if1 .left), m .match .keys2, le-leb _ _ (c .before .before .before .if2 .left), c .wide .ensures)
 
 returns-8 : tie.Need-returns-8
 returns-8 c =
-    let m = c .before .before .before .before .before in
-    simp (ne-eqb _ _ (m .before .before .if1 .left), m .match .keys4, le-leb _ _ (c .before .before .before .before .if4 .left), c .before .wide3 .ensures)
+    let m = c .before .before .before .before in
+    simp (ne-eqb _ _ (m .before .before .if1 .left), m .match .keys3, le-leb _ _ (c .before .before .before .if3 .left), c .wide2 .ensures)
 
 returns-9 : tie.Need-returns-9
 returns-9 c =
+    let m = c .before .before .before .before .before in
+    simp (ne-eqb _ _ (m .before .before .if1 .left), m .match .keys4, le-leb _ _ (c .before .before .before .before .if4 .left), c .before .wide3 .ensures)
+
+returns-10 : tie.Need-returns-10
+returns-10 c =
+    let m = c .before .before .before .before .before .before .before in
+    simp
+    (ne-eqb _ _ (m .before .before .if1 .left), m .match .keys5, le-leb _ _ (c .before .before .before .before .before .before .if5 .left), c .before .before .before .wide4 .ensures, c .wide5 .ensures)
+
+returns-11 : tie.Need-returns-11
+returns-11 c =
     let others = c .match .rest in
     simp
-    (ne-eqb _ _ (c .before .before .if1 .left), ne-eqb _ _ (others .0 .0 .0 .1), ne-eqb _ _ (others .0 .0 .1), ne-eqb _ _ (others .0 .1), ne-eqb _ _ (others .1))
+    (ne-eqb _ _ (c .before .before .if1 .left), ne-eqb _ _ (others .0 .0 .0 .0 .1), ne-eqb _ _ (others .0 .0 .0 .1), ne-eqb _ _ (others .0 .0 .1), ne-eqb _ _ (others .0 .1), ne-eqb _ _ (others .1))
 
 pub term-head-spec : {M : Type 1} → statement M
 term-head-spec =
@@ -63,7 +73,15 @@ term-head-spec =
     (λ c κs. search needs)
     (λ c. search needs)
     returns-5
+    (λ c. search needs)
+    (λ c. search needs)
+    (λ c κs. search needs)
+    (λ c. search needs)
+    (λ c. search needs)
+    (λ c κs. search needs)
     returns-6
     returns-7
     returns-8
-    returns-9)
+    returns-9
+    returns-10
+    returns-11)

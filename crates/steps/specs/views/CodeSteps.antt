@@ -1,48 +1,22 @@
 -- What happens at a node (document 01, "The walk"), as the cells of a piece tell it: a run of codes for what stands at each place.
 use Prim.Native.Nat.{ℕ, _<_, _≤_}
-use mathlib.Core.Bool.{Bool, _&&_, _||_, cond}
-use mathlib.Core.List.{List, [], _∷_}
-use lib.Dec.{T, leb, eqb}
+use mathlib.Core.Bool.{_||_, cond}
+use mathlib.Core.List.{List}
+use lib.Dec.{eqb}
 use lib.ListN.{length, drop}
-use Rattle.basics.specs.Lists.{All}
-use Rattle.basics.specs.Order.{pairBefore}
 use Rattle.terms.specs.Outcome.{Outcome}
 use Rattle.codes.specs.views.Codes.{lowOf, highOf, unknownRun}
 use Rattle.pairs.specs.views.KeptPairs.{pairCode}
 use Rattle.outcomes.specs.views.Look.{look}
 use Rattle.outcomes.specs.views.CellOutcome.{pairCells}
 use Rattle.decision.specs.Key.{Leaf, failNode, suspendNode, executeNode}
-use Rattle.decision.specs.Cases.{Case}
-use Rattle.decision.specs.Narrowest.{best}
-use Rattle.decision.specs.Node.{Node, CaseEdge, end, switch, pairNode, leadsOr}
+use Rattle.decision.specs.Node.{Node, CaseEdge, end, switch, pairNode}
 use Rattle.decision.specs.Path.{Step, stop, goTo, noWay, byComparison}
-use Rattle.decision.specs.views.CaseCodes.{caseLow, caseHigh}
 use Rattle.graph.specs.declared.Leaf as leaf
 use Rattle.graph.specs.ReadGraph.{readRecord}
 use Rattle.graph.specs.views.Rewriting.{IsTook, readOr}
+use Rattle.number_search.specs.views.CodeCases.{followCode, CasesInOrder}
 use Rattle.steps.specs.declared.Step as step
-
--- "44 symbol (wide id, ..), 45 compound (wide id, arity, ..), 46 numbers (wide low, wide high, ..)": a case takes the terms whose
--- codes lie from its first to its last, and so a run of codes that lies there.
-abbrev pub takesCodes : Case → ℕ → ℕ → Bool
-takesCodes c low high = leb (caseLow c) low && leb high (caseHigh c)
-
--- "The one with the highest low, then the lowest high."
-abbrev pub narrowerCodes : Case → Case → Bool
-narrowerCodes c d = pairBefore (caseLow d) (caseHigh c) (caseLow c) (caseHigh d)
-
--- Where a run of codes leads at a switch: by the narrowest of the cases that take it, or by the "node for neither".
-abbrev pub followCode : List (CaseEdge ℕ) → ℕ → ℕ → ℕ → ℕ
-followCode cs neither low high =
-    leadsOr neither
-    (best (λ (c : CaseEdge ℕ). takesCodes (c .case) low high) (λ (c d : CaseEdge ℕ). narrowerCodes (c .case) (d .case)) cs)
-
--- "Number cases ascend by low, then high": cases ascend by their first codes, then by their last ones.
-abbrev pub CodesAscend : List (CaseEdge ℕ) → Type 0
-CodesAscend [] = Unit
-CodesAscend (c ∷ cs) =
-    All (λ (d : CaseEdge ℕ). T (pairBefore (caseLow (c .case)) (caseHigh (c .case)) (caseLow (d .case)) (caseHigh (d .case)))) cs
-    × CodesAscend cs
 
 -- The step at a switch where its place has this run, 0 where the piece lacks it: "27 Is each place it tests in the piece, or
 -- below an unknown?" An unknown leads by the "node for unknown".
@@ -89,7 +63,7 @@ NearNode (pairNode p q x y) = (p < 680) × (q < 680)
 -- The cases of a switch are in order.
 abbrev pub OrderedNode : Node ℕ → Type 0
 OrderedNode (end l) = Unit
-OrderedNode (switch n cs x y) = CodesAscend cs
+OrderedNode (switch n cs x y) = CasesInOrder cs
 OrderedNode (pairNode p q x y) = Unit
 
 -- At a position of the graph a whole record of a node begins, whose places are among the 680 and whose cases are in order.

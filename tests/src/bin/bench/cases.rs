@@ -100,6 +100,33 @@ fn example() -> Case {
     case("document 01's example", known::example(), from_hex("1102310001310002"))
 }
 
+/// Four readings that the rule in the middle takes: two as spans, one of which the next rule's range cuts.
+fn spans(count: u16) -> Vec<u8> {
+    let at = count / 2;
+    let (diameter, weight) = (at * 40, at * 25);
+    piece_bytes(&[
+        Term::Symbol(at % 4),
+        Term::Span(diameter + 20, diameter + 60),
+        Term::Unknown,
+        Term::Span(weight + 15, weight + 20),
+    ])
+}
+
+/// Nested ranges at one place, and one reading.
+fn one(name: &'static str, rules: u16, term: Term) -> Case {
+    case(name, known::nested_1(rules), piece_bytes(&[term]))
+}
+
+/// What is timed of walks alone: pieces with spans, for graphs that are timed otherwise.
+pub fn for_walks() -> Vec<Case> {
+    vec![
+        case("8 rules of 4 readings, spans", coins(8), spans(8)),
+        case("16 rules of 4 readings, spans", coins(16), spans(16)),
+        one("nested ranges, a span", 32, Term::Span(20, 990)),
+        one("64 nested ranges, a span", 64, Term::Span(20, 990)),
+    ]
+}
+
 /// What is timed of the calls with a graph.
 pub fn for_graphs() -> Vec<Case> {
     let open = piece_bytes(&vec![Term::Unknown; 8]);
@@ -107,22 +134,37 @@ pub fn for_graphs() -> Vec<Case> {
     vec![
         example(),
         case("8 rules of 4 readings", coins(8), coin(8)),
+        case("16 rules of 4 readings", coins(16), coin(16)),
         case("32 rules of 4 readings", coins(32), coin(32)),
-        case("64 rules of 4 readings", coins(64), coin(64)),
         random_bits("8 rules of zeros and ones", 8),
         random_bits("16 rules of zeros and ones", 16),
         open("32 rules of zeros and ones", known::zeros_and_ones(32)),
         random_ranges("8 rules of random ranges", 8, 4, 300),
         random_ranges("16 rules of random ranges", 16, 6, 300),
         random_ranges("32 rules of random ranges", 32, 4, 300),
+        one("nested ranges", 32, Term::Number(500)),
+        one("64 nested ranges", 64, Term::Number(500)),
         open("nested ranges at 8 places", known::nested_8(32)),
         open("nested ranges at 16 places", known::nested_16(32)),
-        case("64 nested ranges", known::nested_1(64), piece_bytes(&[Term::Number(500)])),
-        open("64 nested ranges at 8 places", known::nested_8(64)),
         open("most nodes", known::nodes_1024()),
         open("too many nodes", known::nodes_1027()),
-        open("longest graph", known::longest_32()),
-        open("longest graph of 64 rules", known::longest_64()),
+    ]
+}
+
+/// What is timed in a reading order: few of the same.
+pub fn for_orders() -> Vec<Case> {
+    let timed = ["16 rules of 4 readings", "32 rules of zeros and ones", "nested ranges at 8 places"];
+    let kept = |case: &Case| case.name == example().name || timed.contains(&case.name);
+    for_graphs().into_iter().filter(kept).collect()
+}
+
+/// What is timed of the listing, whose graphs are short.
+pub fn for_listing() -> Vec<Case> {
+    vec![
+        example(),
+        case("8 rules of 4 readings", coins(8), coin(8)),
+        case("8 rules of 4 readings, spans", coins(8), spans(8)),
+        random_bits("16 rules of zeros and ones", 16),
     ]
 }
 
@@ -139,6 +181,7 @@ pub fn all() -> Vec<Case> {
         case("8 rules of 4 readings", coins(8), coin(8)),
         case("32 rules of 4 readings", coins(32), coin(32)),
         case("64 rules of 4 readings", coins(64), coin(64)),
+        case("64 rules of 4 readings, spans", coins(64), spans(64)),
         case("32 equal rules of 64 places", places_64(32).bytes(), piece_bytes(&open)),
         case("64 equal rules of 64 places", places_64(64).bytes(), piece_bytes(&open)),
         case("32 equal rules of 55 pairs", pairs_64(32).bytes(), piece_bytes(&paired)),

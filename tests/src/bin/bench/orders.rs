@@ -4,7 +4,6 @@ use crate::cases::Case;
 use crate::table::{outcome, Table};
 use crate::timing::against;
 use voltunnis_tests::generate::orders::{ascending, reversed, table};
-use voltunnis_tests::reference::build::ENOUGH;
 use voltunnis_tests::results::Built;
 use voltunnis_tests::{reference, voltunnis};
 
@@ -23,8 +22,9 @@ pub fn table_rows(rows: &mut Table) {
 
 /// The rows of one case.
 pub fn rows(rows: &mut Table, Case { name, sheet, .. }: &Case) {
-    let (one, two) = (&mut vec![0; ENOUGH], &mut vec![0; ENOUGH]);
     for (words, order) in orders() {
+        let len = reference::graph_in(sheet, Some(&order)).map_or(0, |graph| graph.len());
+        let (one, two) = (&mut vec![0; len], &mut vec![0; len]);
         let built = reference::build_ordered(sheet, &order, one);
         let size = match built {
             Ok(Built { nodes, bytes }) => format!("{nodes} nodes, {bytes} bytes, {words}"),

@@ -4,6 +4,9 @@ use std::hint::black_box;
 use std::time::{Duration, Instant};
 
 const ROUNDS: usize = 30;
+/// Calls that take long are timed in fewer rounds, until this time is over.
+const LONG: Duration = Duration::from_millis(150);
+const FEW_ROUNDS: usize = 5;
 const BATCH: Duration = Duration::from_millis(2);
 
 /// The shortest times of a call, in µs.
@@ -41,7 +44,11 @@ fn batch(side: Side) -> usize {
 fn in_turns<const N: usize>(mut sides: [Side; N]) -> [f64; N] {
     let calls = sides.each_mut().map(|side| batch(side));
     let mut shortest = [f64::MAX; N];
-    for _ in 0..ROUNDS {
+    let start = Instant::now();
+    for round in 0..ROUNDS {
+        if round >= FEW_ROUNDS && start.elapsed() > LONG {
+            break;
+        }
         for ((side, calls), shortest) in sides.iter_mut().zip(calls).zip(&mut shortest) {
             *shortest = shortest.min(side(calls).as_secs_f64() * 1e6 / calls as f64);
         }

@@ -1,8 +1,10 @@
 //! The first pass: all nodes numbered breadth first, and their bytes counted.
 
+use super::super::records::SWITCH;
 use super::items;
 use super::keys::{Key, Keys};
 use super::rules::Tests;
+use super::runs::Runs;
 use super::sets::{Rules, Set};
 
 /// How much of the graph is known.
@@ -39,6 +41,7 @@ pub fn all<R: Rules>(tests: &Tests<R>, keys: &mut Keys<R>, edges: &mut [u16]) ->
     let (live, pending) = (R::below(sheet.rules), u64::below(sheet.places + sheet.pair_count));
     keys.number(tests.key(live, pending, tests.cover(live, pending)), 0);
     let mut grown = Grown { bytes: 5, nodes: 1, edges: 0 };
+    let mut runs = Runs::none();
     let mut node = 0;
     while node < grown.nodes {
         let key = keys.get(node);
@@ -47,7 +50,7 @@ pub fn all<R: Rules>(tests: &Tests<R>, keys: &mut Keys<R>, edges: &mut [u16]) ->
         } else {
             let test = key.pending.trailing_zeros() as usize & 63;
             grown = if test < usize::from(sheet.places) {
-                switch(tests, key, test, grown, keys, edges)?
+                switch(tests, key, test, grown, keys, edges, &mut runs)?
             } else {
                 pair(tests, key, test, grown, keys, edges)?
             };
@@ -65,25 +68,53 @@ fn switch<R: Rules>(
     mut grown: Grown,
     keys: &mut Keys<R>,
     edges: &mut [u16],
+    runs: &mut Runs<R>,
 ) -> Option<Grown> {
     let unsettled = key.pending & !(1 << test);
     let cover = tests.cover(key.live, unsettled);
     let others = key.live & !tests.having[test];
     let items = tests.items(test);
     let mut marked = tests.marked(test, key.live & tests.having[test]);
-    grown.bytes += 8;
+    grown.bytes += SWITCH;
     while marked != R::Items::NONE {
         let item = items[1 + marked.lowest()];
-        marked = marked.rest();
-        let kept = item.rules & key.live;
-        if kept != R::NONE {
-            grown = grown.edge(tests.key(others | kept, unsettled, cover), keys, edges)?;
-            grown.bytes += 5 + items::kind(item.code) as usize;
+        if items::kind(item.code) == items::NUMBERS {
+            break;
         }
+        marked = marked.rest();
+        grown = grown.edge(tests.key(others | item.rules & key.live, unsettled, cover), keys, edges)?;
+        grown.bytes += 5 + items::kind(item.code) as usize;
     }
+    runs.cut(items, marked, key.live);
+    grown.bytes += 7 * runs.cases();
+    let key_with = |some: R| tests.key(others | some, unsettled, cover);
+    grown = numbers(runs, key_with, grown, keys, edges)?;
     grown = grown.edge(tests.key(others, unsettled, cover), keys, edges)?;
     let unsettled = unsettled & !tests.settled[test];
     grown.edge(tests.key(key.live, unsettled, tests.cover(key.live, unsettled)), keys, edges)
+}
+
+/// Numbers the nodes that pairs of runs lead to; where the rules are those of the case before, so is the node.
+#[inline(always)]
+fn numbers<R: Rules>(
+    runs: &Runs<R>,
+    key_with: impl Fn(R) -> Key<R>,
+    mut grown: Grown,
+    keys: &mut Keys<R>,
+    edges: &mut [u16],
+) -> Option<Grown> {
+    let mut last = None;
+    for first in 0..runs.count {
+        let mut some = R::NONE;
+        for set in &runs.sets[first..runs.count] {
+            some |= *set;
+            if last != Some(some) {
+                grown = grown.edge(key_with(some), keys, edges)?;
+                last = Some(some);
+            }
+        }
+    }
+    Some(grown)
 }
 
 /// Numbers the nodes that a pair leads to.

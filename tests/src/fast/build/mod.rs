@@ -7,6 +7,7 @@ mod grow;
 mod items;
 mod keys;
 mod rules;
+mod runs;
 mod sets;
 mod wants;
 mod write;
@@ -109,7 +110,7 @@ mod tests {
     use super::super::sheet::MOST_RULES;
     use super::*;
     use crate::generate::{crowded::crowded, random::Random, sheets::sheet};
-    use crate::reference::build::ENOUGH;
+    use crate::reference::own_graph;
 
     #[test]
     fn wide_sets_of_rules_build_the_same_graphs() {
@@ -120,7 +121,8 @@ mod tests {
             let bytes = tree.bytes();
             let mut sheet = Sheet::unread(&bytes);
             if sheet.read(&mut [0; MOST_RULES]).is_ok() && sheet.rules <= 32 {
-                let (mut one, mut two) = (vec![0; ENOUGH], vec![0; ENOUGH]);
+                let enough = own_graph(&bytes).map_or(60, |graph| graph.len()) + 3;
+                let (mut one, mut two) = (vec![0; enough], vec![0; enough]);
                 let built = build(&sheet, &mut one);
                 assert_eq!(wide(&sheet, &mut two), built);
                 assert!(one == two, "other bytes");

@@ -1,21 +1,11 @@
 //! The second pass: the numbered nodes written to the buffer.
 
-use super::super::records::{put_wide, COMPOUND_CASE, NUMBERS_CASE, SYMBOL_CASE};
-use super::super::sheet::MOST_RULES;
+use super::super::records::{put_wide, COMPOUND_CASE, NUMBERS_CASE, SWITCH, SYMBOL_CASE};
 use super::items;
 use super::keys::{Key, Keys};
 use super::rules::Tests;
+use super::runs::Runs;
 use super::sets::{Rules, Set};
-
-/// No switch has more edges: two for each rule, neither and unknown.
-const MOST_EDGES: usize = 2 * MOST_RULES + 2;
-
-/// How much of the graph is written.
-#[derive(Clone, Copy)]
-struct Written {
-    bytes: usize,
-    edges: usize,
-}
 
 /// Writes a graph of so many nodes, for which the buffer has room.
 pub fn graph<R: Rules>(buffer: &mut [u8], nodes: usize, tests: &Tests<R>, keys: &Keys<R>, edges: &[u16]) {
@@ -24,22 +14,22 @@ pub fn graph<R: Rules>(buffer: &mut [u8], nodes: usize, tests: &Tests<R>, keys: 
     buffer[1] = sheet.arity;
     buffer[2] = sheet.rules;
     put_wide(buffer, 3, nodes as u16);
-    let mut written = Written { bytes: 5, edges: 0 };
+    let mut targets = Targets { tests, keys, edges, unsettled: 0, cover: R::NONE, next: 0 };
+    let mut runs = Runs::none();
+    let mut at = 5;
     for node in 0..nodes {
-        let bytes = &mut buffer[written.bytes..];
+        let bytes = &mut buffer[at..];
         let key = keys.get(node);
-        if key.is_leaf() {
-            written.bytes += leaf(bytes, key);
+        at += if key.is_leaf() {
+            leaf(bytes, key)
         } else {
             let test = key.pending.trailing_zeros() as usize & 63;
-            let used = if test < usize::from(sheet.places) {
-                switch(bytes, tests, key, test, keys, edges, written.edges)
-            } else {
-                pair(bytes, tests, key, test, keys, edges, written.edges)
-            };
-            written.bytes += used.bytes;
-            written.edges = used.edges;
-        }
+            targets.leave(key.live, key.pending & !(1 << test));
+            match test < usize::from(sheet.places) {
+                true => switch(bytes, key, test, &mut targets, &mut runs),
+                false => pair(bytes, key, test, &mut targets),
+            }
+        };
     }
 }
 
@@ -54,121 +44,131 @@ fn leaf<R: Rules>(bytes: &mut [u8], key: Key<R>) -> usize {
     2
 }
 
-/// The node of an edge: stored by the first pass, or that of the key.
-#[inline(always)]
-fn target<R: Rules>(edges: &[u16], edge: usize, key: Key<R>, keys: &Keys<R>) -> u16 {
-    if edge < edges.len() {
-        return edges[edge];
-    }
-    keys.find(key) as u16
+/// The edges that the first pass stored, and what is needed to search the others.
+struct Targets<'a, R: Rules> {
+    tests: &'a Tests<'a, R>,
+    keys: &'a Keys<'a, R>,
+    edges: &'a [u16],
+    /// The tests of the node that are left, and a cover of the live rules by them.
+    unsettled: u64,
+    cover: R,
+    /// The next edge.
+    next: usize,
 }
 
-/// Writes a switch.
+impl<R: Rules> Targets<'_, R> {
+    /// The edges that come next leave these tests.
+    #[inline(always)]
+    fn leave(&mut self, live: R, unsettled: u64) {
+        self.unsettled = unsettled;
+        self.cover = self.tests.cover(live, unsettled);
+    }
+
+    /// The node of the next edge, at which these rules are live.
+    #[inline(always)]
+    fn next(&mut self, live: R) -> u16 {
+        let edge = self.next;
+        self.next += 1;
+        if edge < self.edges.len() {
+            return self.edges[edge];
+        }
+        self.keys.find(self.tests.key(live, self.unsettled, self.cover)) as u16
+    }
+}
+
+/// Writes a switch; gives how many bytes it has.
 fn switch<R: Rules>(
     bytes: &mut [u8],
-    tests: &Tests<R>,
     key: Key<R>,
     test: usize,
-    keys: &Keys<R>,
-    edges: &[u16],
-    first: usize,
-) -> Written {
-    let unsettled = key.pending & !(1 << test);
-    let are_stored = first + MOST_EDGES <= edges.len();
-    let cover = if are_stored { R::NONE } else { tests.cover(key.live, unsettled) };
+    targets: &mut Targets<R>,
+    runs: &mut Runs<R>,
+) -> usize {
+    let tests = targets.tests;
     let others = key.live & !tests.having[test];
     let items = tests.items(test);
     let mut marked = tests.marked(test, key.live & tests.having[test]);
-    let mut at = 8;
-    let mut edge = first;
+    let mut at = SWITCH;
+    let mut cases = 0;
     while marked != R::Items::NONE {
         let item = items[1 + marked.lowest()];
+        if items::kind(item.code) == items::NUMBERS {
+            break;
+        }
         marked = marked.rest();
-        let kept = item.rules & key.live;
-        if kept != R::NONE {
-            let node = if are_stored {
-                edges[edge]
-            } else {
-                target(edges, edge, tests.key(others | kept, unsettled, cover), keys)
-            };
-            let is_run = items::kind(item.code) == items::NUMBERS;
-            let end = if is_run { items[1 + marked.lowest()].code } else { 0 };
-            at += case(&mut bytes[at..], item.code, end, node);
-            edge += 1;
+        at += case(&mut bytes[at..], item.code, targets.next(others | item.rules & key.live));
+        cases += 1;
+    }
+    runs.cut(items, marked, key.live);
+    at += numbers(&mut bytes[at..], runs, others, targets);
+    let neither = targets.next(others);
+    targets.leave(key.live, targets.unsettled & !tests.settled[test]);
+    let unknown = targets.next(key.live);
+    header(bytes, tests.places[test], cases + runs.cases(), neither, unknown);
+    at
+}
+
+/// Writes the cases of pairs of runs; gives how many bytes they have.
+fn numbers<R: Rules>(bytes: &mut [u8], runs: &Runs<R>, others: R, targets: &mut Targets<R>) -> usize {
+    let mut cases = bytes.chunks_exact_mut(NUMBERS);
+    let mut last = None;
+    let mut node = 0;
+    for first in 0..runs.count {
+        let [low_high, low_low] = (runs.starts[first] as u16).to_be_bytes();
+        let mut some = R::NONE;
+        for run in first..runs.count {
+            some |= runs.sets[run];
+            if last != Some(some) {
+                node = targets.next(others | some);
+                last = Some(some);
+            }
+            let ([a, b], [c, d]) = (((runs.starts[run + 1] - 1) as u16).to_be_bytes(), node.to_be_bytes());
+            if let Some(case) = cases.next() {
+                case.copy_from_slice(&[NUMBERS_CASE, low_high, low_low, a, b, c, d]);
+            }
         }
     }
-    let (neither, unknown) = if are_stored {
-        (edges[edge], edges[edge + 1])
-    } else {
-        let left = unsettled & !tests.settled[test];
-        let unknown = tests.key(key.live, left, tests.cover(key.live, left));
-        let neither = tests.key(others, unsettled, cover);
-        (target(edges, edge, neither, keys), target(edges, edge + 1, unknown, keys))
-    };
-    header(bytes, tests.places[test], edge - first, neither, unknown);
-    Written { bytes: at, edges: edge + 2 }
+    NUMBERS * runs.cases()
 }
+
+/// The bytes of a number case.
+const NUMBERS: usize = 7;
 
 /// Writes a switch's record, its cases apart.
 #[inline(always)]
 fn header(bytes: &mut [u8], place: u16, cases: usize, neither: u16, unknown: u16) {
-    put_wide(bytes, 6, unknown);
-    put_wide(bytes, 4, neither);
-    bytes[3] = cases as u8;
+    put_wide(bytes, 7, unknown);
+    put_wide(bytes, 5, neither);
+    put_wide(bytes, 3, cases as u16);
     put_wide(bytes, 1, place);
     bytes[0] = 0x43;
 }
 
-/// Writes a pair.
-fn pair<R: Rules>(
-    bytes: &mut [u8],
-    tests: &Tests<R>,
-    key: Key<R>,
-    test: usize,
-    keys: &Keys<R>,
-    edges: &[u16],
-    first: usize,
-) -> Written {
+/// Writes a pair; gives how many bytes it has.
+fn pair<R: Rules>(bytes: &mut [u8], key: Key<R>, test: usize, targets: &mut Targets<R>) -> usize {
+    let tests = targets.tests;
     let pair = tests.sheet.pairs[test - usize::from(tests.sheet.places)];
     bytes[0] = 0x47;
     put_wide(bytes, 1, (pair >> 16) as u16);
     put_wide(bytes, 3, pair as u16);
-    if first + 2 <= edges.len() {
-        put_wide(bytes, 5, edges[first]);
-        put_wide(bytes, 7, edges[first + 1]);
-    } else {
-        let unsettled = key.pending & !(1 << test);
-        let cover = tests.cover(key.live, unsettled);
-        let no = tests.key(key.live & !tests.having[test], unsettled, cover);
-        put_wide(bytes, 5, target(edges, first, no, keys));
-        put_wide(bytes, 7, target(edges, first + 1, tests.key(key.live, unsettled, cover), keys));
-    }
-    Written { bytes: 9, edges: first + 2 }
+    put_wide(bytes, 5, targets.next(key.live & !tests.having[test]));
+    put_wide(bytes, 7, targets.next(key.live));
+    9
 }
 
-/// Writes a case, its last field first, so that bounds are checked once; gives how many bytes it has.
+/// Writes the case of a symbol or compound, its last field first, so that bounds are checked once; gives how many
+/// bytes it has.
 #[inline(always)]
-fn case(bytes: &mut [u8], code: u32, end: u32, node: u16) -> usize {
-    match items::kind(code) {
-        0 => {
-            put_wide(bytes, 3, node);
-            put_wide(bytes, 1, (code >> 8) as u16);
-            bytes[0] = SYMBOL_CASE;
-            5
-        }
-        1 => {
-            put_wide(bytes, 4, node);
-            bytes[3] = code as u8;
-            put_wide(bytes, 1, (code >> 8) as u16);
-            bytes[0] = COMPOUND_CASE;
-            6
-        }
-        _ => {
-            put_wide(bytes, 5, node);
-            put_wide(bytes, 3, (end - 1) as u16);
-            put_wide(bytes, 1, code as u16);
-            bytes[0] = NUMBERS_CASE;
-            7
-        }
+fn case(bytes: &mut [u8], code: u32, node: u16) -> usize {
+    if items::kind(code) == 0 {
+        put_wide(bytes, 3, node);
+        put_wide(bytes, 1, (code >> 8) as u16);
+        bytes[0] = SYMBOL_CASE;
+        return 5;
     }
+    put_wide(bytes, 4, node);
+    bytes[3] = code as u8;
+    put_wide(bytes, 1, (code >> 8) as u16);
+    bytes[0] = COMPOUND_CASE;
+    6
 }

@@ -57,9 +57,6 @@ part-check-switch-start c = node-fits (now (c .before .before .before .before .b
 part-check-switch-end : tie.Need-part-check-switch-end
 part-check-switch-end c = search needs
 
-cast-check-switch : tie.Need-cast-check-switch
-cast-check-switch c = search needs
-
 check-switch-requires : tie.Need-check-switch-requires
 check-switch-requires c κs = search needs
 
@@ -110,7 +107,6 @@ check-node-spec =
     sub-check-switch
     part-check-switch-start
     part-check-switch-end
-    cast-check-switch
     check-switch-requires
     enum-known-node-3
     has-pair-requires

@@ -17,7 +17,7 @@ use Rattle.records.proofs.RowSoFar.{later, one-to-come, turn-room, rowFrom}
 use Rattle.records.specs.Reading.{Reading}
 use Rattle.piece.specs.declared.Taken.the-variants.{Bytes, Refused}
 use Rattle.piece.specs.declared.TermRecord.{TermRecord}
-use Rattle.piece.specs.declared.TermRecord.the-variants.{Compound}
+use Rattle.piece.specs.declared.TermRecord.the-variants.{Compound, Span}
 use Rattle.piece.specs.declared.TermHead.the-variants.{Whole}
 use Rattle.piece.specs.views.TermRecord.{termHead}
 use Rattle.piece.specs.views.LaidOut.{tookCells, termCells, termsCells}
@@ -86,8 +86,8 @@ Inv-loop s below n p cells₀ step at₀ here₀ i₀ cells at here i =
 abbrev pub μ-loop : terms-lts.MeasureT-loop
 μ-loop s below n p cells₀ step at₀ here₀ i₀ cells at here i = n - i
 
--- Where `term` begins, where the head is known to be whole, where its record is known to be a compound's, and where the
--- compound's arguments were read or refused.
+-- Where `term` begins, where the head is known to be whole, where its record is known to be a compound's, where the compound's
+-- arguments were read or refused, and where its record is known to be a span's.
 abbrev Begun : ℕ → Type 0
 Begun t = term-lts.Start (term-calls t) (term-at t) term.Post
 
@@ -99,6 +99,9 @@ CompoundKnown t = term-lts.After-known-told4 (term-calls t) (term-at t) term.Pos
 
 abbrev ArgumentsRead : ℕ → Type 0
 ArgumentsRead t = term-lts.After-terms (term-calls t) (term-at t) term.Post
+
+abbrev SpanKnown : ℕ → Type 0
+SpanKnown t = term-lts.After-known-told6 (term-calls t) (term-at t) term.Post
 
 -- Where `terms` begins, where a turn of its loop does, and where the turn's term was read or refused.
 abbrev RowBegun : ℕ → Type 0
@@ -136,6 +139,21 @@ module _ {t : ℕ} where
 
     pub compound-there : 4 ≤ length (now (compound-start .args .s))
     compound-there = record-within (now (compound-start .args .s)) compound-head
+
+  module _ (c : SpanKnown t) where
+    abbrev pub span-start : Begun t
+    span-start = head-start (c .before .before .before)
+
+    -- The span's ends.
+    abbrev pub low : ℕ
+    low = c .before .record4 .given .0 .0
+
+    abbrev pub high : ℕ
+    high = c .before .record4 .given .0 .1 .0
+
+    -- The input begins with the span's record.
+    pub span-head : termHead (now (span-start .args .s)) ≡ Whole (Span low high)
+    span-head = whole-head (c .before .before .before) (c .before .record4 .given .1)
 
   module _ (c : ArgumentsRead t) where
     abbrev known : CompoundKnown t

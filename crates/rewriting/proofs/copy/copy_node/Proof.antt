@@ -63,9 +63,6 @@ enum-told-2 c = search needs
 enum-known-node : tie.Need-enum-known-node
 enum-known-node c = search needs
 
-cast-copy-cases : tie.Need-cast-copy-cases
-cast-copy-cases c = search needs
-
 copy-cases-requires : tie.Need-copy-cases-requires
 copy-cases-requires c κs =
     let a = c .before .before .before .before .before .before .before .before .before .before .before .before .before .before .before .args in
@@ -144,7 +141,6 @@ copy-node-spec =
     put-node-requires
     enum-told-2
     enum-known-node
-    cast-copy-cases
     copy-cases-requires
     enum-told-3
     same-length

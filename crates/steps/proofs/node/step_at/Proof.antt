@@ -13,8 +13,9 @@ use Rattle.graph.specs.ReadGraph.{readCases}
 use Rattle.graph.specs.views.NodeRecord.{nodeHead}
 use Rattle.node_check.proofs.CopiedNodes.{node-there}
 use Rattle.pairs.specs.views.KeptPairs.{pairCode}
+use Rattle.number_search.specs.views.CodeCases.{CasesInOrder}
 use Rattle.steps.specs.declared.Step.the-variants.{Stop}
-use Rattle.steps.specs.views.CodeSteps.{stepMade, nodeStep, NearNode, CodesAscend, OrderedNode, runStep}
+use Rattle.steps.specs.views.CodeSteps.{stepMade, nodeStep, NearNode, OrderedNode, runStep}
 use Rattle.steps.proofs.StepsMade.{leaf-back}
 use Rattle.steps.proofs.NodeSteps.{leaf-node, pair-node, switch-node, cases-inside, cases-begin, cases-read}
 use borrow.Author.Needs.{needs}
@@ -56,9 +57,6 @@ enum-known-node c = search needs
 enum-known-node-2 : tie.Need-enum-known-node-2
 enum-known-node-2 c = search needs
 
-cast-cases : tie.Need-cast-cases
-cast-cases c = search needs
-
 add-switch-step : tie.Need-add-switch-step
 add-switch-step c = search needs
 
@@ -71,13 +69,13 @@ switch-step-requires c κs =
     let read = ap nodeHead (sym (rest s (a .at))) ∙ sym (c .before .before .before .before .before .before .node-head .ensures) in
     let switching : nodeHead (drop (a .at) s) ≡ Whole (Switch (c .before .node2 .given .0 .0) (c .before .node2 .given .0 .1 .0) (c .before .node2 .given .0 .1 .1 .0) (c .before .node2 .given .0 .1 .1 .1 .0)) = read ∙ c .before .before .before .before .head .given .1 ∙ ap Whole (c .before .node2 .given .1) in
     let node = sym (switch-node (drop (a .at) s) switching (stands .whole)) in (
-      (
-        cases-inside s (a .at) (stands .begins) switching,
-        cases-read s (a .at) (stands .begins) switching (stands .whole),
-        subst NearNode node (stands .near),
-      ),
-      subst (λ (l : List ℕ). CodesAscend (readOr [] (readCases (c .before .node2 .given .0 .1 .0) l)))
-          (cases-begin s (a .at) (stands .begins) switching) (subst OrderedNode node (stands .ordered)),
+      record {
+        begins = cases-inside s (a .at) (stands .begins) switching;
+        whole = cases-read s (a .at) (stands .begins) switching (stands .whole);
+        ordered = subst (λ (l : List ℕ). CasesInOrder (readOr [] (readCases (c .before .node2 .given .0 .1 .0) l)))
+            (cases-begin s (a .at) (stands .begins) switching) (subst OrderedNode node (stands .ordered));
+      },
+      subst NearNode node (stands .near),
     )
 
 enum-known-node-3 : tie.Need-enum-known-node-3
@@ -137,7 +135,6 @@ step-at-spec =
     returns
     enum-known-node
     enum-known-node-2
-    cast-cases
     add-switch-step
     switch-step-requires
     enum-known-node-3

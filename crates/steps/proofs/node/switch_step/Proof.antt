@@ -10,7 +10,7 @@ use Rattle.pairs.specs.views.KeptPairs.{pairCode}
 use Rattle.graph.specs.views.Rewriting.{readOr}
 use Rattle.graph.specs.ReadGraph.{readCases}
 use Rattle.steps.specs.declared.Step.the-variants.{GoTo}
-use Rattle.steps.specs.views.CodeSteps.{followCode}
+use Rattle.number_search.specs.views.CodeCases.{followCode}
 use Rattle.steps.proofs.NodeSteps.{ledTo, switch-lacking, switch-on}
 use borrow.Author.Needs.{needs}
 use Rattle.steps.proofs.node.switch_step.Statement.{statement}

@@ -1,0 +1,3 @@
+-- How the code keeps things.
+pub mod CodeCases
+pub mod NumberRows

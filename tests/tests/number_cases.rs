@@ -1,0 +1,85 @@
+//! Cases of a switch, one fault at a time: numbers that overlap are accepted, reversed and later ones are not, and of
+//! more than 255 cases the last counts too.
+
+use voltunnis_tests::faults::{graphs, with_cases, Met};
+use voltunnis_tests::reference::nodes::Case;
+
+/// The cases with the ends of each number case changed on its own, from its ends and those of the case after it, in
+/// each of these ways.
+fn with_ends(
+    cases: &[Case],
+    ways: impl Fn((u16, u16), Option<(u16, u16)>) -> Vec<(u16, u16)>,
+) -> Vec<Vec<Case>> {
+    let mut all = Vec::new();
+    for at in 0..cases.len() {
+        let Case::Numbers { low, high, node } = cases[at] else { continue };
+        let after = match cases.get(at + 1) {
+            Some(Case::Numbers { low, high, .. }) => Some((*low, *high)),
+            _ => None,
+        };
+        for (low, high) in ways((low, high), after) {
+            let mut cases = cases.to_vec();
+            cases[at] = Case::Numbers { low, high, node };
+            all.push(cases);
+        }
+    }
+    all
+}
+
+#[test]
+fn reversed_numbers_and_such_as_come_later_are_refused_by_24() {
+    let mut met = Met::default();
+    let wrong = |(low, high): (u16, u16), after: Option<(u16, u16)>| {
+        let mut ends = Vec::new();
+        if low < high {
+            ends.push((high, low));
+        }
+        if let Some((next, last)) = after {
+            ends.push((next, last));
+            ends.extend(last.checked_add(1).map(|above| (next, above)));
+            ends.extend(next.checked_add(1).map(|above| (above, above)));
+        }
+        ends
+    };
+    for made in graphs() {
+        met.every_node(&made, |_, node| with_cases(node, |cases| with_ends(cases, wrong)), Err(24));
+    }
+    met.at_least(500, &[24]);
+}
+
+#[test]
+fn overlapping_numbers_are_accepted() {
+    let mut met = Met::default();
+    let overlapping = |(low, _): (u16, u16), after: Option<(u16, u16)>| match after {
+        Some((next, last)) if low < next => vec![(low, next), (low, last), (low, 0xffff)],
+        Some((_, last)) if low < last => vec![(low, last - 1)],
+        _ => Vec::new(),
+    };
+    let first = |cases: &[Case]| -> Vec<Vec<Case>> {
+        // Only the first number case may end anywhere: one after another of the same low comes before it.
+        let at = cases.iter().position(|case| matches!(case, Case::Numbers { .. })).unwrap_or(cases.len());
+        let (others, numbers) = cases.split_at(at);
+        let changed = with_ends(numbers.get(..2).unwrap_or_default(), overlapping);
+        let whole = |two: Vec<Case>| [others, &two, &numbers[2..]].concat();
+        changed.into_iter().map(whole).collect()
+    };
+    graphs().iter().for_each(|made| met.every_node(made, |_, node| with_cases(node, first), Ok(())));
+    met.at_least(200, &[0, 19]);
+}
+
+#[test]
+fn of_300_cases_the_last_counts_too() {
+    let all = |last: Case| -> Vec<Case> {
+        (0..299).map(|id| Case::Symbol { id: id * 2, node: 0 }).chain([last]).collect()
+    };
+    let (good, low, far) = ((598, 0), (595, 0), (598, 0xffff));
+    let [good, low, far] = [good, low, far].map(|(id, node)| all(Case::Symbol { id, node }));
+    let mut met = Met::default();
+    for made in graphs() {
+        for (cases, expected) in [(&good, Ok(())), (&low, Err(24)), (&far, Err(23))] {
+            met.every_node(&made, |_, node| with_cases(node, |_| vec![cases.clone()]), expected);
+        }
+        met.every_node(&made, |_, node| with_cases(node, |_| vec![Vec::new()]), Err(22));
+    }
+    met.at_least(400, &[0, 19, 22, 23, 24]);
+}
