@@ -14,10 +14,10 @@
  *   sheet        1  begins with a whole 10 record
  *                2  arity 1 to 8
  *                3  at most 64 rules
- *   each         4  whole record of kinds 20 to 25
+ *   each         4  whole record of kinds 20 to 26
  *   pattern      5  a compound's depth is at most 3
  *                6  a compound's arity is 1 to 4
- *                7  low is at most high
+ *                7  low is at most high, of a range and of a series
  *                8  variable 0 to 15
  *   each rule    9  each variable's ranges have a number in common
  *   sheet's end 10  no bytes are left
@@ -35,7 +35,7 @@
  *   graph       21  begins with a whole 12 record: the sheet's arity and rule count, 1 to 1,024 nodes
  *   each node   22  whole record of kinds 40 to 43 or 47, a switch with 1 case or more of kinds 44 to 46
  *               23  nodes and rule in range, place or pair among the sheet's tests
- *               24  cases strictly ascending, numbers by low, then high, and low at most high
+ *               24  cases strictly ascending, numbers by low, then high, low at most high, no id in two
  *   graph's end 25  no bytes are left
  *   each switch 26  fewer than 64 edges have been walked
  *   or pair     27  each place that it tests is in the piece, or below an unknown
@@ -50,6 +50,10 @@
  *   drawing     38  the buffer has 1,360 bytes or more
  *
  * Kinds are hexadecimal, all other numbers decimal.
+ *
+ * A rule may hold record 26 (wide low, wide high), a series: any symbol with an id from low to high. Record 21 is the
+ * series of one symbol: both give the same graph, and a tidy sheet has 21. A case of symbols, 44 (wide low, wide high, wide
+ * node), takes a run of ids, and no id is in two of them.
  *
  * A piece may hold record 34 (wide low, wide high), a span: a number known to lie between them. One with equal ends is
  * that number. A switch of a graph is 43 (wide place, wide number of cases, wide node for neither, wide node for

@@ -96,6 +96,8 @@ fn disguised(random: &mut Random, rule: &[Pattern]) -> Vec<Pattern> {
             let range = Some((*low, *high));
             *pattern = free.next().map_or(nameless(range), |number| variable(number, range));
         }
+        Pattern::Symbol(id) if random.percent(40) => *pattern = Pattern::Series(*id, *id),
+        Pattern::Series(low, high) if low == high && random.percent(40) => *pattern = Pattern::Symbol(*low),
         _ => {}
     });
     rule
@@ -103,7 +105,7 @@ fn disguised(random: &mut Random, rule: &[Pattern]) -> Vec<Pattern> {
 
 /// The sheet as another office may write it: its variables with other numbers; where one stands once, anything
 /// or its range instead, or the other way round; the range of a repeated one at some of its places only, and
-/// wider at some, with the same common part.
+/// wider at some, with the same common part; a symbol as the series of that one, or the other way round.
 ///
 /// # Panics
 /// If a rule has more than 16 variables.
@@ -117,7 +119,7 @@ pub fn disguise(random: &mut Random, sheet: &SheetTree) -> SheetTree {
 pub enum Change {
     /// What is wanted at a place.
     Want,
-    /// An end of a range.
+    /// An end of a range or of a series.
     End,
     /// An end of a variable's range, which may be wider than the common part.
     VariableEnd,
@@ -138,10 +140,14 @@ impl Change {
             (Change::Want, Pattern::Symbol(id)) if random.percent(20) => Pattern::Range(*id, *id),
             (Change::Want, Pattern::Symbol(id)) => Pattern::Symbol(other(random, *id)),
             (Change::Want, Pattern::Range(low, _)) => Pattern::Symbol(*low),
+            (Change::Want, Pattern::Series(low, high)) if random.percent(50) => Pattern::Range(*low, *high),
+            (Change::Want, Pattern::Series(low, _)) => Pattern::Symbol(*low),
             (Change::Want, Pattern::Compound(id, arguments)) => {
                 Pattern::Compound(other(random, *id), arguments.clone())
             }
             (Change::End, Pattern::Range(low, high)) => nameless(Some(moved(random, *low, *high))),
+            (Change::End, Pattern::Symbol(id)) => series(moved(random, *id, *id)),
+            (Change::End, Pattern::Series(low, high)) => series(moved(random, *low, *high)),
             (Change::VariableEnd, Pattern::Ranged(number, low, high)) => {
                 variable(*number, Some(moved(random, *low, *high)))
             }
@@ -156,7 +162,12 @@ impl Change {
     }
 }
 
-/// The range with one end moved by one.
+/// The record of a series.
+fn series((low, high): (u16, u16)) -> Pattern {
+    Pattern::Series(low, high)
+}
+
+/// The range or series with one end moved by one.
 fn moved(random: &mut Random, low: u16, high: u16) -> (u16, u16) {
     let ends = [
         (low.checked_sub(1), Some(high)),

@@ -1,19 +1,20 @@
 //! Random graphs for a sheet: those of another maker, and mangled ones.
 //!
-//! Another maker's graph asks the sheet's tests in any order, comes back to nodes, and cuts numbers
-//! as it likes: apart, or into cases that overlap. A mangled graph has faults in single fields, a damaged one in its bytes.
+//! Another maker's graph asks the sheet's tests in any order, comes back to nodes, and cuts ids into
+//! runs and numbers as it likes: apart, or into cases that overlap. A mangled graph has faults in single
+//! fields, a damaged one in its bytes.
 
 use crate::asked::Asked;
 use crate::damage::damaged;
 use crate::nodes::{graph_bytes, Case, Node};
 use crate::random::Random;
-use crate::stock::{IDS, NUMBERS};
+use crate::stock::{IDS, NUMBERS, SERIES};
 use std::collections::BTreeSet;
 
 /// Ends of number cases, ascending by low, then high: apart, overlapping, or now and then very many.
 fn numbers(random: &mut Random) -> BTreeSet<(u16, u16)> {
     match random.below(100) {
-        0..=39 => apart(random),
+        0..=39 => apart(random, &NUMBERS),
         40..=97 => {
             let mut two = || (random.pick(&NUMBERS), random.pick(&NUMBERS));
             let ends: Vec<(u16, u16)> = (0..12).map(|_| two()).collect();
@@ -28,26 +29,32 @@ fn numbers(random: &mut Random) -> BTreeSet<(u16, u16)> {
     }
 }
 
-/// Ends of number cases none of which has a number of another.
-fn apart(random: &mut Random) -> BTreeSet<(u16, u16)> {
+/// Ends of cases none of which has a number, or an id, of another.
+fn apart(random: &mut Random, highs: &[u16]) -> BTreeSet<(u16, u16)> {
     let (mut ends, mut from) = (BTreeSet::new(), 0);
-    for high in NUMBERS {
-        if random.percent(40) && from <= u32::from(high) {
-            ends.insert((from as u16, high));
-            from = u32::from(high) + 1 + random.below(2) as u32;
+    for high in highs {
+        if random.percent(40) && from <= u32::from(*high) {
+            ends.insert((from as u16, *high));
+            from = u32::from(*high) + 1 + random.below(2) as u32;
         }
     }
     ends
+}
+
+/// Ends of cases of symbols: single ids, or runs apart from each other.
+fn symbols(random: &mut Random) -> BTreeSet<(u16, u16)> {
+    match random.percent(40) {
+        true => IDS.into_iter().filter(|_| random.percent(40)).map(|id| (id, id)).collect(),
+        false => apart(random, &SERIES),
+    }
 }
 
 /// Cases of all sorts in order, their nodes below this bound.
 fn cases(random: &mut Random, bound: usize) -> Vec<Case> {
     let node = |random: &mut Random| random.below(bound) as u16;
     let mut cases = Vec::new();
-    for id in IDS {
-        if random.percent(40) {
-            cases.push(Case::Symbol { id, node: node(random) });
-        }
+    for (low, high) in symbols(random) {
+        cases.push(Case::Symbols { low, high, node: node(random) });
     }
     for id in IDS {
         for arity in [0, 1, 2, 4, 255] {
@@ -60,7 +67,8 @@ fn cases(random: &mut Random, bound: usize) -> Vec<Case> {
         cases.push(Case::Numbers { low, high, node: node(random) });
     }
     if cases.is_empty() {
-        cases.push(Case::Symbol { id: random.pick(&IDS), node: node(random) });
+        let id = random.pick(&IDS);
+        cases.push(Case::Symbols { low: id, high: id, node: node(random) });
     }
     cases
 }
@@ -119,8 +127,9 @@ fn mangle_cases(random: &mut Random, cases: &mut Vec<Case>, bound: usize) {
         2 if random.percent(30) => cases.clear(),
         3 => drop(cases.remove(a)),
         _ => match &mut cases[a] {
-            Case::Symbol { id, node } if random.percent(50) => {
-                (*id, *node) = (random.pick(&IDS), any_node(random, bound));
+            Case::Symbols { low, high, .. } if random.percent(70) => {
+                let end = if random.percent(50) { low } else { high };
+                *end = random.pick(&SERIES);
             }
             Case::Compound { id, arity, .. } if random.percent(70) => {
                 (*id, *arity) = (random.pick(&IDS), random.pick(&[0, 1, 2, 4, 5, 255]));
@@ -129,7 +138,7 @@ fn mangle_cases(random: &mut Random, cases: &mut Vec<Case>, bound: usize) {
                 let end = if random.percent(50) { low } else { high };
                 *end = random.pick(&NUMBERS);
             }
-            Case::Symbol { node, .. } | Case::Compound { node, .. } | Case::Numbers { node, .. } => {
+            Case::Symbols { node, .. } | Case::Compound { node, .. } | Case::Numbers { node, .. } => {
                 *node = any_node(random, bound);
             }
         },

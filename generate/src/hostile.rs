@@ -30,12 +30,16 @@ fn nested_pattern(random: &mut Random, levels: usize) -> Pattern {
 /// A pattern at or over a limit.
 fn hostile_pattern(random: &mut Random) -> Pattern {
     let (arity, levels) = (random.pick(&[0, 4, 5, 255]), random.between(3, 5));
-    match random.below(8) {
+    match random.below(9) {
         0 | 1 => Pattern::Compound(1, vec![Pattern::Anything; arity]),
         2..=4 => nested_pattern(random, levels),
         5 => Pattern::Range(2, 1),
         6 => Pattern::Ranged(0, 0x0100, 0x00ff),
-        7 if random.percent(50) => Pattern::Variable(random.pick(&[15, 16, 255])),
+        7 => {
+            let (low, high) = random.pick(&[(2, 1), (0x0100, 0x00ff), (0xffff, 0), (5, 5), (0, 0xffff)]);
+            Pattern::Series(low, high)
+        }
+        8 if random.percent(50) => Pattern::Variable(random.pick(&[15, 16, 255])),
         _ => Pattern::Ranged(random.pick(&[15, 16, 255]), 0, 0xffff),
     }
 }

@@ -5,7 +5,7 @@ use crate::records::{wide, Reader};
 /// A case of a switch: what it takes, and its node.
 #[derive(Clone, Copy, Debug, PartialEq, Eq)]
 pub enum Case {
-    Symbol { id: u16, node: u16 },
+    Symbols { low: u16, high: u16, node: u16 },
     Compound { id: u16, arity: u8, node: u16 },
     Numbers { low: u16, high: u16, node: u16 },
 }
@@ -22,7 +22,7 @@ pub enum Node {
 
 impl Case {
     pub fn node(&self) -> u16 {
-        let (Case::Symbol { node, .. } | Case::Compound { node, .. } | Case::Numbers { node, .. }) = self;
+        let (Case::Symbols { node, .. } | Case::Compound { node, .. } | Case::Numbers { node, .. }) = self;
         *node
     }
 
@@ -32,8 +32,8 @@ impl Case {
         let [kind] = from.take()?;
         Some(match kind {
             0x44 => {
-                let [a, b, c, d] = from.take()?;
-                Case::Symbol { id: wide(a, b), node: wide(c, d) }
+                let [a, b, c, d, e, f] = from.take()?;
+                Case::Symbols { low: wide(a, b), high: wide(c, d), node: wide(e, f) }
             }
             0x45 => {
                 let [a, b, arity, c, d] = from.take()?;
@@ -50,9 +50,9 @@ impl Case {
     #[inline]
     fn write(&self, to: &mut Vec<u8>) {
         match *self {
-            Case::Symbol { id, node } => {
-                let ([a, b], [c, d]) = (two(id), two(node));
-                to.extend([0x44, a, b, c, d]);
+            Case::Symbols { low, high, node } => {
+                let ([a, b], [c, d], [e, f]) = (two(low), two(high), two(node));
+                to.extend([0x44, a, b, c, d, e, f]);
             }
             Case::Compound { id, arity, node } => {
                 let ([a, b], [c, d]) = (two(id), two(node));
@@ -67,7 +67,7 @@ impl Case {
 }
 
 /// No case has fewer bytes.
-const LEAST_CASE: usize = 5;
+const LEAST_CASE: usize = 6;
 
 /// A wide field's two bytes.
 fn two(field: u16) -> [u8; 2] {

@@ -17,7 +17,7 @@ pub fn term(random: &mut Random, stock: &Stock, depth: usize) -> Term {
     let id = random.pick(stock.ids);
     match random.below(10) {
         0..=1 => Term::Unknown,
-        2..=4 => Term::Symbol(id),
+        2..=4 => Term::Symbol(if random.percent(30) { random.pick(stock.series) } else { id }),
         5..=7 if random.percent(stock.spans) => {
             let (one, other) = (random.pick(stock.numbers), random.pick(stock.numbers));
             Term::Span(one.min(other), one.max(other))
@@ -31,13 +31,22 @@ pub fn term(random: &mut Random, stock: &Stock, depth: usize) -> Term {
     }
 }
 
-/// A number from low to high, its ends likely.
+/// A number or an id from low to high, its ends likely.
 fn between(random: &mut Random, low: u16, high: u16) -> u16 {
     match random.below(3) {
         0 => low,
         1 => high,
         _ => random.between(usize::from(low.min(high)), usize::from(low.max(high))) as u16,
     }
+}
+
+/// A symbol of a series, or now and then one just outside.
+fn symbol(random: &mut Random, low: u16, high: u16) -> Term {
+    Term::Symbol(match random.below(10) {
+        0 => low.saturating_sub(1),
+        1 => high.saturating_add(1),
+        _ => between(random, low, high),
+    })
 }
 
 /// A number from low to high, or a span that is mostly inside, partly inside or just outside.
@@ -104,6 +113,7 @@ impl Mood {
         match pattern {
             Pattern::Anything => term(random, &self.stock, depth),
             Pattern::Symbol(id) => Term::Symbol(*id),
+            Pattern::Series(low, high) => symbol(random, *low, *high),
             Pattern::Range(low, high) => number(random, &self.stock, *low, *high),
             Pattern::Compound(id, arguments) => {
                 let parts = arguments.iter().map(|part| self.instance(random, part, depth + 1, bound));

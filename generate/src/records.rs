@@ -6,7 +6,7 @@ pub struct Reader<'a> {
     rest: &'a [u8],
 }
 
-/// A pattern's record.
+/// A pattern's record. A series takes the symbols with an id from low to high.
 #[derive(Clone, Copy)]
 pub enum PatternRecord {
     Anything,
@@ -15,6 +15,7 @@ pub enum PatternRecord {
     Compound { id: u16, arity: u8 },
     Variable(u8),
     RangedVariable { number: u8, low: u16, high: u16 },
+    Series { low: u16, high: u16 },
 }
 
 /// A term's record; a compound's arguments follow as records of their own.
@@ -62,7 +63,7 @@ impl<'a> Reader<'a> {
         self.take()
     }
 
-    /// The pattern's record that comes next, if it is whole and of kinds 20 to 25.
+    /// The pattern's record that comes next, if it is whole and of kinds 20 to 26.
     #[inline]
     pub fn pattern(&mut self) -> Option<PatternRecord> {
         let [kind] = self.take()?;
@@ -87,6 +88,10 @@ impl<'a> Reader<'a> {
             0x25 => {
                 let [number, a, b, c, d] = self.take()?;
                 PatternRecord::RangedVariable { number, low: wide(a, b), high: wide(c, d) }
+            }
+            0x26 => {
+                let [a, b, c, d] = self.take()?;
+                PatternRecord::Series { low: wide(a, b), high: wide(c, d) }
             }
             _ => return None,
         })

@@ -10,9 +10,9 @@ pub const MOST_RULES: u8 = 64;
 /// Numbers of variables, the lowest and the highest among them.
 const VARIABLES: [u8; 4] = [0, 1, 7, 15];
 
-/// How a sheet's patterns are chosen: the weights of the kinds 20 to 25, and what they are made of.
+/// How a sheet's patterns are chosen: the weights of the kinds 20 to 26, and what they are made of.
 pub struct Style {
-    weights: [usize; 6],
+    weights: [usize; 7],
     variables: usize,
     stock: Stock,
 }
@@ -22,25 +22,16 @@ impl Style {
     pub fn random(random: &mut Random, stock: Stock) -> Style {
         Style {
             weights: random.pick(&[
-                [3, 4, 4, 0, 0, 0],
-                [3, 4, 4, 2, 2, 1],
-                [2, 1, 1, 1, 4, 2],
-                [2, 2, 2, 4, 2, 1],
-                [4, 1, 3, 2, 1, 3],
-                [8, 2, 1, 3, 3, 0],
+                [3, 3, 4, 0, 0, 0, 2],
+                [3, 3, 4, 2, 2, 1, 2],
+                [2, 1, 1, 1, 4, 2, 1],
+                [2, 2, 2, 4, 2, 1, 1],
+                [4, 1, 3, 2, 1, 3, 0],
+                [8, 2, 1, 3, 3, 0, 1],
+                [2, 1, 0, 0, 1, 0, 8],
             ]),
             variables: random.between(1, VARIABLES.len()),
             stock,
-        }
-    }
-
-    fn range(&self, random: &mut Random) -> (u16, u16) {
-        let a = random.pick(self.stock.numbers);
-        let b = random.pick(self.stock.numbers);
-        if random.percent(1) {
-            (a, b)
-        } else {
-            (a.min(b), a.max(b))
         }
     }
 
@@ -57,7 +48,7 @@ impl Style {
         match kind {
             Some(1) => Pattern::Symbol(id),
             Some(2) => {
-                let (low, high) = self.range(random);
+                let (low, high) = ends(random, self.stock.numbers);
                 Pattern::Range(low, high)
             }
             Some(3) if depth <= self.stock.deepest_compound => {
@@ -66,8 +57,12 @@ impl Style {
             }
             Some(4) => Pattern::Variable(number),
             Some(5) => {
-                let (low, high) = self.range(random);
+                let (low, high) = ends(random, self.stock.numbers);
                 Pattern::Ranged(number, low, high)
+            }
+            Some(6) => {
+                let (low, high) = ends(random, self.stock.series);
+                Pattern::Series(low, high)
             }
             _ => Pattern::Anything,
         }
@@ -82,6 +77,15 @@ impl Style {
                 self.change(random, arguments, depth + 1, chance);
             }
         }
+    }
+}
+
+/// Two of these as low and high, now and then the other way round.
+fn ends(random: &mut Random, of: &[u16]) -> (u16, u16) {
+    let (a, b) = (random.pick(of), random.pick(of));
+    match random.percent(1) {
+        true => (a, b),
+        false => (a.min(b), a.max(b)),
     }
 }
 

@@ -8,10 +8,15 @@ pub const IDS: [u16; 4] = [1, 2, 0x0102, 0xffff];
 /// Numbers and ends of ranges, the lowest and the highest among them.
 pub const NUMBERS: [u16; 10] = [0, 1, 2, 3, 4, 0x00ff, 0x0100, 0x7fff, 0xfffe, 0xffff];
 
+/// Ends of series, the lowest and the highest id among them, and some that are next to each other.
+pub const SERIES: [u16; 10] = [0, 1, 2, 3, 4, 0x00ff, 0x0101, 0x0102, 0xfffe, 0xffff];
+
 /// The ids, numbers and compounds to choose from.
 #[derive(Clone, Copy)]
 pub struct Stock {
     pub ids: &'static [u16],
+    /// Ends of series.
+    pub series: &'static [u16],
     pub numbers: &'static [u16],
     pub most_arguments: usize,
     /// The deepest depth at which a compound may stand.
@@ -22,8 +27,14 @@ pub struct Stock {
 
 impl Stock {
     /// All of it.
-    pub const FULL: Stock =
-        Stock { ids: &IDS, numbers: &NUMBERS, most_arguments: 4, deepest_compound: 3, spans: 65 };
+    pub const FULL: Stock = Stock {
+        ids: &IDS,
+        series: &SERIES,
+        numbers: &NUMBERS,
+        most_arguments: 4,
+        deepest_compound: 3,
+        spans: 65,
+    };
 
     /// The same without spans.
     pub fn without_spans(self) -> Stock {
@@ -34,6 +45,7 @@ impl Stock {
     pub fn random(random: &mut Random) -> Stock {
         Stock {
             ids: &IDS[..random.between(1, IDS.len())],
+            series: &SERIES[..random.between(2, SERIES.len())],
             numbers: &NUMBERS[..random.between(2, NUMBERS.len())],
             most_arguments: random.between(1, 4),
             deepest_compound: random.between(1, 3),

@@ -73,12 +73,13 @@ pub const RESULT: usize = 16;
 pub const ORDER: usize = 2 * PLACES as usize;
 
 /// Sheets whose graphs have a known size.
-const KNOWN: [fn() -> Vec<u8>; 8] = [
+const KNOWN: [fn() -> Vec<u8>; 9] = [
     known::three_alike,
     || known::coins(8),
     || known::coins(MOST_RULES.into()),
     || known::nested_1(MOST_RULES.into()),
     || known::nested_8(8),
+    || known::series_4(32),
     known::nodes_1024,
     known::nodes_1025,
     known::nodes_1027,

@@ -14,6 +14,8 @@ pub enum Pattern {
     Compound(u16, Vec<Pattern>),
     Variable(u8),
     Ranged(u8, u16, u16),
+    /// The symbols with an id from the first to the last.
+    Series(u16, u16),
 }
 
 /// A term of a piece.
@@ -63,6 +65,11 @@ impl Pattern {
                 wide(to, *low);
                 wide(to, *high);
             }
+            Pattern::Series(low, high) => {
+                to.push(0x26);
+                wide(to, *low);
+                wide(to, *high);
+            }
         }
     }
 }
@@ -81,6 +88,7 @@ impl Pattern {
             }
             PatternRecord::Variable(number) => Pattern::Variable(number),
             PatternRecord::RangedVariable { number, low, high } => Pattern::Ranged(number, low, high),
+            PatternRecord::Series { low, high } => Pattern::Series(low, high),
         })
     }
 }

@@ -29,7 +29,8 @@ pub fn variables(rule: &[Pattern]) -> BTreeMap<u8, Variable> {
     variables
 }
 
-/// How many bytes the tidy form of a sheet has: other records than the sheet's for variables only.
+/// How many bytes the tidy form of a sheet has: other records than the sheet's for variables, and for series of one
+/// symbol, which have 2 bytes less.
 pub fn tidy_length(sheet: &SheetTree) -> usize {
     let records = |variable: Variable| match (variable.places, variable.range) {
         (1, None) => 1,
@@ -40,6 +41,7 @@ pub fn tidy_length(sheet: &SheetTree) -> usize {
     let other = |pattern: &&Pattern| match pattern {
         Pattern::Variable(_) => 2,
         Pattern::Ranged(..) => 6,
+        Pattern::Series(low, high) if low == high => 2,
         _ => 0,
     };
     let tidy: usize = sheet.rules.iter().flat_map(|rule| variables(rule).into_values()).map(records).sum();

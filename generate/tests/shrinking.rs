@@ -24,7 +24,8 @@ fn if_every_call_will_do_nothing_is_left() {
 
 #[test]
 fn if_no_other_call_will_do_it_stays() {
-    for call in Stream::new(4, no_graph).take(300) {
+    // Every step is tried: a longer sheet has more steps, and each copies it. One of 17 KB takes ten seconds or more.
+    for call in Stream::new(4, no_graph).filter(|call| bytes(call) < 8_000).take(300) {
         assert_eq!(smallest(&call, &no_graph, &mut |_| false, 100_000), call);
     }
 }

@@ -84,7 +84,7 @@ pub fn leads(node: &mut Node) -> Vec<&mut u16> {
     match node {
         Node::Switch { neither, unknown, cases, .. } => {
             let cases = cases.iter_mut().map(|case| match case {
-                Case::Symbol { node, .. } | Case::Compound { node, .. } | Case::Numbers { node, .. } => node,
+                Case::Symbols { node, .. } | Case::Compound { node, .. } | Case::Numbers { node, .. } => node,
             });
             [neither, unknown].into_iter().chain(cases).collect()
         }
@@ -109,4 +109,45 @@ pub fn with_cases(node: &Node, ways: impl Fn(&[Case]) -> Vec<Vec<Case>>) -> Vec<
     let Node::Switch { place, neither, unknown, cases } = node else { return Vec::new() };
     let switch = |cases| Node::Switch { place: *place, neither: *neither, unknown: *unknown, cases };
     ways(cases).into_iter().map(switch).collect()
+}
+
+/// A sort of cases with two ends.
+#[derive(Clone, Copy)]
+pub enum Ended {
+    Symbols,
+    Numbers,
+}
+
+impl Ended {
+    /// The ends of a case of this sort.
+    fn ends(self, case: &Case) -> Option<(u16, u16)> {
+        match (self, case) {
+            (Ended::Symbols, Case::Symbols { low, high, .. }) => Some((*low, *high)),
+            (Ended::Numbers, Case::Numbers { low, high, .. }) => Some((*low, *high)),
+            _ => None,
+        }
+    }
+
+    /// The cases with the ends of each of this sort changed on its own, from its ends and those of the case after it,
+    /// in each of these ways.
+    pub fn changed(
+        self,
+        cases: &[Case],
+        ways: impl Fn((u16, u16), Option<(u16, u16)>) -> Vec<(u16, u16)>,
+    ) -> Vec<Vec<Case>> {
+        let mut all = Vec::new();
+        for (at, case) in cases.iter().enumerate() {
+            let Some(ends) = self.ends(case) else { continue };
+            let after = cases.get(at + 1).and_then(|case| self.ends(case));
+            for (low, high) in ways(ends, after) {
+                let mut cases = cases.to_vec();
+                cases[at] = match self {
+                    Ended::Symbols => Case::Symbols { low, high, node: case.node() },
+                    Ended::Numbers => Case::Numbers { low, high, node: case.node() },
+                };
+                all.push(cases);
+            }
+        }
+        all
+    }
 }

@@ -3,12 +3,12 @@
 //!
 //! A filling puts a number of a span in its place: each is tried, and no span has many here. Document 01 fills
 //! unknowns with any terms without unknowns. Here they come from a finite set: every symbol and number that
-//! sheet or piece mention, all numbers of spans, the numbers beside those of ranges, two symbols that
-//! neither mentions, and every compound that they mention over these, up to a height. That is
-//! enough. If some filling meets a rule, so does one that puts at each unknown no more than what the
-//! rule and the other places of its variables ask there: a pattern with terms of the piece laid over
-//! each other where its variables stand. And if some filling misses it, so does one that puts a new
-//! symbol at an unknown, or the two new ones at two of them.
+//! sheet or piece mention, all numbers of spans, the numbers beside those of ranges, the symbols beside those of
+//! series and, as a series may take all symbols, a number, two symbols that neither mentions, and every compound
+//! that they mention over these, up to a height. That is enough. If some filling meets a rule, so does one that puts
+//! at each unknown no more than what the rule and the other places of its variables ask there: a pattern with terms
+//! of the piece laid over each other where its variables stand. And if some filling misses it, so does one that puts
+//! a new symbol or a number at an unknown, or the two new symbols at two of them.
 
 use crate::generate::trees::{Pattern, SheetTree, Term};
 use crate::results::{Plain, Word};
@@ -30,6 +30,7 @@ fn takes<'a>(pattern: &Pattern, term: &'a Term, bound: &mut [Option<&'a Term>; 1
     match (pattern, term) {
         (Pattern::Anything, _) => true,
         (Pattern::Symbol(id), Term::Symbol(other)) => id == other,
+        (Pattern::Series(low, high), Term::Symbol(id)) => (low..=high).contains(&id),
         (Pattern::Range(low, high), Term::Number(n)) => (low..=high).contains(&n),
         (Pattern::Compound(id, patterns), Term::Compound(other, terms)) => {
             id == other && takes_all(patterns, terms, bound)
@@ -40,6 +41,11 @@ fn takes<'a>(pattern: &Pattern, term: &'a Term, bound: &mut [Option<&'a Term>; 1
         }
         _ => false,
     }
+}
+
+/// The ends of a range or series, and those beside them.
+fn around(low: u16, high: u16) -> [u16; 4] {
+    [low.saturating_sub(1), low, high, high.saturating_add(1)]
 }
 
 /// What sheet and piece mention.
@@ -57,10 +63,6 @@ struct Mentioned {
 }
 
 impl Mentioned {
-    fn range(&mut self, low: u16, high: u16) {
-        self.numbers.extend([low.saturating_sub(1), low, high, high.saturating_add(1)]);
-    }
-
     fn pattern(&mut self, pattern: &Pattern, level: usize) {
         self.patterns = self.patterns.max(level);
         if let Pattern::Variable(_) | Pattern::Ranged(..) = pattern {
@@ -69,7 +71,13 @@ impl Mentioned {
         match pattern {
             Pattern::Anything | Pattern::Variable(_) => {}
             Pattern::Symbol(id) => self.symbols.extend([*id]),
-            Pattern::Range(low, high) | Pattern::Ranged(_, low, high) => self.range(*low, *high),
+            Pattern::Series(low, high) => {
+                self.symbols.extend(around(*low, *high));
+                self.numbers.extend([0]);
+            }
+            Pattern::Range(low, high) | Pattern::Ranged(_, low, high) => {
+                self.numbers.extend(around(*low, *high));
+            }
             Pattern::Compound(id, arguments) => {
                 self.compounds.insert((*id, arguments.len()));
                 arguments.iter().for_each(|argument| self.pattern(argument, level + 1));

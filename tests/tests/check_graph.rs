@@ -68,7 +68,7 @@ fn question_22_asks_for_whole_records_of_the_right_kinds() {
     }
     for whole in [
         "42 01",
-        "43 00 00 00 01 00 00 00 00 44 00 01 00 00",
+        "43 00 00 00 01 00 00 00 00 44 00 01 00 01 00 00",
         "43 00 00 00 02 00 00 00 00 45 00 01 02 00 00 46 00 01 00 02 00 00",
         "47 00 00 00 55 00 00 00 00",
     ] {
@@ -89,10 +89,10 @@ fn question_23_asks_for_nodes_and_rules_in_range() {
     node("42 03", Err(23));
     refused("10 02 00", "12 02 00 00 01 42 00", 23);
     refused("10 02 00", "12 02 00 00 01 42 01", 23);
-    node("43 00 00 00 01 00 01 00 01 44 00 01 00 01", Ok(2));
-    node("43 00 00 00 01 00 02 00 01 44 00 01 00 01", Err(23));
-    node("43 00 00 00 01 00 01 00 02 44 00 01 00 01", Err(23));
-    node("43 00 00 00 01 00 01 00 01 44 00 01 00 02", Err(23));
+    node("43 00 00 00 01 00 01 00 01 44 00 01 00 01 00 01", Ok(2));
+    node("43 00 00 00 01 00 02 00 01 44 00 01 00 01 00 01", Err(23));
+    node("43 00 00 00 01 00 01 00 02 44 00 01 00 01 00 01", Err(23));
+    node("43 00 00 00 01 00 01 00 01 44 00 01 00 01 00 02", Err(23));
     node("43 00 00 00 01 00 01 00 01 45 00 01 01 ff ff", Err(23));
     node("43 00 00 00 01 00 01 00 01 46 00 01 00 02 01 00", Err(23));
     node("47 00 00 00 55 00 01 00 01", Ok(2));
@@ -102,28 +102,28 @@ fn question_23_asks_for_nodes_and_rules_in_range() {
 
 #[test]
 fn question_23_asks_for_a_test_of_the_sheet() {
-    node("43 00 55 00 01 00 00 00 00 44 00 01 00 00", Ok(2));
+    node("43 00 55 00 01 00 00 00 00 44 00 01 00 01 00 00", Ok(2));
     for place in ["00 01", "00 54", "00 aa", "02 a8", "ff ff"] {
-        node(&format!("43 {place} 00 01 00 00 00 00 44 00 01 00 00"), Err(23));
+        node(&format!("43 {place} 00 01 00 00 00 00 44 00 01 00 01 00 00"), Err(23));
     }
     for pair in ["00 55 00 00", "00 00 00 00", "00 00 00 aa", "00 55 00 55"] {
         node(&format!("47 {pair} 00 00 00 00"), Err(23));
     }
     // A place that stands only in a pair has no place test.
-    refused(PAIR, "12 02 01 00 01 43 00 00 00 01 00 00 00 00 44 00 01 00 00", 23);
+    refused(PAIR, "12 02 01 00 01 43 00 00 00 01 00 00 00 00 44 00 01 00 01 00 00", 23);
     accepted(PAIR, "12 02 01 00 01 47 00 00 00 55 00 00 00 00", 1);
 }
 
 #[test]
 fn question_24_asks_for_cases_in_order() {
-    let (symbol, compound) = ("44 00 05 00 01", "45 00 05 02 00 01");
+    let (symbol, compound) = ("44 00 05 00 05 00 01", "45 00 05 02 00 01");
     let numbers = "46 00 05 00 09 00 01";
     cases(&[symbol, compound, numbers], Ok(2));
     for wrong in [[compound, symbol], [numbers, symbol], [numbers, compound], [symbol, symbol]] {
         cases(&wrong, Err(24));
     }
-    cases(&["44 00 ff 00 01", "44 01 00 00 01"], Ok(2));
-    cases(&["44 01 00 00 01", "44 00 ff 00 01"], Err(24));
+    cases(&["44 00 ff 00 ff 00 01", "44 01 00 01 00 00 01"], Ok(2));
+    cases(&["44 01 00 01 00 00 01", "44 00 ff 00 ff 00 01"], Err(24));
     cases(&[compound, "45 00 05 03 00 01", "45 00 06 01 00 01"], Ok(2));
     cases(&[compound, "45 00 05 01 00 01"], Err(24));
     cases(&["45 00 06 01 00 01", compound], Err(24));
@@ -165,10 +165,18 @@ fn question_25_asks_that_no_bytes_are_left() {
 #[test]
 fn questions_come_node_by_node_in_number_order() {
     // A wrong place and then a cut case; a wrong place and cases out of order.
-    refused(EXAMPLE, "12 02 02 00 01 43 00 01 00 01 00 00 00 00 44 00 01 00", 22);
-    refused(EXAMPLE, "12 02 02 00 01 43 00 01 00 02 00 00 00 00 44 00 02 00 00 44 00 01 00 00", 23);
+    refused(EXAMPLE, "12 02 02 00 01 43 00 01 00 01 00 00 00 00 44 00 01 00 01 00", 22);
+    refused(
+        EXAMPLE,
+        "12 02 02 00 01 43 00 01 00 02 00 00 00 00 44 00 02 00 02 00 00 44 00 01 00 01 00 00",
+        23,
+    );
     // The first node's cases out of order, the second of a wrong kind; and the other way round.
-    refused(EXAMPLE, "12 02 02 00 02 43 00 00 00 02 00 00 00 00 44 00 02 00 00 44 00 01 00 00 48", 24);
+    refused(
+        EXAMPLE,
+        "12 02 02 00 02 43 00 00 00 02 00 00 00 00 44 00 02 00 02 00 00 44 00 01 00 01 00 00 48",
+        24,
+    );
     refused(EXAMPLE, "12 02 02 00 02 48", 22);
     refused(EXAMPLE, "12 02 02 00 02 42 00 48", 23);
     // The sheet's own questions come first.

@@ -16,11 +16,39 @@ const MOST: usize = 20_000;
 
 /// Few ids and numbers with wide compounds, or fewer still with deep ones.
 const STOCKS: [Stock; 5] = [
-    Stock { ids: &[1, 2], numbers: &[1, 2, 4], most_arguments: 2, deepest_compound: 1, spans: 50 },
-    Stock { ids: &[1], numbers: &[0, 0xffff], most_arguments: 1, deepest_compound: 3, spans: 20 },
-    Stock { ids: &[1, 2], numbers: &[3, 5], most_arguments: 1, deepest_compound: 2, spans: 50 },
-    Stock { ids: &[1], numbers: &[2], most_arguments: 2, deepest_compound: 2, spans: 50 },
-    Stock { ids: &[1], numbers: &[0, 1, 2, 3, 4, 5], most_arguments: 2, deepest_compound: 1, spans: 80 },
+    Stock {
+        ids: &[1, 2],
+        series: &[1, 2, 4],
+        numbers: &[1, 2, 4],
+        most_arguments: 2,
+        deepest_compound: 1,
+        spans: 50,
+    },
+    Stock {
+        ids: &[1],
+        series: &[0, 0xffff],
+        numbers: &[0, 0xffff],
+        most_arguments: 1,
+        deepest_compound: 3,
+        spans: 20,
+    },
+    Stock {
+        ids: &[1, 2],
+        series: &[1, 2],
+        numbers: &[3, 5],
+        most_arguments: 1,
+        deepest_compound: 2,
+        spans: 50,
+    },
+    Stock { ids: &[1], series: &[0, 1], numbers: &[2], most_arguments: 2, deepest_compound: 2, spans: 50 },
+    Stock {
+        ids: &[1],
+        series: &[1, 2],
+        numbers: &[0, 1, 2, 3, 4, 5],
+        most_arguments: 2,
+        deepest_compound: 1,
+        spans: 80,
+    },
 ];
 
 /// The answer to compare, if sheet and piece are accepted and their fillings are few enough.
@@ -122,6 +150,60 @@ fn pieces_full_of_spans_have_the_answer_over_fillings() {
     println!("answers by word: {words:?}");
     for word in [Word::Commit, Word::Execute, Word::Suspend, Word::Fail] {
         assert!(words[word as usize] >= 2_000, "{}: {} answers", word.name(), words[word as usize]);
+    }
+}
+
+/// Ends of series: from 0 to 7, or at the highest ids.
+fn series(random: &mut Random) -> (u16, u16) {
+    let ids = [0, 1, 2, 3, 4, 5, 6, 7, 0xfffe, 0xffff];
+    let (one, other) = (random.pick(&ids), random.pick(&ids));
+    (one.min(other), one.max(other))
+}
+
+/// A pattern that symbols may meet.
+fn symbols(random: &mut Random, depth: usize) -> Pattern {
+    let (low, high) = series(random);
+    match random.below(10) {
+        0..=5 => Pattern::Series(low, high),
+        6 => Pattern::Symbol(low),
+        7 => Pattern::Variable(0),
+        8 if depth < 2 => Pattern::Compound(1, vec![symbols(random, depth + 1)]),
+        _ => Pattern::Anything,
+    }
+}
+
+/// A term, mostly a symbol, made for this pattern's place: at the ends of a series and just outside.
+fn near(random: &mut Random, pattern: &Pattern) -> Term {
+    match (random.below(10), pattern) {
+        (0 | 1, _) => Term::Unknown,
+        (2, _) => Term::Number(random.below(8) as u16),
+        (_, Pattern::Compound(id, parts)) => {
+            Term::Compound(*id, parts.iter().map(|part| near(random, part)).collect())
+        }
+        (_, Pattern::Series(low, high)) => {
+            Term::Symbol(random.pick(&[*low, *high, low.saturating_sub(1), high.saturating_add(1)]))
+        }
+        _ => Term::Symbol(series(random).0),
+    }
+}
+
+#[test]
+fn sheets_of_series_have_the_answer_over_fillings() {
+    let mut random = Random::new(0x7365_7269);
+    let mut words = [0; 5];
+    for _ in 0..20_000 {
+        let arity = random.between(1, 3);
+        let rules = (0..random.between(1, 4)).map(|_| (0..arity).map(|_| symbols(&mut random, 1)).collect());
+        let sheet = SheetTree { arity: arity as u8, rules: rules.collect() };
+        let made_for = random.below(sheet.rules.len());
+        let piece: Vec<Term> = sheet.rules[made_for].iter().map(|part| near(&mut random, part)).collect();
+        if let Some(answer) = tried(&sheet, &piece) {
+            words[answer.word as usize] += 1;
+        }
+    }
+    println!("answers by word: {words:?}");
+    for word in [Word::Commit, Word::Execute, Word::Suspend, Word::Fail] {
+        assert!(words[word as usize] >= 1_000, "{}: {} answers", word.name(), words[word as usize]);
     }
 }
 

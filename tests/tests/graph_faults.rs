@@ -77,7 +77,7 @@ fn cases_out_of_order_or_doubled_are_refused_by_24() {
 fn compound_cases_may_have_any_arity() {
     let mut met = Met::default();
     let any = |cases: &[Case]| -> Vec<Vec<Case>> {
-        let symbols = cases.iter().copied().filter(|case| matches!(case, Case::Symbol { .. }));
+        let symbols = cases.iter().copied().filter(|case| matches!(case, Case::Symbols { .. }));
         let with = |arities: &[u8]| {
             let compounds = arities.iter().map(|arity| Case::Compound { id: 7, arity: *arity, node: 0 });
             symbols.clone().chain(compounds).collect()

@@ -1,7 +1,8 @@
-//! What spans leave of older graphs. `vectors/graphs_of_32_rules.txt` says what the library wrote for sheets of up to 32
-//! rules before requests 9 and 4, in document 01's order and with the arguments backwards. Request 9 kept these
-//! graphs; request 4 adds cases for spans and for runs of numbers that no rule accepts, and counts cases in two bytes.
-//! Without these cases, numbered anew and counted in one byte, the graphs are still the same. Sheets that were refused
+//! What spans and series leave of older graphs. `vectors/graphs_of_32_rules.txt` says what the library wrote for sheets of up to 32
+//! rules before requests 9, 4 and 5, in document 01's order and with the arguments backwards. Request 9 kept these
+//! graphs; request 4 adds cases for spans and for runs of numbers that no rule accepts, and counts cases in two bytes;
+//! request 5 writes a symbol's case with two ends, which in these sheets are one id. Without the cases of request 4,
+//! numbered anew, counted in one byte and with symbols as one id, the graphs are still the same. Sheets that were refused
 //! are refused by the same numbers.
 
 use std::collections::BTreeMap;
@@ -85,7 +86,9 @@ fn takers(case: &Case, wants: &[(u64, Want)]) -> Option<u64> {
     let mut rules = 0;
     for (rule, want) in wants {
         rules |= match (case, want) {
-            (Case::Symbol { id, .. }, Want::Symbol(wanted)) if id == wanted => *rule,
+            (Case::Symbols { low, high, .. }, Want::Symbols { low: l, high: h }) if (low, high) == (l, h) => {
+                *rule
+            }
             (Case::Compound { id, arity, .. }, Want::Compound { id: wanted, arity: many })
                 if id == wanted && arity == many =>
             {
@@ -106,7 +109,10 @@ fn takers(case: &Case, wants: &[(u64, Want)]) -> Option<u64> {
 /// The bytes of a case but for its node.
 fn case_bytes(case: &Case, to: &mut Vec<u8>) {
     match case {
-        Case::Symbol { id, .. } => to.extend([&[0x44][..], &id.to_be_bytes()].concat()),
+        Case::Symbols { low, high, .. } => {
+            assert_eq!(low, high, "a symbol of its own");
+            to.extend([&[0x44][..], &low.to_be_bytes()].concat());
+        }
         Case::Compound { id, arity, .. } => to.extend([&[0x45][..], &id.to_be_bytes(), &[*arity]].concat()),
         Case::Numbers { low, high, .. } => {
             to.extend([&[0x46][..], &low.to_be_bytes(), &high.to_be_bytes()].concat());

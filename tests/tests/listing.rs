@@ -114,6 +114,28 @@ fn coins_with_spans_are_listed() {
 }
 
 #[test]
+fn series_are_listed() {
+    let folder = folder("series");
+    let piece =
+        |ids: [u16; 3], last: Term| piece_bytes(&[ids.map(Term::Symbol).to_vec(), vec![last]].concat());
+    // Rule 17 takes 320 to 345, to 360, to 375 and to 390, rule 18 each by 20 more.
+    let pieces = [
+        piece([342, 345, 350], Term::Symbol(330)),
+        piece([342, 345, 350], Term::Unknown),
+        piece([345, 360, 375], Term::Symbol(391)),
+        piece([339, 345, 350], Term::Unknown),
+        piece([339, 345, 350], Term::Number(330)),
+    ];
+    let listed = "sheet 4 32 4 191\n\
+                  1 commit 17 4 0000000000000000\n\
+                  2 suspend 0 4 0000000000000008\n\
+                  3 commit 18 4 0000000000000000\n\
+                  4 execute 17 1 0000000000000008\n\
+                  5 fail 0 1 0000000000000000\n";
+    assert_eq!(lines(&folder, &known::series_4(32), &pieces.concat()), listed);
+}
+
+#[test]
 fn sheets_of_64_rules_are_listed() {
     let folder = folder("many");
     let pieces = "11 01 30 11 01 32 00 01 11 01 34 00 00 00 01 11 01 34 00 02 00 03";

@@ -42,7 +42,7 @@ fn each_of_64_rules_commits_executes_and_fails() {
     let graph = graph(&sheet);
     // Two switches of 64 cases, an execute for each rule, fail and suspend.
     assert_eq!(check_graph(&sheet, &graph), Ok(GraphSize { nodes: 68 }));
-    assert_eq!(graph.len(), 5 + 2 * (9 + 64 * 5) + 64 * 2 + 2);
+    assert_eq!(graph.len(), 5 + 2 * (9 + 64 * 7) + 64 * 2 + 2);
     let backwards = build_ordered(&sheet, &table(&reversed()), graph.len());
     assert_eq!(backwards.0, Ok(Built { nodes: 68, bytes: graph.len() as u32 }));
     for i in 1..=64 {

@@ -1,30 +1,8 @@
-//! Cases of a switch, one fault at a time: numbers that overlap are accepted, reversed and later ones are not, and of
-//! more than 255 cases the last counts too.
+//! Cases of a switch, one fault at a time: numbers that overlap are accepted, reversed and later ones are not; runs of
+//! ids that have an id in common are not either; and of more than 255 cases the last counts too.
 
-use voltunnis_tests::faults::{graphs, with_cases, Met};
+use voltunnis_tests::faults::{graphs, with_cases, Ended, Met};
 use voltunnis_tests::reference::nodes::Case;
-
-/// The cases with the ends of each number case changed on its own, from its ends and those of the case after it, in
-/// each of these ways.
-fn with_ends(
-    cases: &[Case],
-    ways: impl Fn((u16, u16), Option<(u16, u16)>) -> Vec<(u16, u16)>,
-) -> Vec<Vec<Case>> {
-    let mut all = Vec::new();
-    for at in 0..cases.len() {
-        let Case::Numbers { low, high, node } = cases[at] else { continue };
-        let after = match cases.get(at + 1) {
-            Some(Case::Numbers { low, high, .. }) => Some((*low, *high)),
-            _ => None,
-        };
-        for (low, high) in ways((low, high), after) {
-            let mut cases = cases.to_vec();
-            cases[at] = Case::Numbers { low, high, node };
-            all.push(cases);
-        }
-    }
-    all
-}
 
 #[test]
 fn reversed_numbers_and_such_as_come_later_are_refused_by_24() {
@@ -42,7 +20,11 @@ fn reversed_numbers_and_such_as_come_later_are_refused_by_24() {
         ends
     };
     for made in graphs() {
-        met.every_node(&made, |_, node| with_cases(node, |cases| with_ends(cases, wrong)), Err(24));
+        met.every_node(
+            &made,
+            |_, node| with_cases(node, |cases| Ended::Numbers.changed(cases, wrong)),
+            Err(24),
+        );
     }
     met.at_least(500, &[24]);
 }
@@ -59,7 +41,7 @@ fn overlapping_numbers_are_accepted() {
         // Only the first number case may end anywhere: one after another of the same low comes before it.
         let at = cases.iter().position(|case| matches!(case, Case::Numbers { .. })).unwrap_or(cases.len());
         let (others, numbers) = cases.split_at(at);
-        let changed = with_ends(numbers.get(..2).unwrap_or_default(), overlapping);
+        let changed = Ended::Numbers.changed(numbers.get(..2).unwrap_or_default(), overlapping);
         let whole = |two: Vec<Case>| [others, &two, &numbers[2..]].concat();
         changed.into_iter().map(whole).collect()
     };
@@ -68,12 +50,44 @@ fn overlapping_numbers_are_accepted() {
 }
 
 #[test]
-fn of_300_cases_the_last_counts_too() {
-    let all = |last: Case| -> Vec<Case> {
-        (0..299).map(|id| Case::Symbol { id: id * 2, node: 0 }).chain([last]).collect()
+fn reversed_runs_of_ids_and_such_as_reach_the_next_are_refused_by_24() {
+    let mut met = Met::default();
+    let wrong = |(low, high): (u16, u16), after: Option<(u16, u16)>| {
+        let mut ends = Vec::new();
+        ends.extend((low < high).then_some((high, low)));
+        ends.extend(low.checked_sub(1).map(|below| (low, below)));
+        if let Some((next, last)) = after {
+            ends.extend([(low, next), (low, last), (low, 0xffff), (next, next), (last, last)]);
+        }
+        ends
     };
+    for made in graphs() {
+        let changed = |cases: &[Case]| Ended::Symbols.changed(cases, wrong);
+        met.every_node(&made, |_, node| with_cases(node, changed), Err(24));
+    }
+    met.at_least(500, &[24]);
+}
+
+#[test]
+fn runs_of_ids_up_to_the_next_are_accepted() {
+    let mut met = Met::default();
+    let right = |(low, high): (u16, u16), after: Option<(u16, u16)>| match after {
+        Some((next, _)) => vec![(low, next - 1), (high, high), (next - 1, next - 1)],
+        None => vec![(low, 0xffff), (high, high), (0xffff, 0xffff)],
+    };
+    for made in graphs() {
+        let changed = |cases: &[Case]| Ended::Symbols.changed(cases, right);
+        met.every_node(&made, |_, node| with_cases(node, changed), Ok(()));
+    }
+    met.at_least(500, &[0, 19]);
+}
+
+#[test]
+fn of_300_cases_the_last_counts_too() {
+    let symbol = |id, node| Case::Symbols { low: id, high: id, node };
+    let all = |last: Case| -> Vec<Case> { (0..299).map(|id| symbol(id * 2, 0)).chain([last]).collect() };
     let (good, low, far) = ((598, 0), (595, 0), (598, 0xffff));
-    let [good, low, far] = [good, low, far].map(|(id, node)| all(Case::Symbol { id, node }));
+    let [good, low, far] = [good, low, far].map(|(id, node)| all(symbol(id, node)));
     let mut met = Met::default();
     for made in graphs() {
         for (cases, expected) in [(&good, Ok(())), (&low, Err(24)), (&far, Err(23))] {

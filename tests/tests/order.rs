@@ -9,7 +9,7 @@ use voltunnis_tests::generate::random::Random;
 use voltunnis_tests::reference::listing::listing;
 use voltunnis_tests::results::{Built, GraphSize, Refusal};
 
-/// The vectors of request 1, as request 4 makes them: the example's graph and listing.
+/// The vectors of request 1, as requests 4 and 5 make them: the example's graph and listing.
 const VECTORS: &str = include_str!("../vectors/order.txt");
 
 /// The graph of an accepted sheet in an order, from a buffer that is larger.
@@ -36,7 +36,7 @@ fn refused(sheet: &[u8], table: &[u8], len: usize, refusal: Refusal) {
 fn the_shared_vectors_are_met() {
     let mut met = Vec::new();
     for line in VECTORS.lines() {
-        let (call, said) = line.strip_prefix("4|").and_then(|rest| rest.split_once('|')).expect("a vector");
+        let (call, said) = line.strip_prefix("5|").and_then(|rest| rest.split_once('|')).expect("a vector");
         let words: Vec<&str> = call.split(' ').collect();
         let said = match words[..] {
             ["build", sheet, len] => {
@@ -64,16 +64,16 @@ fn the_examples_graph_asks_argument_2_first() {
     let (built, bytes) = graph(&known::example(), &reversed());
     let nodes = [
         "12 02 02 00 07",
-        "43 00 55 00 01 00 02 00 03 44 00 02 00 01",
-        "43 00 00 00 01 00 02 00 05 44 00 01 00 04",
+        "43 00 55 00 01 00 02 00 03 44 00 02 00 02 00 01",
+        "43 00 00 00 01 00 02 00 05 44 00 01 00 01 00 04",
         "42 01",
-        "43 00 00 00 01 00 02 00 05 44 00 01 00 05",
+        "43 00 00 00 01 00 02 00 05 44 00 01 00 01 00 05",
         "47 00 00 00 55 00 06 00 05",
         "41",
         "42 02",
     ];
     assert_eq!(to_hex(&bytes), to_hex(&from_hex(&nodes.concat())));
-    assert_eq!(built, Built { nodes: 7, bytes: 61 });
+    assert_eq!(built, Built { nodes: 7, bytes: 67 });
     let said = known::example_pieces();
     let said =
         said.iter().map(|piece| walk(&known::example(), &bytes, piece).expect("an answer").to_string());
@@ -124,7 +124,7 @@ fn all_places_in_turn_give_the_plain_graph() {
         known::nested_1(64),
         from_hex("10 03 00"),
     ] {
-        for len in [0, 5, 61, enough(&sheet, None)] {
+        for len in [0, 5, 67, enough(&sheet, None)] {
             assert!(build_ordered(&sheet, &ascending, len) == build(&sheet, len), "{}", to_hex(&sheet));
         }
     }
@@ -207,7 +207,7 @@ fn a_place_out_of_range_or_twice_anywhere_comes_before_one_before_its_parent() {
             let places = any(&mut random);
             let table = fault.put(&mut random, &places);
             assert_eq!(check_order(&table), Err(refusal), "{fault:?}");
-            refused(&known::example(), &table, random.pick(&[0, 60, 61, 100]), refusal);
+            refused(&known::example(), &table, random.pick(&[0, 66, 67, 100]), refusal);
         }
     }
 }
@@ -228,7 +228,7 @@ fn questions_28_to_30_come_after_the_sheets_and_before_18_and_19() {
         }
     }
     refused(&known::nodes_1027(), &table(&reversed()), 0, 18);
-    refused(&known::example(), &table(&reversed()), 60, 19);
+    refused(&known::example(), &table(&reversed()), 66, 19);
 }
 
 #[test]

@@ -2,62 +2,22 @@
 //! makers, what is compared and tested, and the wait lists of suspended pieces.
 
 use std::cmp::Reverse;
-use voltunnis_tests::both::{build, check_graph, check_piece, plain, walk, walk_all};
-use voltunnis_tests::bytes::{from_hex, to_hex};
+use voltunnis_tests::both::{check_graph, plain, walk};
+use voltunnis_tests::bytes::from_hex;
 use voltunnis_tests::generate::nodes::{graph_bytes, Case, Node};
 use voltunnis_tests::generate::random::Random;
 use voltunnis_tests::generate::trees::{piece_bytes, Term};
-use voltunnis_tests::reference::listing::listing;
 use voltunnis_tests::reference::own_graph;
-use voltunnis_tests::results::{Built, GraphSize, PieceSize, Refusal, Run, Word};
+use voltunnis_tests::request;
+use voltunnis_tests::results::GraphSize;
 
-/// The vectors of request 4.
+/// The vectors of request 4, the example's graph as request 5 makes it.
 const VECTORS: &str = include_str!("../vectors/spans.txt");
-
-/// What a call says, as the vectors do.
-fn outcome(result: Result<String, Refusal>) -> String {
-    result.map_or_else(|refusal| format!("refused {refusal}"), |said| format!("ok {said}"))
-}
 
 #[test]
 fn the_shared_vectors_are_met() {
-    let mut met = 0;
-    for line in VECTORS.lines() {
-        let (call, said) = line.strip_prefix("4|").and_then(|rest| rest.split_once('|')).expect("a vector");
-        let words: Vec<&str> = call.split(' ').collect();
-        let result = match words[..] {
-            ["check_piece", piece] => {
-                check_piece(&from_hex(piece)).map(|PieceSize { arity }| arity.to_string())
-            }
-            ["plain", sheet, piece] => plain(&from_hex(sheet), &from_hex(piece))
-                .map(|plain| format!("{} {}", plain.word.name(), plain.rule)),
-            ["build", sheet, len] => {
-                let (result, buffer) = build(&from_hex(sheet), len.parse().expect("a length"));
-                let bytes = |bytes: u32| to_hex(&buffer[..bytes as usize]);
-                result.map(|built: Built| format!("{} {} {}", built.nodes, built.bytes, bytes(built.bytes)))
-            }
-            ["listing", sheet, pieces] => Ok(listed(&from_hex(sheet), &from_hex(pieces))),
-            _ => panic!("no call: {call}"),
-        };
-        assert_eq!(outcome(result), said, "{call}");
-        met += 1;
-    }
-    assert_eq!(met, 20);
-}
-
-/// The reference's listing; each of its lines about a piece is what the walk says of it.
-fn listed(sheet: &[u8], pieces: &[u8]) -> String {
-    let lines = listing(sheet, pieces);
-    let graph = own_graph(sheet).expect("a graph");
-    let count = lines.lines().count() - 1;
-    let (run, results) = walk_all(sheet, &graph, pieces, 16 * count);
-    assert_eq!(run, Ok(Run { results: count as u32, bytes: pieces.len() as u32 }));
-    for ((line, result), number) in lines.lines().skip(1).zip(results.chunks(16)).zip(1..) {
-        let word = Word::from_number(result[1]).expect("a word").name();
-        let (rule, edges, wait) = (result[2], result[3], to_hex(&result[8..]));
-        assert_eq!(format!("{number} {word} {rule} {edges} {wait}"), line);
-    }
-    lines.replace('\n', "|")
+    let calls: Vec<&str> = VECTORS.lines().map(|line| request::met(line, &["4", "5"])).collect();
+    assert_eq!(calls.len(), 20);
 }
 
 /// What the plain answer says of a sheet and a piece, and the walk on the sheet's graph, each with its fields.
@@ -189,8 +149,8 @@ fn on_any_accepted_graph_the_narrowest_case_is_followed() {
             high: *high,
             node: rule(at) as u16,
         };
-        let mut cases: Vec<Case> = (0..round % 3).map(|id| Case::Symbol { id, node: 1 }).collect();
-        cases.extend(ends.iter().enumerate().map(numbers));
+        let symbols = (0..round % 3).map(|id| Case::Symbols { low: id, high: id, node: 1 });
+        let cases = symbols.chain(ends.iter().enumerate().map(numbers)).collect();
         let mut nodes = vec![Node::Switch { place: 0, neither: 1, unknown: 1, cases }];
         nodes.extend((1..=64).map(Node::Execute));
         let graph = graph_bytes(1, 64, &nodes);
@@ -230,7 +190,7 @@ fn a_place_met_is_listed_if_its_span_is_partly_inside_the_range_of_a_rule_live_t
     assert_eq!(said(sheet, "11 02 31 00 02 34 00 04 00 09"), "suspend 0 2 0000000000000000");
     // On another maker's graph that asks argument 2 first, it is live there.
     let graph = "12 02 03 00 03 43 00 55 00 01 00 01 00 01 46 00 00 ff ff 00 01 \
-                 43 00 00 00 01 00 02 00 02 44 00 01 00 02 41";
+                 43 00 00 00 01 00 02 00 02 44 00 01 00 01 00 02 41";
     let piece = from_hex("11 02 31 00 02 34 00 04 00 09");
     let answer = walk(&from_hex(sheet), &from_hex(graph), &piece).expect("an answer");
     assert_eq!(answer.to_string(), "suspend 0 2 0000000000000002");

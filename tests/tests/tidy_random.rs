@@ -44,6 +44,8 @@ fn becomes(rule: &[Pattern], before: &Pattern, after: &Pattern) -> &'static str 
     match (before, after) {
         (Pattern::Anything, Pattern::Variable(_)) => "anything named",
         (Pattern::Range(..), Pattern::Ranged(..)) => "range named",
+        (Pattern::Symbol(_), Pattern::Series(..)) => "symbol as a series",
+        (Pattern::Series(..), Pattern::Symbol(_)) => "series as a symbol",
         (Pattern::Variable(_), Pattern::Anything) | (Pattern::Ranged(..), Pattern::Range(..)) => {
             "name dropped"
         }
@@ -83,7 +85,8 @@ fn sheets_in_disguise_have_one_form() {
     count.print();
     count.often(20_000, ["other bytes"]);
     let kinds = ["anything named", "range named", "name dropped", "range added", "range dropped"];
-    count.often(2_000, kinds.into_iter().chain(["range moved", "other number"]));
+    count.often(2_000, kinds.into_iter().chain(["range moved", "other number", "symbol as a series"]));
+    count.often(500, ["series as a symbol"]);
 }
 
 #[test]

@@ -77,7 +77,7 @@ fn execute_makes_all_tests_of_its_rule() {
 
 #[test]
 fn question_27_asks_that_the_piece_has_the_place() {
-    let graph = "12 01 02 00 02 43 00 01 00 01 00 01 00 01 44 00 01 00 01 41";
+    let graph = "12 01 02 00 02 43 00 01 00 01 00 01 00 01 44 00 01 00 01 00 01 41";
     assert_eq!(said(INSIDE, graph, "11 01 31 00 01"), Err(27));
     assert_eq!(said(INSIDE, graph, "11 01 32 00 01"), Err(27));
     assert_eq!(said(INSIDE, graph, "11 01 30"), Ok("suspend 0 1 0000000000000002".into()));
@@ -99,7 +99,7 @@ fn question_27_asks_that_the_piece_has_the_place() {
 
 #[test]
 fn question_26_asks_for_fewer_than_64_edges() {
-    let switch = |next: usize| format!("43 00 00 00 01 {next:04x} {next:04x} 44 00 01 {next:04x}");
+    let switch = |next: usize| format!("43 00 00 00 01 {next:04x} {next:04x} 44 00 01 00 01 {next:04x}");
     let chain = |edges: usize| {
         let switches: String = (1..=edges).map(switch).collect();
         format!("12 02 02 {:04x} {switches} 41", edges + 1)
@@ -113,7 +113,7 @@ fn question_26_asks_for_fewer_than_64_edges() {
     // 26 comes before 27: the 65th node asks a place that the piece lacks.
     let lacking = |edges: usize| {
         let switches: String = (1..=edges).map(switch).collect();
-        let last = "43 00 01 00 01 00 00 00 00 44 00 01 00 00";
+        let last = "43 00 01 00 01 00 00 00 00 44 00 01 00 01 00 00";
         format!("12 01 02 {:04x} {switches} {last}", edges + 1)
     };
     assert_eq!(said(INSIDE, &lacking(64), "11 01 31 00 02"), Err(26));
@@ -123,7 +123,7 @@ fn question_26_asks_for_fewer_than_64_edges() {
 #[test]
 fn cases_take_what_they_say() {
     let sheet = "10 01 02 21 00 01 22 00 05 00 09";
-    let cases = "44 00 05 00 01 45 00 05 02 00 02 46 00 05 00 06 00 03 46 00 07 00 ff 00 01";
+    let cases = "44 00 05 00 05 00 01 45 00 05 02 00 02 46 00 05 00 06 00 03 46 00 07 00 ff 00 01";
     let graph = format!("12 01 02 00 05 43 00 00 00 04 00 04 00 04 {cases} 40 42 01 42 02 41");
     for (term, line) in [
         ("31 00 05", "fail 0 1 0000000000000000"),

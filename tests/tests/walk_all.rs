@@ -19,7 +19,7 @@ use voltunnis_tests::reference::{own_graph, piece::Piece};
 use voltunnis_tests::results::{Answer, Refusal, Run};
 
 /// A switch at which every edge leads back, for the sheet `f(1)`.
-const ROUND: &str = "12 01 01 00 01 43 00 00 00 01 00 00 00 00 44 00 01 00 00";
+const ROUND: &str = "12 01 01 00 01 43 00 00 00 01 00 00 00 00 44 00 01 00 01 00 00";
 const ROUND_SHEET: &str = "10 01 01 21 00 01";
 
 /// The results of an accepted run as text; the bytes after them stay.
@@ -103,7 +103,7 @@ fn the_sheet_is_asked_before_the_graph_and_the_graph_before_the_pieces() {
     refused(&[], &[], &[], 1);
     refused(&from_hex("10 01 01 21"), &[], &[0xff], 4);
     refused(&sheet, &[], &pieces, 21);
-    refused(&sheet, &graph[..60], &[0xff], 22);
+    refused(&sheet, &graph[..66], &[0xff], 22);
     refused(&sheet, &from_hex("12 02 02 00 01 42 03"), &from_hex("11 01 30"), 23);
     refused(&sheet, &[&graph[..], &[0x41]].concat(), &[], 25);
     assert_eq!(said(&sheet, &graph, &[0xff], 40).1, ["0c000000000000000000000000000000"]);
@@ -123,7 +123,7 @@ fn a_piece_refused_by_20_26_or_27_is_not_the_last() {
     assert_eq!((run, &results[..]), (Run { results: 2, bytes: 8 }, &vec![format!("1a{:030}", 0); 2][..]));
     // f(g(1)): the graph asks for the part at once.
     let inside = from_hex("10 01 01 23 00 01 01 21 00 01");
-    let part = from_hex("12 01 01 00 03 43 00 01 00 01 00 02 00 01 44 00 01 00 01 42 01 40");
+    let part = from_hex("12 01 01 00 03 43 00 01 00 01 00 02 00 01 44 00 01 00 01 00 01 42 01 40");
     let (run, results) = said(&inside, &part, &from_hex("11 01 31 00 01 11 01 30"), 64);
     assert_eq!(run, Run { results: 2, bytes: 8 });
     assert_eq!(results, ["1b000000000000000000000000000000", "00020101000000000000000000000003"]);

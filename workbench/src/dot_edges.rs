@@ -149,7 +149,7 @@ mod tests {
 
     /// The cases for all pairs of these runs, each to the node of this function.
     fn switch(runs: &[(u16, u16)], to: impl Fn(usize, usize) -> u16) -> Kind {
-        let mut cases = vec![(Case::Symbol(7), 1)];
+        let mut cases = vec![(Case::Symbols(7, 7), 1)];
         for (first, (low, _)) in runs.iter().enumerate() {
             for (last, (_, high)) in runs.iter().enumerate().skip(first) {
                 cases.push((Case::Numbers(*low, *high), to(first, last)));
@@ -180,6 +180,18 @@ mod tests {
         let kind = switch(&RUNS[..2], |_, _| 2);
         let joined = "0..8 \n 9..20 \n neither \n span 0..20";
         assert_eq!(labels(&kind), [said(1, "#7"), said(1, "unknown"), said(2, joined)]);
+    }
+
+    #[test]
+    fn a_run_of_ids_is_its_ends() {
+        let cases = [(3, 3, 1), (4, 9, 3), (10, 10, 1), (12, 65535, 3)];
+        let cases = cases.map(|(low, high, to)| (Case::Symbols(low, high), to)).to_vec();
+        let kind = Kind::Switch { place: 0, neither: 2, unknown: 2, cases };
+        let said = |to, label: &str| (to, label.to_string());
+        let ids =
+            [said(1, "#3 \n #10"), said(2, "neither"), said(2, "unknown"), said(3, "#4..#9 \n #12..#65535")];
+        assert_eq!(labels(&kind), ids);
+        assert!(!has_spans(&kind));
     }
 
     #[test]

@@ -27,7 +27,7 @@ fn record(bytes: &[u8]) -> Option<(usize, usize)> {
         0x24 => 2,
         0x21 | 0x31 | 0x32 => 3,
         0x23 | 0x33 => 4,
-        0x22 | 0x34 => 5,
+        0x22 | 0x26 | 0x34 => 5,
         0x25 => 6,
         _ => return None,
     };
@@ -45,9 +45,8 @@ fn node(bytes: &[u8]) -> Option<usize> {
             let mut length = 9;
             for _ in 0..u16::from_be_bytes(*bytes.get(3..)?.first_chunk()?) {
                 length += match bytes.get(length)? {
-                    0x44 => 5,
+                    0x44 | 0x46 => 7,
                     0x45 => 6,
-                    0x46 => 7,
                     _ => return None,
                 };
             }
@@ -190,6 +189,22 @@ mod tests {
             "{:?}",
             sheet(&twelve)
         );
+    }
+
+    #[test]
+    fn series_are_found() {
+        let at = |start| Span::new(start, start + 5);
+        let low = [0x10, 1, 2, 0x26, 0, 5, 0, 5, 0x26, 0, 9, 0, 5];
+        assert_eq!(sheet(&low), (7, Where::Record { index: 1, rule: 2, at: at(8) }));
+        assert_eq!(sheet(&low[..12]), (4, Where::Rest(8)));
+        // Two cases of ids, of seven bytes each, that have 7 in common; a node before them.
+        let series = [0x10, 1, 1, 0x26, 0, 5, 0, 9];
+        let mut graph = vec![0x12, 1, 1, 0, 2, 0x40, 0x43, 0, 0, 0, 2, 0, 0, 0, 0];
+        graph.extend([0x44, 0, 5, 0, 7, 0, 0, 0x44, 0, 7, 0, 9, 0, 0]);
+        let refusal = check_graph(&series, &graph).expect_err("a refusal");
+        assert_eq!(refusal.number(), 24);
+        let node = Where::Record { index: 1, rule: 0, at: Span::new(6, 29) };
+        assert_eq!(in_graph(&series, &graph, refusal), node);
     }
 
     #[test]

@@ -101,7 +101,7 @@ struct Taken {
 /// Whether a case contains a term.
 fn contains(case: &Case, what: &What) -> bool {
     match (case, what) {
-        (Case::Symbol(id), What::Symbol(other)) => id == other,
+        (Case::Symbols(low, high), What::Symbol(id)) => low <= id && id <= high,
         (Case::Compound(id, arity), What::Compound(other, arguments)) => {
             id == other && usize::from(*arity) == arguments.len()
         }
@@ -115,7 +115,7 @@ fn contains(case: &Case, what: &What) -> bool {
 fn narrowness(case: &Case) -> (u16, Reverse<u16>) {
     match case {
         Case::Numbers(low, high) => (*low, Reverse(*high)),
-        Case::Symbol(_) | Case::Compound(..) => (0, Reverse(0)),
+        Case::Symbols(..) | Case::Compound(..) => (0, Reverse(0)),
     }
 }
 

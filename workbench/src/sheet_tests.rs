@@ -15,7 +15,8 @@ pub enum Test {
 /// What a rule wants at a place.
 #[derive(Clone, Copy, Debug, PartialEq, Eq)]
 pub enum Want {
-    Symbol(u16),
+    /// A symbol with an id from low to high.
+    Symbols(u16, u16),
     Compound(u16, u8),
     Numbers(u16, u16),
 }
@@ -48,10 +49,11 @@ impl Test {
 }
 
 impl Want {
-    /// What is wanted, in words: "is silver", "in 180..190".
+    /// What is wanted, in words: "is silver", "in #10..#99", "in 180..190".
     pub fn words(&self, names: &Names) -> String {
         match self {
-            Want::Symbol(id) => format!("is {}", names.show(*id)),
+            Want::Symbols(low, high) if low == high => format!("is {}", names.show(*low)),
+            Want::Symbols(low, high) => format!("in {}", names.series(*low, *high)),
             Want::Compound(id, arity) => format!("is {}/{arity}", names.show(*id)),
             Want::Numbers(low, high) if low == high => format!("is {low}"),
             Want::Numbers(low, high) => format!("in {low}..{high}"),
@@ -73,7 +75,8 @@ fn note(patterns: &[Pattern], path: &mut Vec<u8>, tests: &mut RuleTests, variabl
         if let Some(place) = places::place(path) {
             match &pattern.form {
                 Form::Anything => {}
-                Form::Symbol(id) => tests.wants.push((place, Want::Symbol(*id))),
+                Form::Symbol(id) => tests.wants.push((place, Want::Symbols(*id, *id))),
+                Form::Series(low, high) => tests.wants.push((place, Want::Symbols(*low, *high))),
                 Form::Range(low, high) => tests.wants.push((place, Want::Numbers(*low, *high))),
                 Form::Compound(id, arguments) => {
                     tests.wants.push((place, Want::Compound(*id, arguments.len() as u8)));

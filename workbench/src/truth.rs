@@ -63,7 +63,7 @@ pub fn wanted(piece: &Piece, place: u16, want: Want) -> Truth {
     };
     match (&term.what, want) {
         (What::Unknown, _) => Truth::NotKnown,
-        (What::Symbol(id), Want::Symbol(other)) => Truth::of(*id == other),
+        (What::Symbol(id), Want::Symbols(low, high)) => Truth::of(low <= *id && *id <= high),
         (What::Compound(id, arguments), Want::Compound(other, arity)) => {
             Truth::of(*id == other && arguments.len() == usize::from(arity))
         }
@@ -155,6 +155,21 @@ mod tests {
     }
 
     #[test]
+    fn a_series_is_tested_by_its_ends() {
+        let ids = [0, 1, 9, 10, 11, 65535];
+        for (id, (low, high)) in ids.into_iter().flat_map(|id| spans(12).map(move |series| (id, series))) {
+            let piece = read(format!("(#{id}, #{id}(?), {id})"));
+            let said = Truth::of((low..=high).contains(&id));
+            assert_eq!(wanted(&piece, 0, Want::Symbols(low, high)), said, "#{id} in #{low}..#{high}");
+            // Neither a compound nor a number is a symbol.
+            for place in [85, 170] {
+                assert_eq!(wanted(&piece, place, Want::Symbols(low, high)), Truth::Contradicted);
+            }
+        }
+        assert_eq!(wanted(&read("(?)".into()), 0, Want::Symbols(0, 65535)), Truth::NotKnown);
+    }
+
+    #[test]
     fn spans_are_compared_as_all_their_numbers_are() {
         for ((a, b), (c, d)) in spans(6).flat_map(|span| spans(6).map(move |other| (span, other))) {
             let numbers = (a..=b).flat_map(|m| (c..=d).map(move |n| m == n));
@@ -173,7 +188,7 @@ mod tests {
             [85, 170, 255, 340].map(|other| equal(&piece, 0, other)),
             [contradicted, contradicted, unknown, unknown]
         );
-        assert_eq!(wanted(&piece, 0, Want::Symbol(5)), contradicted);
+        assert_eq!(wanted(&piece, 0, Want::Symbols(5, 9)), contradicted);
         assert_eq!(wanted(&piece, 0, Want::Compound(5, 1)), contradicted);
         // Nothing is below a span.
         assert_eq!(wanted(&piece, 1, Want::Numbers(0, 9)), contradicted);

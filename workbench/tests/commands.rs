@@ -49,11 +49,11 @@ fn check_says_what_files_hold() {
     folder.write("tray.pieces", "(one, two)\n\n(?, one) -- the first reading is late\n");
     folder.says(&["build", "example.sheet", "-o", "graph.bin"]);
     let words = ["check", "--sheet", "example.sheet", "example.sheet", "tray.pieces", "graph.bin"];
-    let said = "example.sheet: sheet, 2 arguments, 2 rules, 3 tests; its graph has 7 nodes, 61 bytes\n\
-                tray.pieces: 2 pieces of 2 arguments\ngraph.bin: graph, 7 nodes, 61 bytes\n";
+    let said = "example.sheet: sheet, 2 arguments, 2 rules, 3 tests; its graph has 7 nodes, 67 bytes\n\
+                tray.pieces: 2 pieces of 2 arguments\ngraph.bin: graph, 7 nodes, 67 bytes\n";
     assert_eq!(folder.says(&words), said);
     let json = "[\n  {\n    \"file\": \"example.sheet\",\n    \"kind\": \"sheet\",\n    \"accepted\": true,\n    \
-                \"arity\": 2,\n    \"rules\": 2,\n    \"tests\": 3,\n    \"nodes\": 7,\n    \"bytes\": 61\n  }\n]\n";
+                \"arity\": 2,\n    \"rules\": 2,\n    \"tests\": 3,\n    \"nodes\": 7,\n    \"bytes\": 67\n  }\n]\n";
     assert_eq!(folder.says(&["check", "--json", "example.sheet"]), json);
 }
 
@@ -136,7 +136,7 @@ fn two_offices_have_one_tidy_sheet() {
 fn graphs_are_built_and_shown_in_words() {
     let folder = Folder::new("build");
     assert_eq!(folder.says(&["build", "example.sheet", "-o", "graph.bin"]), "");
-    assert_eq!(folder.read("graph.bin").len(), 61);
+    assert_eq!(folder.read("graph.bin").len(), 67);
     assert_eq!(folder.says(&["text", "graph.bin", "--sheet", "example.sheet"]), GRAPH);
     let plain = folder.says(&["text", "graph.bin"]);
     assert!(plain.starts_with("graph 2, 2 rules, 7 nodes\n0: argument 1\n   #1      -> 1\n"), "{plain}");
@@ -151,7 +151,7 @@ fn graphs_are_built_and_shown_in_words() {
 fn standard_input_is_read_as_text_or_bytes() {
     let folder = Folder::new("stdin");
     let ran = folder.run_with(&["check", "-"], common::EXAMPLE.as_bytes());
-    assert_eq!(ran.stdout, "-: sheet, 2 arguments, 2 rules, 3 tests; its graph has 7 nodes, 61 bytes\n");
+    assert_eq!(ran.stdout, "-: sheet, 2 arguments, 2 rules, 3 tests; its graph has 7 nodes, 67 bytes\n");
     let graph = folder.output(&["build", "example.sheet", "-o", "-"], b"").stdout;
     let ran = folder.run_with(&["text", "--bytes", "--sheet", "example.sheet", "-"], &graph);
     assert_eq!((ran.status, ran.stdout.as_str()), (0, GRAPH));

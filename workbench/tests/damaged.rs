@@ -91,7 +91,7 @@ fn bytes_taken_as_text_are_refused_or_read() {
 }
 
 /// Pieces of texts, of which odd ones are made.
-const CHIPS: [&str; 39] = [
+const CHIPS: [&str; 40] = [
     "order\n",
     "track\n",
     " at ",
@@ -113,6 +113,7 @@ const CHIPS: [&str; 39] = [
     "/",
     "#",
     "#17",
+    "#3..#9",
     "#99999",
     "--",
     "\n",

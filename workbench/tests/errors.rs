@@ -36,8 +36,8 @@ fn refusals_of_bytes_name_the_byte() {
     );
     refused(
         "c.bin",
-        &[0x10, 1, 1, 0x26],
-        ": refused 4: Is it a whole record of kinds 20 to 25?\n  byte 3: 26\n",
+        &[0x10, 1, 1, 0x27],
+        ": refused 4: Is it a whole record of kinds 20 to 26?\n  byte 3: 27\n",
     );
     refused("d.bin", &[0x10, 1, 0, 0x20, 0x20], ": refused 10: Are no bytes left?\n  byte 3: 20 20\n");
     refused(
@@ -72,6 +72,25 @@ fn refusals_of_spans_name_the_byte() {
         "l.bin",
         &[0x11, 2, 0x30, 0x34, 0, 239, 0],
         ", piece 1: refused 14: Is each term a whole record of kinds 30 to 34?\n  byte 3: 34 00 ef 00\n",
+    );
+}
+
+#[test]
+fn refusals_of_series_name_the_byte() {
+    let folder = Folder::new("series-byte");
+    let refused = |name: &str, bytes: &[u8], said: &str| {
+        folder.write(name, bytes);
+        folder.complains(&["check", "--sheet", "example.sheet", name], 1, &format!("{name}{said}"));
+    };
+    refused(
+        "m.bin",
+        &[0x10, 1, 2, 0x26, 0, 5, 0, 5, 0x26, 0, 9, 0, 5],
+        ": refused 7: Is low at most high?\n  byte 8, rule 2: 26 00 09 00 05\n",
+    );
+    refused(
+        "n.bin",
+        &[0x10, 1, 1, 0x26, 0, 9, 0],
+        ": refused 4: Is it a whole record of kinds 20 to 26?\n  byte 3: 26 00 09 00\n",
     );
 }
 

@@ -11,18 +11,25 @@ use voltunnis_generate::random::Random;
 use voltunnis_generate::sheets::sheet;
 use voltunnis_generate::stock::Stock;
 use voltunnis_generate::trees::{piece_bytes, SheetTree};
-use voltunnis_workbench::notation::{Graph, Piece, Sheet};
-use voltunnis_workbench::retrace::retrace;
+use voltunnis_workbench::notation::{Case, Graph, Kind, Piece, Sheet};
+use voltunnis_workbench::retrace::{retrace, Step};
 use voltunnis_workbench::sheet_tests::SheetTests;
 
 /// How often each answer's word was met, and the refusals 26 and 27; steps at which several cases contain what stands
-/// there, and steps of suspended pieces at which a span lies partly inside a range.
+/// there, steps of suspended pieces at which a span lies partly inside a range, and steps by a run of several ids.
 #[derive(Debug, Default)]
 struct Met {
     words: [usize; 5],
     refusals: [usize; 28],
     chosen: usize,
     partly: usize,
+    runs: usize,
+}
+
+/// Whether a step goes by a case of several ids.
+fn takes_run(graph: &Graph, step: &Step) -> bool {
+    let Kind::Switch { cases, .. } = &graph.nodes[usize::from(step.node)].kind else { return false };
+    matches!(cases.get(step.edge), Some((Case::Symbols(low, high), _)) if low < high)
 }
 
 /// Retraces the walks of some pieces over a graph that the library accepts.
@@ -48,6 +55,7 @@ fn retraced(random: &mut Random, tree: &SheetTree, graph: &[u8], met: &mut Met) 
             Err(number) => met.refusals[usize::from(number)] += 1,
         }
         met.chosen += way.steps.iter().filter(|step| step.contain > 1).count();
+        met.runs += way.steps.iter().filter(|step| takes_run(&nodes, step)).count();
     }
 }
 
@@ -72,5 +80,5 @@ fn retraced_walks_come_to_the_librarys_answer() {
     println!("{met:?}");
     assert!(met.words[1..].iter().all(|count| *count > 500), "{met:?}");
     assert!(met.refusals[26] > 20 && met.refusals[27] > 20, "{met:?}");
-    assert!(met.chosen > 500 && met.partly > 100, "{met:?}");
+    assert!(met.chosen > 500 && met.partly > 100 && met.runs > 500, "{met:?}");
 }

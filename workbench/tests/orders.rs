@@ -23,7 +23,7 @@ fn check_says_what_an_order_is() {
     let alone = "track.order: order, all places once, each after its parent\n";
     assert_eq!(folder.says(&["check", "track.order"]), alone);
     let with =
-        "track.order: order, example.sheet asks argument 2; argument 1; its graph has 7 nodes, 61 bytes\n";
+        "track.order: order, example.sheet asks argument 2; argument 1; its graph has 7 nodes, 67 bytes\n";
     assert_eq!(folder.says(&["check", "--sheet", "example.sheet", "track.order"]), with);
     let json = folder.says(&["check", "--json", "--sheet", "example.sheet", "track.order"]);
     assert!(json.contains("\"asks\": [\"argument 2\", \"argument 1\"],\n    \"nodes\": 7"), "{json}");

@@ -126,6 +126,25 @@ fn overlapping_cases_are_summed_up() {
     assert!(texts(&drawn(dot.as_bytes())).contains(&"span: a number between two".to_string()));
 }
 
+/// A run of ids is its two ends, a run of one id that id.
+#[test]
+fn runs_of_ids_stand_at_the_edges() {
+    let folder = Folder::new("series-picture");
+    folder.write("arcade.sheet", include_str!("../examples/arcade.sheet"));
+    let dot = folder.says(&["draw", "arcade.sheet"]);
+    let edges: Vec<&str> = dot.lines().filter(|line| line.starts_with("  n0 -> ")).collect();
+    let label =
+        |text: &str| edges.iter().filter(|edge| edge.contains(&format!("label=\" {text} \""))).count();
+    for text in ["#1000..#1499", "#1500..#1776 \\n #1778..#1999", "jubilee", "neither", "unknown"] {
+        assert_eq!(label(text), 1, "{text}: {edges:#?}");
+    }
+    assert_eq!(edges.len(), 5, "{edges:#?}");
+    assert!(texts(&drawn(dot.as_bytes())).contains(&"#1000..#1499".to_string()));
+    folder.says(&["explain", "arcade.sheet", "(#1800, ?)", "-o", "walk.dot"]);
+    let walk = String::from_utf8(folder.read("walk.dot")).expect("text");
+    assert!(walk.contains("label=\" 1: #1778..#1999 \""), "{walk}");
+}
+
 #[test]
 fn the_way_of_a_span_is_marked() {
     let folder = Folder::new("span-marked");

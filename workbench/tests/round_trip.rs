@@ -48,13 +48,15 @@ fn graph_again(bytes: &[u8]) {
 #[test]
 fn accepted_sheets_come_back_as_they_were() {
     let mut random = Random::new(0x7368_6565);
-    let mut accepted = 0;
+    let (mut accepted, mut series) = (0, 0);
     while accepted < ROUNDS {
         let tree = if random.percent(5) { crowded(&mut random) } else { sheet(&mut random) };
         let bytes = tree.bytes();
         accepted += usize::from(voltunnis::check_sheet(&bytes).is_ok());
         sheet_again(&bytes);
+        series += usize::from(print_sheet(&bytes).is_ok_and(|text| text.contains("..#")));
     }
+    assert!(series > ROUNDS / 10, "{series} sheets with series");
 }
 
 /// The variables of a tidy sheet are numbered by first appearance, so all are printed by letters.
@@ -105,6 +107,23 @@ fn spans_come_back_as_they_were() {
     assert_eq!(spaced.bytes(), [0x11, 1, 0x34, 0, 231, 0, 239]);
 }
 
+/// Series of all sorts: of one symbol, which stays a series, and with low above high, which is refused.
+#[test]
+fn series_come_back_as_they_were() {
+    let ends = [0, 1, 9, 10, 255, 256, 65534, 65535];
+    for (low, high) in ends.into_iter().flat_map(|low| ends.map(|high| (low, high))) {
+        let series = [&[0x26][..], &u16::to_be_bytes(low), &u16::to_be_bytes(high)].concat();
+        let bytes = [&[0x10, 2, 1][..], &series, &[0x23, 0, 1, 2, 0x21, 0, 7], &series].concat();
+        let text = format!("sheet 2\n1: (#{low}..#{high}, #1(#7, #{low}..#{high}))\n");
+        assert_eq!(print_sheet(&bytes), Ok(text));
+        sheet_again(&bytes);
+        let case = [&[0x44][..], &series[1..], &[0, 0]].concat();
+        graph_again(&[&[0x12, 1, 1, 0, 1, 0x43, 0, 0, 0, 1, 0, 0, 0, 0][..], &case].concat());
+    }
+    let spaced = parse_sheet("sheet 1\nname red = 3\n1: ( red .. #9 )\n").expect("a sheet");
+    assert_eq!(spaced.sheet.bytes(), [0x10, 1, 1, 0x26, 0, 3, 0, 9]);
+}
+
 #[test]
 fn graphs_come_back_as_they_were() {
     let mut random = Random::new(0x6772_6170);
@@ -146,9 +165,9 @@ fn odd_names_come_back_as_they_were() {
     let rules: String = words
         .iter()
         .enumerate()
-        .map(|(at, word)| format!("{}: ({word}, {word}({word}, X), X)\n", at + 1))
+        .map(|(at, word)| format!("{}: ({word}, {word}({word}, X), X, {word}..part)\n", at + 1))
         .collect();
-    let text = format!("sheet 3\n{declared}{rules}");
+    let text = format!("sheet 4\n{declared}{rules}");
     let SheetText { sheet, names } = parse_sheet(&text).expect("a sheet");
     let printed = sheet.print(&names);
     let again = parse_sheet(&printed).unwrap_or_else(|fault| panic!("{}", fault.show("printed", &printed)));

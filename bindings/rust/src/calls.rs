@@ -96,7 +96,7 @@ pub fn plain(sheet: &[u8], piece: &[u8]) -> Result<Plain, Refusal> {
 /// # let sheet = [0x10, 2, 2, 0x24, 0, 0x24, 0, 0x21, 0, 1, 0x21, 0, 2];
 /// let graph = voltunnis::graph(&sheet)?;
 /// assert_eq!(voltunnis::check_graph(&sheet, &graph)?.nodes, 7);
-/// let cut = voltunnis::check_graph(&sheet, &graph[..60]);
+/// let cut = voltunnis::check_graph(&sheet, &graph[..66]);
 /// assert_eq!(cut.unwrap_err().number(), 22);
 /// # Ok::<(), voltunnis::Refusal>(())
 /// ```
@@ -141,8 +141,8 @@ pub fn rewrite(sheet: &[u8], graph: &[u8], buffer: &mut [u8]) -> Result<Written,
 /// # let sheet = [0x10, 2, 2, 0x24, 0, 0x24, 0, 0x21, 0, 1, 0x21, 0, 2];
 /// let mut buffer = [0; 100];
 /// let built = voltunnis::build(&sheet, &mut buffer)?;
-/// assert_eq!((built.nodes, built.bytes), (7, 61));
-/// assert_eq!(voltunnis::build(&sheet, &mut buffer[..60]).unwrap_err().number(), 19);
+/// assert_eq!((built.nodes, built.bytes), (7, 67));
+/// assert_eq!(voltunnis::build(&sheet, &mut buffer[..66]).unwrap_err().number(), 19);
 /// # Ok::<(), voltunnis::Refusal>(())
 /// ```
 #[inline]
@@ -223,7 +223,7 @@ pub fn wait(sheet: &[u8], graph: &[u8], piece: &[u8]) -> u64 {
 /// let sheet = [0x10, 2, 2, 0x24, 0, 0x24, 0, 0x21, 0, 1, 0x21, 0, 2];
 /// let graph = voltunnis::graph(&sheet)?;
 /// assert_eq!(graph[..5], [0x12, 2, 2, 0, 7]);
-/// assert_eq!(graph.len(), 61);
+/// assert_eq!(graph.len(), 67);
 /// # Ok::<(), voltunnis::Refusal>(())
 /// ```
 #[inline]
@@ -238,6 +238,8 @@ pub fn graph(sheet: &[u8]) -> Result<Vec<u8>, Refusal> {
 /// let one = [0x10, 2, 1, 0x24, 0, 0x25, 0, 0, 1, 0, 9];
 /// let other = [0x10, 2, 1, 0x25, 7, 0, 1, 0, 9, 0x24, 7];
 /// assert_eq!(voltunnis::tidy_sheet(&one)?, voltunnis::tidy_sheet(&other)?);
+/// // The series of the symbols 7 to 7 is the symbol 7.
+/// assert_eq!(voltunnis::tidy_sheet(&[0x10, 1, 1, 0x26, 0, 7, 0, 7])?, [0x10, 1, 1, 0x21, 0, 7]);
 /// # Ok::<(), voltunnis::Refusal>(())
 /// ```
 #[inline]

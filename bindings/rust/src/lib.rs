@@ -17,6 +17,19 @@
 //! # Ok::<(), voltunnis::Refusal>(())
 //! ```
 //!
+//! A rule may want any symbol of a series, record 26: the ids from low to high.
+//!
+//! ```
+//! use voltunnis::{plain, Word};
+//!
+//! // The tokens 1000 to 1499, or 1500 to 1999.
+//! let sheet = [0x10, 1, 2, 0x26, 3, 232, 5, 219, 0x26, 5, 220, 7, 207];
+//! // The token 1777.
+//! let answer = plain(&sheet, &[0x11, 1, 0x31, 6, 241])?;
+//! assert_eq!((answer.word, answer.rule), (Word::Commit, 2));
+//! # Ok::<(), voltunnis::Refusal>(())
+//! ```
+//!
 //! A reading may also be a span, record 34: a number known to lie between two. The gate can move before the exact
 //! number comes.
 //!

@@ -4,7 +4,7 @@ use mathlib.Core.List.{List, [], _∷_}
 use native.Mathlib.Omega.{arith}
 use Rattle.records.specs.Fields.{wideThen, AreBytes}
 use Rattle.basics.specs.Lists.{All}
-use Rattle.terms.specs.Pattern.{Pattern, Patterns, countPatterns, anything, theSymbol, theRange, theCompound, variable, rangedVariable, pnil, pcons}
+use Rattle.terms.specs.Pattern.{Pattern, Patterns, countPatterns, anything, theSymbol, theSeries, theRange, theCompound, variable, rangedVariable, pnil, pcons}
 use Rattle.terms.specs.Accepted.{Sound, Sounds, AcceptedRule}
 use Rattle.sheet.specs.Sheet.{Sheet, SoundSheet}
 use Rattle.sheet.specs.WriteSheet.{patternBytes, patternsBytes, rulesBytes, sheetBytes}
@@ -14,6 +14,7 @@ mutual
   pattern-bytes : (p : Pattern) (r : ℕ) → Sound p r → AreBytes (patternBytes p)
   pattern-bytes anything r h = (omega arith, tt)
   pattern-bytes (theSymbol a) r h = (omega arith, wide-bytes a [] tt)
+  pattern-bytes (theSeries l u) r h = (omega arith, wide-bytes l (wideThen u []) (wide-bytes u [] tt))
   pattern-bytes (theRange l u) r h = (omega arith, wide-bytes l (wideThen u []) (wide-bytes u [] tt))
   pattern-bytes (theCompound a ps) r h = (
     omega arith,

@@ -8,7 +8,7 @@ use Rattle.terms.specs.Term.{Terms, count, symbol, compound, Wide}
 use Rattle.terms.specs.RuleTests.{Want, aSymbol, aNumber, aCompound}
 use Rattle.terms.specs.Outcome.{known, fits}
 use Rattle.basics.proofs.Booleans.{both-true, true-both, same-truth}
-use Rattle.basics.proofs.Numbers.{eq-true}
+use Rattle.basics.proofs.Numbers.{eq-true, both-le}
 use Rattle.codes.specs.views.Codes.{symbolCode, compoundCode, numberCode, wantLow, wantHigh}
 
 -- A run holds a code exactly where b is true.
@@ -28,9 +28,9 @@ under low high code h = within false low high code (λ f. absurd f) (λ l u. abs
 pub over : (low high code : ℕ) → high < code → leb low code && leb code high ≡ false
 over low high code h = within false low high code (λ f. absurd f) (λ l u. absurd (omega arith))
 
--- The id and the arity of a want, and the low of its range, fit a record.
+-- The ids of a series, the id and the arity of a compound, and the low of a range fit a record.
 abbrev pub WantFields : Want → Type 0
-WantFields (aSymbol a) = Wide a
+WantFields (aSymbol l h) = Wide l × Wide h
 WantFields (aNumber l h) = Wide l
 WantFields (aCompound a n) = Wide a × (n < 256)
 
@@ -38,10 +38,11 @@ WantFields (aCompound a n) = Wide a × (n < 256)
 pub symbol-fits
     : (w : Want) (b : ℕ) → WantFields w → Wide b
     → known (leb (wantLow w) (symbolCode b) && leb (symbolCode b) (wantHigh w)) ≡ fits w (symbol b)
-symbol-fits (aSymbol a) b f ok =
+symbol-fits (aSymbol l h) b f ok =
     ap known
-    (within (eqb a b) (symbolCode a) (symbolCode a) (symbolCode b)
-    (λ t. let same = eqb→eq a b t in (omega arith, omega arith)) (λ l u. eq-true a b (omega arith)))
+    (within (leb l b && leb b h) (symbolCode l) (symbolCode h) (symbolCode b)
+    (λ t. let s = both-le l b b h .0 t in (omega (arith, s .0), omega (arith, s .1)))
+    (λ low high. both-le l b b h .1 (omega arith, omega arith)))
 symbol-fits (aNumber l h) b f ok = ap known (under (numberCode l) (numberCode h) (symbolCode b) (omega arith))
 symbol-fits (aCompound a n) b f ok = ap known (under (compoundCode a n) (compoundCode a n) (symbolCode b) (omega arith))
 
@@ -50,8 +51,8 @@ pub compound-fits
     : (w : Want) (b : ℕ) (ts : Terms) → WantFields w → Wide b → count ts ≤ 4
     → known (leb (wantLow w) (compoundCode b (count ts)) && leb (compoundCode b (count ts)) (wantHigh w))
     ≡ fits w (compound b ts)
-compound-fits (aSymbol a) b ts f ok few =
-    ap known (over (symbolCode a) (symbolCode a) (compoundCode b (count ts)) (omega arith))
+compound-fits (aSymbol l h) b ts f ok few =
+    ap known (over (symbolCode l) (symbolCode h) (compoundCode b (count ts)) (omega arith))
 compound-fits (aNumber l h) b ts f ok few =
     ap known (under (numberCode l) (numberCode h) (compoundCode b (count ts)) (omega arith))
 compound-fits (aCompound a n) b ts f ok few =

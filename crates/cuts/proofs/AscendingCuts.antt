@@ -62,7 +62,7 @@ abbrev Coded : ℕ → Type 0
 Coded c = (0 < c) × (c < 0x400_0001)
 
 want-coded : (w : Want) → SoundWant w → Coded (wantLow w) × Coded (suc (wantHigh w))
-want-coded (aSymbol a) s = ((omega arith, omega arith), (omega arith, omega arith))
+want-coded (aSymbol l h) s = ((omega arith, omega (arith, s .0, s .1)), (omega arith, omega (arith, s .1)))
 want-coded (aNumber l h) s = ((omega arith, omega (arith, s .0, s .1)), (omega arith, omega (arith, s .1)))
 want-coded (aCompound a n) s = ((omega arith, omega (arith, s .0, s .1)), (omega arith, omega (arith, s .0, s .1)))
 

@@ -7,7 +7,7 @@ use borrow.Author.Tests.{lt-ltb, le-ltb}
 use Rattle.basics.specs.Lists.{All}
 use Rattle.basics.proofs.ListLaws.{all-map}
 use Rattle.terms.specs.RuleTests.{Want}
-use Rattle.decision.specs.Cases.{Case, symbolCase, compoundCase, numbersCase, casesOf}
+use Rattle.decision.specs.Cases.{Case, symbolsCase, compoundCase, numbersCase, casesOf}
 use Rattle.decision.specs.AcceptedGraph.{CaseFields}
 use Rattle.decision.proofs.cases.CasesAccepted.{cases-fields}
 use Rattle.codes.specs.views.Codes.{SoundWant, symbolCode, compoundCode, numberCode}
@@ -15,9 +15,10 @@ use Rattle.decision.specs.views.CaseCodes.{caseLow, caseHigh}
 use Rattle.cuts.specs.views.Runs.{runCase}
 
 case-told : (c : Case) → CaseFields c → runCase (caseLow c) (caseHigh c) ≡ c
-case-told (symbolCase a) f =
-    let e : symbolCode a % 0x1_0000 ≡ a = omega arith in
-    rw (lt-ltb (symbolCode a) 0x200_0000 (omega arith), e)
+case-told (symbolsCase l h) f =
+    let d : symbolCode l % 0x1_0000 ≡ l = omega (arith, f .0) in
+    let e : symbolCode h % 0x1_0000 ≡ h = omega (arith, f .1) in
+    rw (lt-ltb (symbolCode l) 0x200_0000 (omega (arith, f .0)), d, e)
 case-told (compoundCase a n) f =
     let code = compoundCode a n in
     let d : code / 256 % 0x1_0000 ≡ a = omega (arith, f .0, f .1) in

@@ -17,11 +17,12 @@ use Rattle.decision.specs.Cases.{Case, rangesOf}
 use Rattle.decision.specs.Edges.{liveWants}
 use Rattle.decision.specs.Rules.{wantAt}
 use Rattle.decision.proofs.cases.CaseList.{nameCases, names-all}
+use Rattle.decision.proofs.cases.IdRuns.{id-runs-inside}
 use Rattle.cuts.specs.views.Runs.{Run}
-use Rattle.cuts.specs.views.FramedRuns.{framedRuns, isPoint}
+use Rattle.cuts.specs.views.FramedRuns.{framedRuns, isNameRun}
 use Rattle.cuts.specs.views.CutsOf.{cutsTo, caseRun}
 use Rattle.cuts.proofs.FramedNumbers.{numberFrames, numberRun, numbers-are}
-use Rattle.cuts.proofs.FramedSwitch.{allSound, sets, base, points, none-first, framed-switch}
+use Rattle.cuts.proofs.FramedSwitch.{allSound, sets, base, names, none-first, framed-switch}
 use Rattle.cuts.proofs.RunningSets.{setRuns}
 use Rattle.cuts.proofs.SwitchCases.{names-are}
 
@@ -38,17 +39,17 @@ module _ (rules : List Patterns) (n live : ℕ) (fits : live < 2 ^ length rules)
   abbrev asRun : Range → Run
   asRun = numberRun rules n live
 
-  pub runs-of-numbers : (rs : List Range) → All (λ (r : Run). isPoint base r ≡ false) (map asRun rs)
+  pub runs-of-numbers : (rs : List Range) → All (λ (r : Run). isNameRun base r ≡ false) (map asRun rs)
   runs-of-numbers rs =
-      mapped-always (λ (r : Run). isPoint base r ≡ false) asRun (λ r. le-ltb (numberCode (r .low)) base (omega arith)) rs
+      mapped-always (λ (r : Run). isNameRun base r ≡ false) asRun (λ r. le-ltb (numberCode (r .low)) base (omega arith)) rs
 
-  pub runs-of-points : All (λ (r : Run). isPoint base r ≡ true) (map (caseRun rules n live) (nameCases wants))
-  runs-of-points =
+  pub runs-of-names : All (λ (r : Run). isNameRun base r ≡ true) (map (caseRun rules n live) (nameCases wants))
+  runs-of-names =
       let known = allSound rules n live fits sound in
-      let Point : Run → Type 0 = λ r. isPoint base r ≡ true in
-      all-mapped Point (caseRun rules n live) (nameCases wants)
-      (names-all wants (λ (c : Case). Point (caseRun rules n live c))
-      (λ a m. let s = all-at SoundWant m known in lt-ltb (symbolCode a) base (omega arith))
+      let Name : Run → Type 0 = λ r. isNameRun base r ≡ true in
+      all-mapped Name (caseRun rules n live) (nameCases wants)
+      (names-all wants (λ (c : Case). Name (caseRun rules n live c))
+      (λ r m. let k = id-runs-inside wants known r m in lt-ltb (symbolCode (r .low)) base (omega (arith, k .1, k .2)))
       (λ a j m. let s = all-at SoundWant m known in lt-ltb (compoundCode a j) base (omega (arith, s .0, s .1))))
 
   -- The runs are those of the cases for symbols and compounds, then all numbers in runs where a live rule has a range, each with
@@ -57,6 +58,6 @@ module _ (rules : List Patterns) (n live : ℕ) (fits : live < 2 ^ length rules)
       ≡ map (caseRun rules n live) (nameCases wants) ++ map asRun (numberFrames (rangesOf wants))
   runs-are-framed =
       let first =
-      quiet-first (sets rules n live fits sound) (points rules n live fits sound) (none-first rules n live fits sound)
+      quiet-first (sets rules n live fits sound) (names rules n live fits sound) (none-first rules n live fits sound)
       ∙ names-are rules n live fits sound in
       framed-switch rules n live fits sound ∙ (λ i. first i ++ numbers-are rules n live fits sound i)

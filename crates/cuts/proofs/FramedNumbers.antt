@@ -35,7 +35,7 @@ use Rattle.cuts.specs.views.Runs.{Run}
 use Rattle.cuts.specs.views.CutsOf.{takesFor, caseRun}
 use Rattle.cuts.proofs.Framing.{framedNumbers}
 use Rattle.cuts.proofs.FramedSwitch.{sets, base, top, numbers}
-use Rattle.cuts.proofs.PointCodes.{codeRange, insert-code, between-codes}
+use Rattle.cuts.proofs.NameCodes.{codeRange, insert-code, between-codes}
 use Rattle.cuts.proofs.RunningSets.{runOf}
 use Rattle.cuts.proofs.SwitchCases.{holdsAt, map-same}
 
@@ -79,7 +79,7 @@ module _ (rules : List Patterns) (n live : ℕ) (fits : live < 2 ^ length rules)
       go : (i : ℕ) → i < length rules → has live i ≡ true → (x : Option Want) → wantAt rules i n ≡ x
           → holdsAt rules n live fits sound z x ≡ takesFor rules n (numbersIn r) x
       go i l y none e = refl
-      go i l y (some (aSymbol a)) e = let s = sound i (aSymbol a) e in apart (aSymbol a) (omega arith)
+      go i l y (some (aSymbol a b)) e = let s = sound i (aSymbol a b) e in apart (aSymbol a b) (omega (arith, s .1))
       go i l y (some (aCompound a j)) e = let s = sound i (aCompound a j) e in apart (aCompound a j) (omega (arith, s .0, s .1))
       go i l y (some (aNumber a b)) e =
           let w : Range = record { low = a; high = b } in

@@ -13,7 +13,7 @@ use Rattle.basics.proofs.Counting.{count-length}
 use Rattle.basics.proofs.Filters.{filter-length, filter-join}
 use Rattle.cuts.specs.views.Cuts.{Cut, cutAt}
 use Rattle.cuts.specs.views.Runs.{Run, runAt, runsIn, withRun}
-use Rattle.cuts.specs.views.FramedRuns.{framedRun, framedFrom, isPoint, pointRuns}
+use Rattle.cuts.specs.views.FramedRuns.{framedRun, framedFrom, isNameRun, nameRuns}
 use Rattle.cuts.proofs.Cutting.{cutsFrom, cuts-next, cuts-done, run-more, with-length}
 
 -- A run that is over, as a list of one or none.
@@ -37,56 +37,56 @@ module _ (base start next set : ℕ) where
 
   -- What is said of the runs that are written, and of those of them below the base: one more run at most.
   abbrev pub Ended : List ℕ → ℕ → ℕ → List ℕ → ℕ → ℕ → Type 0
-  Ended runs n points after m more =
+  Ended runs n names after m more =
       (runsIn after m ≡ runsIn runs n ++ framedRun base start next set [])
-      × (more ≡ points + length (pointRuns base (framedRun base start next set [])))
+      × (more ≡ names + length (nameRuns base (framedRun base start next set [])))
       × (m ≤ n + 1) × (length after ≡ 390)
 
-  module _ (runs : List ℕ) (n points : ℕ) (size : length runs ≡ 390) where
-    pub ended-none : framedRun base start next set [] ≡ [] → Ended runs n points runs n points
+  module _ (runs : List ℕ) (n names : ℕ) (size : length runs ≡ 390) where
+    pub ended-none : framedRun base start next set [] ≡ [] → Ended runs n names runs n names
     ended-none e = (
       sym (append-nil (runsIn runs n)) ∙ ap (λ (l : List Run). runsIn runs n ++ l) (sym e),
-      (let same : points ≡ points + 0 = omega arith in same)
-          ∙ ap (λ (l : List Run). points + length (pointRuns base l)) (sym e),
+      (let same : names ≡ names + 0 = omega arith in same)
+          ∙ ap (λ (l : List Run). names + length (nameRuns base l)) (sym e),
       omega arith,
       size,
     )
 
     pub ended-one
         : (more : ℕ) (r : Run) (after : List ℕ) → framedRun base start next set [] ≡ r ∷ [] → n < 130
-        → after ≡ withRun runs n r → more ≡ points + length (pointRuns base (r ∷ [])) → Ended runs n points after (n + 1) more
+        → after ≡ withRun runs n r → more ≡ names + length (nameRuns base (r ∷ [])) → Ended runs n names after (n + 1) more
     ended-one more r after e room written f = (
       ap (λ (l : List ℕ). runsIn l (n + 1)) written
           ∙ run-more runs n r (omega (arith, size))
           ∙ ap (λ (l : List Run). runsIn runs n ++ l) (sym e),
-      f ∙ ap (λ (l : List Run). points + length (pointRuns base l)) (sym e),
+      f ∙ ap (λ (l : List Run). names + length (nameRuns base l)) (sym e),
       omega arith,
       ap (λ (l : List ℕ). length l) written ∙ with-length runs n r ∙ size,
     )
 
 -- One run is below the base, or it is not.
-pub point-one : (base : ℕ) (r : Run) → r .low < base → length (pointRuns base (r ∷ [])) ≡ 1
-point-one base r h = rw (lt-ltb (r .low) base h)
+pub name-one : (base : ℕ) (r : Run) → r .low < base → length (nameRuns base (r ∷ [])) ≡ 1
+name-one base r h = rw (lt-ltb (r .low) base h)
 
-pub point-none : (base : ℕ) (r : Run) → base ≤ r .low → length (pointRuns base (r ∷ [])) ≡ 0
-point-none base r h = rw (le-ltb (r .low) base h)
+pub name-none : (base : ℕ) (r : Run) → base ≤ r .low → length (nameRuns base (r ∷ [])) ≡ 0
+name-none base r h = rw (le-ltb (r .low) base h)
 
 -- Runs are counted as they are written,
 pub runs-length : (runs : List ℕ) (n : ℕ) → length (runsIn runs n) ≡ n
 runs-length runs n = length-map (countFrom 0 n) (runAt runs) ∙ count-length 0 n
 
 -- and those below the base with them: they are no more.
-pub points-few : (base : ℕ) (runs : List ℕ) (n : ℕ) → length (pointRuns base (runsIn runs n)) ≤ n
-points-few base runs n = omega (arith, filter-length (isPoint base) (runsIn runs n), runs-length runs n)
+pub names-few : (base : ℕ) (runs : List ℕ) (n : ℕ) → length (nameRuns base (runsIn runs n)) ≤ n
+names-few base runs n = omega (arith, filter-length (isNameRun base) (runsIn runs n), runs-length runs n)
 
-pub points-more : (base points more : ℕ) (written all rs : List Run) → points ≡ length (pointRuns base written)
-    → more ≡ points + length (pointRuns base rs) → all ≡ written ++ rs → more ≡ length (pointRuns base all)
-points-more base points more written all rs e f g =
-    let both = length-append (pointRuns base written) (pointRuns base rs) in
-    let whole : length (pointRuns base written ++ pointRuns base rs) ≡ more = omega arith in
+pub names-more : (base names more : ℕ) (written all rs : List Run) → names ≡ length (nameRuns base written)
+    → more ≡ names + length (nameRuns base rs) → all ≡ written ++ rs → more ≡ length (nameRuns base all)
+names-more base names more written all rs e f g =
+    let both = length-append (nameRuns base written) (nameRuns base rs) in
+    let whole : length (nameRuns base written ++ nameRuns base rs) ≡ more = omega arith in
     sym whole
-    ∙ ap (λ (l : List Run). length l) (sym (filter-join (isPoint base) written rs))
-    ∙ ap (λ (l : List Run). length (pointRuns base l)) (sym g)
+    ∙ ap (λ (l : List Run). length l) (sym (filter-join (isNameRun base) written rs))
+    ∙ ap (λ (l : List Run). length (nameRuns base l)) (sym g)
 
 -- What comes behind a run that is over.
 run-join : (base start next set : ℕ) (rest : List Run)

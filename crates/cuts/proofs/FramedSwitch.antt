@@ -30,7 +30,7 @@ use Rattle.cuts.proofs.AscendingCuts.{cuts-ascend}
 use Rattle.cuts.proofs.CodeRanges.{wantRange}
 use Rattle.cuts.proofs.Framing.{framedCodes, framedNumbers, NumberCodes, framed-codes, framed-parted}
 use Rattle.cuts.proofs.ListedWants.{wants-sound}
-use Rattle.cuts.proofs.PointCodes.{pointWants, Below, points-below, cuts-parted}
+use Rattle.cuts.proofs.NameCodes.{nameWants, Below, name-cuts-below, cuts-parted}
 use Rattle.cuts.proofs.RunningSets.{setRuns, Follows, running-follows}
 use Rattle.cuts.proofs.SwitchCases.{wantersAt, running-wanted, none-want}
 use Rattle.cuts.proofs.TurningCuts.{turning-is}
@@ -57,8 +57,8 @@ module _ (rules : List Patterns) (n live : ℕ) (fits : live < 2 ^ length rules)
   sets = wantersAt rules n live fits sound
 
   -- The codes at which what live rules want is cut: below the numbers, and in them.
-  abbrev pub points : List ℕ
-  points = rangeCuts (map wantRange (pointWants wants))
+  abbrev pub names : List ℕ
+  names = rangeCuts (map wantRange (nameWants wants))
 
   abbrev pub numbers : List ℕ
   numbers = map numberCode (rangeCuts (rangesOf wants))
@@ -71,7 +71,7 @@ module _ (rules : List Patterns) (n live : ℕ) (fits : live < 2 ^ length rules)
   range-want : (z : ℕ) → base ≤ z
       → ((l h : ℕ) → Mem (aNumber l h) wants → numberCode l ≤ z → z ≤ numberCode h → ⊥)
       → (w : Want) → Mem w wants → Contains (wantRange w) z → ⊥
-  range-want z o f (aSymbol a) m k = let s = all-at SoundWant m allSound in omega (arith, k .1)
+  range-want z o f (aSymbol l h) m k = let s = all-at SoundWant m allSound in omega (arith, s .1, k .1)
   range-want z o f (aNumber l h) m k = f l h m (k .0) (k .1)
   range-want z o f (aCompound a j) m k = let s = all-at SoundWant m allSound in omega (arith, s .0, s .1, k .1)
 
@@ -98,41 +98,41 @@ module _ (rules : List Patterns) (n live : ℕ) (fits : live < 2 ^ length rules)
       }
 
   -- Behind the codes of symbols and compounds, and before them, no live rule wants what is below the numbers.
-  quiet-points : (y : ℕ) → y < base → All (λ (z : ℕ). z ≤ y) (0 ∷ points) → sets y ≡ 0
-  quiet-points y below all = none-want rules n live fits sound y go
+  quiet-names : (y : ℕ) → y < base → All (λ (z : ℕ). z ≤ y) (0 ∷ names) → sets y ≡ 0
+  quiet-names y below all = none-want rules n live fits sound y go
     where
-      point : (w : Want) → Mem w wants → suc (wantHigh w) < base → Contains (wantRange w) y → ⊥
-      point w m h k =
+      name : (w : Want) → Mem w wants → suc (wantHigh w) < base → Contains (wantRange w) y → ⊥
+      name w m h k =
           let cut = subst (λ (l : List ℕ). Mem (suc (wantHigh w)) l) (cuts-parted wants allSound)
           (ranges.wanted-cut (mem-map wantRange m) (suc (wantHigh w)) (inr refl)) in
-          elim (mem-join points numbers cut) [
+          elim (mem-join names numbers cut) [
             | inl p ↦ (let b = all-at (λ (z : ℕ). z ≤ y) p (all .1) in omega (arith, k .1))
             | inr p ↦ (let v = map-mem numberCode (rangeCuts (rangesOf wants)) p in omega (arith, v .2))
           ]
 
       go : (w : Want) → Mem w wants → Contains (wantRange w) y → ⊥
-      go (aSymbol a) m k = let s = all-at SoundWant m allSound in point (aSymbol a) m (omega arith) k
+      go (aSymbol l h) m k = let s = all-at SoundWant m allSound in name (aSymbol l h) m (omega (arith, s .1)) k
       go (aNumber l h) m k = omega (arith, k .0)
-      go (aCompound a j) m k = let s = all-at SoundWant m allSound in point (aCompound a j) m (omega (arith, s .0, s .1)) k
+      go (aCompound a j) m k = let s = all-at SoundWant m allSound in name (aCompound a j) m (omega (arith, s .0, s .1)) k
 
   zero-free : (w : Want) → Mem w wants → Contains (wantRange w) 0 → ⊥
-  zero-free (aSymbol a) m k = omega (arith, k .0)
+  zero-free (aSymbol l h) m k = omega (arith, k .0)
   zero-free (aNumber l h) m k = omega (arith, k .0)
   zero-free (aCompound a j) m k = omega (arith, k .0)
 
   pub none-first : sets 0 ≡ 0
   none-first = none-want rules n live fits sound 0 zero-free
 
-  points-ascend : AscendingBy _<_ (0 ∷ points)
-  points-ascend = (
-    all-map Below (λ (z : ℕ). 0 < z) (λ z h. h .0) points (points-below wants allSound),
-    ranges.cuts-ascend (map wantRange (pointWants wants)),
+  name-cuts-ascend : AscendingBy _<_ (0 ∷ names)
+  name-cuts-ascend = (
+    all-map Below (λ (z : ℕ). 0 < z) (λ z h. h .0) names (name-cuts-below wants allSound),
+    ranges.cuts-ascend (map wantRange (nameWants wants)),
   )
 
-  points-low : All (λ (z : ℕ). z < base) (0 ∷ points)
-  points-low = (omega arith, all-map Below (λ (z : ℕ). z < base) (λ z h. h .1) points (points-below wants allSound))
+  name-cuts-low : All (λ (z : ℕ). z < base) (0 ∷ names)
+  name-cuts-low = (omega arith, all-map Below (λ (z : ℕ). z < base) (λ z h. h .1) names (name-cuts-below wants allSound))
 
-  pub framed-switch : framedRuns live cuts ≡ setRuns sets (0 ∷ points) ++ framedNumbers base top live sets numbers
+  pub framed-switch : framedRuns live cuts ≡ setRuns sets (0 ∷ names) ++ framedNumbers base top live sets numbers
   framed-switch =
       let follows : Follows live sets 0 cuts =
       running-follows live sets 0 cuts (cuts-ascend rules n (length rules))
@@ -140,4 +140,4 @@ module _ (rules : List Patterns) (n live : ℕ) (fits : live < 2 ^ length rules)
       ap (λ (s : ℕ). framedFrom base top live 0 s cuts) (sym none-first)
       ∙ framed-codes base top live sets 0 cuts (subst (λ (s : ℕ). Follows live sets s cuts) (sym none-first) follows)
       ∙ ap (framedCodes base top live sets 0) (turning-is rules n live fits sound ∙ cuts-parted wants allSound)
-      ∙ framed-parted base top live sets 0 points numbers number-codes points-ascend points-low quiet-points
+      ∙ framed-parted base top live sets 0 names numbers number-codes name-cuts-ascend name-cuts-low quiet-names

@@ -18,7 +18,7 @@ pub mod SwitchCases
 -- All numbers in runs, and pairs of them.
 pub mod UnionPairs
 pub mod CaseRuns
-pub mod PointCodes
+pub mod NameCodes
 pub mod FramedSwitch
 pub mod FramedNumbers
 pub mod Parts

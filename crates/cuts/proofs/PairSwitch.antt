@@ -30,10 +30,10 @@ use Rattle.decision.proofs.cases.CaseList.{nameCases}
 use Rattle.decision.proofs.cases.FramedRuns.{frame-ascends}
 use Rattle.decision.proofs.cases.RangeOrder.{Filled}
 use Rattle.cuts.specs.views.Runs.{Run}
-use Rattle.cuts.specs.views.FramedRuns.{framedRuns, isPoint, pointRuns}
+use Rattle.cuts.specs.views.FramedRuns.{framedRuns, isNameRun, nameRuns}
 use Rattle.cuts.specs.views.CaseRuns.{unionPairs, caseRuns, switchRuns}
 use Rattle.cuts.specs.views.CutsOf.{cutsTo, takesFor, caseRun}
-use Rattle.cuts.proofs.FramedCases.{runs-of-numbers, runs-of-points, runs-are-framed}
+use Rattle.cuts.proofs.FramedCases.{runs-of-numbers, runs-of-names, runs-are-framed}
 use Rattle.cuts.proofs.FramedNumbers.{numberFrames, numberRun}
 use Rattle.cuts.proofs.FramedSwitch.{base}
 use Rattle.cuts.proofs.Parts.{left-part, right-part}
@@ -42,7 +42,7 @@ use Rattle.cuts.proofs.UnionPairs.{union-count, pairs-union, between-un
 
 -- The runs of numbers.
 abbrev pub numberRuns : ℕ → List Run → List Run
-numberRuns from rs = filter (λ (r : Run). not (isPoint from r)) rs
+numberRuns from rs = filter (λ (r : Run). not (isNameRun from r)) rs
 
 and-or : (x a b : Bool) → (x && a) || (x && b) ≡ x && (a || b)
 and-or true a b = refl
@@ -96,7 +96,7 @@ module _ (rules : List Patterns) (n live : ℕ) (fits : live < 2 ^ length rules)
           → takesFor rules n (numbersIn (fromTo q r)) x || takesFor rules n (numbersIn s) x
           ≡ takesFor rules n (numbersIn (fromTo q s)) x
       go i none d = refl
-      go i (some (aSymbol a)) d = refl
+      go i (some (aSymbol l h)) d = refl
       go i (some (aCompound a j)) d = refl
       go i (some (aNumber l h)) d =
           meets-joined l h (q .low) (r .high) (s .low) (s .high) (sound i (aNumber l h) d .0) o e f
@@ -112,54 +112,54 @@ module _ (rules : List Patterns) (n live : ℕ) (fits : live < 2 ^ length rules)
   abbrev runs : List Run
   runs = framedRuns live (cutsTo rules n (length rules))
 
-  abbrev pointPart : List Run
-  pointPart = map (caseRun rules n live) (nameCases wants)
+  abbrev namePart : List Run
+  namePart = map (caseRun rules n live) (nameCases wants)
 
   abbrev numberPart : List Run
   numberPart = map asRun (numberFrames (rangesOf wants))
 
   -- The runs of symbols and compounds come first, then those of numbers.
-  pub points-part : pointRuns base runs ≡ pointPart
-  points-part =
-      ap (pointRuns base) (runs-are-framed rules n live fits sound)
-      ∙ left-part (isPoint base) pointPart numberPart (runs-of-points rules n live fits sound)
+  pub names-part : nameRuns base runs ≡ namePart
+  names-part =
+      ap (nameRuns base) (runs-are-framed rules n live fits sound)
+      ∙ left-part (isNameRun base) namePart numberPart (runs-of-names rules n live fits sound)
       (runs-of-numbers rules n live fits sound (numberFrames (rangesOf wants)))
 
   pub numbers-part : numberRuns base runs ≡ numberPart
   numbers-part =
       ap (numberRuns base) (runs-are-framed rules n live fits sound)
-      ∙ right-part (isPoint base) pointPart numberPart (runs-of-points rules n live fits sound)
+      ∙ right-part (isNameRun base) namePart numberPart (runs-of-names rules n live fits sound)
       (runs-of-numbers rules n live fits sound (numberFrames (rangesOf wants)))
 
-  pub points-first : runs ≡ pointRuns base runs ++ numberRuns base runs
-  points-first = runs-are-framed rules n live fits sound ∙ (λ i. sym points-part i ++ sym numbers-part i)
+  pub names-first : runs ≡ nameRuns base runs ++ numberRuns base runs
+  names-first = runs-are-framed rules n live fits sound ∙ (λ i. sym names-part i ++ sym numbers-part i)
 
   -- "Record 46 becomes one case for each pair of first and last run, ordered so, with low and high their ends. It keeps the rules
   -- whose range has a number that this case takes, from its low to its high."
-  pub switch-pairs : map (caseRun rules n live) (casesOf wants) ≡ pointRuns base runs ++ unionPairs (numberRuns base runs)
+  pub switch-pairs : map (caseRun rules n live) (casesOf wants) ≡ nameRuns base runs ++ unionPairs (numberRuns base runs)
   switch-pairs =
       let pairs = numberPairs 0 65536 (rangesOf wants) in
       map-join (caseRun rules n live) (nameCases wants) (numberCases wants)
-      ∙ ap (λ (l : List Run). pointPart ++ l)
+      ∙ ap (λ (l : List Run). namePart ++ l)
       (map-same numbersIn (caseRun rules n live) asRun pairs
       (all-always (λ (r : Range). caseRun rules n live (numbersIn r) ≡ asRun r) (λ r. refl) pairs)
       ∙ numbers-paired (rangesOf wants))
-      ∙ (λ i. sym points-part i ++ unionPairs (sym numbers-part i))
+      ∙ (λ i. sym names-part i ++ unionPairs (sym numbers-part i))
 
   -- They are what the runs make, where those of symbols and compounds are cases by themselves.
   pub runs-make-pairs : map (caseRun rules n live) (casesOf wants) ≡ switchRuns live (cutsTo rules n (length rules))
   runs-make-pairs =
-      let points = pointRuns base runs in
+      let names = nameRuns base runs in
       let numbers = numberRuns base runs in
       switch-pairs
-      ∙ (λ i. sym (take-append-seam points numbers) i ++ unionPairs (sym (drop-append-seam points numbers) i))
-      ∙ ap (caseRuns (length points)) (sym points-first)
+      ∙ (λ i. sym (take-append-seam names numbers) i ++ unionPairs (sym (drop-append-seam names numbers) i))
+      ∙ ap (caseRuns (length names)) (sym names-first)
 
   -- There are as many as runs of symbols and compounds, and r (r + 1) / 2 for r runs of numbers.
   pub pairs-counted : length (casesOf wants) * 2
-      ≡ length (pointRuns base runs) * 2 + length (numberRuns base runs) * suc (length (numberRuns base runs))
+      ≡ length (nameRuns base runs) * 2 + length (numberRuns base runs) * suc (length (numberRuns base runs))
   pairs-counted =
       let all = length-map (casesOf wants) (caseRun rules n live) in
       let same = ap (λ (l : List Run). length l) switch-pairs in
-      let both = length-append (pointRuns base runs) (unionPairs (numberRuns base runs)) in
+      let both = length-append (nameRuns base runs) (unionPairs (numberRuns base runs)) in
       omega (arith, union-count (numberRuns base runs))

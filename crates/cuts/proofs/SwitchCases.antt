@@ -3,7 +3,7 @@ use Prim.Native.Nat.{ℕ, suc, _^_, _<_, _≤_}
 use mathlib.Core.Path.{_≡_, refl, sym, ap, subst, _∙_}
 use mathlib.Core.Bool.{Bool, true, false, not, _&&_, cond}
 use mathlib.Core.List.{List, [], _∷_, map}
-use mathlib.Core.Logic.{by-cases}
+use mathlib.Core.Logic.{_↔_, by-cases}
 use mathlib.Core.Option.{Option, some, none}
 use native.Mathlib.Decide.{decLt}
 use native.Mathlib.Omega.{arith}
@@ -12,9 +12,9 @@ use lib.ListN.{length}
 use lib.Pow.{pow-pos}
 use borrow.Author.Tests.{eq-eqb, ne-eqb, le-leb, lt-leb, lt-ltb}
 use Rattle.basics.specs.Lists.{Mem, All, filter}
-use Rattle.basics.proofs.Booleans.{by-test, is-true, true-is}
+use Rattle.basics.proofs.Booleans.{by-test, same-truth, is-true, true-is}
 use Rattle.basics.proofs.Filters.{mem-map, all-mapped, any-mem, mem-any}
-use Rattle.basics.proofs.ListLaws.{all-at, all-map}
+use Rattle.basics.proofs.ListLaws.{all-at, all-from, all-map}
 use Rattle.basics.proofs.Numbers.{both-le}
 use Rattle.masks.specs.Mask.{has}
 use Rattle.masks.proofs.Extensionality.{has-maskOf, maskOf-same, maskOf-unique, maskOf-lt, empty-ext}
@@ -22,22 +22,22 @@ use Rattle.masks.proofs.Membership.{has-empty, has-pos}
 use Rattle.terms.specs.Pattern.{Patterns}
 use Rattle.terms.specs.RuleTests.{Want, aSymbol, aNumber, aCompound, Range}
 use Rattle.decision.specs.Rules.{wantAt, rulesWhere}
-use Rattle.decision.specs.Runs.{cuts as rangeCuts, between}
+use Rattle.decision.specs.Runs.{cuts as rangeCuts, between, covers, isCovered, runs}
 use Rattle.decision.specs.Cases.{Case}
 use Rattle.decision.specs.Edges.{liveWants}
 use Rattle.decision.proofs.cases.CaseList.{nameCases}
 use Rattle.decision.proofs.cases.Intervals.{Contains, Between, between-cuts}
 use Rattle.decision.proofs.cases.RangeRuns as ranges
-use Rattle.decision.proofs.cases.RangeRuns.{covers, isCovered, covers-contains}
+use Rattle.decision.proofs.cases.RangeRuns.{meets, covers-contains, meets-contains, run-between}
 use Rattle.decision.proofs.rules.LiveWants.{want-listed}
-use Rattle.codes.specs.views.Codes.{wantLow, wantHigh, SoundWant}
+use Rattle.codes.specs.views.Codes.{numberCode, wantLow, wantHigh, SoundWant}
 use Rattle.decision.specs.views.CaseCodes.{caseLow, caseHigh}
 use Rattle.cuts.specs.views.Cuts.{Cut}
 use Rattle.cuts.specs.views.CutsOf.{cutsTo, takesFor, caseRun}
-use Rattle.cuts.proofs.CodeRanges.{wantRange, caseRange, NameFields, names-fields, wanted-holds}
-use Rattle.cuts.proofs.CodeRuns.{names-are-runs}
+use Rattle.cuts.proofs.CodeRanges.{wantRange, caseRange, NameFields, names-fields, name-below, wanted-meets}
+use Rattle.cuts.proofs.CodeRuns.{names-in-runs, names-are-runs}
 use Rattle.cuts.proofs.Parity.{apart, parity, turnsBy, cuts-parity}
-use Rattle.cuts.proofs.PointCodes.{pointWants, points-all, symbol-point, compound-point, Below, points-below}
+use Rattle.cuts.proofs.NameCodes.{nameWants, name-wants-all, symbol-name, compound-name, Below, name-cuts-below}
 use Rattle.cuts.proofs.RunningSets.{runOf, setRuns, runningTo, running-has, running-fits}
 use Rattle.cuts.proofs.ListedWants.{listed-want, wants-sound}
 use Rattle.cuts.proofs.TurningCuts.{want-order}
@@ -127,42 +127,43 @@ module _ (rules : List Patterns) (n live : ℕ) (fits : live < 2 ^ length rules)
               (λ d. d)
 
   -- The symbols and compounds that are wanted, as ranges of codes.
-  abbrev points : List Range
-  points = map wantRange (pointWants wants)
+  abbrev names : List Range
+  names = map wantRange (nameWants wants)
 
-  module _ (r : Range) (b : Between (rangeCuts points) r) where
+  module _ (r : Range) (b : Between (rangeCuts names) r) where
     -- A run that is covered has its first code wanted,
-    covered-want : T (isCovered points r) → (w : Want) × Mem w wants × Contains (wantRange w) (r .low)
+    covered-want : T (isCovered names r) → (w : Want) × Mem w wants × Contains (wantRange w) (r .low)
     covered-want h =
         let Wanted : Range → Type 0 = λ s. Contains s (r .low) → (w : Want) × Mem w wants × Contains (wantRange w) (r .low) in
-        let each = all-mapped Wanted wantRange (pointWants wants)
-        (points-all wants (λ (w : Want). Wanted (wantRange w)) (λ a m k. (aSymbol a, m, k)) (λ a j m k. (aCompound a j, m, k))) in
-        let s = any-mem (λ (s : Range). covers s r) points h in
+        let each = all-mapped Wanted wantRange (nameWants wants)
+        (name-wants-all wants (λ (w : Want). Wanted (wantRange w)) (λ l h m k. (aSymbol l h, m, k))
+        (λ a j m k. (aCompound a j, m, k))) in
+        let s = any-mem (λ (s : Range). covers s r) names h in
         let k = both-le (s .0 .low) (r .low) (r .high) (s .0 .high) .0 (s .2) in
         all-at Wanted (s .1) each (k .0, omega (arith, k .1, b .ordered))
 
-    point-covered : (w : Want) → Mem w (pointWants wants) → Contains (wantRange w) (r .low) → T (isCovered points r)
-    point-covered w m k =
+    name-covered : (w : Want) → Mem w (nameWants wants) → Contains (wantRange w) (r .low) → T (isCovered names r)
+    name-covered w m k =
         mem-any (λ (s : Range). covers s r) (mem-map wantRange m)
-        (covers-contains points r (wantRange w) (r .low) b (mem-map wantRange m) (omega arith, b .ordered) .1 k)
+        (covers-contains names r (wantRange w) (r .low) b (mem-map wantRange m) (omega arith, b .ordered) .1 k)
 
     -- and one whose first code is wanted is covered: it is no number's.
-    want-covered : (w : Want) → Mem w wants → Contains (wantRange w) (r .low) → T (isCovered points r)
-    want-covered (aSymbol a) m k = point-covered (aSymbol a) (symbol-point m) k
+    want-covered : (w : Want) → Mem w wants → Contains (wantRange w) (r .low) → T (isCovered names r)
+    want-covered (aSymbol l h) m k = name-covered (aSymbol l h) (symbol-name m) k
     want-covered (aNumber l h) m k =
-        let below = all-at Below (b .begins) (points-below wants (wants-sound rules live n sound)) in
+        let below = all-at Below (b .begins) (name-cuts-below wants (wants-sound rules live n sound)) in
         absurd (omega (arith, k .0, below .1))
-    want-covered (aCompound a j) m k = point-covered (aCompound a j) (compound-point m) k
+    want-covered (aCompound a j) m k = name-covered (aCompound a j) (compound-name m) k
 
     -- So a run is a case where some live rule wants its first code.
-    covered-is : isCovered points r ≡ not (eqb (wantersAt (r .low)) 0)
+    covered-is : isCovered names r ≡ not (eqb (wantersAt (r .low)) 0)
     covered-is =
-        by-test (isCovered points r) (λ e. e ∙ sym (open-run (is-true e))) (λ e. e ∙ sym (shut-run (λ h. subst T e h)))
+        by-test (isCovered names r) (λ e. e ∙ sym (open-run (is-true e))) (λ e. e ∙ sym (shut-run (λ h. subst T e h)))
       where
         wanting : ℕ → Bool
         wanting i = has live i && holdsAt (r .low) (wantAt rules i n)
 
-        open-run : T (isCovered points r) → not (eqb (wantersAt (r .low)) 0) ≡ true
+        open-run : T (isCovered names r) → not (eqb (wantersAt (r .low)) 0) ≡ true
         open-run h =
             let c = covered-want h in
             let i = listed-want rules live n (c .1) in
@@ -173,31 +174,61 @@ module _ (rules : List Patterns) (n live : ℕ) (fits : live < 2 ^ length rules)
             let some-rule = has-pos (wantersAt (r .low)) (i .0) in-it in
             ap not (ne-eqb (wantersAt (r .low)) 0 (λ e. omega arith))
 
-        shut-run : (T (isCovered points r) → ⊥) → not (eqb (wantersAt (r .low)) 0) ≡ false
+        shut-run : (T (isCovered names r) → ⊥) → not (eqb (wantersAt (r .low)) 0) ≡ false
         shut-run h = ap not (eq-eqb (wantersAt (r .low)) 0 (none-want (r .low) (λ w m k. h (want-covered w m k))))
 
   -- The set of a run is that of the live rules that want what the case takes.
-  case-set : (c : Case) → NameFields c → runOf wantersAt (caseRange c) ≡ caseRun rules n live c
-  case-set c f =
+  case-set
+      : (c : Case) → NameFields c → Between (rangeCuts names) (caseRange c)
+      → runOf wantersAt (caseRange c) ≡ caseRun rules n live c
+  case-set c f b =
       ap (λ (s : ℕ). record { low = caseLow c; high = caseHigh c; set = s })
       (maskOf-same (length rules) (λ i. has live i && holdsAt (caseLow c) (wantAt rules i n))
       (λ i. has live i && takesFor rules n c (wantAt rules i n))
-      (λ i l. ap (λ (b : Bool). has live i && b) (go i (wantAt rules i n) refl)))
+      (λ i l. by-test (has live i) (λ y. ap (λ (t : Bool). has live i && t) (go i l y (wantAt rules i n) refl)) (λ y. rw y)))
     where
-      go : (i : ℕ) (x : Option Want) → wantAt rules i n ≡ x → holdsAt (caseLow c) x ≡ takesFor rules n c x
-      go i none e = refl
-      go i (some w) e = sym (wanted-holds c w f (sound i w e))
+      -- What is wanted has the lowest code of the case where it has any.
+      first-met : (w : Want) → T (meets (wantRange w) (caseRange c)) ↔ Contains (wantRange w) (caseLow c)
+          → holdsAt (caseLow c) (some w) ≡ meets (wantRange w) (caseRange c)
+      first-met w same =
+          let codes = both-le (wantLow w) (caseLow c) (caseLow c) (wantHigh w) in
+          same-truth (holdsAt (caseLow c) (some w)) (meets (wantRange w) (caseRange c)) (λ t. same .1 (codes .0 t))
+          (λ t. codes .1 (same .0 t))
 
-  -- "A switch has a case for each symbol and compound that a live rule wants there."
-  pub names-are : setRuns wantersAt (rangeCuts points) ≡ map (caseRun rules n live) (nameCases wants)
+      name-met : (w : Want) → Mem w (nameWants wants) → holdsAt (caseLow c) (some w) ≡ meets (wantRange w) (caseRange c)
+      name-met w m =
+          first-met w
+          (meets-contains names (caseRange c) (wantRange w) (caseLow c) b (mem-map wantRange m) (omega arith, b .ordered))
+
+      met : (w : Want) → Mem w wants → holdsAt (caseLow c) (some w) ≡ meets (wantRange w) (caseRange c)
+      met (aSymbol l h) m = name-met (aSymbol l h) (symbol-name m)
+      met (aNumber l h) m =
+          let below = name-below c f in
+          first-met (aNumber l h) (
+            λ t. let k = both-le (numberCode l) (caseHigh c) (caseLow c) (numberCode h) .0 t in
+                absurd (omega (arith, k .0, below .1)),
+            λ k. absurd (omega (arith, k .0, below .0)),
+          )
+      met (aCompound a j) m = name-met (aCompound a j) (compound-name m)
+
+      go : (i : ℕ) → i < length rules → has live i ≡ true → (x : Option Want) → wantAt rules i n ≡ x
+          → holdsAt (caseLow c) x ≡ takesFor rules n c x
+      go i l y none e = refl
+      go i l y (some w) e =
+          met w (want-listed rules live n i w l (is-true y) e) ∙ sym (wanted-meets c w f (sound i w e))
+
+  -- A switch has a case for each run of ids that a live rule wants there, and for each compound.
+  pub names-are : setRuns wantersAt (rangeCuts names) ≡ map (caseRun rules n live) (nameCases wants)
   names-are =
       let known = wants-sound rules live n sound in
       ap (map (runOf wantersAt))
       (sym
-      (filter-same (isCovered points) (λ (r : Range). not (eqb (wantersAt (r .low)) 0)) (between (rangeCuts points))
-      (all-map (Between (rangeCuts points)) (λ (r : Range). isCovered points r ≡ not (eqb (wantersAt (r .low)) 0)) covered-is
-      (between (rangeCuts points)) (between-cuts (rangeCuts points) (ranges.cuts-ascend points)))))
+      (filter-same (isCovered names) (λ (r : Range). not (eqb (wantersAt (r .low)) 0)) (between (rangeCuts names))
+      (all-map (Between (rangeCuts names)) (λ (r : Range). isCovered names r ≡ not (eqb (wantersAt (r .low)) 0)) covered-is
+      (between (rangeCuts names)) (between-cuts (rangeCuts names) (ranges.cuts-ascend names)))))
       ∙ ap (map (runOf wantersAt)) (sym (names-are-runs wants known))
       ∙ map-same caseRange (runOf wantersAt) (caseRun rules n live) (nameCases wants)
-      (all-map NameFields (λ (c : Case). runOf wantersAt (caseRange c) ≡ caseRun rules n live c) case-set (nameCases wants)
-      (names-fields wants known))
+      (all-from (λ (c : Case). runOf wantersAt (caseRange c) ≡ caseRun rules n live c) (nameCases wants)
+      (λ c m.
+      case-set c (all-at NameFields m (names-fields wants known))
+      (run-between names (caseRange c) (all-at (λ (d : Case). Mem (caseRange d) (runs names)) m (names-in-runs wants known)))))

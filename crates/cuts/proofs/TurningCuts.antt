@@ -39,7 +39,7 @@ use Rattle.cuts.proofs.ListedWants.{listed-want}
 
 -- What is wanted ends no lower than it begins.
 pub want-order : (w : Want) → SoundWant w → wantLow w ≤ wantHigh w
-want-order (aSymbol a) s = omega arith
+want-order (aSymbol l h) s = omega (arith, s .0)
 want-order (aNumber l h) s = omega (arith, s .0)
 want-order (aCompound a n) s = omega arith
 

@@ -1,5 +1,5 @@
-// Where the switches of a sheet are cut (document 02, request 4): the cuts of each place test are sorted once a sheet, and a switch
-// takes those of its live rules in one pass.
+// Where the switches of a sheet are cut (document 02, requests 4 and 5): the cuts of each place test are sorted once a sheet, and a
+// switch takes those of its live rules in one pass.
 ghost use mathlib.Core.Path.{_≡_};
 ghost use mathlib.Core.List.{List, [], _++_};
 ghost use Prim.Native.Nat.{ℕ, max, _+_, _*_, _≤_, _<_};
@@ -8,7 +8,7 @@ ghost use lib.Seq.{slice};
 ghost use Rattle.records.specs.Writing.{splice};
 ghost use Rattle.cuts.specs.views.Cuts.{partAt, countAt, cutAt, cutsIn, partWords, toggle, Spot};
 ghost use Rattle.cuts.specs.views.Runs.{runsIn, withRun};
-ghost use Rattle.cuts.specs.views.FramedRuns.{framedRun, framedFrom, pointRuns};
+ghost use Rattle.cuts.specs.views.FramedRuns.{framedRun, framedFrom, nameRuns};
 ghost use Rattle.cuts.specs.views.CaseRuns.{caseRuns, switchRuns};
 
 // The runs of one switch: for each the lowest code, the highest and the live rules that want it. 64 rules make 129 at most.
@@ -82,7 +82,7 @@ pub fn turn(c: &mut [u64], from: usize, code: u64, bit: u64)
 // How many runs a switch has, and how many of them begin below the base, as those of symbols and compounds do.
 pub struct Framed {
     pub count: usize,
-    pub points: usize,
+    pub names: usize,
 }
 
 // A row of pairs: the first run of them all, and how many runs there are.
@@ -114,14 +114,14 @@ fn put_run(runs: &mut Runs, n: usize, low: u64, high: u64, set: u64)
 // Ends the run from one code up to the next cut: it is written behind the others. Not a run below the base that no live rule wants,
 // nor a wanted one without those of its codes that are below it.
 fn end_run(runs: &mut Runs, done: Framed, base: u64, start: u64, next: u64, set: u64) -> Framed
-    requires { ⌜ (length (now runs) ≡ 390) × (done .count < 130) × (done .points ≤ done .count) × (0 < next) ⌝ }
+    requires { ⌜ (length (now runs) ≡ 390) × (done .count < 130) × (done .names ≤ done .count) × (0 < next) ⌝ }
     ensures { λ r. ⌜ (runsIn (now (runs .exit)) (r .count)
         ≡ runsIn (now (runs .entry)) (done .count) ++ framedRun base start next set [])
-        × (r .points ≡ done .points + length (pointRuns base (framedRun base start next set [])))
+        × (r .names ≡ done .names + length (nameRuns base (framedRun base start next set [])))
         × (r .count ≤ done .count + 1) × (length (now (runs .exit)) ≡ 390) ⌝ }
 {
     let n = done.count;
-    let points = done.points;
+    let names = done.names;
     if set == 0 {
         let low = higher(start, base);
         if next <= low {
@@ -130,19 +130,19 @@ fn end_run(runs: &mut Runs, done: Framed, base: u64, start: u64, next: u64, set:
         put_run(runs, n, low, next - 1, 0);
         return Framed {
             count: n + 1,
-            points: points,
+            names: names,
         };
     }
     put_run(runs, n, start, next - 1, set);
     if start < base {
         return Framed {
             count: n + 1,
-            points: points + 1,
+            names: names + 1,
         };
     }
     Framed {
         count: n + 1,
-        points: points,
+        names: names,
     }
 }
 
@@ -154,14 +154,11 @@ fn frame_switch(c: &[u64], from: usize, live: u64, base: u64, runs: &mut Runs) -
         × (length (now runs) ≡ 390) ⌝ }
     requires { ⌜ ((k : ℕ) → k < countAt (now c) from → 0 < cutAt (now c) from k .code) ⌝ }
     ensures { λ r. ⌜ (runsIn (now (runs .exit)) (r .count) ≡ framedFrom base 0x301_0000 live 0 0 (cutsIn (now (c .entry)) from))
-        × (r .points ≡ length (pointRuns base (runsIn (now (runs .exit)) (r .count))))
+        × (r .names ≡ length (nameRuns base (runsIn (now (runs .exit)) (r .count))))
         × (r .count ≤ 129) × (length (now (runs .exit)) ≡ 390) ⌝ }
 {
     let count = wide(c[from]);
-    let mut framed = Framed {
-        count: 0,
-        points: 0,
-    };
+    let mut framed = Framed { count: 0, names: 0 };
     let mut start: u64 = 0;
     let mut set: u64 = 0;
     let mut k: usize = 0;
@@ -191,19 +188,19 @@ pub fn cut_switch(c: &[u64], from: usize, live: u64, runs: &mut Runs) -> Framed
     requires { ⌜ (from + 1 + 2 * countAt (now c) from ≤ length (now c)) × (countAt (now c) from ≤ 128)
         × (length (now runs) ≡ 390) ⌝ }
     requires { ⌜ ((k : ℕ) → k < countAt (now c) from → 0 < cutAt (now c) from k .code) ⌝ }
-    ensures { λ r. ⌜ (caseRuns (r .points) (runsIn (now (runs .exit)) (r .count))
+    ensures { λ r. ⌜ (caseRuns (r .names) (runsIn (now (runs .exit)) (r .count))
         ≡ switchRuns live (cutsIn (now (c .entry)) from))
         × (length (switchRuns live (cutsIn (now (c .entry)) from)) ≤ 8385)
-        × (r .points ≤ r .count) × (r .count ≤ 129) × (length (now (runs .exit)) ≡ 390) ⌝ }
+        × (r .names ≤ r .count) × (r .count ≤ 129) × (length (now (runs .exit)) ≡ 390) ⌝ }
 {
     frame_switch(c, from, live, BASE, runs)
 }
 
 // How many cases the runs of a switch make. Not one for each run where there are pairs, nor a pair again with its last run first.
 pub fn case_count(framed: Framed) -> usize
-    requires { ⌜ (framed .points ≤ framed .count) × (framed .count ≤ 129) ⌝ }
-    ensures { λ r. ⌜ ((runs : List ℕ) → r ≡ length (caseRuns (framed .points) (runsIn runs (framed .count)))) ⌝ }
+    requires { ⌜ (framed .names ≤ framed .count) × (framed .count ≤ 129) ⌝ }
+    ensures { λ r. ⌜ ((runs : List ℕ) → r ≡ length (caseRuns (framed .names) (runsIn runs (framed .count)))) ⌝ }
 {
-    let n = framed.count - framed.points;
-    framed.points + n * (n + 1) / 2
+    let n = framed.count - framed.names;
+    framed.names + n * (n + 1) / 2
 }

@@ -9,6 +9,8 @@ pub mod Accepts
 pub mod CaseList
 pub mod SwitchEdges
 pub mod FramedRuns
+pub mod WantedRuns
+pub mod IdRuns
 pub mod RunPairs
 pub mod Best
 pub mod Narrowest

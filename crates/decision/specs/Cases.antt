@@ -1,25 +1,26 @@
--- The cases of a switch (document 01, "Nodes", and document 02, request 4).
+-- The cases of a switch (document 01, "Nodes", and document 02, requests 4 and 5).
 use Prim.Native.Nat.{ℕ}
 use mathlib.Core.Bool.{Bool, false, _&&_}
 use mathlib.Core.List.{List, [], _∷_, _++_, map}
-use lib.Dec.{leb, ltb, eqb}
+use lib.Dec.{leb, eqb}
 use Rattle.basics.specs.Order.{insertBy, pairBefore}
 use Rattle.terms.specs.Term.{Term, count, unknown, symbol, numbers, compound}
 use Rattle.terms.specs.RuleTests.{Want, aSymbol, aNumber, aCompound, Range}
-use Rattle.decision.specs.Runs.{numberPairs}
+use Rattle.decision.specs.Runs.{runs, numberPairs}
 
--- "44 symbol (wide id, ..), 45 compound (wide id, arity, ..), 46 numbers (wide low, wide high, ..)".
+-- "Record 44 becomes (wide low, wide high, wide node) for a run of ids", "45 compound (wide id, arity, ..), 46 numbers (wide low,
+-- wide high, ..)".
 pub data Case : Type 0 where
-  symbolCase : ℕ → Case
+  symbolsCase : ℕ → ℕ → Case
   compoundCase : ℕ → ℕ → Case
   numbersCase : ℕ → ℕ → Case
 
--- The case takes a term: a number that it contains, a span if it contains all of it.
+-- The case takes a term: a symbol or a number that it contains, a span if it contains all of it.
 abbrev pub takes : Case → Term → Bool
 takes c unknown = false
-takes (symbolCase a) (symbol b) = eqb a b
-takes (symbolCase a) (numbers b c) = false
-takes (symbolCase a) (compound b ts) = false
+takes (symbolsCase l h) (symbol a) = leb l a && leb a h
+takes (symbolsCase l h) (numbers a b) = false
+takes (symbolsCase l h) (compound b ts) = false
 takes (compoundCase a n) (symbol b) = false
 takes (compoundCase a n) (numbers b c) = false
 takes (compoundCase a n) (compound b ts) = eqb a b && eqb n (count ts)
@@ -28,25 +29,26 @@ takes (numbersCase l h) (numbers a b) = leb l a && leb b h
 takes (numbersCase l h) (compound b ts) = false
 
 -- "A case drops the rules that want something else", and one of numbers "keeps the rules whose range has a number that this case
--- takes, from its low to its high".
+-- takes, from its low to its high"; so does one of symbols with the rules whose series has an id that it takes.
 abbrev pub isWanted : Case → Want → Bool
-isWanted (symbolCase a) (aSymbol b) = eqb a b
-isWanted (symbolCase a) (aNumber l h) = false
-isWanted (symbolCase a) (aCompound b n) = false
-isWanted (compoundCase a n) (aSymbol b) = false
+isWanted (symbolsCase x y) (aSymbol l h) = leb l y && leb x h
+isWanted (symbolsCase x y) (aNumber l h) = false
+isWanted (symbolsCase x y) (aCompound b n) = false
+isWanted (compoundCase a n) (aSymbol l h) = false
 isWanted (compoundCase a n) (aNumber l h) = false
 isWanted (compoundCase a n) (aCompound b m) = eqb a b && eqb n m
-isWanted (numbersCase x y) (aSymbol b) = false
+isWanted (numbersCase x y) (aSymbol l h) = false
 isWanted (numbersCase x y) (aNumber l h) = leb l y && leb x h
 isWanted (numbersCase x y) (aCompound b m) = false
 
--- "A case for each symbol and compound that a live rule wants there", "symbols ascend by id, then compounds by id and arity".
-abbrev pub symbolsOf : List Want → List ℕ
-symbolsOf [] = []
-symbolsOf (aSymbol a ∷ ws) = insertBy ltb a (symbolsOf ws)
-symbolsOf (aNumber l h ∷ ws) = symbolsOf ws
-symbolsOf (aCompound a n ∷ ws) = symbolsOf ws
+-- The series of symbols that are wanted.
+abbrev pub seriesOf : List Want → List Range
+seriesOf [] = []
+seriesOf (aSymbol l h ∷ ws) = record { low = l; high = h } ∷ seriesOf ws
+seriesOf (aNumber l h ∷ ws) = seriesOf ws
+seriesOf (aCompound a n ∷ ws) = seriesOf ws
 
+-- "A case for each .. compound that a live rule wants there", "compounds by id and arity".
 pub record Functor : Type 0 where
   pub name : ℕ
   pub arity : ℕ
@@ -56,18 +58,21 @@ functorBefore f g = pairBefore (f .name) (f .arity) (g .name) (g .arity)
 
 abbrev pub functorsOf : List Want → List Functor
 functorsOf [] = []
-functorsOf (aSymbol a ∷ ws) = functorsOf ws
+functorsOf (aSymbol l h ∷ ws) = functorsOf ws
 functorsOf (aNumber l h ∷ ws) = functorsOf ws
 functorsOf (aCompound a n ∷ ws) = insertBy functorBefore (record { name = a; arity = n }) (functorsOf ws)
 
 -- The ranges of numbers that are wanted.
 abbrev pub rangesOf : List Want → List Range
 rangesOf [] = []
-rangesOf (aSymbol a ∷ ws) = rangesOf ws
+rangesOf (aSymbol l h ∷ ws) = rangesOf ws
 rangesOf (aNumber l h ∷ ws) = record { low = l; high = h } ∷ rangesOf ws
 rangesOf (aCompound a n ∷ ws) = rangesOf ws
 
--- The case for a compound, and for the numbers of a range.
+-- The case for a run of ids, for a compound, and for the numbers of a range.
+abbrev pub symbolsIn : Range → Case
+symbolsIn r = symbolsCase (r .low) (r .high)
+
 abbrev pub compoundOf : Functor → Case
 compoundOf f = compoundCase (f .name) (f .arity)
 
@@ -81,4 +86,4 @@ numberCases ws = map numbersIn (numberPairs 0 65536 (rangesOf ws))
 
 -- The cases for what the live rules want at a place, in the order of the records.
 abbrev pub casesOf : List Want → List Case
-casesOf ws = map symbolCase (symbolsOf ws) ++ map compoundOf (functorsOf ws) ++ numberCases ws
+casesOf ws = map symbolsIn (runs (seriesOf ws)) ++ map compoundOf (functorsOf ws) ++ numberCases ws

@@ -3,14 +3,16 @@ use mathlib.Core.Bool.{Bool, true, false, cond}
 use mathlib.Core.List.{List, [], _∷_}
 use mathlib.Core.Option.{Option, some, none}
 use Rattle.basics.specs.Order.{pairBefore}
-use Rattle.decision.specs.Cases.{Case, symbolCase, compoundCase, numbersCase}
+use Rattle.decision.specs.Cases.{Case, symbolsCase, compoundCase, numbersCase}
 
--- "The one with the highest low, then the lowest high": the first case is narrower than the second. Cases are ascending, so no two
--- take the same symbol or compound.
+-- "The one with the highest low, then the lowest high": the first case is narrower than the second. Of runs of ids it says
+-- the same, though no two of an accepted switch take one id.
 abbrev pub narrower : Case → Case → Bool
-narrower (symbolCase a) d = false
+narrower (symbolsCase l h) (symbolsCase x y) = pairBefore x h l y
+narrower (symbolsCase l h) (compoundCase b m) = false
+narrower (symbolsCase l h) (numbersCase x y) = false
 narrower (compoundCase a n) d = false
-narrower (numbersCase l h) (symbolCase b) = false
+narrower (numbersCase l h) (symbolsCase x y) = false
 narrower (numbersCase l h) (compoundCase b m) = false
 narrower (numbersCase l h) (numbersCase x y) = pairBefore x h l y
 

@@ -1,21 +1,36 @@
--- The runs that ranges cut all numbers into, and the pairs of a first and a last run (document 02, request 4).
+-- The runs that series cut ids into (document 02, request 5) and ranges all numbers, and the pairs of a first and a last run
+-- (request 4).
 use Prim.Native.Nat.{ℕ, suc, pred}
+use mathlib.Core.Bool.{Bool, _&&_}
 use mathlib.Core.List.{List, [], _∷_, _++_, map}
-use lib.Dec.{ltb}
+use lib.Dec.{leb, ltb}
+use Rattle.basics.specs.Lists.{filter, anyOf}
 use Rattle.basics.specs.Order.{insertBy}
 use Rattle.terms.specs.RuleTests.{Range}
 
--- Numbers are cut at each low and after each high: from one cut to the next the same ranges accept, and at each cut another set
--- does.
+-- Ids and numbers are cut at each low and after each high: from one cut to the next the same ranges accept, and at each cut another
+-- set does.
 abbrev pub cuts : List Range → List ℕ
 cuts [] = []
 cuts (w ∷ ws) = insertBy ltb (w .low) (insertBy ltb (suc (w .high)) (cuts ws))
 
--- The numbers from each cut to the one before the next.
+-- What lies from each cut to the one before the next.
 abbrev pub between : List ℕ → List Range
 between [] = []
 between (x ∷ []) = []
 between (x ∷ (y ∷ ys)) = record { low = x; high = pred y } ∷ between (y ∷ ys)
+
+-- The range w accepts all of r, or some range of the list does.
+abbrev pub covers : Range → Range → Bool
+covers w r = leb (w .low) (r .low) && leb (r .high) (w .high)
+
+abbrev pub isCovered : List Range → Range → Bool
+isCovered ws r = anyOf (λ (w : Range). covers w r) ws
+
+-- "A run of ids, cut .. as numbers were in document 01": "one for each maximal run .. accepted by the same non-empty set of those
+-- rules".
+abbrev pub runs : List Range → List Range
+runs ws = filter (isCovered ws) (between (cuts ws))
 
 -- "All numbers are cut into maximal runs accepted by the same set of live rules tested there, the empty set included": the lowest
 -- number is a cut too, and so is the one after the highest.

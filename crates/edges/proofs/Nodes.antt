@@ -79,10 +79,10 @@ module _ (rules : List Patterns) (order s c : List ℕ) (tables : TablesOf rules
     edges-are n at =
         let a = askedIn s key t in
         let wants = liveWants rules (key .live) n in
-        ap (λ (r : ℕ). map (runEdge s c a) (switchRuns (key .live) (cutsIn c (partAt r t)))) (tables .rulesAre)
-        ∙ ap (λ l. map (runEdge s c a) (switchRuns (key .live) l)) (cuts t n below at)
-        ∙ ap (map (runEdge s c a)) (sym (runs-make-pairs rules n (key .live) lives (λ i w. sound i n w)))
-        ∙ edges-same Told (runEdge s c a) (caseRun rules n (key .live)) (mapCase vertexKey) _
+        ap (λ (r : ℕ). map (runEdge s a) (switchRuns (key .live) (cutsIn c (partAt r t)))) (tables .rulesAre)
+        ∙ ap (λ l. map (runEdge s a) (switchRuns (key .live) l)) (cuts t n below at)
+        ∙ ap (map (runEdge s a)) (sym (runs-make-pairs rules n (key .live) lives (λ i w. sound i n w)))
+        ∙ edges-same Told (runEdge s a) (caseRun rules n (key .live)) (mapCase vertexKey) _
         (λ d e. λ i. record { case = e i; target = run-is rules order s tables key t lives pends below n at d i })
         (casesOf wants) (case-of-run wants (wants-sound rules (key .live) n (λ i w. sound i n w)))
 

@@ -39,18 +39,17 @@ module _ (s : List ℕ) (keys : List Key) (asked : Asked) where
 
   -- The cases of a switch are those of its runs,
   runs-bytes
-      : (c : List ℕ) (rs : List Run)
-      → casesBytes (map (mapCase (keyNumber keys)) (map (runEdge s c asked) rs)) ≡ runBytes s keys asked rs
-  runs-bytes c [] = refl
-  runs-bytes c (run ∷ rs) =
+      : (rs : List Run) → casesBytes (map (mapCase (keyNumber keys)) (map (runEdge s asked) rs)) ≡ runBytes s keys asked rs
+  runs-bytes [] = refl
+  runs-bytes (run ∷ rs) =
       ap
       (λ (l : List ℕ).
       caseBytes (runCase (run .low) (run .high)) (keyNumber keys (runBehind s asked (run .set))) ++ l)
-      (runs-bytes c rs)
+      (runs-bytes rs)
 
   -- as many.
-  runs-many : (c : List ℕ) (rs : List Run) → length (map (mapCase (keyNumber keys)) (map (runEdge s c asked) rs)) ≡ length rs
-  runs-many c rs = length-map (map (runEdge s c asked) rs) (mapCase (keyNumber keys)) ∙ length-map rs (runEdge s c asked)
+  runs-many : (rs : List Run) → length (map (mapCase (keyNumber keys)) (map (runEdge s asked) rs)) ≡ length rs
+  runs-many rs = length-map (map (runEdge s asked) rs) (mapCase (keyNumber keys)) ∙ length-map rs (runEdge s asked)
 
   -- So a switch is its record and the cases of its runs,
   pub switch-bytes
@@ -61,14 +60,14 @@ module _ (s : List ℕ) (keys : List Key) (asked : Asked) where
       → askBytes s c keys asked
       ≡ nodeRecordBytes (Switch (test % 0x1_0000) count neither unknown) ++ runBytes s keys asked rs
   switch-bytes c h rs e is n t x x′ y y′ =
-      let counted = runs-many c rs ∙ sym n in
+      let counted = runs-many rs ∙ sym n in
       let first = x ∙ ap (keyNumber keys) x′ in
       let second = y ∙ ap (keyNumber keys) y′ in
       ap (λ (node : Node Key). nodeBytes (mapNode (keyNumber keys) node)) (switch-is s c asked h rs e is)
       ∙ (λ i.
       0x43
       ∷ wideThen (sym t i % 0x1_0000)
-      (wideThen (counted i) (wideThen (sym first i) (wideThen (sym second i) (runs-bytes c rs i)))))
+      (wideThen (counted i) (wideThen (sym first i) (wideThen (sym second i) (runs-bytes rs i)))))
 
   -- and a pair its record.
   pub pair-bytes

@@ -43,13 +43,13 @@ fn node_of(keys: &Keys, key: Key) -> u16
     met::find(keys, key.live, key.pending) as u16
 }
 
-// The record of the case whose codes run from one to another. Not the record of a symbol that has a compound's id, nor one of
-// numbers that ends at its low.
+// The record of the case whose codes run from one to another. Not the record of symbols that have a compound's id, nor one of
+// symbols or numbers that ends at its low.
 fn case_record(first: u64, last: u64, node: u16) -> CaseRecord
     ensures { λ r. ⌜ caseRecordBytes r ≡ caseBytes (runCase first last) node ⌝ }
 {
     if first < 0x200_0000 {
-        return CaseRecord::Symbol((first % 0x1_0000) as u16, node);
+        return CaseRecord::Symbols((first % 0x1_0000) as u16, (last % 0x1_0000) as u16, node);
     }
     if first < 0x300_0000 {
         return CaseRecord::Compound((first / 256 % 0x1_0000) as u16, (first % 256) as u8, node);
@@ -59,7 +59,7 @@ fn case_record(first: u64, last: u64, node: u16) -> CaseRecord
 
 // The runs of a switch that are cases by themselves, and the position behind them. Not one that leads to the node of another case,
 // nor the last without its record.
-fn put_points(
+fn put_names(
     buf: &mut [u8],
     start: usize,
     s: &Tables,
@@ -129,15 +129,15 @@ fn put_pairs(
     framed: Framed,
     keys: &Keys,
 ) -> usize
-    requires { ⌜ Chained (now keys) × (framed .points ≤ framed .count) × (framed .count ≤ 129)
+    requires { ⌜ Chained (now keys) × (framed .names ≤ framed .count) × (framed .count ≤ 129)
         × Room (now buf) start (runBytes (now s) (keysIn (now keys)) asked
-        (unionPairs (runsFrom (now runs) (framed .count) (framed .points)))) ⌝ }
+        (unionPairs (runsFrom (now runs) (framed .count) (framed .names)))) ⌝ }
     ensures { λ r. ⌜ Wrote (now (buf .entry)) start (runBytes (now (s .entry)) (keysIn (now (keys .entry))) asked
-        (unionPairs (runsFrom (now (runs .entry)) (framed .count) (framed .points)))) r (now (buf .exit)) ⌝ }
+        (unionPairs (runsFrom (now (runs .entry)) (framed .count) (framed .names)))) r (now (buf .exit)) ⌝ }
 {
     let count = framed.count;
     let mut at = start;
-    let mut first = framed.points;
+    let mut first = framed.names;
     while first < count {
         let row = Row {
             first: first,
@@ -159,13 +159,13 @@ fn put_runs(
     framed: Framed,
     keys: &Keys,
 ) -> usize
-    requires { ⌜ Chained (now keys) × (framed .points ≤ framed .count) × (framed .count ≤ 129)
+    requires { ⌜ Chained (now keys) × (framed .names ≤ framed .count) × (framed .count ≤ 129)
         × Room (now buf) start (runBytes (now s) (keysIn (now keys)) asked
-        (caseRuns (framed .points) (runsIn (now runs) (framed .count)))) ⌝ }
+        (caseRuns (framed .names) (runsIn (now runs) (framed .count)))) ⌝ }
     ensures { λ r. ⌜ Wrote (now (buf .entry)) start (runBytes (now (s .entry)) (keysIn (now (keys .entry))) asked
-        (caseRuns (framed .points) (runsIn (now (runs .entry)) (framed .count)))) r (now (buf .exit)) ⌝ }
+        (caseRuns (framed .names) (runsIn (now (runs .entry)) (framed .count)))) r (now (buf .exit)) ⌝ }
 {
-    let at = put_points(buf, start, s, asked, runs, framed.points, keys);
+    let at = put_names(buf, start, s, asked, runs, framed.names, keys);
     put_pairs(buf, at, s, asked, runs, framed, keys)
 }
 

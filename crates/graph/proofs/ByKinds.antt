@@ -21,7 +21,7 @@ use Rattle.graph.specs.declared.CaseRecord.{CaseRecord}
 use Rattle.graph.specs.declared.NodeHead.the-variants as node
 use Rattle.graph.specs.declared.CaseHead.the-variants as case
 use Rattle.graph.specs.declared.NodeRecord.the-variants.{End, Pair}
-use Rattle.graph.specs.declared.CaseRecord.the-variants.{Symbol, Compound, Numbers}
+use Rattle.graph.specs.declared.CaseRecord.the-variants.{Symbols, Compound, Numbers}
 use Rattle.graph.specs.ReadGraph.{readCase, readSwitch, readRecord, hasHeader}
 use Rattle.graph.specs.views.NodeRecord.{wholeNode, wholeCase, switchLength, switchRecord, nodeHead, caseHead, onCase, onNode}
 use Rattle.graph.specs.declared.CaseHead.{CaseHead}
@@ -79,11 +79,11 @@ module _ (s : List ℕ) where
   abbrev CaseSame : ℕ → Type 0
   CaseSame x = readCase (x ∷ s) ≡ onCase (caseHead (x ∷ s))
 
-  same-symbol : CaseSame 0x44
+  same-symbols : CaseSame 0x44
   unfolding readCase
-  same-symbol =
+  same-symbols =
       let r : List ℕ = 0x44 ∷ s in
-      rw (not-empty 0x44) (case-whole (leb 5 (length r)) (Symbol (wideAt r 1) (wideAt r 3)) _ _ refl)
+      rw (not-empty 0x44) (case-whole (leb 7 (length r)) (Symbols (wideAt r 1) (wideAt r 3) (wideAt r 5)) _ _ refl)
 
   same-compound : CaseSame 0x45
   unfolding readCase
@@ -160,7 +160,7 @@ pub case-by-kind : (s : List ℕ) → readCase s ≡ onCase (caseHead s)
 unfolding readCase
 case-by-kind [] = refl
 case-by-kind (x ∷ s) =
-    at-number (CaseSame s) 0x44 x (same-symbol s) (λ a.
+    at-number (CaseSame s) 0x44 x (same-symbols s) (λ a.
     at-number (CaseSame s) 0x45 x (same-compound s) (λ b.
     at-number (CaseSame s) 0x46 x (same-numbers s) (λ c.
     no-case s x a b c)))

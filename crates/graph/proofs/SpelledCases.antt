@@ -12,12 +12,12 @@ use Rattle.records.specs.Reading.{took}
 use Rattle.records.proofs.WideFields.{wide-of}
 use Rattle.basics.specs.Lists.{All}
 use Rattle.terms.specs.Term.{Wide}
-use Rattle.decision.specs.Cases.{Case, symbolCase, compoundCase, numbersCase}
+use Rattle.decision.specs.Cases.{Case, symbolsCase, compoundCase, numbersCase}
 use Rattle.decision.specs.Node.{CaseEdge}
 use Rattle.decision.specs.GraphBytes.{caseBytes, casesBytes}
 use Rattle.decision.specs.AcceptedGraph.{CaseFields}
 use Rattle.graph.specs.declared.CaseRecord.{CaseRecord}
-use Rattle.graph.specs.declared.CaseRecord.the-variants.{Symbol, Compound, Numbers}
+use Rattle.graph.specs.declared.CaseRecord.the-variants.{Symbols, Compound, Numbers}
 use Rattle.graph.specs.declared.CaseHead.{CaseHead}
 use Rattle.graph.specs.declared.CaseHead.the-variants.{Whole}
 use Rattle.graph.specs.views.NodeRecord.{wholeCase, caseHead, onCase}
@@ -43,9 +43,15 @@ EdgeFields c = CaseFields (c .case) × Wide (c .target)
 case-brought
     : (c : Case) (n : ℕ) (rest : List ℕ) → CaseFields c → Wide n
     → onCase (caseHead (caseBytes c n ++ rest)) ≡ took (length (caseBytes c n)) (edge c n)
-case-brought (symbolCase a) n rest h k =
-    let s = caseBytes (symbolCase a) n ++ rest in
-    rw (ne-eqb (length s) 0 (λ e. omega arith), le-leb 5 (length s) (omega arith), wide-of a h, wide-of n k)
+case-brought (symbolsCase l u) n rest h k =
+    let s = caseBytes (symbolsCase l u) n ++ rest in
+    rw (
+      ne-eqb (length s) 0 (λ e. omega arith),
+      le-leb 7 (length s) (omega arith),
+      wide-of l (h .0),
+      wide-of u (h .1),
+      wide-of n k,
+    )
 case-brought (compoundCase a m) n rest h k =
     let s = caseBytes (compoundCase a m) n ++ rest in
     rw (ne-eqb (length s) 0 (λ e. omega arith), le-leb 6 (length s) (omega arith), wide-of a (h .0), wide-of n k)
@@ -72,14 +78,14 @@ module _ (s : List ℕ) (h : All IsByte s) where
   case-told =
       kind-holds Told (eqb (length s) 0) (λ e. tt)
       (kind-holds Told (eqb (getD s 0 0) 0x44)
-      (λ k. whole-told (leb 5 (length s)) (Symbol (wideAt s 1) (wideAt s 3)) (λ l.
-      let there = leb→le 5 (length s) l in
+      (λ k. whole-told (leb 7 (length s)) (Symbols (wideAt s 1) (wideAt s 3) (wideAt s 5)) (λ l.
+      let there = leb→le 7 (length s) l in
       record {
-        good = (wide-at s h 1, wide-at s h 3);
+        good = ((wide-at s h 1, wide-at s h 3), wide-at s h 5);
         size = refl;
         begins =
             kind-then s h (eqb→eq (getD s 0 0) 0x44 k) (omega arith)
-            (wide-then s h 1 (omega arith) (wide-then s h 3 (omega arith) refl));
+            (wide-then s h 1 (omega arith) (wide-then s h 3 (omega arith) (wide-then s h 5 (omega arith) refl)));
       }))
       (kind-holds Told (eqb (getD s 0 0) 0x45)
       (λ k. whole-told (leb 6 (length s)) (Compound (wideAt s 1) (getD s 3 0) (wideAt s 4)) (λ l.

@@ -1,5 +1,5 @@
 -- How a graph is read for a sheet: its nodes, or the number of the first question that gets a no (document 01, "Questions at the
--- counter", 21 to 25, and document 02, request 4).
+-- counter", 21 to 25, and document 02, requests 4 and 5).
 use Prim.Native.Nat.{ℕ, _+_, _-_}
 use mathlib.Core.Bool.{Bool, true, false, _&&_, _||_, cond}
 use mathlib.Core.List.{List, [], _∷_}
@@ -13,7 +13,7 @@ use Rattle.sheet_tests.specs.SheetTests.{Test, place, pair, sheetTests}
 use Rattle.sheet.specs.Sheet.{Sheet}
 use Rattle.decision.specs.Rules.{sameTest}
 use Rattle.decision.specs.Key.{failNode, suspendNode, executeNode}
-use Rattle.decision.specs.Cases.{Case, symbolCase, compoundCase, numbersCase, functorBefore}
+use Rattle.decision.specs.Cases.{Case, symbolsCase, compoundCase, numbersCase, functorBefore}
 use Rattle.decision.specs.Node.{Node, CaseEdge, end, switch, pairNode}
 use Rattle.decision.specs.Graph.{mostNodes}
 use Rattle.basics.specs.Lists.{anyOf}
@@ -22,10 +22,11 @@ use Rattle.basics.specs.Order.{pairBefore}
 abbrev pub edge : Case → ℕ → CaseEdge ℕ
 edge c n = record { case = c; target = n }
 
--- "44 symbol (wide id, wide node), 45 compound (wide id, arity, wide node), 46 numbers (wide low, wide high, wide node)".
+-- "Record 44 becomes (wide low, wide high, wide node) for a run of ids", "45 compound (wide id, arity, wide node), 46 numbers (wide
+-- low, wide high, wide node)".
 abbrev pub caseOf : ℕ → List ℕ → CaseEdge ℕ
 caseOf kind s =
-    cond (eqb kind 0x44) (edge (symbolCase (wideAt s 1)) (wideAt s 3))
+    cond (eqb kind 0x44) (edge (symbolsCase (wideAt s 1) (wideAt s 3)) (wideAt s 5))
     (cond (eqb kind 0x45) (edge (compoundCase (wideAt s 1) (getD s 3 0)) (wideAt s 4))
     (edge (numbersCase (wideAt s 1) (wideAt s 3)) (wideAt s 5)))
 
@@ -77,19 +78,20 @@ inRange test rules nodes (switch n cs x y) = test (place n) && ltb x nodes && lt
 inRange test rules nodes (pairNode p q x y) = test (pair p q) && ltb x nodes && ltb y nodes
 
 -- "24 Are cases strictly ascending, low at most high ..?" "In question 24 number cases ascend by low, then high, and may overlap."
+-- Runs of ids are "questioned as numbers were in document 01": "no number in two".
 abbrev pub caseBefore : Case → Case → Bool
-caseBefore (symbolCase a) (symbolCase b) = ltb a b
-caseBefore (symbolCase a) (compoundCase b m) = true
-caseBefore (symbolCase a) (numbersCase x y) = true
-caseBefore (compoundCase a n) (symbolCase b) = false
+caseBefore (symbolsCase l h) (symbolsCase x y) = ltb h x
+caseBefore (symbolsCase l h) (compoundCase b m) = true
+caseBefore (symbolsCase l h) (numbersCase x y) = true
+caseBefore (compoundCase a n) (symbolsCase x y) = false
 caseBefore (compoundCase a n) (compoundCase b m) = functorBefore (record { name = a; arity = n }) (record { name = b; arity = m })
 caseBefore (compoundCase a n) (numbersCase x y) = true
-caseBefore (numbersCase l h) (symbolCase b) = false
+caseBefore (numbersCase l h) (symbolsCase x y) = false
 caseBefore (numbersCase l h) (compoundCase b m) = false
 caseBefore (numbersCase l h) (numbersCase x y) = pairBefore l h x y
 
 abbrev pub lowAtMostHigh : Case → Bool
-lowAtMostHigh (symbolCase a) = true
+lowAtMostHigh (symbolsCase l h) = leb l h
 lowAtMostHigh (compoundCase a n) = true
 lowAtMostHigh (numbersCase l h) = leb l h
 

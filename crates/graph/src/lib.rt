@@ -25,7 +25,7 @@ pub enum NodeRecord {
 
 // A case's record, with the node that it leads to.
 pub enum CaseRecord {
-    Symbol(u16, u16),
+    Symbols(u16, u16, u16),
     Compound(u16, u8, u16),
     Numbers(u16, u16, u16),
 }

@@ -9,7 +9,7 @@ ghost use mathlib.Core.Path.{_≡_};
 ghost use Prim.Native.Nat.{_≤_};
 ghost use lib.ListN.{length};
 ghost use Rattle.graph.specs.views.NodeRecord.{nodeHead, switchLength, switchRecord, pairRecord, nodeRefusal};
-ghost use Rattle.graph.specs.views.NodeRecord.{caseHead, symbolHead, compoundHead, numbersHead, caseRefusal};
+ghost use Rattle.graph.specs.views.NodeRecord.{caseHead, symbolsHead, compoundHead, numbersHead, caseRefusal};
 
 // The switch that the input begins with, whose bytes are there. Not with its unknown for its neither, nor the low byte of a field
 // before the high one.
@@ -77,14 +77,18 @@ pub fn node_head(s: &[u8]) -> NodeHead
     NodeHead::Whole(node)
 }
 
-// A symbol case that the input begins with.
-fn symbol_head(s: &[u8]) -> CaseHead
-    ensures { λ r. ⌜ r ≡ symbolHead (now (s .entry)) ⌝ }
+// A case of symbols that the input begins with.
+fn symbols_head(s: &[u8]) -> CaseHead
+    ensures { λ r. ⌜ r ≡ symbolsHead (now (s .entry)) ⌝ }
 {
-    if s.len() < 5 {
+    if s.len() < 7 {
         return CaseHead::Refused(22);
     }
-    CaseHead::Whole(CaseRecord::Symbol(records::wide(s[1], s[2]), records::wide(s[3], s[4])))
+    CaseHead::Whole(CaseRecord::Symbols(
+        records::wide(s[1], s[2]),
+        records::wide(s[3], s[4]),
+        records::wide(s[5], s[6]),
+    ))
 }
 
 // A compound case that the input begins with.
@@ -124,7 +128,7 @@ pub fn case_head(s: &[u8]) -> CaseHead
     }
     let kind = s[0];
     match kind {
-        0x44 => symbol_head(s),
+        0x44 => symbols_head(s),
         0x45 => compound_head(s),
         0x46 => numbers_head(s),
         0..=0x43 | 0x47..=255 => CaseHead::Refused(22),

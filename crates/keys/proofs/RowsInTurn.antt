@@ -27,13 +27,13 @@ use Rattle.keys.proofs.EdgesInTurn.{CasesLeft, cases-start, cases-next,
 pub met-last : (keys : List Key) (key : Key) (u : List ℕ) → keysIn u ≡ meet keys key → keysIn u ≡ meet (keysIn u) key
 met-last keys key u e = e ∙ sym (meet-again keys key) ∙ ap (λ (l : List Key). meet l key) (sym e)
 
-module _ (s c : List ℕ) (asked : Asked) (runs : List ℕ) (count first : ℕ) where
+module _ (s : List ℕ) (asked : Asked) (runs : List ℕ) (count first : ℕ) where
   -- All pairs of the row, and those from last run k on, where `set` is the union so far.
   abbrev pub rowEdges : List (CaseEdge Key)
-  rowEdges = map (runEdge s c asked) (pairsRow runs count first)
+  rowEdges = map (runEdge s asked) (pairsRow runs count first)
 
   abbrev pub rowLeft : ℕ → ℕ → List (CaseEdge Key)
-  rowLeft set k = map (runEdge s c asked) (unionRow (runAt runs first .low) set (runsFrom runs count k))
+  rowLeft set k = map (runEdge s asked) (unionRow (runAt runs first .low) set (runsFrom runs count k))
 
   -- The key behind a case with these rules.
   abbrev behind : ℕ → Key
@@ -41,10 +41,10 @@ module _ (s c : List ℕ) (asked : Asked) (runs : List ℕ) (count first : ℕ) 
 
   module _ (h : first < count) where
     abbrev firstEdge : CaseEdge Key
-    firstEdge = runEdge s c asked (runAt runs first)
+    firstEdge = runEdge s asked (runAt runs first)
 
     row-head : rowEdges ≡ firstEdge ∷ rowLeft (runAt runs first .set) (first + 1)
-    row-head = ap (map (runEdge s c asked)) (row-first runs count first h)
+    row-head = ap (map (runEdge s asked)) (row-first runs count first h)
 
     -- The first key is one too many,
     pub row-many
@@ -56,7 +56,7 @@ module _ (s c : List ℕ) (asked : Asked) (runs : List ℕ) (count first : ℕ) 
 
     -- or all are left with it met,
     pub row-start : (t : List ℕ) → CasesLeft rowEdges (rowLeft (runAt runs first .set) first) (keysIn t) t 0
-    row-start t = cases-start (ap (map (runEdge s c asked)) (row-begun runs count first h)) t
+    row-start t = cases-start (ap (map (runEdge s asked)) (row-begun runs count first h)) t
 
     -- which is as without it.
     pub row-met
@@ -69,10 +69,10 @@ module _ (s c : List ℕ) (asked : Asked) (runs : List ℕ) (count first : ℕ) 
     more = bitOr set (runAt runs k .set)
 
     abbrev nextEdge : CaseEdge Key
-    nextEdge = runEdge s c asked (record { low = runAt runs first .low; high = runAt runs k .high; set = more })
+    nextEdge = runEdge s asked (record { low = runAt runs first .low; high = runAt runs k .high; set = more })
 
     next-head : k < count → rowLeft set k ≡ nextEdge ∷ rowLeft more (k + 1)
-    next-head h = ap (map (runEdge s c asked)) (row-some runs count (runAt runs first .low) set k h)
+    next-head h = ap (map (runEdge s asked)) (row-some runs count (runAt runs first .low) set k h)
 
     -- The key behind the next pair is met,
     pub row-next
@@ -89,24 +89,24 @@ module _ (s c : List ℕ) (asked : Asked) (runs : List ℕ) (count first : ℕ) 
 
     -- and behind the last run the row is over.
     pub row-end : count ≤ k → CasesMet rowEdges keys (Bytes bytes) t
-    row-end h = cases-end (ap (map (runEdge s c asked)) (row-none runs count (runAt runs first .low) set k h)) state
+    row-end h = cases-end (ap (map (runEdge s asked)) (row-none runs count (runAt runs first .low) set k h)) state
 
 -- The pairs of all first runs from run k on are the row of run k and those of the first runs behind it.
-module _ (s c : List ℕ) (asked : Asked) (runs : List ℕ) (count : ℕ) where
+module _ (s : List ℕ) (asked : Asked) (runs : List ℕ) (count : ℕ) where
   abbrev pub pairsLeft : ℕ → List (CaseEdge Key)
-  pairsLeft k = map (runEdge s c asked) (unionPairs (runsFrom runs count k))
+  pairsLeft k = map (runEdge s asked) (unionPairs (runsFrom runs count k))
 
-  pub pairs-next : (k : ℕ) → k < count → pairsLeft k ≡ rowEdges s c asked runs count k ++ pairsLeft (k + 1)
+  pub pairs-next : (k : ℕ) → k < count → pairsLeft k ≡ rowEdges s asked runs count k ++ pairsLeft (k + 1)
   pairs-next k h =
-      ap (map (runEdge s c asked)) (pairs-some runs count k h)
-      ∙ map-join (runEdge s c asked) (pairsRow runs count k) (unionPairs (runsFrom runs count (k + 1)))
+      ap (map (runEdge s asked)) (pairs-some runs count k h)
+      ∙ map-join (runEdge s asked) (pairsRow runs count k) (unionPairs (runsFrom runs count (k + 1)))
 
   pub pairs-end : (k : ℕ) → count ≤ k → pairsLeft k ≡ []
-  pairs-end k h = ap (map (runEdge s c asked)) (pairs-none runs count k h)
+  pairs-end k h = ap (map (runEdge s asked)) (pairs-none runs count k h)
 
   -- The cases of a switch are the runs that are cases by themselves, then the pairs.
   pub cases-both : (k : ℕ) → k ≤ count
-      → map (runEdge s c asked) (caseRuns k (runsIn runs count)) ≡ map (runEdge s c asked) (runsIn runs k) ++ pairsLeft k
+      → map (runEdge s asked) (caseRuns k (runsIn runs count)) ≡ map (runEdge s asked) (runsIn runs k) ++ pairsLeft k
   cases-both k h =
-      ap (map (runEdge s c asked)) (cases-parted runs count k h)
-      ∙ map-join (runEdge s c asked) (runsIn runs k) (unionPairs (runsFrom runs count k))
+      ap (map (runEdge s asked)) (cases-parted runs count k h)
+      ∙ map-join (runEdge s asked) (runsIn runs k) (unionPairs (runsFrom runs count k))

@@ -31,12 +31,12 @@ pub switch-is
     : (s c : List ℕ) (asked : Asked) → asked .test < placeTestsIn s → (rs : List Run) {from : ℕ}
     → from ≡ partAt (rulesIn s) (asked .test) → rs ≡ switchRuns (asked .live) (cutsIn c from)
     → askIn s c asked
-    ≡ switch (testIn s (asked .test) % 0x1_0000) (map (runEdge s c asked) rs) (noneBehind s asked) (unknownBehind s asked)
+    ≡ switch (testIn s (asked .test) % 0x1_0000) (map (runEdge s asked) rs) (noneBehind s asked) (unknownBehind s asked)
 switch-is s c asked h rs e is =
     let cut : rs ≡ switchRuns (asked .live) (cutsIn c (partAt (rulesIn s) (asked .test))) =
     is ∙ ap (λ (from : ℕ). switchRuns (asked .live) (cutsIn c from)) e in
     (simp (lt-ltb (asked .test) (placeTestsIn s) h))
     ∙ ap
     (λ (l : List Run).
-    switch (testIn s (asked .test) % 0x1_0000) (map (runEdge s c asked) l) (noneBehind s asked) (unknownBehind s asked))
+    switch (testIn s (asked .test) % 0x1_0000) (map (runEdge s asked) l) (noneBehind s asked) (unknownBehind s asked))
     (sym cut)

@@ -1,13 +1,13 @@
 -- Nodes with other targets: what their edges lead to, and how long their records are, which does not turn on where edges lead.
 use Prim.Native.Nat.{ℕ}
-use mathlib.Core.Path.{_≡_, refl, ap}
-use mathlib.Core.List.{List, [], _∷_, _++_, map}
+use mathlib.Core.Path.{_≡_, refl}
+use mathlib.Core.List.{List, [], _∷_, map}
 use native.Mathlib.Omega.{arith}
 use lib.ListN.{length, length-append}
 use Rattle.basics.specs.Lists.{All}
 use Rattle.basics.proofs.ListLaws.{all-split}
 use Rattle.decision.specs.Key.{Key}
-use Rattle.decision.specs.Cases.{Case, symbolCase, compoundCase, numbersCase}
+use Rattle.decision.specs.Cases.{Case, symbolsCase, compoundCase, numbersCase}
 use Rattle.decision.specs.Node.{Node, CaseEdge, end, switch, pairNode, edges, mapCase, mapNode}
 use Rattle.decision.specs.GraphBytes.{caseBytes, casesBytes, nodeBytes}
 use Rattle.keys.specs.views.Expanded.{nodeLength}
@@ -35,7 +35,7 @@ nodes-same f g h (pairNode p q x y) e = λ i. pairNode p q (e .0 i) (e .1 .0 i)
 
 -- The record of a case is as long wherever it leads,
 case-anywhere : (c : Case) (m n : ℕ) → length (caseBytes c m) ≡ length (caseBytes c n)
-case-anywhere (symbolCase a) m n = refl
+case-anywhere (symbolsCase l h) m n = refl
 case-anywhere (compoundCase a k) m n = refl
 case-anywhere (numbersCase l h) m n = refl
 

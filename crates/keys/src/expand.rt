@@ -45,12 +45,12 @@ fn leaf_length(leaf: Leaf) -> usize
     }
 }
 
-// The length of the record of the case that begins at a code. Not a symbol's for a compound, nor a compound's for numbers.
+// The length of the record of the case that begins at a code. Not a compound's for symbols or numbers, nor theirs for a compound.
 fn case_length(code: u64) -> usize
     ensures { λ r. ⌜ ((high : ℕ) → r ≡ length (caseBytes (runCase code high) 0)) × (r ≤ 7) ⌝ }
 {
     if code < 0x200_0000 {
-        return 5;
+        return 7;
     }
     if code < 0x300_0000 {
         return 6;
@@ -75,10 +75,10 @@ fn meet_two(keys: &mut Keys, first: Key, second: Key, bytes: usize) -> Measured
 
 // Meets the keys behind the runs that are cases by themselves, in their order, and counts the bytes of their records. Not a case
 // that the runs have not, nor the case that ends first before one that begins first.
-fn meet_points(keys: &mut Keys, s: &Tables, asked: Asked, runs: &Runs, count: usize) -> Measured
+fn meet_names(keys: &mut Keys, s: &Tables, asked: Asked, runs: &Runs, count: usize) -> Measured
     requires { ⌜ Chained (now keys) × (count ≤ 129) ⌝ }
-    ensures { λ r. ⌜ ((c : List ℕ) → CasesMet (map (runEdge (now (s .entry)) c asked) (runsIn (now (runs .entry)) count))
-        (keysIn (now (keys .entry))) r (now (keys .exit))) ⌝ }
+    ensures { λ r. ⌜ CasesMet (map (runEdge (now (s .entry)) asked) (runsIn (now (runs .entry)) count))
+        (keysIn (now (keys .entry))) r (now (keys .exit)) ⌝ }
     ensures { λ r. ⌜ Chained (now (keys .exit)) × AtMost (7 * count) r ⌝ }
 {
     let mut bytes: usize = 0;
@@ -97,9 +97,8 @@ fn meet_points(keys: &mut Keys, s: &Tables, asked: Asked, runs: &Runs, count: us
 // key was just met. Not a pair without the rules of its first run, nor the row without the pair of the first run with itself.
 fn meet_row(keys: &mut Keys, s: &Tables, asked: Asked, runs: &Runs, row: Row) -> Measured
     requires { ⌜ Chained (now keys) × (row .first < row .count) × (row .count ≤ 129) ⌝ }
-    ensures { λ r. ⌜ ((c : List ℕ)
-        → CasesMet (map (runEdge (now (s .entry)) c asked) (pairsRow (now (runs .entry)) (row .count) (row .first)))
-        (keysIn (now (keys .entry))) r (now (keys .exit))) ⌝ }
+    ensures { λ r. ⌜ CasesMet (map (runEdge (now (s .entry)) asked) (pairsRow (now (runs .entry)) (row .count) (row .first)))
+        (keysIn (now (keys .entry))) r (now (keys .exit)) ⌝ }
     ensures { λ r. ⌜ Chained (now (keys .exit)) × AtMost 903 r ⌝ }
 {
     let first = row.first;
@@ -128,15 +127,15 @@ fn meet_row(keys: &mut Keys, s: &Tables, asked: Asked, runs: &Runs, row: Row) ->
 // Meets the keys behind the pairs of the runs that are not cases by themselves, row after row. Not a row before that of an earlier
 // first run, nor the first row alone.
 fn meet_pairs(keys: &mut Keys, s: &Tables, asked: Asked, runs: &Runs, framed: Framed) -> Measured
-    requires { ⌜ Chained (now keys) × (framed .points ≤ framed .count) × (framed .count ≤ 129) ⌝ }
-    ensures { λ r. ⌜ ((c : List ℕ) → CasesMet (map (runEdge (now (s .entry)) c asked)
-        (unionPairs (runsFrom (now (runs .entry)) (framed .count) (framed .points))))
-        (keysIn (now (keys .entry))) r (now (keys .exit))) ⌝ }
-    ensures { λ r. ⌜ Chained (now (keys .exit)) × AtMost (903 * (framed .count - framed .points)) r ⌝ }
+    requires { ⌜ Chained (now keys) × (framed .names ≤ framed .count) × (framed .count ≤ 129) ⌝ }
+    ensures { λ r. ⌜ CasesMet (map (runEdge (now (s .entry)) asked)
+        (unionPairs (runsFrom (now (runs .entry)) (framed .count) (framed .names))))
+        (keysIn (now (keys .entry))) r (now (keys .exit)) ⌝ }
+    ensures { λ r. ⌜ Chained (now (keys .exit)) × AtMost (903 * (framed .count - framed .names)) r ⌝ }
 {
     let count = framed.count;
     let mut bytes: usize = 0;
-    let mut first = framed.points;
+    let mut first = framed.names;
     while first < count {
         let row = Row {
             first: first,
@@ -155,15 +154,15 @@ fn meet_pairs(keys: &mut Keys, s: &Tables, asked: Asked, runs: &Runs, framed: Fr
 // Meets the keys behind a switch's cases, in their order, and counts the bytes of their records. Not a pair before a run that is a
 // case by itself, nor the pairs alone.
 fn meet_runs(keys: &mut Keys, s: &Tables, asked: Asked, runs: &Runs, framed: Framed) -> Measured
-    requires { ⌜ Chained (now keys) × (framed .points ≤ framed .count) × (framed .count ≤ 129) ⌝ }
-    ensures { λ r. ⌜ ((c : List ℕ) → CasesMet (map (runEdge (now (s .entry)) c asked)
-        (caseRuns (framed .points) (runsIn (now (runs .entry)) (framed .count))))
-        (keysIn (now (keys .entry))) r (now (keys .exit))) ⌝ }
+    requires { ⌜ Chained (now keys) × (framed .names ≤ framed .count) × (framed .count ≤ 129) ⌝ }
+    ensures { λ r. ⌜ CasesMet (map (runEdge (now (s .entry)) asked)
+        (caseRuns (framed .names) (runsIn (now (runs .entry)) (framed .count))))
+        (keysIn (now (keys .entry))) r (now (keys .exit)) ⌝ }
     ensures { λ r. ⌜ Chained (now (keys .exit)) × AtMost (7 * 129 * 129) r ⌝ }
 {
-    let points = meet_points(keys, s, asked, runs, framed.points);
-    let Measured::Bytes(bytes) = points else {
-        return points;
+    let names = meet_names(keys, s, asked, runs, framed.names);
+    let Measured::Bytes(bytes) = names else {
+        return names;
     };
     let pairs = meet_pairs(keys, s, asked, runs, framed);
     let Measured::Bytes(more) = pairs else {

@@ -1,4 +1,5 @@
-// A rule read in prefix order: the places of its symbols, ranges and compounds are marked, its variables noted. Questions 4 to 8.
+// A rule read in prefix order: the places of its symbols, series, ranges and compounds are marked, its variables noted.
+// Questions 4 to 8.
 use crate::set::mark;
 use patterns::PatternHead;
 use patterns::PatternRecord;
@@ -56,6 +57,13 @@ fn leaf(
                 return Took::Refused(8);
             }
             noted(6, place, what, n, notes)
+        }
+        PatternRecord::Series(low, high) => {
+            if high < low {
+                return Took::Refused(7);
+            }
+            mark(words, place);
+            Took::Used(5, n)
         }
     }
 }

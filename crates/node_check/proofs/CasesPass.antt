@@ -12,21 +12,21 @@ use Rattle.records.specs.Fields.{IsByte, wideAt}
 use Rattle.records.specs.Reading.{Reading, took, refused, mapReading, after}
 use Rattle.records.proofs.Rows.{row-none, row-refused, row-next}
 use Rattle.basics.specs.Lists.{All}
-use Rattle.decision.specs.Cases.{symbolCase, compoundCase, numbersCase}
+use Rattle.decision.specs.Cases.{symbolsCase, compoundCase, numbersCase}
 use Rattle.decision.specs.Node.{CaseEdge}
 use Rattle.decision.specs.GraphBytes.{casesBytes}
 use Rattle.graph.specs.declared.CaseRecord.{CaseRecord}
-use Rattle.graph.specs.declared.CaseRecord.the-variants.{Symbol, Compound, Numbers}
+use Rattle.graph.specs.declared.CaseRecord.the-variants.{Symbols, Compound, Numbers}
 use Rattle.graph.specs.declared.CaseHead.{CaseHead}
 use Rattle.graph.specs.declared.CaseHead.the-variants.{Whole, Refused}
 use Rattle.graph.specs.views.NodeRecord.{wholeCase, caseHead}
 use Rattle.graph.specs.ReadGraph.{readCases, edge, allInside, readCase}
 use Rattle.decision.specs.views.CaseCodes.{caseLow, caseHigh}
-use Rattle.node_check.specs.views.CaseRanges.{rangeOf, CasesFound, casesFound}
+use Rattle.node_check.specs.views.CaseRanges.{caseEnd, comesAfter, rangeOf, CasesFound, casesFound}
 use Rattle.graph.proofs.Spelling.{Reads, GoodRow}
 use Rattle.graph.proofs.SpelledCases.{kind-holds, EdgeFields, cases-spelled}
 use Rattle.graph.proofs.AcceptedNodes.{fields-of}
-use Rattle.node_check.proofs.CodeOrder.{caseRank, ascendAfter, ascend-codes, and-assoc}
+use Rattle.node_check.proofs.CodeOrder.{ascendAfter, ascend-codes, and-assoc}
 use Rattle.graph.proofs.ByKinds.{case-read-by}
 
 -- What the head of a case says of its bytes: they are there, or question 22 got a no.
@@ -38,7 +38,7 @@ pub head-fits : (s : List ℕ) → HeadFits s (caseHead s)
 head-fits s =
     kind-holds (HeadFits s) (eqb (length s) 0) (λ e. refl)
     (kind-holds (HeadFits s) (eqb (getD s 0 0) 0x44)
-    (λ k. whole (leb 5 (length s)) (Symbol (wideAt s 1) (wideAt s 3)) (leb→le 5 (length s)))
+    (λ k. whole (leb 7 (length s)) (Symbols (wideAt s 1) (wideAt s 3) (wideAt s 5)) (leb→le 7 (length s)))
     (kind-holds (HeadFits s) (eqb (getD s 0 0) 0x45)
     (λ k. whole (leb 6 (length s)) (Compound (wideAt s 1) (getD s 3 0) (wideAt s 4)) (leb→le 6 (length s)))
     (kind-holds (HeadFits s) (eqb (getD s 0 0) 0x46)
@@ -57,11 +57,11 @@ pub case-refused : (s : List ℕ) {q : ℕ} → caseHead s ≡ Refused q → rea
 case-refused s {q} e = case-read-by s e ∙ ap refused (sym (subst (HeadFits s) e (head-fits s)))
 
 module _ (nodes : ℕ) where
-  -- What all cases give where at bytes were read before, the last rank was last, and this was found of them.
+  -- What all cases give where at bytes were read before, the last case had this end, and this was found of them.
   abbrev pub resume : ℕ → ℕ → Bool → Bool → Reading (List (CaseEdge ℕ)) → Reading CasesFound
-  resume at last inside ascend (took b cs) =
-      took (at + b) (record { inside = inside && allInside nodes cs; ascend = ascend && ascendAfter last cs })
-  resume at last inside ascend (refused q) = refused q
+  resume at end inside ascend (took b cs) =
+      took (at + b) (record { inside = inside && allInside nodes cs; ascend = ascend && ascendAfter end cs })
+  resume at end inside ascend (refused q) = refused q
 
   -- Before the first case nothing was found.
   pub pass-starts
@@ -82,23 +82,21 @@ module _ (nodes : ℕ) where
 
   -- One more case goes from what is to be read to what was found.
   resume-next
-      : (at last : ℕ) (inside ascend : Bool) (a : ℕ) (c : CaseEdge ℕ) (r : Reading (List (CaseEdge ℕ)))
-      → resume at last inside ascend (after a (_∷_ c) r)
-      ≡ resume (at + a) (caseRank (c .case)) (inside && ltb (c .target) nodes)
-      (ascend && (ltb last (caseRank (c .case)) && leb (caseLow (c .case)) (caseHigh (c .case)))) r
-  resume-next at last inside ascend a c (took b cs) =
-      let first = caseLow (c .case) in
-      let end = caseHigh (c .case) in
-      let rank = caseRank (c .case) in
+      : (at end : ℕ) (inside ascend : Bool) (a : ℕ) (c : CaseEdge ℕ) (r : Reading (List (CaseEdge ℕ)))
+      → resume at end inside ascend (after a (_∷_ c) r)
+      ≡ resume (at + a) (caseEnd (c .case)) (inside && ltb (c .target) nodes)
+      (ascend && comesAfter end (caseLow (c .case)) (caseHigh (c .case))) r
+  resume-next at end inside ascend a c (took b cs) =
       let size : at + (a + b) ≡ at + a + b = sym (add-assoc at a b) in
       let in-range = sym (and-assoc inside (ltb (c .target) nodes) (allInside nodes cs)) in
-      let in-order = sym (and-assoc ascend (ltb last rank && leb first end) (ascendAfter rank cs)) in
+      let after-end = comesAfter end (caseLow (c .case)) (caseHigh (c .case)) in
+      let in-order = sym (and-assoc ascend after-end (ascendAfter (caseEnd (c .case)) cs)) in
       λ i. took (size i) (record { inside = in-range i; ascend = in-order i })
-  resume-next at last inside ascend a c (refused q) = refl
+  resume-next at end inside ascend a c (refused q) = refl
 
-  module _ (count : ℕ) (s : List ℕ) (i at last : ℕ) (inside ascend : Bool) (more : i < count) where
+  module _ (count : ℕ) (s : List ℕ) (i at end : ℕ) (inside ascend : Bool) (more : i < count) where
     abbrev Going : Reading CasesFound → Type 0
-    Going next = resume at last inside ascend (readCases (count - i) (drop at s)) ≡ next
+    Going next = resume at end inside ascend (readCases (count - i) (drop at s)) ≡ next
 
     some-left : count - i ≡ 0 → ⊥
     some-left e = omega arith
@@ -106,43 +104,43 @@ module _ (nodes : ℕ) where
     read-next
         : (a : ℕ) (c : CaseEdge ℕ) → readCase (drop at s) ≡ took a c
         → Going
-        (resume (at + a) (caseRank (c .case)) (inside && ltb (c .target) nodes)
-        (ascend && (ltb last (caseRank (c .case)) && leb (caseLow (c .case)) (caseHigh (c .case))))
+        (resume (at + a) (caseEnd (c .case)) (inside && ltb (c .target) nodes)
+        (ascend && comesAfter end (caseLow (c .case)) (caseHigh (c .case)))
         (readCases (count - (i + 1)) (drop (at + a) s)))
     read-next a c e =
         let fewer : count - i - 1 ≡ count - (i + 1) = omega arith in
-        ap (resume at last inside ascend) (row-next [] _∷_ readCase (count - i) (drop at s) some-left e)
-        ∙ resume-next at last inside ascend a c (readCases (count - i - 1) (drop a (drop at s)))
+        ap (resume at end inside ascend) (row-next [] _∷_ readCase (count - i) (drop at s) some-left e)
+        ∙ resume-next at end inside ascend a c (readCases (count - i - 1) (drop a (drop at s)))
         ∙ (λ j.
-        resume (at + a) (caseRank (c .case)) (inside && ltb (c .target) nodes)
-        (ascend && (ltb last (caseRank (c .case)) && leb (caseLow (c .case)) (caseHigh (c .case))))
+        resume (at + a) (caseEnd (c .case)) (inside && ltb (c .target) nodes)
+        (ascend && comesAfter end (caseLow (c .case)) (caseHigh (c .case)))
         (readCases (fewer j) (drop-drop a at s j)))
 
     -- A whole case is passed.
     pub pass-next
         : (c : CaseRecord) → caseHead (drop at s) ≡ Whole c
         → Going
-        (resume (at + rangeOf c .bytes) (rangeOf c .rank) (inside && ltb (rangeOf c .node) nodes)
-        (ascend && (ltb last (rangeOf c .rank) && leb (rangeOf c .first) (rangeOf c .last)))
+        (resume (at + rangeOf c .bytes) (rangeOf c .end) (inside && ltb (rangeOf c .node) nodes)
+        (ascend && comesAfter end (rangeOf c .first) (rangeOf c .last))
         (readCases (count - (i + 1)) (drop (at + rangeOf c .bytes) s)))
-    pass-next (Symbol a n) e = read-next 5 (edge (symbolCase a) n) (case-read-by (drop at s) e)
+    pass-next (Symbols l h n) e = read-next 7 (edge (symbolsCase l h) n) (case-read-by (drop at s) e)
     pass-next (Compound a k n) e = read-next 6 (edge (compoundCase a k) n) (case-read-by (drop at s) e)
     pass-next (Numbers l h n) e = read-next 7 (edge (numbersCase l h) n) (case-read-by (drop at s) e)
 
     -- At a case that is not whole the pass is refused.
     pub pass-refused : {q r : ℕ} → caseHead (drop at s) ≡ Refused q → r ≡ q → Going (refused r)
     pass-refused e d =
-        ap (resume at last inside ascend)
+        ap (resume at end inside ascend)
         (row-refused [] _∷_ readCase (count - i) (drop at s) some-left (case-read-by (drop at s) e))
         ∙ ap refused (sym d)
 
   -- After the last case all was found.
   pub pass-ends
-      : (count : ℕ) (s : List ℕ) (i at last : ℕ) (inside ascend : Bool) → count ≤ i
-      → resume at last inside ascend (readCases (count - i) (drop at s)) ≡ took at (record { inside = inside; ascend = ascend })
-  pass-ends count s i at last inside ascend h =
+      : (count : ℕ) (s : List ℕ) (i at end : ℕ) (inside ascend : Bool) → count ≤ i
+      → resume at end inside ascend (readCases (count - i) (drop at s)) ≡ took at (record { inside = inside; ascend = ascend })
+  pass-ends count s i at end inside ascend h =
       let none : at + 0 ≡ at = omega arith in
-      ap (resume at last inside ascend)
+      ap (resume at end inside ascend)
       (row-none [] _∷_ readCase (count - i) (drop at s) (omega arith))
       ∙ (λ j. took (none j) (record { inside = and-true inside j; ascend = and-true ascend j }))
     where

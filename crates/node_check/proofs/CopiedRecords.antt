@@ -3,10 +3,10 @@ use Prim.Native.Nat.{ℕ}
 use mathlib.Core.Path.{_≡_, refl}
 use mathlib.Core.List.{List}
 use Rattle.records.specs.Reading.{took}
-use Rattle.decision.specs.Cases.{symbolCase, compoundCase, numbersCase}
+use Rattle.decision.specs.Cases.{symbolsCase, compoundCase, numbersCase}
 use Rattle.decision.specs.Node.{CaseEdge}
 use Rattle.graph.specs.declared.CaseRecord.{CaseRecord}
-use Rattle.graph.specs.declared.CaseRecord.the-variants.{Symbol, Compound, Numbers}
+use Rattle.graph.specs.declared.CaseRecord.the-variants.{Symbols, Compound, Numbers}
 use Rattle.graph.specs.declared.CaseHead.the-variants.{Whole}
 use Rattle.graph.specs.views.NodeRecord.{caseHead}
 use Rattle.graph.specs.ReadGraph.{edge, readCase}
@@ -17,18 +17,18 @@ use Rattle.graph.proofs.ByKinds.{case-read-by}
 
 -- The case of a record, with where it leads.
 abbrev pub edgeOf : CaseRecord → CaseEdge ℕ
-edgeOf (Symbol a n) = edge (symbolCase a) n
+edgeOf (Symbols l h n) = edge (symbolsCase l h) n
 edgeOf (Compound a k n) = edge (compoundCase a k) n
 edgeOf (Numbers l h n) = edge (numbersCase l h) n
 
 -- It is read from the record,
 pub edge-read : (s : List ℕ) (c : CaseRecord) → caseHead s ≡ Whole c → readCase s ≡ took (rangeOf c .bytes) (edgeOf c)
-edge-read s (Symbol a n) e = case-read-by s e
+edge-read s (Symbols l h n) e = case-read-by s e
 edge-read s (Compound a k n) e = case-read-by s e
 edge-read s (Numbers l h n) e = case-read-by s e
 
 -- and its bytes are the record's.
 pub edge-bytes : (c : CaseRecord) → edgeBytes (edgeOf c) ≡ caseRecordBytes c
-edge-bytes (Symbol a n) = refl
+edge-bytes (Symbols l h n) = refl
 edge-bytes (Compound a k n) = refl
 edge-bytes (Numbers l h n) = refl

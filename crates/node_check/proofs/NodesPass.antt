@@ -18,7 +18,7 @@ use Rattle.decision.specs.Node.{Node, CaseEdge, end, switch, pairNode}
 use Rattle.decision.specs.Key.{failNode, suspendNode, executeNode}
 use Rattle.decision.specs.GraphBytes.{caseBytes, casesBytes, nodeBytes}
 use Rattle.decision.specs.views.GraphSize.{mostNodeBytes}
-use Rattle.decision.specs.Cases.{Case, symbolCase, compoundCase, numbersCase}
+use Rattle.decision.specs.Cases.{Case, symbolsCase, compoundCase, numbersCase}
 use Rattle.node_check.specs.declared.NodeCheck.the-variants.{Used, Refused}
 use Rattle.graph.specs.ReadGraph.{readNode, readNodes}
 use Rattle.node_check.specs.views.CheckNode.{checked, startsFrom}
@@ -36,7 +36,7 @@ pub checked-refused : {A : Type 0} (r : Reading A) {q : ℕ} → Refused q ≡ c
 checked-refused (took b x) e = let z : _≡_ {A = ℕ} 0 1 = cc in absurd (omega arith)
 checked-refused (refused q) e = cc
 
--- A case has at most as many bytes as one of numbers.
+-- A case has at most as many bytes as one of symbols or numbers.
 pub cases-size : (cs : List (CaseEdge ℕ)) → length (casesBytes cs) ≤ recordLength 0x46 * length cs
 cases-size [] = omega arith
 cases-size (c ∷ cs) = one (c .case) (c .target) (cases-size cs)
@@ -44,7 +44,7 @@ cases-size (c ∷ cs) = one (c .case) (c .target) (cases-size cs)
     one
         : (x : Case) (n : ℕ) → length (casesBytes cs) ≤ recordLength 0x46 * length cs
         → length (caseBytes x n ++ casesBytes cs) ≤ recordLength 0x46 * suc (length cs)
-    one (symbolCase a) n h = omega arith
+    one (symbolsCase l u) n h = omega arith
     one (compoundCase a k) n h = omega arith
     one (numbersCase l u) n h = omega arith
 

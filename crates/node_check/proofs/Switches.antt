@@ -19,7 +19,7 @@ use Rattle.node_check.specs.declared.NodeCheck.{NodeCheck}
 use Rattle.node_check.specs.declared.NodeCheck.the-variants.{Used, Refused}
 use Rattle.graph.specs.declared.CaseHead.{CaseHead}
 use Rattle.graph.specs.declared.CaseHead.the-variants as head
-use Rattle.graph.specs.declared.CaseRecord.the-variants.{Symbol, Compound, Numbers}
+use Rattle.graph.specs.declared.CaseRecord.the-variants.{Symbols, Compound, Numbers}
 use Rattle.graph.specs.views.NodeRecord.{switchLength, caseHead, onCase, onNode}
 use Rattle.graph.specs.ReadGraph.{readCases, allInside, casesAscend, askRangeAndOrder, readCase}
 use Rattle.node_check.specs.views.CaseRanges.{CasesFound, casesFound, checkedCases}
@@ -33,7 +33,7 @@ CasesTold n (took a x) = a ≤ 7 * n
 CasesTold n (refused q) = 22 ≡ q
 
 case-told : (s : List ℕ) (h : CaseHead) → HeadFits s h → CasesTold 1 (onCase h)
-case-told s (head.Whole (Symbol a n)) f = omega arith
+case-told s (head.Whole (Symbols l h n)) f = omega arith
 case-told s (head.Whole (Compound a k n)) f = omega arith
 case-told s (head.Whole (Numbers l u n)) f = omega arith
 case-told s (head.Refused q) f = f

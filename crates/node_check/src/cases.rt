@@ -9,38 +9,57 @@ ghost use mathlib.Core.Path.{_≡_};
 ghost use mathlib.Core.Bool.{_&&_};
 ghost use Rattle.records.specs.Reading.{mapReading};
 ghost use Rattle.graph.specs.ReadGraph.{readCases};
-ghost use Rattle.node_check.specs.views.CaseRanges.{codesTo, rangeOf, casesFound, checkedCases, casesRefusal};
+ghost use Rattle.node_check.specs.views.CaseRanges.{rankOf, comesAfter, codesTo, rangeOf, casesFound, checkedCases};
+ghost use Rattle.node_check.specs.views.CaseRanges.{casesRefusal};
 
-// A range of codes. Its rank is the higher, the higher its first code is and then its last.
-fn range_to(first: u32, last: u32, node: u16, bytes: usize) -> CaseRange
-    ensures { λ r. ⌜ r ≡ codesTo first last node bytes ⌝ }
+// The rank of a range of codes: the higher, the higher its first code is and then its last.
+fn rank_of(first: u32, last: u32) -> u64
+    ensures { λ r. ⌜ r ≡ rankOf first last ⌝ }
+{
+    (first as u64) * 0x1_0000_0000 + (last as u64)
+}
+
+// A range of codes, and the number that the rank of the next one must exceed.
+fn range_to(first: u32, last: u32, end: u64, node: u16, bytes: usize) -> CaseRange
+    ensures { λ r. ⌜ r ≡ codesTo first last end node bytes ⌝ }
 {
     CaseRange {
         first: first,
         last: last,
-        rank: (first as u64) * 0x1_0000_0000 + (last as u64),
+        end: end,
         node: node,
         bytes: bytes,
     }
 }
 
-// The range of a case.
+// The range of a case. After symbols and compounds the next one begins behind their last code, whatever it ends with; number cases
+// may overlap.
 pub fn case_range(c: CaseRecord) -> CaseRange
     ensures { λ r. ⌜ r ≡ rangeOf c ⌝ }
 {
     match c {
-        CaseRecord::Symbol(a, node) => {
-            let code = codes::symbol_code(a);
-            range_to(code, code, node, 5)
+        CaseRecord::Symbols(low, high, node) => {
+            let first = codes::symbol_code(low);
+            let last = codes::symbol_code(high);
+            range_to(first, last, rank_of(last, 0xffff_ffff), node, 7)
         }
         CaseRecord::Compound(a, n, node) => {
             let code = codes::compound_code(a, n);
-            range_to(code, code, node, 6)
+            range_to(code, code, rank_of(code, 0xffff_ffff), node, 6)
         }
         CaseRecord::Numbers(low, high, node) => {
-            range_to(codes::number_code(low), codes::number_code(high), node, 7)
+            let first = codes::number_code(low);
+            let last = codes::number_code(high);
+            range_to(first, last, rank_of(first, last), node, 7)
         }
     }
+}
+
+// Does a range of codes come after an end, and its first code not after its last?
+fn comes_after(end: u64, first: u32, last: u32) -> bool
+    ensures { λ r. ⌜ r ≡ comesAfter end first last ⌝ }
+{
+    both(end < rank_of(first, last), first <= last)
 }
 
 // Both are true.
@@ -55,7 +74,7 @@ pub fn check_cases(s: &[u8], count: u16, nodes: u16) -> CasesCheck
     ensures { λ r. ⌜ checkedCases r ≡ mapReading (casesFound nodes) (readCases count (now (s .entry))) ⌝ }
 {
     let mut at: usize = 0;
-    let mut last: u64 = 0;
+    let mut end: u64 = 0;
     let mut inside = true;
     let mut ascend = true;
     let mut i: u16 = 0;
@@ -66,8 +85,8 @@ pub fn check_cases(s: &[u8], count: u16, nodes: u16) -> CasesCheck
         };
         let range = case_range(c);
         inside = both(inside, range.node < nodes);
-        ascend = both(ascend, both(last < range.rank, range.first <= range.last));
-        last = range.rank;
+        ascend = both(ascend, comes_after(end, range.first, range.last));
+        end = range.end;
         at += range.bytes;
         i += 1;
     }

@@ -6,11 +6,12 @@ pub mod kept; // the sheet's tests as they are kept
 pub use cases::check_cases;
 pub use check::check_nodes;
 
-// A case as a range of codes, with the two as one number, the node that it leads to and the bytes of its record.
+// A case as a range of codes, with the number that the next case's rank must exceed, the node that it leads to and the bytes of its
+// record.
 pub struct CaseRange {
     pub first: u32,
     pub last: u32,
-    pub rank: u64,
+    pub end: u64,
     pub node: u16,
     pub bytes: usize,
 }

@@ -4,11 +4,13 @@ use graph::Leaf;
 use graph::NodeRecord;
 ghost use Prim.Native.Nat.{_+_, _≤_};
 ghost use mathlib.Core.Path.{_≡_};
+ghost use mathlib.Core.List.{[], _∷_};
 ghost use lib.ListN.{length};
+ghost use Rattle.records.specs.Fields.{wideThen};
 ghost use Rattle.records.specs.Writing.{splice};
 ghost use Rattle.decision.specs.GraphBytes.{leafBytes};
 ghost use Rattle.graph.specs.declared.NodeRecord.the-variants.{Switch, Pair};
-ghost use Rattle.graph.specs.declared.CaseRecord.the-variants.{Symbol, Compound, Numbers};
+ghost use Rattle.graph.specs.declared.CaseRecord.the-variants.{Compound};
 ghost use Rattle.graph.specs.views.NodeRecord.{leafOf};
 ghost use Rattle.graph.specs.views.WriteNode.{nodeRecordBytes, caseRecordBytes};
 
@@ -92,19 +94,21 @@ pub fn put_node(buf: &mut [u8], at: usize, node: NodeRecord) -> usize
     }
 }
 
-// A symbol case's record, and the position behind it.
-fn put_symbol(buf: &mut [u8], at: usize, a: u16, node: u16) -> usize
-    requires { ⌜ at + length (caseRecordBytes (Symbol a node)) ≤ length (now buf) ⌝ }
-    ensures { λ r. ⌜ (r ≡ at + length (caseRecordBytes (Symbol a node)))
-        × (now (buf .exit) ≡ splice (now (buf .entry)) at (caseRecordBytes (Symbol a node))) ⌝ }
+// The record of a run, of ids or of numbers by its kind byte, and the position behind it.
+fn put_run(buf: &mut [u8], at: usize, kind: u8, low: u16, high: u16, node: u16) -> usize
+    requires { ⌜ at + 7 ≤ length (now buf) ⌝ }
+    ensures { λ r. ⌜ (r ≡ at + 7)
+        × (now (buf .exit) ≡ splice (now (buf .entry)) at (kind ∷ wideThen low (wideThen high (wideThen node [])))) ⌝ }
 {
     records::put(
         buf,
         at,
         &[
-            0x44,
-            records::high(a),
-            records::low(a),
+            kind,
+            records::high(low),
+            records::low(low),
+            records::high(high),
+            records::low(high),
             records::high(node),
             records::low(node),
         ],
@@ -131,27 +135,6 @@ fn put_compound(buf: &mut [u8], at: usize, a: u16, arity: u8, node: u16) -> usiz
     )
 }
 
-// The record of a case of numbers, and the position behind it.
-fn put_numbers(buf: &mut [u8], at: usize, low: u16, high: u16, node: u16) -> usize
-    requires { ⌜ at + length (caseRecordBytes (Numbers low high node)) ≤ length (now buf) ⌝ }
-    ensures { λ r. ⌜ (r ≡ at + length (caseRecordBytes (Numbers low high node)))
-        × (now (buf .exit) ≡ splice (now (buf .entry)) at (caseRecordBytes (Numbers low high node))) ⌝ }
-{
-    records::put(
-        buf,
-        at,
-        &[
-            0x46,
-            records::high(low),
-            records::low(low),
-            records::high(high),
-            records::low(high),
-            records::high(node),
-            records::low(node),
-        ],
-    )
-}
-
 // A case's record, and the position behind it. A writer that puts a high before its low, or the node first, is none.
 pub fn put_case(buf: &mut [u8], at: usize, c: CaseRecord) -> usize
     requires { ⌜ at + length (caseRecordBytes c) ≤ length (now buf) ⌝ }
@@ -159,8 +142,8 @@ pub fn put_case(buf: &mut [u8], at: usize, c: CaseRecord) -> usize
         × (now (buf .exit) ≡ splice (now (buf .entry)) at (caseRecordBytes c)) ⌝ }
 {
     match c {
-        CaseRecord::Symbol(a, node) => put_symbol(buf, at, a, node),
+        CaseRecord::Symbols(low, high, node) => put_run(buf, at, 0x44, low, high, node),
         CaseRecord::Compound(a, arity, node) => put_compound(buf, at, a, arity, node),
-        CaseRecord::Numbers(low, high, node) => put_numbers(buf, at, low, high, node),
+        CaseRecord::Numbers(low, high, node) => put_run(buf, at, 0x46, low, high, node),
     }
 }

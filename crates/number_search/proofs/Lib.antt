@@ -4,4 +4,4 @@ pub mod FirstOfRow
 pub mod ReadRow
 pub mod Halving
 pub mod Narrowest
-pub mod PointsPassed
+pub mod NamesPassed

@@ -12,12 +12,12 @@ use Rattle.basics.specs.Order.{pairBefore}
 use Rattle.basics.proofs.Sorted.{pair-before}
 use Rattle.records.specs.Fields.{wideAt}
 use Rattle.records.proofs.Rows.{row-none}
-use Rattle.decision.specs.Cases.{Case, symbolCase, compoundCase, numbersCase}
+use Rattle.decision.specs.Cases.{Case, symbolsCase, compoundCase, numbersCase}
 use Rattle.decision.specs.Node.{CaseEdge}
 use Rattle.decision.specs.AcceptedGraph.{CaseFields}
 use Rattle.decision.specs.views.CaseCodes.{caseLow, caseHigh}
 use Rattle.graph.specs.declared.CaseRecord.{CaseRecord}
-use Rattle.graph.specs.declared.CaseRecord.the-variants.{Symbol, Compound, Numbers}
+use Rattle.graph.specs.declared.CaseRecord.the-variants.{Symbols, Compound, Numbers}
 use Rattle.graph.specs.declared.CaseHead.{CaseHead}
 use Rattle.graph.specs.declared.CaseHead.the-variants.{Whole, Refused}
 use Rattle.graph.specs.views.NodeRecord.{wholeCase, caseHead}
@@ -35,7 +35,7 @@ use Rattle.number_search.proofs.FirstOfRow.{firsts-at}
 
 -- A case of numbers.
 abbrev pub IsNumbers : Case → Type 0
-IsNumbers (symbolCase a) = ⊥
+IsNumbers (symbolsCase l h) = ⊥
 IsNumbers (compoundCase a n) = ⊥
 IsNumbers (numbersCase l h) = Unit
 
@@ -44,7 +44,7 @@ AreNumbers cs = All (λ (c : CaseEdge ℕ). IsNumbers (c .case)) cs
 
 -- A case that does not begin below a number's code is one.
 begins-there : (l : ℕ) (c : Case) → CaseFields c → 0x3000000 + l ≤ caseLow c → IsNumbers c
-begins-there l (symbolCase a) f h = omega (arith, f, h)
+begins-there l (symbolsCase x y) f h = omega (arith, f .0, h)
 begins-there l (compoundCase a n) f h = omega (arith, f .0, f .1, h)
 begins-there l (numbersCase x y) f h = tt
 
@@ -64,13 +64,13 @@ numbers-behind c cs is ordered = (is, go (c .case) is cs (ordered .fields .1) (o
           [ inl m ↦ omega (arith, m) | inr m ↦ omega (arith, m .0) ]),
       go (numbersCase l h) is xs (f .1) (a .1),
     )
-    go (symbolCase b) is (x ∷ xs) f a = absurd is
+    go (symbolsCase l h) is (x ∷ xs) f a = absurd is
     go (compoundCase b n) is (x ∷ xs) f a = absurd is
 
 -- The fields that the head of a number case tells.
 abbrev Fields : List ℕ → CaseHead → Type 0
 Fields s (Whole (Numbers l h n)) = edge (numbersCase l h) n ≡ edge (numbersCase (wideAt s 1) (wideAt s 3)) (wideAt s 5)
-Fields s (Whole (Symbol a n)) = Unit
+Fields s (Whole (Symbols l h n)) = Unit
 Fields s (Whole (Compound a k n)) = Unit
 Fields s (Refused q) = Unit
 
@@ -78,14 +78,14 @@ fields-told : (s : List ℕ) → Fields s (caseHead s)
 fields-told s =
     kind-holds (Fields s) (eqb (length s) 0) (λ e. tt)
     (kind-holds (Fields s) (eqb (getD s 0 0) 0x44)
-    (λ k. symbol (leb 5 (length s)))
+    (λ k. symbols (leb 7 (length s)))
     (kind-holds (Fields s) (eqb (getD s 0 0) 0x45)
     (λ k. compound (leb 6 (length s)))
     (kind-holds (Fields s) (eqb (getD s 0 0) 0x46) (λ k. numbers (leb 7 (length s))) tt)))
   where
-    symbol : (b : Bool) → Fields s (wholeCase b (Symbol (wideAt s 1) (wideAt s 3)))
-    symbol true = tt
-    symbol false = tt
+    symbols : (b : Bool) → Fields s (wholeCase b (Symbols (wideAt s 1) (wideAt s 3) (wideAt s 5)))
+    symbols true = tt
+    symbols false = tt
 
     compound : (b : Bool) → Fields s (wholeCase b (Compound (wideAt s 1) (getD s 3 0) (wideAt s 4)))
     compound true = tt
@@ -116,7 +116,7 @@ module _ (s : List ℕ) where
     one-more
         : (c : CaseRecord) → caseHead (drop at s) ≡ Whole c → IsNumbers (edgeOf c .case)
         → AreNumbers (readOr [] (readCases m (drop (at + rangeOf c .bytes) s))) → Rowed at (suc m)
-    one-more (Symbol a n) e is others = absurd is
+    one-more (Symbols l h n) e is others = absurd is
     one-more (Compound a k n) e is others = absurd is
     one-more (Numbers l h n) e is others =
         let read = edge-read (drop at s) (Numbers l h n) e in

@@ -30,8 +30,8 @@ outcomeAt w x y = runOutcome (wantLow w) (wantHigh w) x y
 
 -- At an unknown a test is not known: no want holds at all codes, and each at one.
 at-unknown : (w : Want) → WantFields w → outcomeAt w (symbolCode 0) highestCode ≡ notKnown
-at-unknown (aSymbol a) f =
-    partly-not-known (symbolCode a) (symbolCode a) (symbolCode 0) highestCode (inr (omega arith)) (omega arith)
+at-unknown (aSymbol l h) f =
+    partly-not-known (symbolCode l) (symbolCode h) (symbolCode 0) highestCode (inr (omega (arith, f .1))) (omega (arith, f .0))
     (omega arith)
 at-unknown (aNumber l h) f =
     partly-not-known (numberCode l) (numberCode h) (symbolCode 0) highestCode (inl (omega arith)) (omega arith)
@@ -42,14 +42,15 @@ at-unknown (aCompound a n) f =
 
 -- No want holds at code 0.
 low-some : (w : Want) → 0 < wantLow w
-low-some (aSymbol a) = omega arith
+low-some (aSymbol l h) = omega arith
 low-some (aNumber l h) = omega arith
 low-some (aCompound a n) = omega arith
 
 -- At a span: a range as its numbers say, and "any other place test is contradicted".
 at-span : (w : Want) (b c : ℕ) → WantFields w → outcomeAt w (numberCode b) (numberCode c) ≡ fits w (numbers b c)
-at-span (aSymbol a) b c f =
-    outside-contradicted (symbolCode a) (symbolCode a) (numberCode b) (numberCode c) (inr (omega arith)) (inr (omega arith))
+at-span (aSymbol l h) b c f =
+    outside-contradicted (symbolCode l) (symbolCode h) (numberCode b) (numberCode c) (inr (omega (arith, f .1)))
+    (inr (omega (arith, f .1)))
 at-span (aNumber l h) b c f =
     let k : ℕ = 0x3000000 in
     λ i. cond (in-order k l b i && in-order k c h i) holds (cond (before k c l i || before k h b i) contradicted notKnown)

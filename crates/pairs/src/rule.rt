@@ -22,6 +22,7 @@ pub fn name_of(what: PatternRecord) -> Name
         PatternRecord::Compound(_, _) => Name::Nameless,
         PatternRecord::Variable(v) => Name::Of(v),
         PatternRecord::Ranged(v, _, _) => Name::Of(v),
+        PatternRecord::Series(_, _) => Name::Nameless,
     }
 }
 
@@ -36,6 +37,7 @@ pub fn is_named(v: u8, what: PatternRecord) -> bool
         PatternRecord::Compound(_, _) => false,
         PatternRecord::Variable(u) => v == u,
         PatternRecord::Ranged(u, _, _) => v == u,
+        PatternRecord::Series(_, _) => false,
     }
 }
 

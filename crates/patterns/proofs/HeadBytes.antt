@@ -11,7 +11,7 @@ use Rattle.records.proofs.WideFields.{wide-bound, high-of, low-of, wide-of}
 use Rattle.basics.specs.Lists.{countFrom}
 use Rattle.terms.specs.Term.{Wide}
 use Rattle.patterns.specs.declared.PatternRecord.{PatternRecord}
-use Rattle.patterns.specs.declared.PatternRecord.the-variants.{Anything, Symbol, Range, Compound, Variable, Ranged}
+use Rattle.patterns.specs.declared.PatternRecord.the-variants.{Anything, Symbol, Range, Compound, Variable, Ranged, Series}
 use Rattle.patterns.specs.declared.PatternHead.{PatternHead}
 use Rattle.patterns.specs.declared.PatternHead.the-variants.{Whole, Refused}
 use Rattle.patterns.specs.views.PatternRecord.{recordBytes, recordSpelling, patternHead}
@@ -26,6 +26,7 @@ WideFields (Range l h) = Wide l × Wide h
 WideFields (Compound a n) = Wide a
 WideFields (Variable v) = Unit
 WideFields (Ranged v l h) = Wide l × Wide h
+WideFields (Series l h) = Wide l × Wide h
 
 -- The k elements of a list from element i on.
 abbrev pub part : List ℕ → ℕ → ℕ → List ℕ
@@ -55,6 +56,12 @@ module _ (s : List ℕ) (bytes : AreBytes s) where
       λ j. sym (high-of high low (byte-at s i bytes) (byte-at s (i + 1) bytes)) j
       ∷ sym (low-of high low (byte-at s i bytes) (byte-at s (i + 1) bytes)) j ∷ rest
 
+  -- The bytes of a range of either kind.
+  range-bytes
+      : (kind : ℕ) → 5 ≤ length s → getD s 0 0 ≡ kind → s ≡ kind ∷ wideThen (wideAt s 1) (wideThen (wideAt s 3) (drop 5 s))
+  range-bytes kind there is =
+      first-bytes 5 s there ∙ (λ j. is j ∷ (two-bytes 1 _ ∙ ap (wideThen (wideAt s 1)) (two-bytes 3 (drop 5 s))) j)
+
   abbrev Spells : PatternHead → Type 0
   Spells (Whole r) = WideFields r × (s ≡ recordSpelling r ++ drop (recordBytes r) s)
   Spells (Refused q) = Unit
@@ -64,11 +71,7 @@ module _ (s : List ℕ) (bytes : AreBytes s) where
       head-cases Spells s tt
       (λ there is. (tt, first-bytes 1 s there ∙ (λ j. is j ∷ drop 1 s)))
       (λ there is. (wide 1, first-bytes 3 s there ∙ (λ j. is j ∷ two-bytes 1 (drop 3 s) j)))
-      (λ there is. (
-        (wide 1, wide 3),
-        first-bytes 5 s there
-            ∙ (λ j. is j ∷ (two-bytes 1 _ ∙ ap (wideThen (wideAt s 1)) (two-bytes 3 (drop 5 s))) j),
-      ))
+      (λ there is. ((wide 1, wide 3), range-bytes 0x22 there is))
       (λ there is. (wide 1, first-bytes 4 s there ∙ (λ j. is j ∷ two-bytes 1 (getD s 3 0 ∷ drop 4 s) j)))
       (λ there is. (tt, first-bytes 2 s there ∙ (λ j. is j ∷ getD s 1 0 ∷ drop 2 s)))
       (λ there is. (
@@ -76,6 +79,7 @@ module _ (s : List ℕ) (bytes : AreBytes s) where
         first-bytes 6 s there
             ∙ (λ j. is j ∷ getD s 1 0 ∷ (two-bytes 2 _ ∙ ap (wideThen (wideAt s 2)) (two-bytes 4 (drop 6 s))) j),
       ))
+      (λ there is. ((wide 1, wide 3), range-bytes 0x26 there is))
 
   -- The wide fields of a whole record are wide.
   pub head-wide : {r : PatternRecord} → patternHead s ≡ Whole r → WideFields r
@@ -109,3 +113,7 @@ spelled-head (Ranged v l h) rest w =
     let s = recordSpelling (Ranged v l h) ++ rest in
     simp (ne-eqb (length s) 0 (λ e. omega arith), le-leb 6 (length s) (omega arith))
     (λ j. Whole (Ranged v (wide-of l (w .0) j) (wide-of h (w .1) j)))
+spelled-head (Series l h) rest w =
+    let s = recordSpelling (Series l h) ++ rest in
+    simp (ne-eqb (length s) 0 (λ e. omega arith), le-leb 5 (length s) (omega arith))
+    (λ j. Whole (Series (wide-of l (w .0) j) (wide-of h (w .1) j)))

@@ -2,18 +2,19 @@
 use Prim.Native.Nat.{ℕ, _≤_}
 use mathlib.Core.Path.{_≡_, refl, subst}
 use mathlib.Core.Bool.{Bool, true, false, cond}
+use mathlib.Core.Logic.{_⊎_, inl, inr}
 use mathlib.Core.List.{List}
 use native.Mathlib.Omega.{arith}
 use lib.ListN.{length, getD}
 use lib.Dec.{leb, eqb}
-use borrow.Author.Tests.{leb-true, eqb-true, eqb-false}
+use borrow.Author.Tests.{leb-true, eqb-true, eqb-false, ne-eqb}
 use Rattle.records.specs.Fields.{wideAt}
 use Rattle.records.proofs.Questions.{kind-cases}
 use Rattle.patterns.specs.declared.PatternRecord.{PatternRecord}
-use Rattle.patterns.specs.declared.PatternRecord.the-variants.{Anything, Symbol, Range, Compound, Variable, Ranged}
+use Rattle.patterns.specs.declared.PatternRecord.the-variants.{Anything, Symbol, Range, Compound, Variable, Ranged, Series}
 use Rattle.patterns.specs.declared.PatternHead.{PatternHead}
 use Rattle.patterns.specs.declared.PatternHead.the-variants.{Whole, Refused}
-use Rattle.patterns.specs.views.PatternRecord.{recordBytes, wholeIf, patternHead}
+use Rattle.patterns.specs.views.PatternRecord.{recordBytes, wholeIf, rangeHead, patternHead}
 
 module _ (P : PatternHead → Type 0) where
   whole : (k n : ℕ) (r : PatternRecord) → P (Refused 4) → (k ≤ n → P (Whole r)) → P (wholeIf (leb k n) r)
@@ -41,15 +42,24 @@ module _ (P : PatternHead → Type 0) where
         → (4 ≤ length s → getD s 0 0 ≡ 0x23 → P (Whole (Compound (wideAt s 1) (getD s 3 0))))
         → (2 ≤ length s → getD s 0 0 ≡ 0x24 → P (Whole (Variable (getD s 1 0))))
         → (6 ≤ length s → getD s 0 0 ≡ 0x25 → P (Whole (Ranged (getD s 1 0) (wideAt s 2) (wideAt s 4))))
+        → (5 ≤ length s → getD s 0 0 ≡ 0x26 → P (Whole (Series (wideAt s 1) (wideAt s 3))))
         → P (patternHead s)
-    head-cases short any symbol range compound variable ranged =
+    head-cases short any symbol range compound variable ranged series =
         kind-cases P (eqb (length s) 0) _ _ (λ empty. short) (λ some.
         kind-cases P (eqb (getD s 0 0) 0x20) _ _
         (λ is. any (omega (arith, eqb-false (length s) 0 some)) (eqb-true (getD s 0 0) 0x20 is)) (λ not.
         kind-case 0x21 3 _ _ short symbol
         (kind-case 0x22 5 _ _ short range
         (kind-case 0x23 4 _ _ short compound
-        (kind-case 0x24 2 _ _ short variable (kind-case 0x25 6 _ _ short ranged short))))))
+        (kind-case 0x24 2 _ _ short variable
+        (kind-case 0x25 6 _ _ short ranged (kind-case 0x26 5 _ _ short series short)))))))
+
+-- Of kind 22 and of kind 26 a head is one of two ends.
+pub two-ends
+    : (s : List ℕ) → (length s ≡ 0 → ⊥) → (getD s 0 0 ≡ 0x22) ⊎ (getD s 0 0 ≡ 0x26)
+    → rangeHead (eqb (getD s 0 0) 0x26) s ≡ patternHead s
+two-ends s some (inl e) = simp (ne-eqb _ _ some, e)
+two-ends s some (inr e) = simp (ne-eqb _ _ some, e)
 
 -- A record's bytes are there.
 abbrev There : ℕ → PatternHead → Type 0
@@ -61,4 +71,4 @@ pub head-whole : (s : List ℕ) {r : PatternRecord} → patternHead s ≡ Whole 
 head-whole s e =
     subst (There (length s)) e
     (head-cases (There (length s)) s tt (λ there is. there) (λ there is. there) (λ there is. there) (λ there is. there)
-    (λ there is. there) (λ there is. there))
+    (λ there is. there) (λ there is. there) (λ there is. there))

@@ -6,7 +6,7 @@ use native.Mathlib.Omega.{arith}
 use lib.Dec.{eqb}
 use Rattle.terms.specs.Term.{Wide}
 use Rattle.patterns.specs.declared.PatternRecord.{PatternRecord}
-use Rattle.patterns.specs.declared.PatternRecord.the-variants.{Anything, Symbol, Range, Compound, Variable, Ranged}
+use Rattle.patterns.specs.declared.PatternRecord.the-variants.{Anything, Symbol, Range, Compound, Variable, Ranged, Series}
 use Rattle.patterns.specs.views.Note.{note}
 use Rattle.patterns.specs.views.NoteCode.{packedNote, noteCode, noteOf, codePlace, codeKind, codeVariable, codeFirst, codeSecond, codeRecord, Fitting}
 
@@ -15,7 +15,8 @@ abbrev recordWith : ℕ → ℕ → ℕ → ℕ → ℕ → PatternRecord
 recordWith k v x y arity =
     cond (eqb k 1) (Symbol x)
     (cond (eqb k 2) (Range x y)
-    (cond (eqb k 3) (Compound x arity) (cond (eqb k 4) (Variable v) (cond (eqb k 5) (Ranged v x y) Anything))))
+    (cond (eqb k 3) (Compound x arity)
+    (cond (eqb k 4) (Variable v) (cond (eqb k 5) (Ranged v x y) (cond (eqb k 6) (Series x y) Anything)))))
 
 -- Each part of a number made of parts that fit is that part.
 note-packed
@@ -41,6 +42,7 @@ note-kept n (Compound a k) h =
     note-packed n 3 0 a k (omega arith) (omega arith) (h .0) (omega arith) ∙ ap (λ (i : ℕ). note n (Compound a i)) arity
 note-kept n (Variable v) h = note-packed n 4 v 0 0 (omega arith) h (omega arith) (omega arith)
 note-kept n (Ranged v l h) f = note-packed n 5 v l h (omega arith) (f .0) (f .1) (f .2)
+note-kept n (Series l h) f = note-packed n 6 0 l h (omega arith) (omega arith) (f .0) (f .1)
 
 either-fits : (b : Bool) (x y : PatternRecord) → Fitting x → Fitting y → Fitting (cond b x y)
 either-fits true x y hx hy = hx
@@ -53,4 +55,5 @@ code-fits c =
     either-fits (eqb (codeKind c) 1) _ _ (omega arith)
     (either-fits (eqb (codeKind c) 2) _ _ (omega arith)
     (either-fits (eqb (codeKind c) 3) _ _ (omega arith)
-    (either-fits (eqb (codeKind c) 4) _ _ (omega arith) (either-fits (eqb (codeKind c) 5) _ _ (omega arith) tt))))
+    (either-fits (eqb (codeKind c) 4) _ _ (omega arith)
+    (either-fits (eqb (codeKind c) 5) _ _ (omega arith) (either-fits (eqb (codeKind c) 6) _ _ (omega arith) tt)))))

@@ -15,6 +15,7 @@ pub enum PatternRecord {
     Compound(u16, u8),
     Variable(u8),
     Ranged(u8, u16, u16),
+    Series(u16, u16),
 }
 
 // The record that the input begins with, or the number of the question that it got a no from.

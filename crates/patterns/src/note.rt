@@ -27,6 +27,7 @@ pub fn note_code(place: usize, what: PatternRecord) -> u64
         PatternRecord::Compound(a, arity) => pack(place, 3, 0, a, arity as u16),
         PatternRecord::Variable(v) => pack(place, 4, v, 0, 0),
         PatternRecord::Ranged(v, low, high) => pack(place, 5, v, low, high),
+        PatternRecord::Series(low, high) => pack(place, 6, 0, low, high),
     }
 }
 
@@ -51,6 +52,7 @@ pub fn note_record(code: u64) -> PatternRecord
         3 => PatternRecord::Compound(first, (code % 256) as u8),
         4 => PatternRecord::Variable(variable),
         5 => PatternRecord::Ranged(variable, first, second),
+        6 => PatternRecord::Series(first, second),
         _ => PatternRecord::Anything,
     }
 }

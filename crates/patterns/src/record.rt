@@ -4,14 +4,19 @@ use crate::PatternRecord;
 ghost use mathlib.Core.Path.{_≡_};
 ghost use Rattle.patterns.specs.views.PatternRecord.{patternHead, rangeHead, rangedHead, headRefusal};
 
-// The range that the input begins with.
-fn range_head(s: &[u8]) -> PatternHead
-    ensures { λ r. ⌜ r ≡ rangeHead (now (s .entry)) ⌝ }
+// Two ends that the input begins with: a series of symbols, or a range of numbers.
+fn range_head(s: &[u8], symbols: bool) -> PatternHead
+    ensures { λ r. ⌜ r ≡ rangeHead symbols (now (s .entry)) ⌝ }
 {
     if s.len() < 5 {
         return PatternHead::Refused(4);
     }
-    PatternHead::Whole(PatternRecord::Range(records::wide(s[1], s[2]), records::wide(s[3], s[4])))
+    let low = records::wide(s[1], s[2]);
+    let high = records::wide(s[3], s[4]);
+    if symbols {
+        return PatternHead::Whole(PatternRecord::Series(low, high));
+    }
+    PatternHead::Whole(PatternRecord::Range(low, high))
 }
 
 // The ranged variable that the input begins with.
@@ -28,8 +33,8 @@ fn ranged_head(s: &[u8]) -> PatternHead
     ))
 }
 
-// The record of a pattern that the input begins with: question 4. A cut record is never whole, and kind 26 is no
-// pattern.
+// The record of a pattern that the input begins with: question 4. A cut record is never whole, and kind 27 is no
+// pattern. Kinds 22 and 26 have one arm, so that the whole is small enough to be compiled into each of its callers.
 pub fn pattern_head(s: &[u8]) -> PatternHead
     ensures { λ r. ⌜ r ≡ patternHead (now (s .entry)) ⌝ }
 {
@@ -45,7 +50,7 @@ pub fn pattern_head(s: &[u8]) -> PatternHead
             }
             PatternHead::Whole(PatternRecord::Symbol(records::wide(s[1], s[2])))
         }
-        0x22 => range_head(s),
+        0x22 | 0x26 => range_head(s, kind == 0x26),
         0x23 => {
             if s.len() < 4 {
                 return PatternHead::Refused(4);
@@ -59,7 +64,7 @@ pub fn pattern_head(s: &[u8]) -> PatternHead
             PatternHead::Whole(PatternRecord::Variable(s[1]))
         }
         0x25 => ranged_head(s),
-        0..=0x1f | 0x26..=255 => PatternHead::Refused(4),
+        0..=0x1f | 0x27..=255 => PatternHead::Refused(4),
     }
 }
 

@@ -19,7 +19,7 @@ use Rattle.basics.proofs.Booleans.{cond-holds}
 use Rattle.basics.proofs.ListLaws.{all-join, all-map}
 use Rattle.terms.proofs.Ranges.{WideRange, ranges-wide}
 use Rattle.patterns.specs.declared.PatternRecord.{PatternRecord}
-use Rattle.patterns.specs.declared.PatternRecord.the-variants.{Anything, Symbol, Range as RangeOf, Compound, Variable, Ranged}
+use Rattle.patterns.specs.declared.PatternRecord.the-variants.{Anything, Symbol, Range as RangeOf, Compound, Variable, Ranged, Series}
 use Rattle.patterns.specs.views.Note.{Note}
 use Rattle.sheet.specs.views.Noted.{ruleNotes}
 use Rattle.patterns.specs.views.NoteCode.{Fitting}
@@ -104,11 +104,12 @@ module _ {arity : ℕ} (piece : Terms) (ok : AcceptedPiece arity piece) (few : a
         : (p : ℕ) (r : PatternRecord) → p < 680 → Fitting r
         → recordOutcome cells low high p r ≡ together (placeOutcome piece) (recordTests rangeOf p r)
     record-right p Anything h fits = refl
-    record-right p (Symbol a) h fits = one-test p (aSymbol a) h fits
+    record-right p (Symbol a) h fits = one-test p (aSymbol a a) h (fits, fits)
     record-right p (RangeOf l u) h fits = one-test p (aNumber l u) h (fits .0)
     record-right p (Compound a k) h fits = one-test p (aCompound a k) h fits
     record-right p (Variable v) h fits = variable-right p v h fits
     record-right p (Ranged v l u) h fits = variable-right p v h (fits .0)
+    record-right p (Series l u) h fits = one-test p (aSymbol l u) h fits
 
     -- All place tests of a list of notes.
     notes-right

@@ -21,8 +21,8 @@ ghost use Rattle.outcomes.specs.views.CellOutcome.{outcomeOf};
 ghost use Rattle.plain.specs.views.NotesOutcome.{fixedOutcome, rangeOutcome, recordOutcome, placesOutcome};
 ghost use Rattle.plain.specs.views.NotesOutcome.{pairTestCells, pairsOutcome, notesOutcome};
 
-// The outcome of the test of a symbol, a range or a compound at a place; any other record has none. Not that of a range's low end
-// alone, nor a symbol's where a compound stands.
+// The outcome of the test of a symbol, a series, a range or a compound at a place; any other record has none. Not that of a range's
+// low end alone, nor a symbol's where a compound stands.
 pub fn fixed_outcome(cells: &Cells, place: usize, what: PatternRecord) -> TestOutcome
     requires { ⌜ place < 680 ⌝ }
     ensures { λ r. ⌜ outcomeOf r ≡ fixedOutcome (now (cells .entry)) place what ⌝ }
@@ -43,6 +43,14 @@ pub fn fixed_outcome(cells: &Cells, place: usize, what: PatternRecord) -> TestOu
         PatternRecord::Compound(id, arity) => {
             let code = codes::compound_code(id, arity);
             place_outcome(cells, place, code, code)
+        }
+        PatternRecord::Series(low, high) => {
+            place_outcome(
+                cells,
+                place,
+                codes::symbol_code(low),
+                codes::symbol_code(high),
+            )
         }
         PatternRecord::Anything => TestOutcome::Holds,
         PatternRecord::Variable(_) => TestOutcome::Holds,

@@ -1,4 +1,4 @@
--- Document 01's example, through bytes: its sheet is built to its 61 bytes.
+-- Document 01's example, through bytes: its sheet is built to its 67 bytes.
 use Prim.Native.Nat.{ℕ}
 use mathlib.Core.Path.{_≡_, refl, sym, ap, _∙_}
 use mathlib.Core.List.{List, [], _∷_}
@@ -12,7 +12,7 @@ use Rattle.sheet.specs.Sheet.{Sheet}
 use Rattle.sheet.specs.ReadSheet.{readPattern, readHeader, readSheet}
 use Rattle.sheet_tests.specs.CheckSheet.{acceptSheet}
 use Rattle.decision.specs.Key.{suspendNode, executeNode}
-use Rattle.decision.specs.Cases.{symbolCase}
+use Rattle.decision.specs.Cases.{symbolsCase}
 use Rattle.decision.specs.Node.{Node, CaseEdge, end, switch, pairNode}
 use Rattle.decision.specs.Graph.{lowestFirst, graphOf}
 use Rattle.order.specs.Asking.{lowest}
@@ -31,7 +31,7 @@ unfolding acceptSheet readSheet readHeader readPattern readRow allBelow
 example-accepted = refl
 
 abbrev pub oneCase : ℕ → ℕ → List (CaseEdge ℕ)
-oneCase a n = record { case = symbolCase a; target = n } ∷ []
+oneCase a n = record { case = symbolsCase a a; target = n } ∷ []
 
 -- Its seven nodes.
 abbrev exampleNodes : List (Node ℕ)
@@ -49,10 +49,10 @@ example-nodes : graphOf exampleRules ≡ some exampleNodes
 unfolding has maskOf members anyBelow
 example-nodes = refl
 
--- Building the example into a buffer of 61 bytes, all 0 before, writes its 7 nodes.
+-- Building the example into a buffer of 67 bytes, all 0 before, writes its 7 nodes.
 pub example-built
     : buildOutcome exampleSheet exampleBuffer
-    ≡ record { values = record { refusal = 0; nodes = 7; bytes = 61 }; buffer = exampleGraph }
+    ≡ record { values = record { refusal = 0; nodes = 7; bytes = 67 }; buffer = exampleGraph }
 example-built = built-outcome lowest exampleSheet exampleBuffer building ∙ refl
   where
     building : Building lowest exampleSheet exampleBuffer
@@ -68,7 +68,7 @@ example-built = built-outcome lowest exampleSheet exampleBuffer building ∙ ref
       fits = omega arith;
     }
 
--- So its 61 bytes are a built graph.
+-- So its 67 bytes are a built graph.
 pub example-graph : BuiltGraph lowest exampleSheet exampleBuffer exampleGraph
 example-graph = record {
   notRefused = ap (λ (y : BuildOutcome). y .values .refusal) example-built;

@@ -18,7 +18,7 @@ use Rattle.graph.specs.declared.Leaf.the-variants.{Execute}
 use Rattle.graph.specs.declared.NodeRecord.{NodeRecord}
 use Rattle.graph.specs.declared.NodeRecord.the-variants.{End, Switch, Pair}
 use Rattle.graph.specs.declared.CaseRecord.{CaseRecord}
-use Rattle.graph.specs.declared.CaseRecord.the-variants.{Symbol, Compound, Numbers}
+use Rattle.graph.specs.declared.CaseRecord.the-variants.{Symbols, Compound, Numbers}
 use Rattle.graph.specs.declared.NodeHead.{NodeHead}
 use Rattle.graph.specs.declared.NodeHead.the-variants.{Whole, Refused}
 use Rattle.graph.specs.declared.CaseHead.{CaseHead}
@@ -46,13 +46,13 @@ kind-case false x y h k = k
 case-head-named : (s : List ℕ) → CaseNamed (caseHead s)
 case-head-named s =
     kind-case (eqb (length s) 0) _ _ (omega arith, omega arith)
-    (kind-case (eqb (getD s 0 0) 0x44) _ _ (whole-case (leb 5 (length s)) (Symbol (wideAt s 1) (wideAt s 3)))
+    (kind-case (eqb (getD s 0 0) 0x44) _ _ (whole-case (leb 7 (length s)) (Symbols (wideAt s 1) (wideAt s 3) (wideAt s 5)))
     (kind-case (eqb (getD s 0 0) 0x45) _ _ (whole-case (leb 6 (length s)) (Compound (wideAt s 1) (getD s 3 0) (wideAt s 4)))
     (kind-case (eqb (getD s 0 0) 0x46) _ _ (whole-case (leb 7 (length s)) (Numbers (wideAt s 1) (wideAt s 3) (wideAt s 5)))
     (omega arith, omega arith))))
 
 on-case-named : (h : CaseHead) → CaseNamed h → Named GraphQuestion (onCase h)
-on-case-named (case.Whole (Symbol a n)) h = tt
+on-case-named (case.Whole (Symbols l u n)) h = tt
 on-case-named (case.Whole (Compound a k n)) h = tt
 on-case-named (case.Whole (Numbers l u n)) h = tt
 on-case-named (case.Refused q) h = h

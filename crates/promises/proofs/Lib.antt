@@ -22,6 +22,9 @@ pub mod Request2
 -- Request 4:
 pub mod Request4
 pub mod BuiltSize
+-- Request 5:
+pub mod SeriesForm
+pub mod Request5
 -- Request 9:
 pub mod Request9
 -- The cases that document 01 gives, its fakes, and its example by a table:

@@ -18,14 +18,15 @@ kind b n = record { byte = b; body = n }
 abbrev pub kinds : List Kind
 kinds =
     -- Sheet: (arity, number of rules); anything, symbol (wide id), range (wide low, wide high), compound (wide id, arity),
-    -- variable (its number), ranged variable (its number, wide low, wide high).
-    kind 0x10 2 ∷ kind 0x20 0 ∷ kind 0x21 2 ∷ kind 0x22 4 ∷ kind 0x23 3 ∷ kind 0x24 1 ∷ kind 0x25 5
+    -- variable (its number), ranged variable (its number, wide low, wide high), series (wide low, wide high).
+    kind 0x10 2 ∷ kind 0x20 0 ∷ kind 0x21 2 ∷ kind 0x22 4 ∷ kind 0x23 3 ∷ kind 0x24 1 ∷ kind 0x25 5 ∷ kind 0x26 4
     -- Piece: (arity); unknown, symbol (wide id), number (wide), compound (wide id, arity), span (wide low, wide high).
     ∷ kind 0x11 1 ∷ kind 0x30 0 ∷ kind 0x31 2 ∷ kind 0x32 2 ∷ kind 0x33 3 ∷ kind 0x34 4
     -- Graph: (arity, number of rules, wide node count); fail, suspend, execute (rule), switch (wide place, wide number of cases,
-    -- wide node for neither, wide node for unknown); cases: symbol (wide id, wide node), compound (wide id, arity, wide node),
-    -- numbers (wide low, wide high, wide node); pair (wide place p, wide place q, wide node for no, wide node for other).
-    ∷ kind 0x12 4 ∷ kind 0x40 0 ∷ kind 0x41 0 ∷ kind 0x42 1 ∷ kind 0x43 8 ∷ kind 0x44 4 ∷ kind 0x45 5 ∷ kind 0x46 6 ∷ kind 0x47 8
+    -- wide node for neither, wide node for unknown); cases: symbols (wide low, wide high, wide node), compound (wide id, arity,
+    -- wide node), numbers (wide low, wide high, wide node); pair (wide place p, wide place q, wide node for no, wide node for
+    -- other).
+    ∷ kind 0x12 4 ∷ kind 0x40 0 ∷ kind 0x41 0 ∷ kind 0x42 1 ∷ kind 0x43 8 ∷ kind 0x44 6 ∷ kind 0x45 5 ∷ kind 0x46 6 ∷ kind 0x47 8
     ∷ []
 
 abbrev pub bodyIn : List Kind → ℕ → ℕ

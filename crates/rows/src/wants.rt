@@ -42,5 +42,8 @@ pub fn record_wanted(what: PatternRecord, ranges: Ranges) -> Wanted
             let u = v as usize;
             range_wanted(ranges.low[u], ranges.high[u])
         }
+        PatternRecord::Series(low, high) => {
+            Wanted::Codes(0x100_0000 + low as u32, 0x100_0000 + high as u32)
+        }
     }
 }

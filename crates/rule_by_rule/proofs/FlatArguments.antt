@@ -1,7 +1,7 @@
 -- The arguments of a rule up to its first compound: a test that is contradicted there is a test of the rule.
 use Prim.Native.Nat.{ℕ, suc, _+_, _-_, _*_, _≤_, _<_}
 use mathlib.Core.Path.{_≡_, refl, sym, ap, subst, _∙_}
-use mathlib.Core.List.{List, _++_}
+use mathlib.Core.List.{List}
 use native.Mathlib.Omega.{arith}
 use lib.ListN.{drop}
 use lib.Seq.{drop-drop}
@@ -13,7 +13,7 @@ use Rattle.terms.specs.Pattern.{Pattern, Patterns, countPatterns, pnil, pcons}
 use Rattle.terms.specs.Outcome.{Outcome, holds, notKnown, contradicted, Holds, Contradicted}
 use Rattle.terms.proofs.Outcomes.{contradicted-left, contradicted-together}
 use Rattle.patterns.specs.declared.PatternRecord.{PatternRecord}
-use Rattle.patterns.specs.declared.PatternRecord.the-variants.{Anything, Symbol, Range, Compound, Variable, Ranged}
+use Rattle.patterns.specs.declared.PatternRecord.the-variants.{Anything, Symbol, Range, Compound, Variable, Ranged, Series}
 use Rattle.patterns.specs.declared.PatternHead.{PatternHead}
 use Rattle.patterns.specs.declared.PatternHead.the-variants.{Whole, Refused}
 use Rattle.sheet.specs.ReadSheet.{readPattern, readPatterns}
@@ -22,7 +22,7 @@ use Rattle.patterns.specs.views.Note.{Note, note}
 use Rattle.sheet.specs.views.Noted.{patternNotes, patternsNotes, ruleNotes}
 use Rattle.sheet.specs.views.NoteRanges.{lowsOf, highsOf}
 use Rattle.sheet.proofs.Compounds.{row-count}
-use Rattle.sheet.proofs.PatternReads.{PatternIs, isAnything, isSymbol, isRange, isCompound, isVariable, isRanged, pattern-is}
+use Rattle.sheet.proofs.PatternReads.{PatternIs, isAnything, isSymbol, isRange, isCompound, isVariable, isRanged, isSeries, pattern-is}
 use Rattle.codes.specs.views.Codes.{compoundCode}
 use Rattle.outcomes.specs.views.CellOutcome.{placeCells}
 use Rattle.plain.specs.views.NotesOutcome.{flatBytes, fixedOutcome, noteOutcome}
@@ -44,6 +44,7 @@ flat-there (Range l h) = omega arith
 flat-there (Compound a n) = omega arith
 flat-there (Variable v) = omega arith
 flat-there (Ranged v l h) = omega arith
+flat-there (Series l h) = omega arith
 
 is-out : (x : Outcome) → Contradicted x → x ≡ contradicted
 is-out holds h = absurd h
@@ -62,6 +63,7 @@ module _ (s : List ℕ) {r : PatternRecord} (head : patternHead s ≡ Whole r) w
   flat-took flat (isCompound h deep enough few read) = absurd (flat (ap flatBytes (same-record s head h)))
   flat-took flat (isVariable h small) = ap flatBytes (same-record s h head)
   flat-took flat (isRanged h range small) = ap flatBytes (same-record s h head)
+  flat-took flat (isSeries h range) = ap flatBytes (same-record s h head)
 
   -- and where its test is contradicted, so is that of a note.
   module _ (cells low high : List ℕ) (place : ℕ) (out : fixedOutcome cells place r ≡ contradicted) where
@@ -80,6 +82,7 @@ module _ (s : List ℕ) {r : PatternRecord} (head : patternHead s ≡ Whole r) w
         (note place (Compound a (countPatterns ps)), here, subst Contradicted (sym (same ∙ known h)) tt)
     first-note (isVariable h small) = absurd (holds-no refl (known h))
     first-note (isRanged h range small) = absurd (holds-no refl (known h))
+    first-note (isSeries {l = l} {h = u} h range) = (note place (Series l u), here, subst Contradicted (sym (known h)) tt)
 
 -- The arguments of a rule from argument i on, behind its first bytes.
 pub record Left (arity : ℕ) (s : List ℕ) (rule : Patterns) (i at : ℕ) : Type 0 where

@@ -24,6 +24,7 @@ fn flat_length(what: PatternRecord) -> usize
         PatternRecord::Compound(_, _) => 0,
         PatternRecord::Variable(_) => 2,
         PatternRecord::Ranged(_, _, _) => 6,
+        PatternRecord::Series(_, _) => 5,
     }
 }
 

@@ -7,10 +7,10 @@ use native.Mathlib.Numerals.{add-one}
 use native.Mathlib.Omega.{arith}
 use borrow.Author.Tests.{eq-eqb, ne-eqb, eqb-true}
 use lib.Dec.{T, eqb, eqb→eq}
-use lib.ListN.{length, getD, take, drop, length-drop, length-map, drop-of-length-le}
+use lib.ListN.{length, getD, drop, length-drop, length-map, drop-of-length-le}
 use lib.Seq.{drop-cons, length-take-le, getD-take, getD-drop}
 use Rattle.basics.proofs.Booleans.{both-true, true-is}
-use Rattle.sheet_tests.specs.SheetTests.{Test, place}
+use Rattle.sheet_tests.specs.SheetTests.{place}
 use Rattle.sheet_tests.specs.views.KeptPairs.{codePair}
 use Rattle.decision.specs.Rules.{sameTest}
 use Rattle.decision.proofs.rules.TestsOfRules.{test-same}

@@ -1,11 +1,11 @@
 -- The tests that are listed in a walk's tables are those of the sheet.
-use Prim.Native.Nat.{ℕ, _+_, _-_, _*_, _/_, _%_, _≤_, _<_}
+use Prim.Native.Nat.{ℕ, _+_, _-_, _/_, _%_, _≤_, _<_}
 use mathlib.Core.Path.{_≡_, refl, sym, ap, subst, _∙_}
 use mathlib.Core.List.{List, [], _∷_, _++_, map, map-append}
 use mathlib.Core.Logic.{by-cases}
 use native.Mathlib.Decide.{decLt}
 use native.Mathlib.Omega.{arith}
-use lib.ListN.{length, getD, take, drop, length-map, length-append, List·getD-append, List·getD-map}
+use lib.ListN.{length, getD, take, length-map, length-append, List·getD-append, List·getD-map}
 use lib.Seq.{length-take-le, getD-append-add, ext-getD}
 use Rattle.basics.specs.Lists.{All, Mem}
 use Rattle.basics.proofs.ListLaws.{all-map, all-from}

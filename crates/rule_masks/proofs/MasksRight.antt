@@ -1,12 +1,12 @@
 -- The masks of a rule's tests, off its notes and the cells of an accepted piece, are the sets of the rule's tests that are not
 -- known and that are contradicted for it in the piece, and they say the rule's outcome.
 use Prim.Native.Nat.{ℕ, suc, _/_, _%_, _≤_, _<_}
-use mathlib.Core.Path.{_≡_, refl, sym, ap, subst, _∙_}
+use mathlib.Core.Path.{_≡_, sym, ap, subst, _∙_}
 use mathlib.Core.Bool.{Bool, _&&_}
 use mathlib.Core.List.{List, _++_, map}
 use mathlib.Core.Option.{Option}
 use native.Mathlib.Omega.{arith}
-use lib.ListN.{length, getD}
+use lib.ListN.{length}
 use Rattle.masks.specs.Mask.{maskOf}
 use Rattle.basics.specs.Lists.{All, Mem, anyOf}
 use Rattle.basics.proofs.ListLaws.{all-at, all-from, all-join, all-map}
@@ -47,7 +47,7 @@ use Rattle.rule_masks.proofs.MasksOutcome.{masksOutcome, outcome-after,
 
 -- What is sound has fields of its codes.
 want-fields : (w : Want) → SoundWant w → WantFields w
-want-fields (aSymbol a) h = h
+want-fields (aSymbol l u) h = (omega (arith, h .0, h .1), h .1)
 want-fields (aNumber l u) h = omega (arith, h .0, h .1)
 want-fields (aCompound a n) h = (h .0, omega (arith, h .1))
 

@@ -1,6 +1,6 @@
 -- The number of a test in a list.
 use Prim.Native.Nat.{ℕ, zero, suc, _<_}
-use mathlib.Core.Path.{_≡_, refl, sym, ap, subst, _∙_}
+use mathlib.Core.Path.{_≡_, refl, sym, subst, _∙_}
 use mathlib.Core.Bool.{Bool, true, false, cond}
 use mathlib.Core.Logic.{inl, inr}
 use mathlib.Core.List.{List, [], _∷_}
@@ -8,7 +8,7 @@ use native.Mathlib.Omega.{arith}
 use borrow.Author.Tests.{eq-eqb, ne-eqb}
 use lib.Dec.{T, eqb, eqb·suc-suc}
 use lib.ListN.{length, getD}
-use Rattle.basics.specs.Lists.{Mem, All}
+use Rattle.basics.specs.Lists.{Mem}
 use Rattle.basics.proofs.ListLaws.{mem-cases, mem-none, all-at, all-map}
 use Rattle.basics.proofs.Sorted.{Ascending}
 use Rattle.sheet_tests.specs.SheetTests.{Test, before, sheetTests, allTests}

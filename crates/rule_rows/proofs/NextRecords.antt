@@ -1,5 +1,5 @@
 -- A row of records, one after another.
-use Prim.Native.Nat.{ℕ, zero, suc, _+_, _-_, _≤_}
+use Prim.Native.Nat.{ℕ, zero, suc, _+_, _-_, _≤_, min}
 use mathlib.Core.Path.{_≡_, refl, sym, ap, subst, _∙_}
 use mathlib.Core.List.{List, [], _∷_}
 use native.Mathlib.Omega.{arith}
@@ -16,17 +16,15 @@ use Rattle.rule_rows.specs.declared.Next.{Next}
 use Rattle.rule_rows.specs.declared.Next.the-variants.{Record, Done}
 use Rattle.rule_rows.specs.views.Row.{argumentsOf, headThen, rowRecords, recordsFrom, recordsWith, Going, GoesOn}
 
--- There is no record where none may come, nor where no pattern is to come, nor where none begins.
-row-none : (most patterns : ℕ) (s : List ℕ) → most ≡ 0 → rowRecords most patterns s ≡ []
+-- There is no record where none may come or no pattern is to come, nor where none begins.
+row-ends : (most patterns : ℕ) (s : List ℕ) → min most patterns ≡ 0 → rowRecords most patterns s ≡ []
 unfolding rowRecords
-row-none zero patterns s e = refl
-row-none (suc most) patterns s e = absurd (omega arith)
+row-ends zero patterns s e = refl
+row-ends (suc most) zero s e = refl
+row-ends (suc most) (suc patterns) s e = absurd (omega arith)
 
 pub row-last : (most patterns : ℕ) (s : List ℕ) → patterns ≡ 0 → rowRecords most patterns s ≡ []
-unfolding rowRecords
-row-last zero patterns s e = refl
-row-last (suc most) zero s e = refl
-row-last (suc most) (suc patterns) s e = absurd (omega arith)
+row-last most patterns s e = row-ends most patterns s (omega arith)
 
 row-cut : (most patterns : ℕ) (s : List ℕ) {q : ℕ} → patternHead s ≡ Refused q → rowRecords most patterns s ≡ []
 unfolding rowRecords
@@ -49,11 +47,8 @@ row-more (suc most) (suc patterns) s {r} a b e =
     ∙ (λ j. r ∷ rowRecords (m j) (n j + argumentsOf r) (drop (recordBytes r) s))
 
 module _ (s : List ℕ) (row : Row) where
-  pub ends-full : row .most ≡ 0 → recordsFrom s row ≡ []
-  ends-full e = row-none (row .most) (row .patterns) (drop (row .at) s) e
-
-  pub ends-last : row .patterns ≡ 0 → recordsFrom s row ≡ []
-  ends-last e = row-last (row .most) (row .patterns) (drop (row .at) s) e
+  pub ends-last : min (row .most) (row .patterns) ≡ 0 → recordsFrom s row ≡ []
+  ends-last e = row-ends (row .most) (row .patterns) (drop (row .at) s) e
 
   module _ {h : PatternHead} (is : h ≡ patternHead (take (length s - row .at) (drop (row .at) s))) where
     own : h ≡ patternHead (drop (row .at) s)

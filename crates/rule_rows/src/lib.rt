@@ -1,11 +1,11 @@
 // The records of a rule in a row, and what is known of its variables behind them.
-pub mod names; // what is known of each variable of a rule
 pub mod rows; // the records of a rule, one after another
+pub mod words; // what is known of each variable of a rule
 
-pub use names::meet_row;
-pub use names::number_record;
 pub use rows::next_record;
 pub use rows::record_length;
+pub use words::meet_row;
+pub use words::number_record;
 
 // Where the records of a rule go on: the position of the next one, how many patterns are still to come, and how many records at
 // most.

@@ -4,7 +4,7 @@ use crate::Row;
 use patterns::PatternHead;
 use patterns::PatternRecord;
 ghost use mathlib.Core.Path.{_≡_};
-ghost use Prim.Native.Nat.{_≤_};
+ghost use Prim.Native.Nat.{_≤_, min};
 ghost use Rattle.patterns.specs.views.PatternRecord.{recordBytes};
 ghost use Rattle.rule_rows.specs.views.Row.{argumentsOf, recordsFrom, recordsWith, Going, GoesOn};
 
@@ -15,6 +15,7 @@ pub fn record_length(what: PatternRecord) -> usize
     match what {
         PatternRecord::Anything => 1,
         PatternRecord::Symbol(_) => 3,
+        PatternRecord::Series(_, _) => 5,
         PatternRecord::Range(_, _) => 5,
         PatternRecord::Compound(_, _) => 4,
         PatternRecord::Variable(_) => 2,
@@ -29,11 +30,19 @@ fn arguments(what: PatternRecord) -> usize
     match what {
         PatternRecord::Anything => 0,
         PatternRecord::Symbol(_) => 0,
+        PatternRecord::Series(_, _) => 0,
         PatternRecord::Range(_, _) => 0,
         PatternRecord::Compound(_, n) => n as usize,
         PatternRecord::Variable(_) => 0,
         PatternRecord::Ranged(_, _, _) => 0,
     }
+}
+
+// The smaller of two counts: 0 where one of them is.
+fn fewer(x: usize, y: usize) -> usize
+    ensures { λ r. ⌜ r ≡ min x y ⌝ }
+{
+    if y < x { y } else { x }
 }
 
 // The next record of a row, and where the row goes on. Not a compound whose arguments are left out, nor a record of the next rule.
@@ -43,10 +52,7 @@ pub fn next_record(s: &[u8], row: Row) -> Next
     ensures { λ r. ⌜ GoesOn (now (s .entry)) row r ⌝ }
 {
     let at = row.at;
-    if row.most == 0 {
-        return Next::Done;
-    }
-    if row.patterns == 0 {
+    if fewer(row.most, row.patterns) == 0 {
         return Next::Done;
     }
     let head = patterns::pattern_head(&s[at..]);

@@ -5,11 +5,11 @@ use mathlib.Core.List.{List, [], _∷_, _++_, append-nil, append-assoc}
 use mathlib.Core.Option.{Option}
 use native.Mathlib.Omega.{arith}
 use Rattle.places.specs.Numbering.{stride}
-use Rattle.terms.specs.Pattern.{Pattern, Patterns, countPatterns, anything, theSymbol, theRange, theCompound, variable, rangedVariable, pnil, pcons}
+use Rattle.terms.specs.Pattern.{Pattern, Patterns, countPatterns, anything, theSymbol, theSeries, theRange, theCompound, variable, rangedVariable, pnil, pcons}
 use Rattle.terms.specs.RuleTests.{Range, aSymbol, aNumber, aCompound, PlaceTest, at, Occurrence, rangeTest, patternTests, patternsTests, placeTests, patternVariables, patternsVariables, ruleVariables, patternsRange}
 use Rattle.terms.specs.Accepted.{Sound, Sounds, AcceptedRule}
 use Rattle.patterns.specs.declared.PatternRecord.{PatternRecord}
-use Rattle.patterns.specs.declared.PatternRecord.the-variants.{Anything, Symbol, Range as RangeOf, Compound, Variable, Ranged}
+use Rattle.patterns.specs.declared.PatternRecord.the-variants.{Anything, Symbol, Range as RangeOf, Compound, Variable, Ranged, Series}
 use Rattle.patterns.specs.views.Note.{Note}
 use Rattle.sheet.specs.views.Noted.{patternNotes, patternsNotes, ruleNotes}
 use Rattle.sheet.specs.views.NoteRanges.{rangeIn}
@@ -19,11 +19,12 @@ use Rattle.sheet.proofs.SpelledReads.{sounds-level}
 -- The place tests that a record at place n gives, where rangeOf v is the common range of variable v.
 abbrev pub recordTests : (ℕ → Option Range) → ℕ → PatternRecord → List PlaceTest
 recordTests rangeOf n Anything = []
-recordTests rangeOf n (Symbol a) = at n (aSymbol a) ∷ []
+recordTests rangeOf n (Symbol a) = at n (aSymbol a a) ∷ []
 recordTests rangeOf n (RangeOf l h) = at n (aNumber l h) ∷ []
 recordTests rangeOf n (Compound a k) = at n (aCompound a k) ∷ []
 recordTests rangeOf n (Variable v) = rangeTest n (rangeOf v)
 recordTests rangeOf n (Ranged v l h) = rangeTest n (rangeOf v)
+recordTests rangeOf n (Series l h) = at n (aSymbol l h) ∷ []
 
 abbrev pub testsIn : (ℕ → Option Range) → List Note → List PlaceTest
 testsIn rangeOf [] = []
@@ -37,6 +38,7 @@ recordVariables n (RangeOf l h) = []
 recordVariables n (Compound a k) = []
 recordVariables n (Variable v) = record { place = n; name = v } ∷ []
 recordVariables n (Ranged v l h) = record { place = n; name = v } ∷ []
+recordVariables n (Series l h) = []
 
 abbrev pub variablesIn : List Note → List Occurrence
 variablesIn [] = []
@@ -64,6 +66,7 @@ mutual
       → testsIn rangeOf (patternNotes p below b) ≡ patternTests rangeOf p (suc below) b
   pattern-tests rangeOf anything below b sound = refl
   pattern-tests rangeOf (theSymbol a) below b sound = refl
+  pattern-tests rangeOf (theSeries l h) below b sound = refl
   pattern-tests rangeOf (theRange l h) below b sound = refl
   pattern-tests rangeOf (theCompound a ps) zero b sound =
       absurd (omega (arith, sounds-level ps 0 (sound .4) (sound .2)))
@@ -88,6 +91,7 @@ mutual
       → variablesIn (patternNotes p below b) ≡ patternVariables p (suc below) b
   pattern-variables anything below b sound = refl
   pattern-variables (theSymbol a) below b sound = refl
+  pattern-variables (theSeries l h) below b sound = refl
   pattern-variables (theRange l h) below b sound = refl
   pattern-variables (theCompound a ps) zero b sound = absurd (omega (arith, sounds-level ps 0 (sound .4) (sound .2)))
   pattern-variables (theCompound a ps) (suc below) b sound = patterns-variables ps below (suc b) (sound .4)

@@ -1,18 +1,20 @@
 -- The bytes that spell an accepted pattern or rule are read as it.
-use Prim.Native.Nat.{ℕ, zero, suc, _+_, _≤_}
+use Prim.Native.Nat.{ℕ, zero, suc, _+_, _≤_, _<_}
 use mathlib.Core.Path.{_≡_, refl, sym, ap, _∙_}
 use mathlib.Core.List.{List, [], _∷_, _++_, append-assoc}
 use native.Mathlib.Omega.{arith}
 use lib.ListN.{length, length-append}
-use borrow.Author.Tests.{le-leb}
-use Rattle.records.specs.Reading.{took, ask, after, andThen}
+use borrow.Author.Tests.{le-leb, lt-leb}
+use Rattle.records.specs.Fields.{wideThen}
+use Rattle.records.specs.Reading.{took, refused, ask, after, andThen}
 use Rattle.records.proofs.Rows.{row-none}
 use Rattle.records.proofs.Spelling.{row-joined}
 use Rattle.basics.specs.Lists.{All}
-use Rattle.terms.specs.Pattern.{Pattern, Patterns, countPatterns, anything, theSymbol, theRange, theCompound, variable, rangedVariable, pnil, pcons}
+use Rattle.terms.specs.Term.{Wide}
+use Rattle.terms.specs.Pattern.{Pattern, Patterns, countPatterns, anything, theSymbol, theSeries, theRange, theCompound, variable, rangedVariable, pnil, pcons}
 use Rattle.terms.specs.Accepted.{Sound, Sounds, AcceptedRule}
 use Rattle.patterns.specs.declared.PatternRecord.{PatternRecord}
-use Rattle.patterns.specs.declared.PatternRecord.the-variants.{Anything, Symbol, Range, Compound, Variable, Ranged}
+use Rattle.patterns.specs.declared.PatternRecord.the-variants.{Anything, Symbol, Range, Compound, Variable, Ranged, Series}
 use Rattle.sheet.specs.ReadSheet.{readPattern, readPatterns, rangesMeet, readRule, readRules}
 use Rattle.sheet.specs.WriteSheet.{patternBytes, patternsBytes, rulesBytes}
 use Rattle.patterns.proofs.HeadBytes.{WideFields, spelled-head}
@@ -24,6 +26,7 @@ use Rattle.patterns.specs.views.PatternRecord.{recordSpelling, onRecord, onHead
 sound-level : (p : Pattern) (r : ℕ) → Sound p r → 1 ≤ r
 sound-level anything r h = h
 sound-level (theSymbol a) r h = h .0
+sound-level (theSeries l u) r h = h .0
 sound-level (theRange l u) r h = h .0
 sound-level (theCompound a ps) r h = h .0
 sound-level (variable v) r h = h .0
@@ -41,6 +44,13 @@ by-record below r rest wide =
     let s = recordSpelling r ++ rest in
     pattern-by-head below s ∙ ap (onHead (compoundOf below s)) (spelled-head r rest wide)
 
+-- "Question 7 applies to it": a series with low above high is refused.
+pub series-low-above-high
+    : (below l h : ℕ) (rest : List ℕ) → Wide l → Wide h → h < l
+    → readPattern below (0x26 ∷ wideThen l (wideThen h rest)) ≡ refused 7
+series-low-above-high below l h rest wideLow wideHigh less =
+    by-record below (Series l h) rest (wideLow, wideHigh) ∙ rw (lt-leb l h less)
+
 mutual
   -- The bytes of a sound pattern, with so many levels below it, are read as it.
   pub pattern-read
@@ -48,6 +58,8 @@ mutual
       → readPattern below (patternBytes p ++ rest) ≡ took (length (patternBytes p)) p
   pattern-read anything below rest sound = by-record below Anything rest tt
   pattern-read (theSymbol a) below rest sound = by-record below (Symbol a) rest (sound .1)
+  pattern-read (theSeries l h) below rest sound =
+      by-record below (Series l h) rest (omega (arith, sound .1, sound .2), sound .2) ∙ rw (le-leb l h (sound .1))
   pattern-read (theRange l h) below rest sound =
       by-record below (Range l h) rest (omega (arith, sound .1, sound .2), sound .2) ∙ rw (le-leb l h (sound .1))
   pattern-read (theCompound a ps) zero rest sound = absurd (omega (arith, sounds-level ps 0 (sound .4) (sound .2)))

@@ -11,7 +11,7 @@ use Rattle.basics.specs.Order.{insertBy}
 use Rattle.basics.proofs.Sorted.{Ascending, insert-ascends, number-order}
 use Rattle.terms.specs.RuleTests.{commonPart}
 use Rattle.patterns.specs.declared.PatternRecord.{PatternRecord}
-use Rattle.patterns.specs.declared.PatternRecord.the-variants.{Anything, Symbol, Range, Compound, Variable, Ranged}
+use Rattle.patterns.specs.declared.PatternRecord.the-variants.{Anything, Symbol, Range, Compound, Variable, Ranged, Series}
 use Rattle.patterns.specs.views.Note.{Note}
 use Rattle.sheet.specs.views.NotesBehind.{heldWith}
 use Rattle.sheet.specs.views.NoteRanges.{recordRange, rangeIn, lowEnd, highEnd, forVariables, endsMeet, notesMeet}
@@ -32,12 +32,13 @@ withName (Range l h) n ns = ns
 withName (Compound a k) n ns = ns
 withName (Variable v) n ns = n ∷ ns
 withName (Ranged v l h) n ns = n ∷ ns
+withName (Series l h) n ns = ns
 
 abbrev pub namesOf : List Note → List Note
 namesOf [] = []
 namesOf (n ∷ ns) = withName (n .what) n (namesOf ns)
 
--- The places of symbols, ranges and compounds are those tested where no variable has a range.
+-- The places of symbols, series, ranges and compounds are those tested where no variable has a range.
 abbrev never : ℕ → Bool
 never v = false
 
@@ -72,6 +73,7 @@ marks-all (n ∷ ns) m = go (marks-all ns) (n .what)
     go all (Ranged v l h) =
         all (named m n)
         ∙ ap (beside (withPlaces (m .words) (fixedPlaces ns))) (append-assoc (m .names) (n ∷ []) (namesOf ns))
+    go all (Series l h) = all (placed m (n .place))
 
 -- The set then has those places and the places before them.
 pub fixed-places
@@ -106,6 +108,7 @@ names-range (n ∷ ns) v = go (n .what) refl (names-range ns v)
     go (Compound a k) e same = same
     go (Variable u) e same = λ j. commonPart (recordRange (e j) v) (same j)
     go (Ranged u l h) e same = λ j. commonPart (recordRange (e j) v) (same j)
+    go (Series l h) e same = same
 
 pub names-ranges : (ns : List Note) → rangeIn (namesOf ns) ≡ rangeIn ns
 names-ranges ns = λ j v. names-range ns v j
@@ -129,6 +132,7 @@ names-variables (n ∷ ns) = go (n .what) refl (names-variables ns)
     go (Compound a k) e same = same
     go (Variable u) e same = λ j. occurrence (n .place) (nameOf (e j)) (same j)
     go (Ranged u l h) e same = λ j. occurrence (n .place) (nameOf (e j)) (same j)
+    go (Series l h) e same = same
 
 -- places among the 680,
 pub names-placed : (ns : List Note) → All Placed ns → All Placed (namesOf ns)
@@ -142,6 +146,7 @@ names-placed (n ∷ ns) h = go (n .what) (names-placed ns (h .1))
     go (Compound a k) all = all
     go (Variable v) all = (h .0, all)
     go (Ranged v l k) all = (h .0, all)
+    go (Series l k) all = all
 
 -- and, put in after the places marked, those of the place tests.
 module _ (ranged : ℕ → Bool) where
@@ -182,3 +187,4 @@ module _ (ranged : ℕ → Bool) where
       go (Compound x k) e same next = next
       go (Variable v) e same next = variable e same next
       go (Ranged v x y) e same next = variable e same next
+      go (Series x y) e same next = next

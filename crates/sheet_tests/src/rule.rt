@@ -34,6 +34,7 @@ fn is_tested(what: PatternRecord, high: &[u32; 16]) -> bool
         PatternRecord::Compound(_, _) => true,
         PatternRecord::Variable(v) => has_range(high, v),
         PatternRecord::Ranged(v, _, _) => has_range(high, v),
+        PatternRecord::Series(_, _) => true,
     }
 }
 

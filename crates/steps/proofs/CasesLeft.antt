@@ -11,7 +11,7 @@ use Rattle.records.specs.Reading.{took}
 use Rattle.records.proofs.Rows.{row-none}
 use Rattle.decision.specs.views.CaseCodes.{caseLow, caseHigh}
 use Rattle.graph.specs.declared.CaseRecord.{CaseRecord}
-use Rattle.graph.specs.declared.CaseRecord.the-variants.{Symbol, Compound, Numbers}
+use Rattle.graph.specs.declared.CaseRecord.the-variants.{Symbols, Compound, Numbers}
 use Rattle.graph.specs.declared.CaseHead.the-variants.{Whole, Refused}
 use Rattle.graph.specs.views.NodeRecord.{caseHead}
 use Rattle.graph.specs.ReadGraph.{readCases, readCase}
@@ -29,7 +29,7 @@ by-range
     : {A : Type 0} (c : CaseRecord) (f : ℕ → ℕ → ℕ → A)
     → f (caseLow (edgeOf c .case)) (caseHigh (edgeOf c .case)) (edgeOf c .target)
     ≡ f (rangeOf c .first) (rangeOf c .last) (rangeOf c .node)
-by-range (Symbol a n) f = refl
+by-range (Symbols l h n) f = refl
 by-range (Compound a k n) f = refl
 by-range (Numbers l h n) f = refl
 

@@ -19,7 +19,7 @@ use Rattle.codes.specs.views.Codes.{symbolCode, compoundCode, numberCode, highe
 use Rattle.codes.proofs.CodeOrder.{in-order, before, same-of-sort}
 use Rattle.codes.proofs.FitCodes.{symbol-fits, compound-fits, same-known}
 use Rattle.codes.proofs.TermRuns.{ends-ordered}
-use Rattle.decision.specs.Cases.{Case, symbolCase, compoundCase, numbersCase, takes}
+use Rattle.decision.specs.Cases.{Case, symbolsCase, compoundCase, numbersCase, takes}
 use Rattle.decision.specs.Narrowest.{narrower}
 use Rattle.decision.specs.Node.{CaseEdge, leadsOr, follow}
 use Rattle.decision.specs.AcceptedGraph.{CaseFields}
@@ -34,12 +34,13 @@ ends-behind first last low high h =
 
 -- A case takes a term exactly where its range holds the term's codes: where a want of the same fits the term.
 pub takes-codes : (c : Case) (t : Term) → CaseFields c → WellFormed t → takesCodes c (termLow t) (termHigh t) ≡ takes c t
-takes-codes (symbolCase a) unknown h ok = ends-behind (symbolCode a) (symbolCode a) (symbolCode 0) highestCode (omega (arith, h))
-takes-codes (symbolCase a) (symbol b) h ok = same-known _ (eqb a b) (symbol-fits (aSymbol a) b h ok)
-takes-codes (symbolCase a) (numbers b c) h ok =
-    ends-behind (symbolCode a) (symbolCode a) (numberCode b) (numberCode c) (omega (arith, h))
-takes-codes (symbolCase a) (compound b ts) h ok =
-    same-known _ false (compound-fits (aSymbol a) b ts h (ok .0) (ok .2))
+takes-codes (symbolsCase l u) unknown h ok =
+    ends-behind (symbolCode l) (symbolCode u) (symbolCode 0) highestCode (omega (arith, h .1))
+takes-codes (symbolsCase l u) (symbol b) h ok = same-known _ (leb l b && leb b u) (symbol-fits (aSymbol l u) b h ok)
+takes-codes (symbolsCase l u) (numbers b c) h ok =
+    ends-behind (symbolCode l) (symbolCode u) (numberCode b) (numberCode c) (omega (arith, h .1))
+takes-codes (symbolsCase l u) (compound b ts) h ok =
+    same-known _ false (compound-fits (aSymbol l u) b ts h (ok .0) (ok .2))
 takes-codes (compoundCase a n) unknown h ok =
     ends-behind (compoundCode a n) (compoundCode a n) (symbolCode 0) highestCode (omega (arith, h .0, h .1))
 takes-codes (compoundCase a n) (symbol b) h ok = same-known _ false (symbol-fits (aCompound a n) b h ok)
@@ -66,17 +67,16 @@ HasCodes c low high = (caseLow c ≤ low) × (high ≤ caseHigh c)
 narrower-codes
     : (low high : ℕ) → low ≤ high → (c d : Case) → CaseFields c → CaseFields d → HasCodes c low high → HasCodes d low high
     → narrowerCodes c d ≡ narrower c d
-narrower-codes low high o (symbolCase a) (symbolCase b) f g h k =
-    out-of-order (symbolCode b) (symbolCode a) (symbolCode a) (symbolCode b)
-    (λ p. elim p [ inl l ↦ omega (arith, h .1, k .0) | inr r ↦ omega (arith, h .0, k .1, r .1) ])
-narrower-codes low high o (symbolCase a) (compoundCase b m) f g h k = absurd (omega (arith, f, h .1, k .0))
-narrower-codes low high o (symbolCase a) (numbersCase x y) f g h k = absurd (omega (arith, f, h .1, k .0))
-narrower-codes low high o (compoundCase a n) (symbolCase b) f g h k = absurd (omega (arith, g, h .0, k .1))
+narrower-codes low high o (symbolsCase l u) (symbolsCase x y) f g h k =
+    λ i. before 0x1000000 x l i || (same-of-sort 0x1000000 x l i && before 0x1000000 u y i)
+narrower-codes low high o (symbolsCase l u) (compoundCase b m) f g h k = absurd (omega (arith, f .1, h .1, k .0))
+narrower-codes low high o (symbolsCase l u) (numbersCase x y) f g h k = absurd (omega (arith, f .1, h .1, k .0))
+narrower-codes low high o (compoundCase a n) (symbolsCase x y) f g h k = absurd (omega (arith, g .1, h .0, k .1))
 narrower-codes low high o (compoundCase a n) (compoundCase b m) f g h k =
     out-of-order (compoundCode b m) (compoundCode a n) (compoundCode a n) (compoundCode b m)
     (λ p. elim p [ inl l ↦ omega (arith, l, h .0, h .1, k .0, k .1) | inr r ↦ omega (arith, h .0, h .1, k .0, k .1, r .1) ])
 narrower-codes low high o (compoundCase a n) (numbersCase x y) f g h k = absurd (omega (arith, f .0, f .1, h .1, k .0))
-narrower-codes low high o (numbersCase l u) (symbolCase b) f g h k = absurd (omega (arith, g, h .0, k .1))
+narrower-codes low high o (numbersCase l u) (symbolsCase x y) f g h k = absurd (omega (arith, g .1, h .0, k .1))
 narrower-codes low high o (numbersCase l u) (compoundCase b m) f g h k = absurd (omega (arith, g .0, g .1, h .0, k .1))
 narrower-codes low high o (numbersCase l u) (numbersCase x y) f g h k =
     λ i. before 0x3000000 x l i || (same-of-sort 0x3000000 x l i && before 0x3000000 u y i)

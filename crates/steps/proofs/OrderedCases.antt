@@ -9,9 +9,9 @@ use Rattle.basics.specs.Lists.{All}
 use Rattle.basics.specs.Order.{pairBefore}
 use Rattle.basics.proofs.Sorted.{pair-before, before-pair}
 use Rattle.codes.specs.views.Codes.{symbolCode, compoundCode, numberCode}
-use Rattle.decision.specs.Cases.{Case, symbolCase, compoundCase, numbersCase}
+use Rattle.decision.specs.Cases.{Case, symbolsCase, compoundCase, numbersCase}
 use Rattle.decision.specs.Node.{Node, CaseEdge, end, switch, pairNode}
-use Rattle.decision.specs.AcceptedGraph.{CaseBefore, CaseFields, Ascend}
+use Rattle.decision.specs.AcceptedGraph.{CaseBefore, LowAtMostHigh, CaseFields, Ascend}
 use Rattle.decision.specs.views.CaseCodes.{caseLow, caseHigh}
 use Rattle.graph.specs.ReadGraph.{inOrder}
 use Rattle.graph.proofs.CaseOrder.{ascend-true}
@@ -50,37 +50,39 @@ numbers-before l h x y k = before-pair (numberCode l) (numberCode h) (numberCode
 abbrev CodesBefore : Case → Case → Type 0
 CodesBefore c d = T (pairBefore (caseLow c) (caseHigh c) (caseLow d) (caseHigh d))
 
-codes-before : (c d : Case) → CaseFields c → CaseFields d → CaseBefore c d → CodesBefore c d
-codes-before (symbolCase a) (symbolCase b) f g h =
-    begins-before (symbolCode a) (symbolCode a) (symbolCode b) (symbolCode b) (omega arith)
-codes-before (symbolCase a) (compoundCase b m) f g h =
-    begins-before (symbolCode a) (symbolCode a) (compoundCode b m) (compoundCode b m) (omega arith)
-codes-before (symbolCase a) (numbersCase x y) f g h =
-    begins-before (symbolCode a) (symbolCode a) (numberCode x) (numberCode y) (omega arith)
-codes-before (compoundCase a n) (symbolCase b) f g h = absurd h
-codes-before (compoundCase a n) (compoundCase b m) f g h = compounds-before a n b m (f .1) h
-codes-before (compoundCase a n) (numbersCase x y) f g h =
+codes-before : (c d : Case) → CaseFields c → CaseFields d → LowAtMostHigh c → CaseBefore c d → CodesBefore c d
+codes-before (symbolsCase l u) (symbolsCase x y) f g o h =
+    begins-before (symbolCode l) (symbolCode u) (symbolCode x) (symbolCode y) (omega (arith, o, h))
+codes-before (symbolsCase l u) (compoundCase b m) f g o h =
+    begins-before (symbolCode l) (symbolCode u) (compoundCode b m) (compoundCode b m) (omega (arith, f .0))
+codes-before (symbolsCase l u) (numbersCase x y) f g o h =
+    begins-before (symbolCode l) (symbolCode u) (numberCode x) (numberCode y) (omega (arith, f .0))
+codes-before (compoundCase a n) (symbolsCase x y) f g o h = absurd h
+codes-before (compoundCase a n) (compoundCase b m) f g o h = compounds-before a n b m (f .1) h
+codes-before (compoundCase a n) (numbersCase x y) f g o h =
     begins-before (compoundCode a n) (compoundCode a n) (numberCode x) (numberCode y) (omega (arith, f .0, f .1))
-codes-before (numbersCase l u) (symbolCase b) f g h = absurd h
-codes-before (numbersCase l u) (compoundCase b m) f g h = absurd h
-codes-before (numbersCase l u) (numbersCase x y) f g h = numbers-before l u x y h
+codes-before (numbersCase l u) (symbolsCase x y) f g o h = absurd h
+codes-before (numbersCase l u) (compoundCase b m) f g o h = absurd h
+codes-before (numbersCase l u) (numbersCase x y) f g o h = numbers-before l u x y h
 
 -- So cases that ascend ascend by their codes.
 abbrev AllFields : List (CaseEdge ℕ) → Type 0
 AllFields = All (λ (c : CaseEdge ℕ). CaseFields (c .case))
 
 before-all
-    : (c : Case) (ds : List (CaseEdge ℕ)) → CaseFields c → AllFields ds → All (λ (d : CaseEdge ℕ). CaseBefore c (d .case)) ds
-    → All (λ (d : CaseEdge ℕ). CodesBefore c (d .case)) ds
-before-all c [] f gs hs = tt
-before-all c (d ∷ ds) f gs hs =
-    (codes-before c (d .case) f (gs .0) (hs .0), before-all c ds f (gs .1) (hs .1))
+    : (c : Case) (ds : List (CaseEdge ℕ)) → CaseFields c → AllFields ds → LowAtMostHigh c
+    → All (λ (d : CaseEdge ℕ). CaseBefore c (d .case)) ds → All (λ (d : CaseEdge ℕ). CodesBefore c (d .case)) ds
+before-all c [] f gs o hs = tt
+before-all c (d ∷ ds) f gs o hs =
+    (codes-before c (d .case) f (gs .0) o (hs .0), before-all c ds f (gs .1) o (hs .1))
 
-codes-ascend : (cs : List (CaseEdge ℕ)) → AllFields cs → Ascend cs → CodesAscend cs
-codes-ascend [] fs h = tt
-codes-ascend (c ∷ cs) fs h = (before-all (c .case) cs (fs .0) (fs .1) (h .0), codes-ascend cs (fs .1) (h .1))
+codes-ascend
+    : (cs : List (CaseEdge ℕ)) → AllFields cs → All (λ (c : CaseEdge ℕ). LowAtMostHigh (c .case)) cs → Ascend cs → CodesAscend cs
+codes-ascend [] fs os h = tt
+codes-ascend (c ∷ cs) fs os h =
+    (before-all (c .case) cs (fs .0) (fs .1) (os .0) (h .0), codes-ascend cs (fs .1) (os .1) (h .1))
 
 pub node-ordered : (n : Node ℕ) → FieldsFit n → T (inOrder n) → OrderedNode n
 node-ordered (end l) f h = tt
-node-ordered (switch n cs x y) f h = record { fields = f; ascend = codes-ascend cs f (ascend-true cs h .1) }
+node-ordered (switch n cs x y) f h = let o = ascend-true cs h in record { fields = f; ascend = codes-ascend cs f (o .0) (o .1) }
 node-ordered (pairNode p q x y) f h = tt

@@ -6,7 +6,7 @@ use graph::case_refusal;
 use node_check::cases::both;
 use node_check::cases::case_range;
 use number_search::Sought;
-use number_search::points::find_number;
+use number_search::names::find_number;
 ghost use mathlib.Core.Path.{_≡_};
 ghost use mathlib.Core.List.{[]};
 ghost use lib.ListN.{drop};

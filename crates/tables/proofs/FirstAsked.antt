@@ -1,7 +1,7 @@
 -- The pending test that is asked first, off the plane of those asked before each test, is the first of the order that is pending.
 use Prim.Native.Nat.{ℕ, zero, suc, _-_, _^_, _≤_, _<_}
-use mathlib.Core.Path.{_≡_, refl, sym, ap, subst, _∙_}
-use mathlib.Core.Bool.{Bool, true, false, _&&_, not, cond, true≢false}
+use mathlib.Core.Path.{_≡_, refl, sym, ap, _∙_}
+use mathlib.Core.Bool.{Bool, true, false, cond, true≢false}
 use mathlib.Core.List.{List, [], _∷_}
 use mathlib.Core.Logic.{_⊎_, inl, inr, by-cases}
 use mathlib.Core.Option.{some}
@@ -9,9 +9,8 @@ use native.Mathlib.Decide.{ℕ-discrete}
 use native.Mathlib.Omega.{arith}
 use lib.Bits.{bitAnd, and-le-l}
 use lib.Count.{trailingZeros}
-use lib.Dec.{eqb}
 use borrow.Author.Tests.{ne-eqb}
-use Rattle.basics.specs.Lists.{Mem, All}
+use Rattle.basics.specs.Lists.{Mem}
 use Rattle.basics.proofs.Booleans.{by-test, and-both}
 use Rattle.basics.proofs.ListLaws.{mem-cases, mem-none, all-at, all-map}
 use Rattle.basics.proofs.Sorted.{AscendingBy}

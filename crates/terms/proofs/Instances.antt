@@ -7,11 +7,11 @@ use mathlib.Core.Bool.{_&&_}
 use mathlib.Core.List.{List, [], _∷_}
 use mathlib.Core.Option.{Option, some, none}
 use native.Mathlib.Omega.{arith}
-use lib.Dec.{eqb, T, eqb→eq, eqb-refl}
+use lib.Dec.{leb, eqb, T, eqb→eq, eqb-refl}
 use Rattle.places.specs.Numbering.{stride}
 use Rattle.basics.specs.Lists.{All}
 use Rattle.terms.specs.Term.{Term, Terms, count, Wide, unknown, symbol, number, numbers, compound, nil, cons}
-use Rattle.terms.specs.Pattern.{Pattern, Patterns, countPatterns, anything, theSymbol, theRange, theCompound, variable, rangedVariable, pnil, pcons}
+use Rattle.terms.specs.Pattern.{Pattern, Patterns, countPatterns, anything, theSymbol, theSeries, theRange, theCompound, variable, rangedVariable, pnil, pcons}
 use Rattle.terms.specs.RuleTests.{Want, aSymbol, aNumber, aCompound, PlaceTest, at, Occurrence, Range, rangeTest, patternVariables, patternsVariables, patternTests, patternsTests}
 use Rattle.terms.specs.Lookup.{Found, found}
 use Rattle.terms.specs.Outcome.{Holds, fits, atPlace}
@@ -22,6 +22,7 @@ use Rattle.basics.proofs.Booleans.{both-true, true-both}
 use Rattle.basics.proofs.ListLaws.{all-split, all-join}
 use Rattle.terms.proofs.Outcomes.{Open, open-true, true-holds}
 use Rattle.terms.proofs.Spans.{range-holds-at, range-open-at}
+use Rattle.terms.proofs.Series.{series-holds-at}
 use Rattle.terms.proofs.Stays.{puts-count}
 use Rattle.terms.proofs.TermPlaces.{IfFound, unknowns, count-unknowns, Shows, Showss, shows-root, shows-arguments, shows-unknown, shows-head, shows-tail}
 use Rattle.terms.proofs.ConstantFilling.{fillWith, fill-with, zero-ground}
@@ -46,12 +47,13 @@ InRange (some x) g = Holds (fits (aNumber (x .low) (x .high)) g)
 abbrev pub Fitting : Want → Term → Type 0
 Fitting w t = (g : Term) × Fills t g × Holds (fits w g)
 
--- Where a symbol is not ruled out, some filling is that symbol.
-fitting-symbol : (a : ℕ) → Wide a → (t : Term) → Open (fits (aSymbol a) t) → Fitting (aSymbol a) t
-fitting-symbol a wide unknown o = (symbol a, putUnknown wide, true-holds (eqb a a) (eqb-refl a))
-fitting-symbol a wide (symbol b) o = (symbol b, putSymbol, true-holds (eqb a b) (open-true (eqb a b) o))
-fitting-symbol a wide (numbers b c) o = absurd o
-fitting-symbol a wide (compound b ts) o = absurd o
+-- Where a series is not ruled out, some filling is a symbol of it.
+fitting-symbol : (l h : ℕ) → l ≤ h → Wide h → (t : Term) → Open (fits (aSymbol l h) t) → Fitting (aSymbol l h) t
+fitting-symbol l h le wide unknown o =
+    (symbol l, putUnknown {g = symbol l} (omega arith), series-holds-at l h l .1 (omega arith, le))
+fitting-symbol l h le wide (symbol b) o = (symbol b, putSymbol, true-holds (leb l b && leb b h) (open-true (leb l b && leb b h) o))
+fitting-symbol l h le wide (numbers b c) o = absurd o
+fitting-symbol l h le wide (compound b ts) o = absurd o
 
 -- Where a range is not ruled out, some filling is a number in it.
 pub fitting-number
@@ -185,8 +187,11 @@ module _ (rangeOf : ℕ → Option Range) (chosen : Occurrence → Term) where
         stand = λ after shows. tt;
       }
       instance-of (theSymbol a) t r b sound ok shown opens suits =
-          leaf-instance (aSymbol a) t r b (sound .0)
-          (fitting-symbol a (sound .1) t (open-root look (aSymbol a) t r b (sound .0) shown (opens .0)))
+          leaf-instance (aSymbol a a) t r b (sound .0)
+          (fitting-symbol a a (omega arith) (sound .1) t (open-root look (aSymbol a a) t r b (sound .0) shown (opens .0)))
+      instance-of (theSeries l h) t r b sound ok shown opens suits =
+          leaf-instance (aSymbol l h) t r b (sound .0)
+          (fitting-symbol l h (sound .1) (sound .2) t (open-root look (aSymbol l h) t r b (sound .0) shown (opens .0)))
       instance-of (theRange l h) t r b sound ok shown opens suits =
           leaf-instance (aNumber l h) t r b (sound .0)
           (fitting-number l h (sound .1) (sound .2) t ok (open-root look (aNumber l h) t r b (sound .0) shown (opens .0)))

@@ -5,6 +5,7 @@ pub mod Unknown
 pub mod Arguments
 pub mod KnownTests
 pub mod Spans
+pub mod Series
 pub mod CompareSentences
 pub mod Stays
 pub mod TermPlaces

@@ -8,19 +8,20 @@ use native.Mathlib.Omega.{arith}
 use lib.Dec.{eqb, eqb→eq, eqb-refl}
 use Rattle.basics.proofs.Booleans.{cond-by}
 use Rattle.terms.specs.Term.{Term, Terms, count, symbol, number, numbers, compound, nil, cons}
-use Rattle.terms.specs.Pattern.{Pattern, Patterns, countPatterns, anything, theSymbol, theRange, theCompound, variable, rangedVariable, pnil, pcons}
-use Rattle.terms.specs.RuleTests.{aNumber, Range, commonPart, patternRange, patternsRange}
+use Rattle.terms.specs.Pattern.{Pattern, Patterns, countPatterns, anything, theSymbol, theSeries, theRange, theCompound, variable, rangedVariable, pnil, pcons}
+use Rattle.terms.specs.RuleTests.{aSymbol, aNumber, Range, commonPart, patternRange, patternsRange}
 use Rattle.terms.specs.Outcome.{Holds, fits}
 use Rattle.terms.specs.Filling.{Ground}
-use Rattle.terms.proofs.PlaceSentences.{Wanted, inRange, fits-wanted, wanted-fits}
+use Rattle.terms.proofs.PlaceSentences.{Wanted, inSeries, inRange, fits-wanted, wanted-fits}
 use Rattle.terms.proofs.Instances.{InRange}
 
--- Anything matches `anything`; a symbol, a range and a compound match what they say; a variable matches its term,
+-- Anything matches `anything`; a symbol, a series, a range and a compound match what they say; a variable matches its term,
 -- wherever it stands; and a ranged variable's term is a number in the range besides.
 mutual
   pub data Matches (σ : ℕ → Term) : Pattern → Term → Type 0 where
     asAnything : {t : Term} → Matches σ anything t
     asSymbol : {a : ℕ} → Matches σ (theSymbol a) (symbol a)
+    asSeries : {l h a : ℕ} → l ≤ a → a ≤ h → Matches σ (theSeries l h) (symbol a)
     asRange : {l h n : ℕ} → l ≤ n → n ≤ h → Matches σ (theRange l h) (number n)
     asCompound : {a : ℕ} {ps : Patterns} {ts : Terms} → AllMatch σ ps ts → Matches σ (theCompound a ps) (compound a ts)
     asVariable : {v : ℕ} {t : Term} → t ≡ σ v → Matches σ (variable v) t
@@ -36,6 +37,10 @@ mutual
 pub match-count : {σ : ℕ → Term} {ps : Patterns} {ts : Terms} → AllMatch σ ps ts → countPatterns ps ≡ count ts
 match-count asNil = refl
 match-count (asCons m ms) = ap suc (match-count ms)
+
+-- A term in a series is a symbol of it.
+pub series-in : (l h : ℕ) {t : Term} → Wanted (aSymbol l h) t → (a : ℕ) × (t ≡ symbol a) × (l ≤ a) × (a ≤ h)
+series-in l h (inSeries {a = a} p q) = (a, refl, p, q)
 
 -- A term in a range is a number or a span,
 span-in : (l h : ℕ) {t : Term} → Wanted (aNumber l h) t → (a b : ℕ) × (t ≡ numbers a b) × (l ≤ a) × (b ≤ h)
@@ -65,6 +70,7 @@ module _ {σ : ℕ → Term} where
     pub match-range : {p : Pattern} {t : Term} → Matches σ p t → (v : ℕ) → InRange (patternRange p v) (σ v)
     match-range asAnything v = tt
     match-range asSymbol v = tt
+    match-range (asSeries p q) v = tt
     match-range (asRange p q) v = tt
     match-range (asCompound ms) v = match-ranges ms v
     match-range (asVariable e) v = tt
@@ -90,6 +96,7 @@ module _ (Q : ℕ → ℕ → ℕ → Type 0) where
     pub EachRanged : Pattern → Type 0
     EachRanged anything = Unit
     EachRanged (theSymbol a) = Unit
+    EachRanged (theSeries l h) = Unit
     EachRanged (theRange l h) = Unit
     EachRanged (theCompound a ps) = AllRanged ps
     EachRanged (variable v) = Unit
@@ -104,6 +111,7 @@ module _ (P Q : ℕ → ℕ → ℕ → Type 0) (f : (v l h : ℕ) → P v l h �
     ranged-map : (p : Pattern) → EachRanged P p → EachRanged Q p
     ranged-map anything k = tt
     ranged-map (theSymbol a) k = tt
+    ranged-map (theSeries l h) k = tt
     ranged-map (theRange l h) k = tt
     ranged-map (theCompound a ps) k = all-ranged-map ps k
     ranged-map (variable v) k = tt
@@ -129,6 +137,7 @@ mutual
   each-narrowed : (p : Pattern) → EachRanged (λ v l h. Narrows (patternRange p v) l h) p
   each-narrowed anything = tt
   each-narrowed (theSymbol a) = tt
+  each-narrowed (theSeries l h) = tt
   each-narrowed (theRange l h) = tt
   each-narrowed (theCompound a ps) = all-narrowed ps
   each-narrowed (variable v) = tt

@@ -13,7 +13,7 @@ use Rattle.basics.specs.Lists.{All}
 use Rattle.basics.proofs.Booleans.{cond-by}
 use Rattle.basics.proofs.ListLaws.{all-split, all-join}
 use Rattle.terms.specs.Term.{Term, Terms, count, symbol, number, compound, nil, cons}
-use Rattle.terms.specs.Pattern.{Pattern, Patterns, countPatterns, anything, theSymbol, theRange, theCompound, variable, rangedVariable, pnil, pcons}
+use Rattle.terms.specs.Pattern.{Pattern, Patterns, countPatterns, anything, theSymbol, theSeries, theRange, theCompound, variable, rangedVariable, pnil, pcons}
 use Rattle.terms.specs.RuleTests.{Want, aSymbol, aNumber, aCompound, at, both, Occurrence, Range, rangeTest, patternsRange}
 use Rattle.terms.specs.RuleTests.{patternVariables, patternsVariables, patternTests, patternsTests, pairsWith, pairsOf, ruleVariables}
 use Rattle.terms.specs.Lookup.{Found, lacking, found, finds, termAt}
@@ -28,9 +28,9 @@ use Rattle.terms.proofs.VariableTerms.{HoldsPair}
 use Rattle.terms.proofs.WellFormed.{equal-self, filling-ground}
 use Rattle.terms.proofs.PairTests.{pairs-with-at, pairs-each, all-variables-ascend}
 use Rattle.terms.proofs.CompareSentences.{holds-equal}
-use Rattle.terms.proofs.PlaceSentences.{Wanted, thatSymbol, thatCompound, inRange, fits-wanted, wanted-fits}
-use Rattle.terms.proofs.Matching.{Matches, AllMatch, asAnything, asSymbol, asRange, asCompound, asVariable, asRanged, asNil, asCons}
-use Rattle.terms.proofs.Matching.{match-count, match-ranges, range-in, Narrows, EachRanged, AllRanged, all-narrowed}
+use Rattle.terms.proofs.PlaceSentences.{Wanted, inSeries, thatCompound, inRange, fits-wanted, wanted-fits}
+use Rattle.terms.proofs.Matching.{Matches, AllMatch, asAnything, asSymbol, asSeries, asRange, asCompound, asVariable, asRanged, asNil, asCons}
+use Rattle.terms.proofs.Matching.{match-count, match-ranges, series-in, range-in, Narrows, EachRanged, AllRanged, all-narrowed}
 
 -- A test that holds at a place where a term is shown holds of the term, and the other way.
 root-holds
@@ -74,10 +74,12 @@ module _ (rangeOf : ℕ → Option Range) (σ : ℕ → Term) (look : ℕ → Fo
         → All (HoldsIn look) (patternTests rangeOf p r b) → All SameTerm (patternVariables p r b) → Matches σ p t
     tests-match anything t r b sound ground shown narrow h s = asAnything
     tests-match (theSymbol a) t r b sound ground shown narrow h s =
-        as-symbol (root-holds look (aSymbol a) t r b (sound .0) shown (h .0))
-      where
-        as-symbol : {a : ℕ} {t : Term} → Wanted (aSymbol a) t → Matches σ (theSymbol a) t
-        as-symbol thatSymbol = asSymbol
+        let x = series-in a a (root-holds look (aSymbol a a) t r b (sound .0) shown (h .0)) in
+        let same : t ≡ symbol a = x .1 ∙ ap symbol (omega (arith, x .2, x .3)) in
+        subst (Matches σ (theSymbol a)) (sym same) asSymbol
+    tests-match (theSeries l u) t r b sound ground shown narrow h s =
+        let x = series-in l u (root-holds look (aSymbol l u) t r b (sound .0) shown (h .0)) in
+        subst (Matches σ (theSeries l u)) (sym (x .1)) (asSeries (x .2) (x .3))
     tests-match (theRange l u) t r b sound ground shown narrow h s =
         let n = range-in l u ground (root-holds look (aNumber l u) t r b (sound .0) shown (h .0)) in
         subst (Matches σ (theRange l u)) (sym (n .1)) (asRange (n .2) (n .3))
@@ -129,7 +131,9 @@ module _ (rangeOf : ℕ → Option Range) (σ : ℕ → Term) (look : ℕ → Fo
           → All (HoldsIn look) (patternTests rangeOf p r b) × All HasTerm (patternVariables p r b)
       match-tests anything r b sound shown m = (tt, tt)
       match-tests (theSymbol a) r b sound shown asSymbol =
-          ((holds-root look (aSymbol a) (symbol a) r b (sound .0) shown thatSymbol, tt), tt)
+          ((holds-root look (aSymbol a a) (symbol a) r b (sound .0) shown (inSeries (omega arith) (omega arith)), tt), tt)
+      match-tests (theSeries l h) r b sound shown (asSeries {a = a} p q) =
+          ((holds-root look (aSymbol l h) (symbol a) r b (sound .0) shown (inSeries p q), tt), tt)
       match-tests (theRange l h) r b sound shown (asRange {n = n} p q) =
           ((holds-root look (aNumber l h) (number n) r b (sound .0) shown (inRange p q), tt), tt)
       match-tests (theCompound a ps) r b sound shown (asCompound {ts = ts} ms) =

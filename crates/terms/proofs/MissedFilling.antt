@@ -6,7 +6,7 @@ use mathlib.Core.Path.{_≡_, refl, sym, subst}
 use mathlib.Core.Bool.{_&&_}
 use mathlib.Core.Logic.{inl, inr}
 use native.Mathlib.Omega.{arith}
-use lib.Dec.{eqb}
+use lib.Dec.{leb, eqb}
 use Rattle.terms.specs.Term.{Term, Terms, count, unknown, symbol, number, numbers, compound}
 use Rattle.terms.specs.Pattern.{Patterns}
 use Rattle.terms.specs.RuleTests.{Want, aSymbol, aNumber, aCompound, PlaceTest, PairTest, placeTests, pairTests}
@@ -25,20 +25,20 @@ use Rattle.terms.proofs.MissedPair.{missed-pair}
 
 -- A ground term of another kind than is wanted.
 abbrev otherKind : Want → Term
-otherKind (aSymbol a) = number 0
+otherKind (aSymbol l h) = number 0
 otherKind (aNumber l h) = symbol 0
 otherKind (aCompound a n) = symbol 0
 
 -- It is ground,
 other-kind-ground : (w : Want) → Ground (otherKind w)
-other-kind-ground (aSymbol a) = (refl, omega arith)
+other-kind-ground (aSymbol l h) = (refl, omega arith)
 other-kind-ground (aNumber l h) = omega arith
 other-kind-ground (aCompound a n) = omega arith
 
 -- and what is wanted holds at none of its places.
 other-kind-misses : (w : Want) (r n : ℕ) → Holds (atPlace (fits w) (find (otherKind w) r n)) → ⊥
-other-kind-misses (aSymbol a) r zero h = h
-other-kind-misses (aSymbol a) r (suc n) h = h
+other-kind-misses (aSymbol l k) r zero h = h
+other-kind-misses (aSymbol l k) r (suc n) h = h
 other-kind-misses (aNumber l k) r zero h = h
 other-kind-misses (aNumber l k) r (suc n) h = h
 other-kind-misses (aCompound a k) r zero h = h
@@ -75,9 +75,9 @@ module _ (piece : Terms) (ok : WellFormeds piece) (n : ℕ) where
   missed-at : (w : Want) (y : Found) → termAt piece n ≡ y → NotKnown (atPlace (fits w) y) → Missed w
   missed-at w lacking e k = absurd k
   missed-at w (found unknown) e k = unknown-missed w (subst IsUnknown (sym e) tt)
-  missed-at (aSymbol a) (found (symbol b)) e k = absurd (known-decided (eqb a b) k)
-  missed-at (aSymbol a) (found (numbers b c)) e k = absurd k
-  missed-at (aSymbol a) (found (compound b ts)) e k = absurd k
+  missed-at (aSymbol l h) (found (symbol b)) e k = absurd (known-decided (leb l b && leb b h) k)
+  missed-at (aSymbol l h) (found (numbers b c)) e k = absurd k
+  missed-at (aSymbol l h) (found (compound b ts)) e k = absurd k
   missed-at (aNumber l h) (found (symbol b)) e k = absurd k
   missed-at (aNumber l h) (found (numbers a b)) e k =
       elim (range-not-known-at l h a b k) [

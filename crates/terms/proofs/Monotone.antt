@@ -28,8 +28,8 @@ only-goes i contradicted = inr (inr refl)
 
 module _ (rules : List Patterns) (piece further : Terms) (ok : WellFormeds piece) (okFurther : WellFormeds further)
     (stay : (i : ℕ) → Stays (ruleOutcome (ruleAt rules i) piece) (ruleOutcome (ruleAt rules i) further))
-    (law : (i : ℕ) → IsRule rules piece i → Says (ruleOutcome (ruleAt rules i) piece) (ruleAt rules i) piece)
-    (lawFurther : (i : ℕ) → IsRule rules further i → Says (ruleOutcome (ruleAt rules i) further) (ruleAt rules i) further) where
+    (law : (i : ℕ) → IsRule rules i → Says (ruleOutcome (ruleAt rules i) piece) (ruleAt rules i) piece)
+    (lawFurther : (i : ℕ) → IsRule rules i → Says (ruleOutcome (ruleAt rules i) further) (ruleAt rules i) further) where
   abbrev before : ℕ → Outcome
   before i = ruleOutcome (ruleAt rules i) piece
 
@@ -42,7 +42,7 @@ module _ (rules : List Patterns) (piece further : Terms) (ok : WellFormeds piece
 
   -- Where no filling of the piece meets another rule than i, rule i alone is left for the piece filled in further.
   only-after
-      : (i : ℕ) → IsRule rules piece i → NoneMeetsAnother rules piece i
+      : (i : ℕ) → IsRule rules i → NoneMeetsAnother rules piece i
       → (b : Answer) → Right rules further b → b ≡ onlyRule i (after i)
   only-after i isRule none b right =
       let others = others-contradicted rules piece ok law i none in

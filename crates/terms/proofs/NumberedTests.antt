@@ -13,7 +13,7 @@ use Rattle.basics.proofs.Clash.{clash}
 use Rattle.basics.proofs.ListLaws.{all-join, all-at, all-from}
 use Rattle.basics.proofs.Filters.{mem-left, mem-right}
 use Rattle.terms.proofs.Numbered.{row-next, row-first}
-use Rattle.terms.specs.Pattern.{Pattern, Patterns, countPatterns, anything, theSymbol, theRange, theCompound, variable, rangedVariable, pnil, pcons}
+use Rattle.terms.specs.Pattern.{Pattern, Patterns, countPatterns, anything, theSymbol, theSeries, theRange, theCompound, variable, rangedVariable, pnil, pcons}
 use Rattle.terms.specs.RuleTests.{aSymbol, aNumber, aCompound, PlaceTest, at, Occurrence, Range, rangeTest, patternsRange}
 use Rattle.terms.specs.RuleTests.{patternVariables, patternsVariables, patternTests, patternsTests, placeTests, ruleVariables}
 
@@ -39,6 +39,7 @@ module _ {X : Type 0} (own : Pattern → ℕ → List X) where
     collect : Pattern → ℕ → ℕ → List X
     collect anything r b = own anything b
     collect (theSymbol a) r b = own (theSymbol a) b
+    collect (theSeries l h) r b = own (theSeries l h) b
     collect (theRange l h) r b = own (theRange l h) b
     collect (theCompound a ps) r b = own (theCompound a ps) b ++ collects ps (pred r) (suc b)
     collect (variable v) r b = own (variable v) b
@@ -52,6 +53,7 @@ module _ {X : Type 0} (own : Pattern → ℕ → List X) where
   own-collected : (p : Pattern) (r b : ℕ) {x : X} → Mem x (own p b) → Mem x (collect p r b)
   own-collected anything r b m = m
   own-collected (theSymbol a) r b m = m
+  own-collected (theSeries l h) r b m = m
   own-collected (theRange l h) r b m = m
   own-collected (theCompound a ps) r b m = mem-left (collects ps (pred r) (suc b)) m
   own-collected (variable v) r b m = m
@@ -108,6 +110,7 @@ module _ {X : Type 0} (own : Pattern → ℕ → List X) where
       collected-stands : (p : Pattern) (r b : ℕ) → PatternStands rule r b p → All OfPattern (collect p r b)
       collected-stands anything r b s = own-stands anything r b s
       collected-stands (theSymbol a) r b s = own-stands (theSymbol a) r b s
+      collected-stands (theSeries l h) r b s = own-stands (theSeries l h) r b s
       collected-stands (theRange l h) r b s = own-stands (theRange l h) r b s
       collected-stands (theCompound a ps) r b s =
           all-join OfPattern (own (theCompound a ps) b) (collects ps (pred r) (suc b)) (own-stands (theCompound a ps) r b s)
@@ -139,11 +142,12 @@ module _ {X : Type 0} (own : Pattern → ℕ → List X) where
           λ o. stands-collected (o .3) (own-collected (o .2) (o .0) (o .1) (o .4)),
         )
 
--- A pattern's own place test, at its place: "one place test for each symbol, range or compound (id and arity)", and "if
+-- A pattern's own place test, at its place: "one place test for each symbol, range or compound (id and arity)", for a series too, and "if
 -- any of its records is ranged, the common part of those ranges is a place test at all k places" of a variable.
 abbrev pub ownTests : (ℕ → Option Range) → Pattern → ℕ → List PlaceTest
 ownTests rangeOf anything n = []
-ownTests rangeOf (theSymbol a) n = at n (aSymbol a) ∷ []
+ownTests rangeOf (theSymbol a) n = at n (aSymbol a a) ∷ []
+ownTests rangeOf (theSeries l h) n = at n (aSymbol l h) ∷ []
 ownTests rangeOf (theRange l h) n = at n (aNumber l h) ∷ []
 ownTests rangeOf (theCompound a ps) n = at n (aCompound a (countPatterns ps)) ∷ []
 ownTests rangeOf (variable v) n = rangeTest n (rangeOf v)
@@ -153,6 +157,7 @@ ownTests rangeOf (rangedVariable v l h) n = rangeTest n (rangeOf v)
 abbrev pub ownVariable : Pattern → ℕ → List Occurrence
 ownVariable anything n = []
 ownVariable (theSymbol a) n = []
+ownVariable (theSeries l h) n = []
 ownVariable (theRange l h) n = []
 ownVariable (theCompound a ps) n = []
 ownVariable (variable v) n = record { place = n; name = v } ∷ []
@@ -164,6 +169,7 @@ module _ (rangeOf : ℕ → Option Range) where
     tests-are : (p : Pattern) (r b : ℕ) → patternTests rangeOf p r b ≡ collect (ownTests rangeOf) p r b
     tests-are anything r b = refl
     tests-are (theSymbol a) r b = refl
+    tests-are (theSeries l h) r b = refl
     tests-are (theRange l h) r b = refl
     tests-are (theCompound a ps) r b =
         ap (λ (l : List PlaceTest). at b (aCompound a (countPatterns ps)) ∷ l) (all-tests-are ps (pred r) (suc b))
@@ -179,6 +185,7 @@ mutual
   variables-are : (p : Pattern) (r b : ℕ) → patternVariables p r b ≡ collect ownVariable p r b
   variables-are anything r b = refl
   variables-are (theSymbol a) r b = refl
+  variables-are (theSeries l h) r b = refl
   variables-are (theRange l h) r b = refl
   variables-are (theCompound a ps) r b = all-variables-are ps (pred r) (suc b)
   variables-are (variable v) r b = refl

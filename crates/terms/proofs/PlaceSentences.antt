@@ -1,12 +1,12 @@
--- What document 01, and document 02's request 4, say of a place test, and that `fits` says exactly this; what is said of a
+-- What document 01, and document 02's requests 4 and 5, say of a place test, and that `fits` says exactly this; what is said of a
 -- place that the piece lacks; and that a rule has at most one test for each place.
 use Prim.Native.Nat.{ℕ, suc, _+_, _≤_, _<_}
-use mathlib.Core.Path.{_≡_, refl, ap, subst}
+use mathlib.Core.Path.{_≡_, refl, ap}
 use mathlib.Core.Bool.{_&&_}
 use mathlib.Core.Logic.{_↔_, _⊎_, inl, inr}
 use mathlib.Core.List.{List, [], _∷_}
 use native.Mathlib.Omega.{arith}
-use lib.Dec.{eqb, eqb→eq}
+use lib.Dec.{leb, eqb, eqb→eq}
 use Rattle.basics.specs.Lists.{Mem}
 use Rattle.basics.proofs.Booleans.{both-true, true-both}
 use Rattle.basics.proofs.ListLaws.{all-at, mem-cases, mem-none}
@@ -18,16 +18,17 @@ use Rattle.terms.specs.Lookup.{lacking, termAt}
 use Rattle.terms.specs.Outcome.{Holds, NotKnown, Contradicted, fits, placeOutcome}
 use Rattle.terms.specs.Accepted.{AcceptedRule}
 use Rattle.terms.proofs.Outcomes.{true-holds, known-decided}
-use Rattle.terms.proofs.KnownTests.{holds-true, numbers-equal, else-contradicted}
+use Rattle.terms.proofs.KnownTests.{holds-true, else-contradicted}
 use Rattle.terms.proofs.Spans.{range-holds-at, range-not-known}
+use Rattle.terms.proofs.Series.{series-holds-at}
 use Rattle.terms.proofs.TermPlaces.{extent}
 use Rattle.terms.proofs.Ascending.{Ascends, ascends-from}
 use Rattle.terms.proofs.PreorderTests.{testPlace, all-tests-ascend}
 
--- What is wanted: "that symbol, .. a compound of that id and arity, or .. a number in that range", and "a span wholly inside
--- it".
+-- What is wanted: "that symbol, .. a compound of that id and arity, or .. a number in that range", "a span wholly inside it", and
+-- "every symbol with an id from low to high".
 pub data Wanted : Want → Term → Type 0 where
-  thatSymbol : {a : ℕ} → Wanted (aSymbol a) (symbol a)
+  inSeries : {l h a : ℕ} → l ≤ a → a ≤ h → Wanted (aSymbol l h) (symbol a)
   thatCompound : {a n : ℕ} {ts : Terms} → n ≡ count ts → Wanted (aCompound a n) (compound a ts)
   inRange : {l h a b : ℕ} → l ≤ a → b ≤ h → Wanted (aNumber l h) (numbers a b)
 
@@ -35,10 +36,9 @@ pub data Wanted : Want → Term → Type 0 where
 -- at a span wholly inside it",
 pub fits-wanted : (w : Want) (t : Term) → Holds (fits w t) → Wanted w t
 fits-wanted w unknown h = absurd h
-fits-wanted (aSymbol a) (symbol b) h =
-    subst (λ (x : ℕ). Wanted (aSymbol a) (symbol x)) (numbers-equal a b h) thatSymbol
-fits-wanted (aSymbol a) (numbers b c) h = absurd h
-fits-wanted (aSymbol a) (compound b ts) h = absurd h
+fits-wanted (aSymbol l k) (symbol a) h = let s = series-holds-at l k a .0 h in inSeries (s .0) (s .1)
+fits-wanted (aSymbol l k) (numbers a b) h = absurd h
+fits-wanted (aSymbol l k) (compound b ts) h = absurd h
 fits-wanted (aNumber l k) (symbol b) h = absurd h
 fits-wanted (aNumber l k) (numbers a b) h = let s = range-holds-at l k a b .0 h in inRange (s .0) (s .1)
 fits-wanted (aNumber l k) (compound b ts) h = absurd h
@@ -49,7 +49,7 @@ fits-wanted (aCompound a n) (compound b ts) h =
     rw (eqb→eq a b (s .0)) (thatCompound (eqb→eq n (count ts) (s .1)))
 
 pub wanted-fits : {w : Want} {t : Term} → Wanted w t → Holds (fits w t)
-wanted-fits (thatSymbol {a = a}) = true-holds (eqb a a) (eq-true a a refl)
+wanted-fits (inSeries {l = l} {h = h} {a = a} p q) = series-holds-at l h a .1 (p, q)
 wanted-fits (thatCompound {a = a} {n = n} {ts = ts} e) =
     let m = count ts in
     true-holds (eqb a a && eqb n m) (true-both (eqb a a) (eqb n m) (eq-true a a refl) (eq-true n m e))
@@ -64,9 +64,9 @@ pub data Unsure : Want → Term → Type 0 where
 -- "it is not known at an unknown", and a range's test at such a span,
 fits-unsure : (w : Want) (t : Term) → NotKnown (fits w t) → Unsure w t
 fits-unsure w unknown n = atUnknown
-fits-unsure (aSymbol a) (symbol b) n = absurd (known-decided (eqb a b) n)
-fits-unsure (aSymbol a) (numbers b c) n = absurd n
-fits-unsure (aSymbol a) (compound b ts) n = absurd n
+fits-unsure (aSymbol l h) (symbol a) n = absurd (known-decided (leb l a && leb a h) n)
+fits-unsure (aSymbol l h) (numbers a b) n = absurd n
+fits-unsure (aSymbol l h) (compound b ts) n = absurd n
 fits-unsure (aNumber l h) (symbol b) n = absurd n
 fits-unsure (aNumber l h) (numbers a b) n = let s = range-not-known l h a b .0 n in partlyInside (s .0) (s .1)
 fits-unsure (aNumber l h) (compound b ts) n = absurd n

@@ -27,7 +27,7 @@ all-index Q d (x ∷ xs) (suc n) l h = all-index Q d xs n (omega arith) (h .1)
 -- The outcome of each accepted rule says what the fillings of an accepted piece do.
 pub rules-say
     : (arity : ℕ) (rules : List Patterns) (piece : Terms) → All (AcceptedRule arity) rules → AcceptedPiece arity piece
-    → (i : ℕ) → IsRule rules piece i → Says (ruleOutcome (ruleAt rules i) piece) (ruleAt rules i) piece
+    → (i : ℕ) → IsRule rules i → Says (ruleOutcome (ruleAt rules i) piece) (ruleAt rules i) piece
 rules-say arity rules piece accepted ok i isRule =
     rule-law arity (ruleAt rules i) piece (all-index (AcceptedRule arity) pnil rules (pred i) (omega arith) accepted) ok
 

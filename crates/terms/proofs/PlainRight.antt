@@ -31,7 +31,7 @@ filter-cases Q f x xs = go (f x)
     go false kept left = left (λ h. h)
 
 module _ (rules : List Patterns) (piece : Terms) (ok : WellFormeds piece)
-    (law : (i : ℕ) → IsRule rules piece i → Says (ruleOutcome (ruleAt rules i) piece) (ruleAt rules i) piece) where
+    (law : (i : ℕ) → IsRule rules i → Says (ruleOutcome (ruleAt rules i) piece) (ruleAt rules i) piece) where
   abbrev outcome : ℕ → Outcome
   outcome i = ruleOutcome (ruleAt rules i) piece
 
@@ -44,22 +44,22 @@ module _ (rules : List Patterns) (piece : Terms) (ok : WellFormeds piece)
 
   -- No rule before n is open, but perhaps rule i.
   abbrev ClosedBut : ℕ → ℕ → Type 0
-  ClosedBut i n = (j : ℕ) → j < n → IsRule rules piece j → (j ≡ i → ⊥) → Contradicted (outcome j)
+  ClosedBut i n = (j : ℕ) → j < n → IsRule rules j → (j ≡ i → ⊥) → Contradicted (outcome j)
 
   -- Where rule n is not open either, that is so before n + 1.
   closed-next : (i n : ℕ) → ClosedBut i n → (T (isOpenRule n) → ⊥) → ClosedBut i (suc n)
   closed-next i n before closed j l =
-      below-more (λ j. IsRule rules piece j → (j ≡ i → ⊥) → Contradicted (outcome j)) n before
+      below-more (λ j. IsRule rules j → (j ≡ i → ⊥) → Contradicted (outcome j)) n before
       (λ isRule differ. is-not-open (outcome n) closed) j (omega arith)
 
   -- Where rule i is open and no other before n, the answer with the k rules from n on is right.
   one-open
-      : (i n k : ℕ) → IsRule rules piece i → Open (outcome i) → i < n → n + k ≡ suc (length rules) → ClosedBut i n
+      : (i n k : ℕ) → IsRule rules i → Open (outcome i) → i < n → n + k ≡ suc (length rules) → ClosedBut i n
       → RightFor (i ∷ filter isOpenRule (countFrom n k))
   one-open i n zero isRule may later end before =
       right-only rules piece ok law i isRule (λ j other. before j (omega arith) other)
   one-open i n (suc k) isRule may later end before =
-      let other : IsRule rules piece n = (omega arith, omega arith) in
+      let other : IsRule rules n = (omega arith, omega arith) in
       filter-cases (λ l. RightFor (i ∷ l)) isOpenRule n (countFrom (suc n) k)
       (λ kept. right-suspend rules piece ok law i n isRule other (λ e. omega arith) may (is-open (outcome n) kept))
       (λ left. one-open i (suc n) k isRule may (omega arith) (omega arith) (closed-next i n before left))

@@ -3,7 +3,7 @@
 use Prim.Native.Nat.{ℕ, zero, suc, pred, _-_}
 use mathlib.Core.Path.{_≡_, refl, ap, subst}
 use mathlib.Core.Bool.{_&&_}
-use lib.Dec.{ltb, eqb}
+use lib.Dec.{leb, ltb, eqb}
 use Rattle.places.specs.Numbering.{stride}
 use Rattle.terms.specs.Term.{Term, Terms, count, unknown, symbol, numbers, compound}
 use Rattle.terms.specs.Pattern.{Patterns}
@@ -48,13 +48,13 @@ module _ {P : Term → Type 0} where
   -- What a place test says of a term stays when the term is filled in.
   fits-stays : {t g : Term} (w : Want) → Puts P t g → Stays (fits w t) (fits w g)
   fits-stays w (putUnknown x) = tt
-  fits-stays (aSymbol a) (putSymbol {a = b}) = known-stays (eqb a b)
+  fits-stays (aSymbol l h) (putSymbol {a = b}) = known-stays (leb l b && leb b h)
   fits-stays (aNumber l h) putSymbol = tt
   fits-stays (aCompound a n) putSymbol = tt
-  fits-stays (aSymbol a) (putNumbers x y z p) = tt
+  fits-stays (aSymbol l h) (putNumbers x y z p) = tt
   fits-stays (aNumber l h) (putNumbers {a = a} {b = b} {c = c} {d = d} x y z p) = inside-stays l h a b c d x y z
   fits-stays (aCompound a n) (putNumbers x y z p) = tt
-  fits-stays (aSymbol a) (putCompound fs) = tt
+  fits-stays (aSymbol l h) (putCompound fs) = tt
   fits-stays (aNumber l h) (putCompound fs) = tt
   fits-stays (aCompound a n) (putCompound {a = b} {ts = ts} fs) =
       subst (λ c. Stays (known (eqb a b && eqb n (count ts))) (known (eqb a b && eqb n c))) (puts-count fs)

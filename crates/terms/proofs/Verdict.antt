@@ -23,12 +23,12 @@ module _ (rules : List Patterns) (piece : Terms) where
   Asked fail = Fails rules piece
 
   -- Where no filling meets a rule other than j, a rule that some filling meets is rule j.
-  met-only : (i j : ℕ) → IsRule rules piece i → SomeMeets rules piece i → NoneMeetsAnother rules piece j → i ≡ j
+  met-only : (i j : ℕ) → IsRule rules i → SomeMeets rules piece i → NoneMeetsAnother rules piece j → i ≡ j
   met-only i j isRule some none =
       elim (ℕ-discrete i j) [ yes e ↦ e | no d ↦ absurd (none i isRule d (some .0) (some .1) (some .2)) ]
 
   -- Where some filling meets a rule, demand 3 does not ask for fail.
-  met-or-fail : (i : ℕ) → IsRule rules piece i → SomeMeets rules piece i → Fails rules piece → ⊥
+  met-or-fail : (i : ℕ) → IsRule rules i → SomeMeets rules piece i → Fails rules piece → ⊥
   met-or-fail i isRule some f = f i isRule (some .0) (some .1) (some .2)
 
   -- A right answer is asked for.
@@ -111,15 +111,15 @@ module _ (rule : Patterns) (piece : Terms) (ok : WellFormeds piece) where
 module _ (rules : List Patterns) (piece : Terms) where
   -- Each rule is contradicted, and each rule but one.
   abbrev pub AllContradicted : Type 0
-  AllContradicted = (i : ℕ) → IsRule rules piece i → Contradicted (ruleOutcome (ruleAt rules i) piece)
+  AllContradicted = (i : ℕ) → IsRule rules i → Contradicted (ruleOutcome (ruleAt rules i) piece)
 
   abbrev pub OthersContradicted : ℕ → Type 0
   OthersContradicted i =
-      (j : ℕ) → IsRule rules piece j → (j ≡ i → ⊥) → Contradicted (ruleOutcome (ruleAt rules j) piece)
+      (j : ℕ) → IsRule rules j → (j ≡ i → ⊥) → Contradicted (ruleOutcome (ruleAt rules j) piece)
 
 -- All rules of a well-formed piece, where the outcome of each says what the fillings do.
 module _ (rules : List Patterns) (piece : Terms) (ok : WellFormeds piece)
-    (law : (i : ℕ) → IsRule rules piece i → Says (ruleOutcome (ruleAt rules i) piece) (ruleAt rules i) piece) where
+    (law : (i : ℕ) → IsRule rules i → Says (ruleOutcome (ruleAt rules i) piece) (ruleAt rules i) piece) where
   abbrev outcome : ℕ → Outcome
   outcome i = ruleOutcome (ruleAt rules i) piece
 
@@ -149,7 +149,7 @@ module _ (rules : List Patterns) (piece : Terms) (ok : WellFormeds piece)
 
   -- What is asked for where no filling meets a rule but rule i, by what the outcome of rule i says.
   only-asked
-      : (i : ℕ) → IsRule rules piece i → NoneMeetsAnother rules piece i
+      : (i : ℕ) → IsRule rules i → NoneMeetsAnother rules piece i
       → (o : Outcome) → Says o (ruleAt rules i) piece → Asked rules piece (onlyRule i o)
   only-asked i isRule none holds says = (isRule, says, none)
   only-asked i isRule none notKnown says = (isRule, says .0, says .1, none)
@@ -157,7 +157,7 @@ module _ (rules : List Patterns) (piece : Terms) (ok : WellFormeds piece)
 
   -- Where each rule but rule i is contradicted, the answer by the outcome of rule i is right: commit, execute or fail.
   pub right-only
-      : (i : ℕ) → IsRule rules piece i → OthersContradicted rules piece i → Right rules piece (onlyRule i (outcome i))
+      : (i : ℕ) → IsRule rules i → OthersContradicted rules piece i → Right rules piece (onlyRule i (outcome i))
   right-only i isRule others =
       asked-right rules piece ok (onlyRule i (outcome i)) (only-asked i isRule none (outcome i) (law i isRule))
     where
@@ -166,7 +166,7 @@ module _ (rules : List Patterns) (piece : Terms) (ok : WellFormeds piece)
 
   -- Where two rules are open, suspend is right.
   pub right-suspend
-      : (i j : ℕ) → IsRule rules piece i → IsRule rules piece j → (i ≡ j → ⊥) → Open (outcome i) → Open (outcome j)
+      : (i j : ℕ) → IsRule rules i → IsRule rules j → (i ≡ j → ⊥) → Open (outcome i) → Open (outcome j)
       → Right rules piece suspend
   right-suspend i j isRule other differ p q =
       asked-right rules piece ok suspend (λ k c. two k (c .2), λ k c. two k (c .3), met-or-fail rules piece i isRule first)

@@ -45,12 +45,13 @@ abbrev pub inside : ℕ → ℕ → ℕ → ℕ → Outcome
 inside l h a b = cond (leb l a && leb b h) holds (cond (ltb b l || ltb h a) contradicted notKnown)
 
 -- "A place test holds at that symbol, at a compound of that id and arity, or at a number in that range; it is not known at an
--- unknown and contradicted at anything else." "Any other place test is contradicted at a span."
+-- unknown and contradicted at anything else." "Pattern 26 .. accepts every symbol with an id from low to high." "Any other place
+-- test is contradicted at a span."
 abbrev pub fits : Want → Term → Outcome
 fits w unknown = notKnown
-fits (aSymbol a) (symbol b) = known (eqb a b)
-fits (aSymbol a) (numbers b c) = contradicted
-fits (aSymbol a) (compound b ts) = contradicted
+fits (aSymbol l h) (symbol a) = known (leb l a && leb a h)
+fits (aSymbol l h) (numbers a b) = contradicted
+fits (aSymbol l h) (compound b ts) = contradicted
 fits (aNumber l h) (symbol b) = contradicted
 fits (aNumber l h) (numbers a b) = inside l h a b
 fits (aNumber l h) (compound b ts) = contradicted

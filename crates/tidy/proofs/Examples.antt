@@ -3,7 +3,7 @@ use Prim.Native.Nat.{ℕ}
 use mathlib.Core.Path.{_≡_, refl}
 use mathlib.Core.List.{[], _∷_}
 use Rattle.terms.specs.Pattern.{Patterns, pnil, pcons}
-use Rattle.terms.specs.Pattern.{variable, rangedVariable}
+use Rattle.terms.specs.Pattern.{theSeries, variable, rangedVariable}
 use Rattle.sheet.specs.Sheet.{Sheet}
 use Rattle.tidy.specs.TidySheet.{tidySheet, tidyBytes}
 
@@ -38,3 +38,11 @@ common-range = refl
 -- One that stands once: 100101 25 05 0003 0004.
 stands-once : tidyBytes (one 1 (pcons (rangedVariable 5 3 4) pnil)) ≡ 0x10 ∷ 1 ∷ 1 ∷ 0x22 ∷ 0 ∷ 3 ∷ 0 ∷ 4 ∷ []
 stands-once = refl
+
+-- "Tidying writes 21" for the series of one symbol, 100101 26 0001 0001,
+writes-21 : tidyBytes (one 1 (pcons (theSeries 1 1) pnil)) ≡ 0x10 ∷ 1 ∷ 1 ∷ 0x21 ∷ 0 ∷ 1 ∷ []
+writes-21 = refl
+
+-- and a series of more stays: 100101 26 0001 0002.
+series-stays : tidyBytes (one 1 (pcons (theSeries 1 2) pnil)) ≡ 0x10 ∷ 1 ∷ 1 ∷ 0x26 ∷ 0 ∷ 1 ∷ 0 ∷ 2 ∷ []
+series-stays = refl

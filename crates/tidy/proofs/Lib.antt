@@ -7,6 +7,7 @@ pub mod FewNames
 pub mod NewNumbers
 pub mod PairOrder
 -- The tidy rule has the rule's tests and is accepted:
+pub mod Series
 pub mod Renumbered
 pub mod TidyTests
 pub mod TidyAccepted

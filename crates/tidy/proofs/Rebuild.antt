@@ -14,7 +14,7 @@ use Rattle.basics.proofs.Booleans.{both-true, cond-false}
 use Rattle.basics.proofs.Numbers.{eq-true}
 use Rattle.basics.proofs.Filters.{filter-mem, mem-any, any-mem}
 use Rattle.terms.specs.Pattern.{Pattern, Patterns, countPatterns, pnil, pcons}
-use Rattle.terms.specs.Pattern.{anything, theSymbol, theRange, theCompound, variable, rangedVariable}
+use Rattle.terms.specs.Pattern.{anything, theSymbol, theSeries, theRange, theCompound, variable, rangedVariable}
 use Rattle.terms.specs.RuleTests.{Want, aSymbol, aNumber, aCompound, PlaceTest, at, PairTest, Occurrence, Range}
 use Rattle.terms.specs.RuleTests.{patternsRange, rangeTest, patternVariables, patternsVariables}
 use Rattle.terms.specs.RuleTests.{patternTests, patternsTests, pairsOf, placeTests, pairTests, ruleVariables}
@@ -25,8 +25,9 @@ use Rattle.terms.proofs.PairTests.{variablePlace, variables-ascend, all-variabl
 use Rattle.terms.proofs.VariableSentences.{standing, pairs-of-are}
 use Rattle.terms.proofs.PreorderTests.{testPlace, tests-ascend, all-tests-ascend}
 use Rattle.tidy.specs.TidyRule.{isNamed, positionOf, isRepeated}
-use Rattle.tidy.specs.TidyRule.{appearsFirst, firstAppearances, newNumber, single, repeated, tidyPattern, tidyPatterns}
+use Rattle.tidy.specs.TidyRule.{appearsFirst, firstAppearances, newNumber, single, repeated, tidySeries, tidyPattern, tidyPatterns}
 use Rattle.tidy.specs.TidyRule.{tidyRule}
+use Rattle.tidy.proofs.Series.{tidy-one}
 use Rattle.tidy.proofs.Pairs.{isFirst, isSecond, paired, leads, alike, first-is, repeated-is, no-variable-there, alike-is}
 use Rattle.tidy.proofs.ByPlace.{lookIn, look-here, look-past, look-none, look-mem, Has, has-left, has-right, places-filtered}
 use Rattle.tidy.proofs.ByPlace.{position-at}
@@ -35,7 +36,7 @@ use Rattle.tidy.proofs.ByPlace.{position-at}
 abbrev written : Option Want → Option ℕ → (ℕ → Patterns) → Pattern
 written none none f = anything
 written none (some n) f = variable n
-written (some (aSymbol a)) n f = theSymbol a
+written (some (aSymbol l h)) n f = tidySeries l h
 written (some (aNumber l h)) none f = theRange l h
 written (some (aNumber l h)) (some n) f = rangedVariable n l h
 written (some (aCompound a k)) n f = theCompound a (f k)
@@ -123,7 +124,9 @@ module _ (os : List Occurrence) (rangeOf : ℕ → Option Range) (want : ℕ →
         pattern-at want number r b sound
         ∙ (λ i. written (w-is i) (n-is i) (λ k. row (patternAt want number (pred r)) (stride (pred r)) k (suc b)))
     pattern-rebuilt (theSymbol a) r b sound tests variables =
-        pattern-at want number r b (sound .0) ∙ only-test (aSymbol a) r b _ (sound .0) tests variables
+        pattern-at want number r b (sound .0) ∙ only-test (aSymbol a a) r b _ (sound .0) tests variables ∙ tidy-one a
+    pattern-rebuilt (theSeries l h) r b sound tests variables =
+        pattern-at want number r b (sound .0) ∙ only-test (aSymbol l h) r b _ (sound .0) tests variables
     pattern-rebuilt (theRange l h) r b sound tests variables =
         pattern-at want number r b (sound .0) ∙ only-test (aNumber l h) r b _ (sound .0) tests variables
     pattern-rebuilt (theCompound a ps) r b sound tests variables =

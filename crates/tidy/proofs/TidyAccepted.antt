@@ -8,11 +8,11 @@ use native.Mathlib.Omega.{arith}
 use lib.Dec.{T, eqb, eqb→eq}
 use Rattle.places.specs.Numbering.{stride}
 use Rattle.basics.specs.Lists.{Mem, All, anyOf}
-use Rattle.basics.proofs.Booleans.{both-true, cond-holds}
+use Rattle.basics.proofs.Booleans.{both-true, cond-holds, cond-by}
 use Rattle.basics.proofs.ListLaws.{all-join}
 use Rattle.basics.proofs.Filters.{any-mem}
 use Rattle.terms.specs.Pattern.{Pattern, Patterns, countPatterns, pnil, pcons}
-use Rattle.terms.specs.Pattern.{anything, theSymbol, theRange, theCompound, variable, rangedVariable}
+use Rattle.terms.specs.Pattern.{anything, theSymbol, theSeries, theRange, theCompound, variable, rangedVariable}
 use Rattle.terms.specs.RuleTests.{Occurrence, Range}
 use Rattle.terms.specs.RuleTests.{patternsRange, patternVariables, patternsVariables}
 use Rattle.terms.specs.RuleTests.{ruleVariables}
@@ -35,6 +35,7 @@ mutual
   names-small : (p : Pattern) (r b : ℕ) → Sound p r → All Small (patternVariables p r b)
   names-small anything r b sound = tt
   names-small (theSymbol a) r b sound = tt
+  names-small (theSeries l h) r b sound = tt
   names-small (theRange l h) r b sound = tt
   names-small (theCompound a ps) r b sound = all-names-small ps (pred r) (suc b) (sound .4)
   names-small (variable v) r b sound = (sound .1, tt)
@@ -68,6 +69,8 @@ module _
       tidy-sound : (p : Pattern) (r : ℕ) → Sound p r → Sound (tidyPattern os rangeOf p) r
       tidy-sound anything r sound = sound
       tidy-sound (theSymbol a) r sound = sound
+      tidy-sound (theSeries l h) r sound =
+          cond-by (λ (p : Pattern). Sound p r) (eqb l h) (λ e. (sound .0, omega (arith, sound .1, sound .2))) (λ e. sound)
       tidy-sound (theRange l h) r sound = sound
       tidy-sound (theCompound a ps) r sound =
           let n = tidy-count os rangeOf ps in

@@ -8,13 +8,15 @@ use mathlib.Core.Logic.{inl, inr}
 use mathlib.Core.List.{List, [], _∷_, map}
 use mathlib.Core.Option.{Option, some, none}
 use native.Mathlib.Omega.{arith}
+use lib.Dec.{eqb}
 use lib.ListN.{length, length-append, length-map}
 use Rattle.places.specs.Numbering.{stride}
 use Rattle.basics.specs.Lists.{All, Mem, here, there}
+use Rattle.basics.proofs.Booleans.{cond-by}
 use Rattle.basics.proofs.ListLaws.{mem-cases, mem-none}
 use Rattle.basics.proofs.Filters.{map-mem}
 use Rattle.terms.specs.Pattern.{Pattern, Patterns, countPatterns, pnil, pcons}
-use Rattle.terms.specs.Pattern.{anything, theSymbol, theRange, theCompound, variable, rangedVariable}
+use Rattle.terms.specs.Pattern.{anything, theSymbol, theSeries, theRange, theCompound, variable, rangedVariable}
 use Rattle.terms.specs.RuleTests.{Occurrence, Range, PlaceTest, rangeTest, patternTests, patternsTests}
 use Rattle.terms.specs.RuleTests.{at, patternsRange, ruleVariables, placeTests}
 use Rattle.terms.specs.Accepted.{Sound, Sounds, AcceptedRule}
@@ -48,6 +50,8 @@ module _ (variables : List Occurrence) (rangeOf : ℕ → Option Range) where
         → length (patternBytes (tidyPattern variables rangeOf p)) ≤ 2 + 10 * length (patternTests rangeOf p r b)
     pattern-short anything r b sound = omega arith
     pattern-short (theSymbol a) r b sound = omega arith
+    pattern-short (theSeries l h) r b sound =
+        cond-by (λ (p : Pattern). length (patternBytes p) ≤ 12) (eqb l h) (λ e. omega arith) (λ e. omega arith)
     pattern-short (theRange l h) r b sound = omega arith
     pattern-short (theCompound a ps) r b sound = omega (arith, sound .3, patterns-short ps (pred r) (suc b) (sound .4))
     pattern-short (variable v) r b sound = variable-short v b

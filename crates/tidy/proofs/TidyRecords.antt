@@ -5,16 +5,17 @@ use mathlib.Core.Path.{_≡_, refl, sym, ap, _∙_}
 use mathlib.Core.Bool.{Bool, true, false, cond}
 use mathlib.Core.List.{List, [], _∷_, _++_, map, append-assoc}
 use mathlib.Core.Option.{Option, some, none}
+use lib.Dec.{eqb}
 use Rattle.basics.proofs.Filters.{map-join}
 use Rattle.terms.specs.Pattern.{Pattern, Patterns, countPatterns, pnil, pcons}
-use Rattle.terms.specs.Pattern.{anything, theSymbol, theRange, theCompound, variable, rangedVariable}
+use Rattle.terms.specs.Pattern.{anything, theSymbol, theSeries, theRange, theCompound, variable, rangedVariable}
 use Rattle.terms.specs.RuleTests.{Occurrence}
 use Rattle.terms.specs.RuleTests as tests
 use Rattle.sheet.specs.WriteSheet.{patternBytes, patternsBytes}
 use Rattle.patterns.specs.declared.PatternRecord.{PatternRecord}
-use Rattle.patterns.specs.declared.PatternRecord.the-variants.{Anything, Symbol, Range, Compound, Variable, Ranged}
-use Rattle.patterns.specs.views.PatternRecord.{recordSpelling, recordsSpelling}
-use Rattle.tidy.specs.TidyRule.{isRepeated, newNumber, single, repeated, tidyPattern, tidyPatterns}
+use Rattle.patterns.specs.declared.PatternRecord.the-variants.{Anything, Symbol, Series, Range, Compound, Variable, Ranged}
+use Rattle.patterns.specs.views.PatternRecord.{seriesRecord, recordSpelling, recordsSpelling}
+use Rattle.tidy.specs.TidyRule.{isRepeated, newNumber, single, repeated, tidySeries, tidyPattern, tidyPatterns}
 use Rattle.tidy.proofs.TidyTests.{tidy-count}
 
 -- The records of a pattern, in preorder.
@@ -22,6 +23,7 @@ abbrev mutual
   pub patternRecords : Pattern → List PatternRecord
   patternRecords anything = Anything ∷ []
   patternRecords (theSymbol a) = Symbol a ∷ []
+  patternRecords (theSeries l h) = Series l h ∷ []
   patternRecords (theRange l h) = Range l h ∷ []
   patternRecords (theCompound a ps) = Compound a (countPatterns ps) ∷ patternsRecords ps
   patternRecords (variable v) = Variable v ∷ []
@@ -43,6 +45,7 @@ mutual
   pub pattern-records-spell : (p : Pattern) → recordsSpelling (patternRecords p) ≡ patternBytes p
   pattern-records-spell anything = refl
   pattern-records-spell (theSymbol a) = refl
+  pattern-records-spell (theSeries l h) = refl
   pattern-records-spell (theRange l h) = refl
   pattern-records-spell (theCompound a ps) =
       ap (λ (l : List ℕ). recordSpelling (Compound a (countPatterns ps)) ++ l) (records-spell ps)
@@ -71,7 +74,15 @@ variable-records true n (some x) = refl
 variable-records false n none = refl
 variable-records false n (some x) = refl
 
--- The tidy form of a record: only that of a variable changes.
+-- What the record of a series becomes.
+series-records : (l h : ℕ) → patternRecords (tidySeries l h) ≡ seriesRecord l h ∷ []
+series-records l h = go (eqb l h)
+  where
+    go : (c : Bool) → patternRecords (cond c (theSymbol l) (theSeries l h)) ≡ cond c (Symbol l) (Series l h) ∷ []
+    go true = refl
+    go false = refl
+
+-- The tidy form of a record: only that of a series and that of a variable change.
 module _ (os : List Occurrence) (rangeOf : ℕ → Option tests.Range) where
   abbrev pub tidyVariableRecord : ℕ → PatternRecord
   tidyVariableRecord v = cond (isRepeated os v) (repeatedRecord (newNumber os v) (rangeOf v)) (singleRecord (rangeOf v))
@@ -79,6 +90,7 @@ module _ (os : List Occurrence) (rangeOf : ℕ → Option tests.Range) where
   abbrev pub tidyRecord : PatternRecord → PatternRecord
   tidyRecord Anything = Anything
   tidyRecord (Symbol a) = Symbol a
+  tidyRecord (Series l h) = seriesRecord l h
   tidyRecord (Range l h) = Range l h
   tidyRecord (Compound a n) = Compound a n
   tidyRecord (Variable v) = tidyVariableRecord v
@@ -89,6 +101,7 @@ module _ (os : List Occurrence) (rangeOf : ℕ → Option tests.Range) where
     pub tidy-pattern-records : (p : Pattern) → patternRecords (tidyPattern os rangeOf p) ≡ map tidyRecord (patternRecords p)
     tidy-pattern-records anything = refl
     tidy-pattern-records (theSymbol a) = refl
+    tidy-pattern-records (theSeries l h) = series-records l h
     tidy-pattern-records (theRange l h) = refl
     tidy-pattern-records (theCompound a ps) = λ i. Compound a (tidy-count os rangeOf ps i) ∷ tidy-records ps i
     tidy-pattern-records (variable v) = variable-records (isRepeated os v) (newNumber os v) (rangeOf v)

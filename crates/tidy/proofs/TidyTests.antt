@@ -2,7 +2,7 @@
 use Prim.Native.Nat.{ℕ, suc, pred, _+_, min, max}
 use mathlib.Core.Path.{_≡_, refl, sym, ap, subst, _∙_}
 use mathlib.Core.Bool.{Bool, true, false, _&&_, _||_, cond}
-use mathlib.Core.List.{List, _∷_, _++_}
+use mathlib.Core.List.{List, [], _∷_, _++_}
 use mathlib.Core.Option.{Option, some, none}
 use native.Mathlib.Omega.{arith}
 use lib.Dec.{T, eqb, eqb→eq}
@@ -12,8 +12,8 @@ use Rattle.basics.proofs.Booleans.{both-true, true-both, cond-true}
 use Rattle.basics.proofs.Numbers.{eq-true}
 use Rattle.basics.proofs.Filters.{mem-any, any-mem, any-join}
 use Rattle.terms.specs.Pattern.{Pattern, Patterns, countPatterns, pnil, pcons}
-use Rattle.terms.specs.Pattern.{anything, theSymbol, theRange, theCompound, variable, rangedVariable}
-use Rattle.terms.specs.RuleTests.{aCompound, at, Occurrence, Range}
+use Rattle.terms.specs.Pattern.{anything, theSymbol, theSeries, theRange, theCompound, variable, rangedVariable}
+use Rattle.terms.specs.RuleTests.{aSymbol, aCompound, at, Occurrence, Range}
 use Rattle.terms.specs.RuleTests.{commonPart, patternRange, patternsRange, rangeTest, patternVariables, patternsVariables}
 use Rattle.terms.specs.RuleTests.{patternTests, patternsTests, pairsOf, placeTests, pairTests, ruleVariables}
 use Rattle.terms.specs.Accepted.{AcceptedRule}
@@ -24,6 +24,7 @@ use Rattle.tidy.specs.TidyRule.{isNamed, standsAgain, isAgain, isRepeate
 use Rattle.tidy.specs.TidyRule.{newNumber, single, repeated, tidyPattern, tidyPatterns, tidyRule}
 use Rattle.tidy.proofs.Occurrences.{later}
 use Rattle.tidy.proofs.NewNumbers.{numbers-differ}
+use Rattle.tidy.proofs.Series.{series-kept}
 use Rattle.tidy.proofs.Renumbered.{pairs-kept, all-variables-kept}
 
 -- What is written for a variable tests the range,
@@ -82,6 +83,8 @@ module _ (os : List Occurrence) (rangeOf : ℕ → Option Range) where
       tests-kept : (p : Pattern) (r b : ℕ) → patternTests newRange (tidyPattern os rangeOf p) r b ≡ patternTests rangeOf p r b
       tests-kept anything r b = refl
       tests-kept (theSymbol a) r b = refl
+      tests-kept (theSeries l h) r b =
+          series-kept (λ (p : Pattern). patternTests newRange p r b) l h (λ e i. at b (aSymbol l (e i)) ∷ [])
       tests-kept (theRange l h) r b = refl
       tests-kept (theCompound a ps) r b =
           λ i. at b (aCompound a (tidy-count ps i)) ∷ all-tests-kept ps (pred r) (suc b) i
@@ -101,6 +104,7 @@ module _ (os : List Occurrence) (rangeOf : ℕ → Option Range) where
           → patternRange (tidyPattern os rangeOf p) k ≡ cond (anyOf (isNumbered os k) (patternVariables p r b)) x none
       range-kept anything r b = refl
       range-kept (theSymbol a) r b = refl
+      range-kept (theSeries l h) r b = series-kept (λ (p : Pattern). patternRange p k) l h (λ e. refl)
       range-kept (theRange l h) r b = refl
       range-kept (theCompound a ps) r b = ranges-kept ps (pred r) (suc b)
       range-kept (variable v) r b = variable-range (isRepeated os v) (newNumber os v) (rangeOf v) x k (same v)

@@ -7,7 +7,7 @@ use mathlib.Core.Option.{Option, some, none}
 use lib.Dec.{eqb, ltb}
 use Rattle.basics.specs.Lists.{filter, anyOf}
 use Rattle.terms.specs.Pattern.{Pattern, Patterns, pnil, pcons}
-use Rattle.terms.specs.Pattern.{anything, theSymbol, theRange, theCompound, variable, rangedVariable}
+use Rattle.terms.specs.Pattern.{anything, theSymbol, theSeries, theRange, theCompound, variable, rangedVariable}
 use Rattle.terms.specs.RuleTests.{Occurrence, Range, patternsRange, ruleVariables}
 
 -- Variable v stands there.
@@ -63,8 +63,12 @@ abbrev pub repeated : ℕ → Option Range → Pattern
 repeated n none = variable n
 repeated n (some x) = rangedVariable n (x .low) (x .high)
 
+-- A series: "Pattern 21 is then the series of one symbol; both give the same graph, and tidying writes 21" (request 5).
+abbrev pub tidySeries : ℕ → ℕ → Pattern
+tidySeries l h = cond (eqb l h) (theSymbol l) (theSeries l h)
+
 -- The tidy form of what stands in a rule with these variables, where rangeOf v is the common part of the ranges of variable v.
--- All that is no variable stays as it is.
+-- All that is no variable and no series stays as it is.
 module _ (variables : List Occurrence) (rangeOf : ℕ → Option Range) where
   abbrev pub tidyVariable : ℕ → Pattern
   tidyVariable v = cond (isRepeated variables v) (repeated (newNumber variables v) (rangeOf v)) (single (rangeOf v))
@@ -73,6 +77,7 @@ module _ (variables : List Occurrence) (rangeOf : ℕ → Option Range) where
     pub tidyPattern : Pattern → Pattern
     tidyPattern anything = anything
     tidyPattern (theSymbol a) = theSymbol a
+    tidyPattern (theSeries l h) = tidySeries l h
     tidyPattern (theRange l h) = theRange l h
     tidyPattern (theCompound a ps) = theCompound a (tidyPatterns ps)
     tidyPattern (variable v) = tidyVariable v

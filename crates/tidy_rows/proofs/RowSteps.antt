@@ -7,7 +7,7 @@ use lib.ListN.{length, length-append}
 use Rattle.records.specs.Writing.{splice}
 use Rattle.records.proofs.Writing.{splice-more}
 use Rattle.patterns.specs.declared.PatternRecord.{PatternRecord}
-use Rattle.patterns.specs.declared.PatternRecord.the-variants.{Anything, Symbol, Range, Compound, Variable, Ranged}
+use Rattle.patterns.specs.declared.PatternRecord.the-variants.{Anything, Symbol, Series, Range, Compound, Variable, Ranged}
 use Rattle.patterns.specs.views.PatternRecord.{recordBytes, recordSpelling, recordsSpelling}
 use Rattle.rule_rows.specs.declared.Row.{Row}
 use Rattle.rule_rows.specs.views.Row.{recordsFrom}
@@ -18,6 +18,7 @@ use Rattle.tidy_rows.specs.views.TidyRow.{tidyIn, tidySpelling, tidyOnwa
 pub spelled-length : (r : PatternRecord) → length (recordSpelling r) ≡ recordBytes r
 spelled-length Anything = refl
 spelled-length (Symbol a) = refl
+spelled-length (Series l h) = refl
 spelled-length (Range l h) = refl
 spelled-length (Compound a n) = refl
 spelled-length (Variable v) = refl
@@ -26,6 +27,7 @@ spelled-length (Ranged v l h) = refl
 pub few-bytes : (r : PatternRecord) → recordBytes r ≤ 6
 few-bytes Anything = omega arith
 few-bytes (Symbol a) = omega arith
+few-bytes (Series l h) = omega arith
 few-bytes (Range l h) = omega arith
 few-bytes (Compound a n) = omega arith
 few-bytes (Variable v) = omega arith

@@ -3,15 +3,17 @@ use crate::Moved;
 use patterns::PatternRecord;
 use rule_rows::Next;
 use rule_rows::Row;
-use rule_rows::names::Words;
 use rule_rows::next_record;
 use rule_rows::number_record;
 use rule_rows::record_length;
+use rule_rows::words::Words;
 ghost use mathlib.Core.Path.{_≡_};
+ghost use mathlib.Core.List.{[], _∷_};
 ghost use Prim.Native.Nat.{_+_, _≤_};
 ghost use lib.ListN.{length};
+ghost use Rattle.records.specs.Fields.{wideThen};
 ghost use Rattle.records.specs.Writing.{splice};
-ghost use Rattle.patterns.specs.views.PatternRecord.{recordSpelling, recordsSpelling};
+ghost use Rattle.patterns.specs.views.PatternRecord.{seriesRecord, recordSpelling, recordsSpelling};
 ghost use Rattle.rule_rows.specs.views.Row.{recordsFrom, Going};
 ghost use Rattle.tidy_rows.specs.views.TidyRow.{tidyWord, tidyIn, tidySpelling, tidyOnward};
 
@@ -35,7 +37,17 @@ fn tidy_variable(word: u64) -> PatternRecord
     PatternRecord::Variable(number)
 }
 
-// What a record becomes: only a variable's changes, and it changes at each of its places.
+// What a series becomes: a symbol where its ends are equal.
+fn tidy_series(low: u16, high: u16) -> PatternRecord
+    ensures { λ r. ⌜ r ≡ seriesRecord low high ⌝ }
+{
+    if low == high {
+        return PatternRecord::Symbol(low);
+    }
+    PatternRecord::Series(low, high)
+}
+
+// What a record becomes: only a series of one symbol changes, and a variable's, at each of its places.
 fn tidy_record(what: PatternRecord, words: &Words) -> PatternRecord
     requires { ⌜ length (now words) ≡ 16 ⌝ }
     ensures { λ r. ⌜ r ≡ tidyIn (now (words .entry)) what ⌝ }
@@ -43,11 +55,30 @@ fn tidy_record(what: PatternRecord, words: &Words) -> PatternRecord
     match what {
         PatternRecord::Anything => what,
         PatternRecord::Symbol(_) => what,
+        PatternRecord::Series(low, high) => tidy_series(low, high),
         PatternRecord::Range(_, _) => what,
         PatternRecord::Compound(_, _) => what,
         PatternRecord::Variable(v) => tidy_variable(words[(v % 16) as usize]),
         PatternRecord::Ranged(v, _, _) => tidy_variable(words[(v % 16) as usize]),
     }
+}
+
+// A record of a kind byte and two ends.
+fn put_ends(buf: &mut [u8], at: usize, kind: u8, low: u16, high: u16) -> usize
+    requires { ⌜ at + 5 ≤ length (now buf) ⌝ }
+    ensures { λ r. ⌜ (r ≡ at + 5) × (now (buf .exit) ≡ splice (now (buf .entry)) at (kind ∷ wideThen low (wideThen high []))) ⌝ }
+{
+    records::put(
+        buf,
+        at,
+        &[
+            kind,
+            records::high(low),
+            records::low(low),
+            records::high(high),
+            records::low(high),
+        ],
+    )
 }
 
 // A record in the part of a buffer that begins at a position, and the position behind it. Not the low byte of a field first, nor a
@@ -64,17 +95,8 @@ fn put_record(buf: &mut [u8], at: usize, what: PatternRecord) -> usize
             at,
             &[0x21, records::high(a), records::low(a)],
         ),
-        PatternRecord::Range(l, h) => records::put(
-            buf,
-            at,
-            &[
-                0x22,
-                records::high(l),
-                records::low(l),
-                records::high(h),
-                records::low(h),
-            ],
-        ),
+        PatternRecord::Series(l, h) => put_ends(buf, at, 0x26, l, h),
+        PatternRecord::Range(l, h) => put_ends(buf, at, 0x22, l, h),
         PatternRecord::Compound(a, n) => records::put(
             buf,
             at,

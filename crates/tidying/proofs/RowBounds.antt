@@ -5,7 +5,7 @@ use mathlib.Core.List.{List, [], _∷_}
 use native.Mathlib.Omega.{arith}
 use lib.ListN.{length, drop, length-drop, length-append}
 use Rattle.patterns.specs.declared.PatternRecord.{PatternRecord}
-use Rattle.patterns.specs.declared.PatternRecord.the-variants.{Anything, Symbol, Range, Compound, Variable, Ranged}
+use Rattle.patterns.specs.declared.PatternRecord.the-variants.{Anything, Symbol, Series, Range, Compound, Variable, Ranged}
 use Rattle.patterns.specs.declared.PatternHead.{PatternHead}
 use Rattle.patterns.specs.declared.PatternHead.the-variants.{Whole, Refused}
 use Rattle.patterns.specs.views.PatternRecord.{recordBytes, recordSpelling, recordsSpelling, patternHead}
@@ -20,6 +20,7 @@ use Rattle.tidy_rows.proofs.RowSteps.{spelled-length, few-bytes, first-spelled}
 grows : (words : List ℕ) (r : PatternRecord) → recordBytes (tidyIn words r) ≤ 3 * recordBytes r
 grows words Anything = omega arith
 grows words (Symbol a) = omega arith
+grows words (Series l h) = omega (arith, few-bytes (tidyIn words (Series l h)))
 grows words (Range l h) = omega arith
 grows words (Compound a n) = omega arith
 grows words (Variable v) = few-bytes (tidyIn words (Variable v))

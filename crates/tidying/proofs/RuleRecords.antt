@@ -9,10 +9,10 @@ use Rattle.basics.specs.Lists.{All}
 use Rattle.basics.proofs.ListLaws.{all-join}
 use Rattle.places.specs.Numbering.{stride}
 use Rattle.terms.specs.Pattern.{Pattern, Patterns, countPatterns, pnil, pcons}
-use Rattle.terms.specs.Pattern.{anything, theSymbol, theRange, theCompound, variable, rangedVariable}
+use Rattle.terms.specs.Pattern.{anything, theSymbol, theSeries, theRange, theCompound, variable, rangedVariable}
 use Rattle.terms.specs.Accepted.{Sound, Sounds, AcceptedRule}
 use Rattle.patterns.specs.declared.PatternRecord.{PatternRecord}
-use Rattle.patterns.specs.declared.PatternRecord.the-variants.{Anything, Symbol, Range, Compound, Variable, Ranged}
+use Rattle.patterns.specs.declared.PatternRecord.the-variants.{Anything, Symbol, Series, Range, Compound, Variable, Ranged}
 use Rattle.sheet.specs.WriteSheet.{patternBytes, patternsBytes}
 use Rattle.patterns.specs.views.NoteCode.{Fitting}
 use Rattle.patterns.specs.views.PatternRecord.{recordBytes, recordSpelling}
@@ -26,6 +26,7 @@ use Rattle.rule_rows.proofs.NextRecords.{row-more, row-last}
 spelled-rest : (r : PatternRecord) (rest : List ℕ) → drop (recordBytes r) (recordSpelling r ++ rest) ≡ rest
 spelled-rest Anything rest = refl
 spelled-rest (Symbol a) rest = refl
+spelled-rest (Series l h) rest = refl
 spelled-rest (Range l h) rest = refl
 spelled-rest (Compound a n) rest = refl
 spelled-rest (Variable v) rest = refl
@@ -56,6 +57,8 @@ mutual
       ≡ patternRecords p ++ rowRecords (most - length (patternRecords p)) k rest
   pattern-row anything r most k rest sound room = leaf-row Anything most k rest tt refl room
   pattern-row (theSymbol a) r most k rest sound room = leaf-row (Symbol a) most k rest (sound .1) refl room
+  pattern-row (theSeries l h) r most k rest sound room =
+      leaf-row (Series l h) most k rest (omega (arith, sound .1, sound .2), sound .2) refl room
   pattern-row (theRange l h) r most k rest sound room =
       leaf-row (Range l h) most k rest (omega (arith, sound .1, sound .2), sound .2) refl room
   pattern-row (theCompound a ps) r most k rest sound room =
@@ -96,6 +99,7 @@ mutual
   pattern-size : (p : Pattern) (below : ℕ) → Sound p (suc below) → length (patternRecords p) ≤ stride (suc below)
   pattern-size anything below sound = omega arith
   pattern-size (theSymbol a) below sound = omega arith
+  pattern-size (theSeries l h) below sound = omega arith
   pattern-size (theRange l h) below sound = omega arith
   pattern-size (theCompound a ps) below sound =
       let deep = sounds-level ps below (sound .4) (sound .2) in
@@ -125,6 +129,7 @@ mutual
   pattern-fits : (p : Pattern) (r : ℕ) → Sound p r → All Fitting (patternRecords p)
   pattern-fits anything r sound = (tt, tt)
   pattern-fits (theSymbol a) r sound = (sound .1, tt)
+  pattern-fits (theSeries l h) r sound = ((omega (arith, sound .1, sound .2), sound .2), tt)
   pattern-fits (theRange l h) r sound = ((omega (arith, sound .1, sound .2), sound .2), tt)
   pattern-fits (theCompound a ps) r sound = ((sound .1, omega (arith, sound .3)), patterns-fit ps (pred r) (sound .4))
   pattern-fits (variable v) r sound = (sound .1, tt)

@@ -10,7 +10,7 @@ use lib.ListN.{length, getD, set, length-set}
 use lib.Seq.{getD-set-same, getD-set-other}
 use borrow.Author.Tests.{eqb-true, eqb-false}
 use Rattle.patterns.specs.declared.PatternRecord.{PatternRecord}
-use Rattle.patterns.specs.declared.PatternRecord.the-variants.{Anything, Symbol, Range, Compound, Variable, Ranged}
+use Rattle.patterns.specs.declared.PatternRecord.the-variants.{Anything, Symbol, Series, Range, Compound, Variable, Ranged}
 use Rattle.patterns.specs.views.PatternRecord.{recordSpelling}
 use Rattle.rule_rows.specs.views.Words.{freshWords, wordPlace, metRecord, metRecords, Numbering, numberedAt, numberRecord}
 use Rattle.tidy_rows.specs.views.TidyRow.{tidyWord, tidyIn, tidySpelling, tidyOnward, metIn, tidyRow}
@@ -69,6 +69,7 @@ pub record Kept (words after : List ℕ) : Type 0 where
 kept-record : (r : PatternRecord) (x : Numbering) → length (x .words) ≡ 16 → Kept (x .words) (numberRecord r x .words)
 kept-record Anything x size = record { size = size; stays = λ k h. refl }
 kept-record (Symbol a) x size = record { size = size; stays = λ k h. refl }
+kept-record (Series l h) x size = record { size = size; stays = λ k n. refl }
 kept-record (Range l h) x size = record { size = size; stays = λ k h. refl }
 kept-record (Compound a n) x size = record { size = size; stays = λ k h. refl }
 kept-record (Variable v) x size = let g = given-at v x size in record { size = g .size; stays = g .stays }
@@ -89,6 +90,7 @@ now-as-last
     → tidyIn (numberRecord r x .words) r ≡ tidyIn (numberRecords (numberRecord r x) rs .words) r
 now-as-last Anything x rs size = refl
 now-as-last (Symbol a) x rs size = refl
+now-as-last (Series l h) x rs size = refl
 now-as-last (Range l h) x rs size = refl
 now-as-last (Compound a n) x rs size = refl
 now-as-last (Variable v) x rs size =
@@ -112,6 +114,7 @@ met-size words (r ∷ rs) size = met-size (metRecord words r) rs (go r)
     go : (r : PatternRecord) → length (metRecord words r) ≡ 16
     go Anything = size
     go (Symbol a) = size
+    go (Series l h) = size
     go (Range l h) = size
     go (Compound a n) = size
     go (Variable v) = length-set words (wordPlace v) _ ∙ size

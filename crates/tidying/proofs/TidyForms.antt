@@ -21,7 +21,7 @@ use Rattle.terms.proofs.PairTests.{variablePlace, all-variables-ascend}
 use Rattle.terms.proofs.Ranges.{WideRange, ranges-wide}
 use Rattle.terms.proofs.TermPlaces.{extent}
 use Rattle.patterns.specs.declared.PatternRecord.{PatternRecord}
-use Rattle.patterns.specs.declared.PatternRecord.the-variants.{Anything, Symbol, Range, Compound, Variable, Ranged}
+use Rattle.patterns.specs.declared.PatternRecord.the-variants.{Anything, Symbol, Series, Range, Compound, Variable, Ranged}
 use Rattle.sheet.specs.WriteSheet.{patternsBytes, rulesBytes}
 use Rattle.patterns.specs.views.NoteCode.{Fitting}
 use Rattle.sheet.specs.views.NoteRanges.{lowEnd, highEnd}
@@ -85,6 +85,7 @@ number-names : (x : Numbering) (rs : List PatternRecord) → numberRecords x rs 
 number-names x [] = refl
 number-names x (Anything ∷ rs) = number-names x rs
 number-names x (Symbol a ∷ rs) = number-names x rs
+number-names x (Series l h ∷ rs) = number-names x rs
 number-names x (Range l h ∷ rs) = number-names x rs
 number-names x (Compound a n ∷ rs) = number-names x rs
 number-names x (Variable v ∷ rs) = number-names _ rs
@@ -176,6 +177,7 @@ module _ (arity : ℕ) (rule : Patterns) (accepted : AcceptedRule arity rule) wh
   record-tidy : (r : PatternRecord) → Fitting r → tidyIn words r ≡ tidyRecord os (patternsRange rule) r
   record-tidy Anything h = refl
   record-tidy (Symbol a) h = refl
+  record-tidy (Series l u) h = refl
   record-tidy (Range l u) h = refl
   record-tidy (Compound a n) h = refl
   record-tidy (Variable v) h = variable-tidy v h

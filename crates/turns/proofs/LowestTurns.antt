@@ -1,14 +1,14 @@
 -- Where the lower tests are asked before each test, tests are asked lowest first.
 use Prim.Native.Nat.{ℕ, zero, suc, _+_, _≤_, _<_}
 use mathlib.Core.Path.{_≡_, refl, ap, _∙_}
-use mathlib.Core.Bool.{true, false}
+use mathlib.Core.Bool.{false}
 use mathlib.Core.List.{List, map}
 use mathlib.Core.Logic.{inl}
 use native.Mathlib.Omega.{arith}
 use lib.Dec.{ltb}
 use lib.ListN.{length, length-map}
 use borrow.Author.Tests.{lt-ltb, le-ltb}
-use Rattle.basics.specs.Lists.{All, countFrom}
+use Rattle.basics.specs.Lists.{countFrom}
 use Rattle.basics.proofs.ListLaws.{all-from}
 use Rattle.basics.proofs.Counting.{count-length, count-mem}
 use Rattle.basics.proofs.Sorted.{AscendingBy}

@@ -2,7 +2,7 @@
 -- places.
 use Prim.Native.Nat.{ℕ, _≤_, _<_}
 use mathlib.Core.Path.{_≡_, sym, ap, subst, _∙_}
-use mathlib.Core.Bool.{Bool, true, false}
+use mathlib.Core.Bool.{false}
 use mathlib.Core.Logic.{inl, inr}
 use mathlib.Core.List.{List, [], _∷_}
 use native.Mathlib.Omega.{arith}
@@ -27,9 +27,9 @@ use Rattle.tables.specs.views.Turns.{Asks, Turns}
 use Rattle.rows.specs.views.TestsOf.{TestsOf}
 use Rattle.rows.proofs.TestNumbers.{tests-number, one-test}
 use Rattle.rows.proofs.TestsRight.{tests-near, tests-split}
-use Rattle.turns.specs.views.Turned.{lowerTests, turnedBy}
+use Rattle.turns.specs.views.Turned.{turnedBy}
 use Rattle.turns.proofs.LowestTurns.{Lower, lower-has}
-use Rattle.turns.proofs.PlaceTurns.{IsAt, InTurn, After, places-turned}
+use Rattle.turns.proofs.PlaceTurns.{InTurn, After, places-turned}
 
 -- A list that ascends by a relation ascends by each that follows from it among its members.
 ascends-among

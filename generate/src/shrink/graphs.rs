@@ -16,10 +16,33 @@ pub enum Step {
     Leaf(usize, Node),
     /// Without these cases of a switch.
     Cases(usize, Range<usize>),
-    /// A symbol's case in the stead of one of a switch.
-    Symbol(usize, usize),
+    /// Another case in the stead of one of a switch, with the same node.
+    Case(usize, usize, Instead),
     /// Every edge of a node to one node.
     Edges(usize, u16),
+}
+
+/// What a case is made: a compound's, which is the shortest, a symbol's, or one of its low end alone.
+#[derive(Clone, Copy, Debug)]
+pub enum Instead {
+    Compound,
+    Symbol,
+    Low,
+}
+
+impl Instead {
+    const ALL: [Instead; 3] = [Instead::Compound, Instead::Symbol, Instead::Low];
+
+    /// The case that comes in the stead of this one.
+    fn of(self, case: &Case) -> Case {
+        let node = case.node();
+        match (self, *case) {
+            (Instead::Compound, _) => Case::Compound { id: 0, arity: 0, node },
+            (Instead::Low, Case::Symbols { low, .. }) => Case::Symbols { low, high: low, node },
+            (Instead::Low, Case::Numbers { low, .. }) => Case::Numbers { low, high: low, node },
+            _ => Case::Symbols { low: 0, high: 0, node },
+        }
+    }
 }
 
 /// Does the same to each edge of a node.
@@ -30,7 +53,7 @@ fn visit(node: &mut Node, change: &mut dyn FnMut(&mut u16)) {
             change(neither);
             change(unknown);
             for case in cases {
-                let (Case::Symbol { node, .. } | Case::Compound { node, .. } | Case::Numbers { node, .. }) =
+                let (Case::Symbols { node, .. } | Case::Compound { node, .. } | Case::Numbers { node, .. }) =
                     case;
                 change(node);
             }
@@ -51,9 +74,9 @@ fn of_node((at, node): (usize, &Node)) -> impl Iterator<Item = Step> {
         Node::Pair { .. } => (vec![Node::Fail, Node::Suspend, Node::Execute(1)], 0),
     };
     let leaves = leaves.into_iter().map(move |leaf| Step::Leaf(at, leaf));
-    let symbols = (0..cases).map(move |case| Step::Symbol(at, case));
+    let others = (0..cases).flat_map(move |case| Instead::ALL.map(|instead| Step::Case(at, case, instead)));
     let cases = parts(cases).map(move |part| Step::Cases(at, part));
-    leaves.chain(cases).chain(symbols).chain([0, 1].map(|node| Step::Edges(at, node)))
+    leaves.chain(cases).chain(others).chain([0, 1].map(|node| Step::Edges(at, node)))
 }
 
 /// Among more nodes than these, single ones are left alone.
@@ -97,10 +120,10 @@ pub fn after(graph: &GraphNodes, step: &Step) -> Option<GraphNodes> {
             cases.get(part.clone())?;
             cases.drain(part.clone());
         }
-        Step::Symbol(at, case) => {
+        Step::Case(at, case, instead) => {
             let Node::Switch { cases, .. } = graph.nodes.get_mut(*at)? else { return None };
             let case = cases.get_mut(*case)?;
-            *case = Case::Symbol { id: 0, node: case.node() };
+            *case = instead.of(case);
         }
         Step::Edges(at, node) => visit(graph.nodes.get_mut(*at)?, &mut |edge| *edge = *node),
     }

@@ -20,7 +20,7 @@ pub enum Step {
     Variable { rule: usize, from: u8, to: u8 },
 }
 
-/// Simpler ranges: one number, from 0, both ends lower by as much, or one end lower.
+/// Simpler ranges or series: one number, from 0, both ends lower by as much, or one end lower.
 pub fn ranges(low: u16, high: u16) -> impl Iterator<Item = (u16, u16)> {
     let alike = lower(low).map(move |less| (less, high.saturating_sub(low - less)));
     let first = [(0, 0), (low, low), (0, high)].into_iter().chain(alike);
@@ -36,6 +36,10 @@ fn simpler(pattern: &Pattern) -> Vec<Pattern> {
         Pattern::Range(low, high) => {
             new.push(Pattern::Symbol(0));
             new.extend(ranges(*low, *high).map(|(low, high)| Pattern::Range(low, high)));
+        }
+        Pattern::Series(low, high) => {
+            new.extend([0, *low, *high].map(Pattern::Symbol));
+            new.extend(ranges(*low, *high).map(|(low, high)| Pattern::Series(low, high)));
         }
         Pattern::Compound(id, arguments) => {
             new.push(Pattern::Symbol(*id));
@@ -142,11 +146,15 @@ pub fn after(sheet: &SheetTree, step: &Step) -> Option<SheetTree> {
     Some(sheet)
 }
 
-/// Does the same to each id, or to each end of a range.
+/// Does the same to each id, ends of series among them, or to each end of a range.
 pub fn each(sheet: &mut SheetTree, which: Value, change: &mut dyn FnMut(&mut u16)) {
     for rule in &mut sheet.rules {
         visit(rule, &mut |pattern| match pattern {
             Pattern::Symbol(id) | Pattern::Compound(id, _) if which == Value::Id => change(id),
+            Pattern::Series(low, high) if which == Value::Id => {
+                change(low);
+                change(high);
+            }
             Pattern::Range(low, high) | Pattern::Ranged(_, low, high) if which == Value::Number => {
                 change(low);
                 change(high);

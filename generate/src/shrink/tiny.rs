@@ -6,7 +6,7 @@ use crate::trees::{piece_bytes, Pattern, SheetTree, Term};
 
 /// Sheets of one or two rules, or none.
 fn sheets() -> Vec<SheetTree> {
-    use Pattern::{Anything, Compound, Range, Symbol, Variable};
+    use Pattern::{Anything, Compound, Range, Series, Symbol, Variable};
     let one = |pattern: Pattern| SheetTree { arity: 1, rules: vec![vec![pattern]] };
     let two = |first, second| SheetTree { arity: 1, rules: vec![vec![first], vec![second]] };
     vec![
@@ -14,11 +14,14 @@ fn sheets() -> Vec<SheetTree> {
         one(Anything),
         one(Symbol(0)),
         one(Range(0, 0)),
+        one(Series(0, 1)),
         one(Compound(0, vec![Anything])),
         two(Anything, Anything),
         two(Anything, Symbol(0)),
         two(Symbol(0), Symbol(0)),
         two(Symbol(0), Symbol(1)),
+        two(Symbol(0), Series(0, 1)),
+        two(Series(0, 1), Series(1, 2)),
         two(Range(0, 0), Symbol(0)),
         SheetTree { arity: 2, rules: vec![vec![Variable(0); 2]] },
     ]
@@ -30,6 +33,7 @@ fn pieces() -> Vec<Vec<Term>> {
     vec![
         vec![Unknown],
         vec![Symbol(0)],
+        vec![Symbol(1)],
         vec![Number(0)],
         vec![Span(0, 0)],
         vec![Span(0, 1)],

@@ -2,7 +2,7 @@
 
 use super::pairs::{self, pair};
 use super::places;
-use super::records::{self, wide, Case, Node, SWITCH};
+use super::records::{self, wide, Case, Node, COMPOUND_BYTES, RUN_BYTES, SWITCH};
 use super::sheet::Sheet;
 use crate::results::Refusal;
 
@@ -77,30 +77,35 @@ struct Cases {
 }
 
 /// Reads so many cases; none if one is cut or of another kind. What a case takes is a run of codes,
-/// symbols before compounds before numbers, so that cases are in order where runs ascend by first and last.
+/// symbols before compounds before numbers, so that cases are in order where runs ascend by first and last, and those
+/// of symbols have no code in common.
 fn cases(bytes: &[u8], count: u16) -> Option<Cases> {
     let mut cases = Cases { used: 0, highest: 0, in_order: true };
     let mut least: u64 = 0;
     for _ in 0..count {
-        let (first, last, node, used): (u32, u32, u16, usize);
+        let (first, last, node): (u32, u32, u16);
+        let turn = |first: u32, last: u32| u64::from(first) << 32 | u64::from(last);
+        let next;
         match records::case(&bytes[cases.used..])? {
-            Case::Symbol(id, to) => {
-                first = u32::from(id) << 8;
-                (last, node, used) = (first, to, 5);
+            Case::Symbols(low, high, to) => {
+                (first, last, node) = (low.into(), high.into(), to);
+                next = turn(last + 1, 0);
+                cases.used += RUN_BYTES;
             }
             Case::Compound(id, arity, to) => {
                 first = 1 << 24 | u32::from(id) << 8 | u32::from(arity);
-                (last, node, used) = (first, to, 6);
+                (last, node) = (first, to);
+                next = turn(first, last + 1);
+                cases.used += COMPOUND_BYTES;
             }
             Case::Numbers(low, high, to) => {
-                first = 2 << 24 | u32::from(low);
-                (last, node, used) = (2 << 24 | u32::from(high), to, 7);
+                (first, last, node) = (2 << 24 | u32::from(low), 2 << 24 | u32::from(high), to);
+                next = turn(first, last + 1);
+                cases.used += RUN_BYTES;
             }
         }
-        cases.used += used;
-        let turn = u64::from(first) << 32 | u64::from(last);
-        cases.in_order &= turn >= least && first <= last;
-        least = turn + 1;
+        cases.in_order &= turn(first, last) >= least && first <= last;
+        least = next;
         if node > cases.highest {
             cases.highest = node;
         }

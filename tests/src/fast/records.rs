@@ -13,7 +13,7 @@ pub fn put_wide(bytes: &mut [u8], at: usize, field: u16) {
     bytes[at] = (field >> 8) as u8;
 }
 
-/// A pattern of kinds 20 to 25.
+/// A pattern of kinds 20 to 26.
 #[derive(Clone, Copy)]
 pub enum Pattern {
     Anything,
@@ -22,6 +22,7 @@ pub enum Pattern {
     Compound(u16, u8),
     Variable(u8),
     Ranged(u8, u16, u16),
+    Series(u16, u16),
 }
 
 #[inline(always)]
@@ -37,6 +38,7 @@ pub fn pattern(bytes: &[u8]) -> Option<Pattern> {
         0x23 if len >= 4 => Some(Pattern::Compound(wide(bytes, 1), bytes[3])),
         0x24 if len >= 2 => Some(Pattern::Variable(bytes[1])),
         0x25 if len >= 6 => Some(Pattern::Ranged(bytes[1], wide(bytes, 2), wide(bytes, 4))),
+        0x26 if len >= 5 => Some(Pattern::Series(wide(bytes, 1), wide(bytes, 3))),
         _ => None,
     }
 }
@@ -119,14 +121,18 @@ pub fn node(bytes: &[u8]) -> Option<Node> {
 }
 
 /// The kinds of cases.
-pub const SYMBOL_CASE: u8 = 0x44;
+pub const SYMBOLS_CASE: u8 = 0x44;
 pub const COMPOUND_CASE: u8 = 0x45;
 pub const NUMBERS_CASE: u8 = 0x46;
+
+/// The bytes of a case of symbols or of numbers, and of a compound's.
+pub const RUN_BYTES: usize = 7;
+pub const COMPOUND_BYTES: usize = 6;
 
 /// A case of kinds 44 to 46; the last field is its node.
 #[derive(Clone, Copy)]
 pub enum Case {
-    Symbol(u16, u16),
+    Symbols(u16, u16, u16),
     Compound(u16, u8, u16),
     Numbers(u16, u16, u16),
 }
@@ -134,13 +140,17 @@ pub enum Case {
 #[inline(always)]
 pub fn case(bytes: &[u8]) -> Option<Case> {
     let len = bytes.len();
-    if len < 5 {
+    if len < COMPOUND_BYTES {
         return None;
     }
     match bytes[0] {
-        SYMBOL_CASE => Some(Case::Symbol(wide(bytes, 1), wide(bytes, 3))),
-        COMPOUND_CASE if len >= 6 => Some(Case::Compound(wide(bytes, 1), bytes[3], wide(bytes, 4))),
-        NUMBERS_CASE if len >= 7 => Some(Case::Numbers(wide(bytes, 1), wide(bytes, 3), wide(bytes, 5))),
+        SYMBOLS_CASE if len >= RUN_BYTES => {
+            Some(Case::Symbols(wide(bytes, 1), wide(bytes, 3), wide(bytes, 5)))
+        }
+        COMPOUND_CASE => Some(Case::Compound(wide(bytes, 1), bytes[3], wide(bytes, 4))),
+        NUMBERS_CASE if len >= RUN_BYTES => {
+            Some(Case::Numbers(wide(bytes, 1), wide(bytes, 3), wide(bytes, 5)))
+        }
         _ => None,
     }
 }

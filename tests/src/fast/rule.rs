@@ -27,13 +27,20 @@ pub fn make(bytes: &[u8], sheet: &Sheet, piece: &Piece, variables: &mut Variable
     Some(made)
 }
 
-/// A test at a place: bytes read, and the test itself if it is not known.
+/// A series' test at a place, whose record has so many bytes: these, and the test itself if it is not known.
 #[inline(always)]
-fn place_test(sheet: &Sheet, place: usize, offset: usize, holds: bool, used: usize) -> Option<Made> {
+fn series_test(
+    sheet: &Sheet,
+    piece: &Piece,
+    place: usize,
+    (low, high): (u16, u16),
+    used: usize,
+) -> Option<Made> {
+    let offset = piece.find(place);
     if offset == NOT_KNOWN {
         return Some(Made { used, not_known: 1 << sheet.place_test(place) });
     }
-    holds.then_some(Made { used, not_known: 0 })
+    in_series(piece, offset, low, high).then_some(Made { used, not_known: 0 })
 }
 
 /// Whether a number from low to high stands at this offset.
@@ -66,10 +73,12 @@ fn range_test(sheet: &Sheet, piece: &Piece, place: usize, (low, high): (u16, u16
     }
 }
 
-/// Whether this symbol stands at this offset.
+/// Whether a symbol with an id from low to high stands at this offset.
 #[inline(always)]
-pub fn is_symbol(piece: &Piece, offset: usize, id: u16) -> bool {
-    offset > NOT_KNOWN && piece.bytes[offset] == SYMBOL && wide(piece.bytes, offset + 1) == id
+pub fn in_series(piece: &Piece, offset: usize, low: u16, high: u16) -> bool {
+    offset > NOT_KNOWN
+        && piece.bytes[offset] == SYMBOL
+        && (low..=high).contains(&wide(piece.bytes, offset + 1))
 }
 
 /// Whether a compound of this id and arity stands at this offset.
@@ -92,10 +101,8 @@ fn pattern(
 ) -> Option<Made> {
     match records::pattern(bytes)? {
         Pattern::Anything => Some(Made { used: 1, not_known: 0 }),
-        Pattern::Symbol(id) => {
-            let offset = piece.find(place);
-            place_test(sheet, place, offset, is_symbol(piece, offset, id), 3)
-        }
+        Pattern::Symbol(id) => series_test(sheet, piece, place, (id, id), 3),
+        Pattern::Series(low, high) => series_test(sheet, piece, place, (low, high), 5),
         Pattern::Range(low, high) => range_test(sheet, piece, place, (low, high)),
         Pattern::Compound(id, arity) => {
             let offset = piece.find(place);

@@ -116,7 +116,7 @@ fn pattern(
             places::put(tested, place);
             Ok(3)
         }
-        Some(Pattern::Range(low, high)) => {
+        Some(Pattern::Range(low, high) | Pattern::Series(low, high)) => {
             if low > high {
                 return Err(7);
             }

@@ -1,5 +1,5 @@
-//! The tidy form of an accepted sheet: its records one by one, as their tree keeps its shape. A rule without
-//! variables is copied.
+//! The tidy form of an accepted sheet: its records one by one, as their tree keeps its shape. A rule in which
+//! nothing changes is copied.
 
 use super::records::{self, put_wide, Pattern};
 use super::variables::Variables;
@@ -11,10 +11,19 @@ fn length(record: Pattern) -> usize {
     match record {
         Pattern::Anything => 1,
         Pattern::Symbol(_) => 3,
-        Pattern::Range(..) => 5,
+        Pattern::Range(..) | Pattern::Series(..) => 5,
         Pattern::Compound(..) => 4,
         Pattern::Variable(_) => 2,
         Pattern::Ranged(..) => 6,
+    }
+}
+
+/// The tidy form of a record that is no variable's: a series of one symbol is that symbol.
+#[inline(always)]
+fn alone(record: Pattern) -> Pattern {
+    match record {
+        Pattern::Series(low, high) if low == high => Pattern::Symbol(low),
+        _ => record,
     }
 }
 
@@ -26,7 +35,7 @@ fn measure(rule: &[u8], variables: &mut Variables) -> usize {
         match record {
             Pattern::Variable(number) => variables.meet(number, 0),
             Pattern::Ranged(number, low, high) => variables.meet_ranged(number, 0, low, high),
-            _ => needed += length(record),
+            _ => needed += length(alone(record)),
         }
         at += length(record);
     }
@@ -79,12 +88,16 @@ fn tidied(variables: &Variables, numbers: &mut Numbers, number: usize) -> Patter
     }
 }
 
-/// Writes the record of a variable; gives how many bytes it has.
+/// Writes the record of a variable or a symbol; gives how many bytes it has.
 #[inline(always)]
 fn put(to: &mut [u8], record: Pattern) -> usize {
     let length = length(record);
     let to = &mut to[..length];
     match record {
+        Pattern::Symbol(id) => {
+            to[0] = 0x21;
+            put_wide(to, 1, id);
+        }
         Pattern::Range(low, high) => {
             to[0] = 0x22;
             put_wide(to, 1, low);
@@ -102,9 +115,10 @@ fn put(to: &mut [u8], record: Pattern) -> usize {
     length
 }
 
-/// Writes a rule whose variables were met; gives how many bytes were written.
-fn put_rule(rule: &[u8], variables: &Variables, to: &mut [u8]) -> usize {
-    if variables.met() == 0 {
+/// Writes a rule whose variables were met, and whose tidy form has so many bytes; gives how many were written. Without
+/// variables a rule of the same length stays as it is.
+fn put_rule(rule: &[u8], variables: &Variables, needed: usize, to: &mut [u8]) -> usize {
+    if variables.met() == 0 && needed == rule.len() {
         to[..rule.len()].copy_from_slice(rule);
         return rule.len();
     }
@@ -117,6 +131,7 @@ fn put_rule(rule: &[u8], variables: &Variables, to: &mut [u8]) -> usize {
                 let record = tidied(variables, &mut numbers, usize::from(number & 15));
                 end += put(&mut to[end..], record);
             }
+            Pattern::Series(low, high) if low == high => end += put(&mut to[end..], Pattern::Symbol(low)),
             _ => {
                 to[end..end + used].copy_from_slice(&rule[at..at + used]);
                 end += used;
@@ -139,8 +154,8 @@ pub fn write(sheet: &[u8], starts: &[u32], buffer: &mut [u8]) -> Result<u32, Ref
     buffer[..3].copy_from_slice(&sheet[..3]);
     let mut end = 3;
     for at in 0..starts.len() {
-        measure(rule(at), &mut variables);
-        end += put_rule(rule(at), &variables, &mut buffer[end..]);
+        let needed = measure(rule(at), &mut variables);
+        end += put_rule(rule(at), &variables, needed, &mut buffer[end..]);
     }
     Ok(needed as u32)
 }

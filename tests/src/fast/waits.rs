@@ -5,7 +5,7 @@ use super::graph::NodeStarts;
 use super::piece::{Piece, NOT_KNOWN};
 use super::places::STEP;
 use super::records::{self, Node, Pattern};
-use super::rule::{in_range, is_compound, is_symbol};
+use super::rule::{in_range, in_series, is_compound};
 use super::sheet::{RuleStarts, Sheet};
 use super::variables::Variables;
 
@@ -52,8 +52,12 @@ impl Making<'_> {
         match records::pattern(bytes) {
             None | Some(Pattern::Anything) => 1,
             Some(Pattern::Symbol(id)) => {
-                self.said.note(test, truth(offset, is_symbol(self.piece, offset, id)));
+                self.said.note(test, truth(offset, in_series(self.piece, offset, id, id)));
                 3
+            }
+            Some(Pattern::Series(low, high)) => {
+                self.said.note(test, truth(offset, in_series(self.piece, offset, low, high)));
+                5
             }
             Some(Pattern::Range(low, high)) => {
                 self.said.note(test, in_range(self.piece, offset, low, high));

@@ -3,7 +3,8 @@
 use super::compare::{equal, Truth};
 use super::graph::NodeStarts;
 use super::piece::{Piece, LACKING, NOT_KNOWN};
-use super::records::{self, ends, wide, Node, COMPOUND, COMPOUND_CASE, SPAN, SWITCH, SYMBOL, SYMBOL_CASE};
+use super::records::{self, ends, wide, Node, COMPOUND, COMPOUND_BYTES, COMPOUND_CASE, RUN_BYTES};
+use super::records::{SPAN, SWITCH, SYMBOL, SYMBOLS_CASE};
 use super::rule::make;
 use super::sheet::{RuleStarts, Sheet};
 use super::variables::Variables;
@@ -129,11 +130,12 @@ fn take(cases: &[u8], count: usize, piece: &[u8], offset: usize, neither: u16) -
     let kind = piece[offset];
     let mut at = 0;
     let mut i = 0;
-    while i < count && cases[at] == SYMBOL_CASE {
-        if kind == SYMBOL && wide(cases, at + 1) == field {
-            return wide(cases, at + 3);
+    while i < count && cases[at] == SYMBOLS_CASE {
+        // Runs ascend: the first that does not end before the symbol has it, or none does.
+        if kind == SYMBOL && field <= wide(cases, at + 3) {
+            return if wide(cases, at + 1) <= field { wide(cases, at + 5) } else { neither };
         }
-        at += 5;
+        at += RUN_BYTES;
         i += 1;
     }
     if kind == SYMBOL {
@@ -143,7 +145,7 @@ fn take(cases: &[u8], count: usize, piece: &[u8], offset: usize, neither: u16) -
         if kind == COMPOUND && wide(cases, at + 1) == field && cases[at + 3] == piece[offset + 3] {
             return wide(cases, at + 4);
         }
-        at += 6;
+        at += COMPOUND_BYTES;
         i += 1;
     }
     if kind == COMPOUND {
@@ -153,13 +155,10 @@ fn take(cases: &[u8], count: usize, piece: &[u8], offset: usize, neither: u16) -
     narrowest(&cases[at..], count - i, first, last).unwrap_or(neither)
 }
 
-/// The bytes of a number case.
-const NUMBERS: usize = 7;
-
 /// Both ends of a number case as one number, which ascends as the cases do.
 #[inline(always)]
 fn turn(cases: &[u8], case: usize) -> u64 {
-    let at = NUMBERS * case + 1;
+    let at = RUN_BYTES * case + 1;
     u64::from(wide(cases, at)) << 16 | u64::from(wide(cases, at + 2))
 }
 
@@ -187,7 +186,7 @@ fn narrowest(cases: &[u8], count: usize, first: u16, last: u16) -> Option<u16> {
         let low = turn(cases, below - 1) >> 16;
         let case = first_from(cases, below, low, last);
         if case < below {
-            return Some(wide(cases, NUMBERS * case + 5));
+            return Some(wide(cases, RUN_BYTES * case + 5));
         }
         below = first_from(cases, below, low, 0);
     }

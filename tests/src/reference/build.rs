@@ -1,6 +1,6 @@
 //! Building the graph of a sheet: nodes breadth first from the root, then the buffer.
 
-use super::cases::{pairs, Named, Numbers};
+use super::cases::{pairs, Cases, Run};
 use super::graph::MOST_NODES;
 use super::keys::{Asking, Key, Kind};
 use super::nodes::{graph_bytes, Case, Node};
@@ -28,8 +28,8 @@ struct Known {
     /// That of each rule's execute.
     execute: Vec<Option<u16>>,
     keys: Vec<(Key, u16)>,
-    /// The runs of numbers at the place that is asked.
-    runs: Vec<Numbers>,
+    /// The runs of ids, then those of numbers, at the place that is asked.
+    runs: Vec<Run>,
 }
 
 impl Known {
@@ -76,34 +76,44 @@ impl Known {
             let other = self.number(asking.kind(key.live, unsettled))?;
             return Ok(Node::Pair { p, q, no, other });
         };
-        let mut cases = Vec::new();
-        for (name, rules) in asked.cases.named(tested) {
-            let node = self.number(asking.kind(others | rules, unsettled))?;
-            cases.push(match name {
-                Named::Symbol(id) => Case::Symbol { id, node },
-                Named::Compound(id, arity) => Case::Compound { id, arity, node },
-            });
-        }
-        let mut runs = std::mem::take(&mut self.runs);
-        asked.cases.runs(tested, &mut runs);
-        let count = runs.len() * (runs.len() + 1) / 2;
-        cases.reserve(count);
-        self.numbers(&runs, |rules| asking.kind(others | rules, unsettled), &mut cases)?;
-        self.runs = runs;
+        let cases = self.cases(&asked.cases, tested, |rules| asking.kind(others | rules, unsettled))?;
         let neither = self.number(asking.kind(others, unsettled))?;
         let unknown = self.number(asking.kind(key.live, key.pending & !asked.settled))?;
         Ok(Node::Switch { place: asked.place, neither, unknown, cases })
     }
 
+    /// The cases of a switch that is asked of these rules.
+    fn cases(
+        &mut self,
+        wanted: &Cases,
+        tested: u64,
+        kind: impl Fn(u64) -> Kind,
+    ) -> Result<Vec<Case>, Refusal> {
+        let mut cases = Vec::new();
+        let mut runs = std::mem::take(&mut self.runs);
+        wanted.symbols(tested, &mut runs);
+        for &Run { low, high, rules } in &runs {
+            cases.push(Case::Symbols { low, high, node: self.number(kind(rules))? });
+        }
+        for ((id, arity), rules) in wanted.compounds(tested) {
+            cases.push(Case::Compound { id, arity, node: self.number(kind(rules))? });
+        }
+        wanted.numbers(tested, &mut runs);
+        cases.reserve(runs.len() * (runs.len() + 1) / 2);
+        self.numbers(&runs, kind, &mut cases)?;
+        self.runs = runs;
+        Ok(cases)
+    }
+
     /// Adds the cases of pairs of runs. Where the rules are those of the case before, so is the node.
     fn numbers(
         &mut self,
-        runs: &[Numbers],
+        runs: &[Run],
         kind: impl Fn(u64) -> Kind,
         cases: &mut Vec<Case>,
     ) -> Result<(), Refusal> {
         let mut before = None;
-        for Numbers { low, high, rules } in pairs(runs) {
+        for Run { low, high, rules } in pairs(runs) {
             let node = match before {
                 Some((same, node)) if same == rules => node,
                 _ => self.number(kind(rules))?,

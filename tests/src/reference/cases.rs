@@ -2,16 +2,9 @@
 
 use super::sheet::Want;
 
-/// The symbol or compound that a case of a switch takes, ascending as cases do.
-#[derive(Clone, Copy, Debug, PartialEq, Eq, PartialOrd, Ord)]
-pub enum Named {
-    Symbol(u16),
-    Compound(u16, u8),
-}
-
-/// Numbers from the first to the last, and the rules that accept them.
+/// Ids or numbers from the first to the last, and the rules that accept them.
 #[derive(Clone, Copy, Debug, PartialEq, Eq)]
-pub struct Numbers {
+pub struct Run {
     pub low: u16,
     pub high: u16,
     pub rules: u64,
@@ -19,82 +12,102 @@ pub struct Numbers {
 
 /// What is wanted at a place.
 pub struct Cases {
-    /// The symbols and compounds, in order, each with the rules that want it.
-    named: Vec<(Named, u64)>,
+    /// All ids in runs that the same rules accept, none included, ascending.
+    symbols: Vec<Run>,
+    /// The compounds by id and arity, in order, each with the rules that want it.
+    compounds: Vec<((u16, u8), u64)>,
     /// The rules that want a range.
     ranged: u64,
-    /// All numbers in runs that the same rules accept, none included, ascending; no runs if no range is wanted.
-    runs: Vec<Numbers>,
+    /// All numbers in runs that the same rules accept, none included, ascending.
+    numbers: Vec<Run>,
 }
 
 impl Cases {
     /// What these rules want.
     pub fn new(wants: &[(usize, Want)]) -> Cases {
-        let mut named: Vec<(Named, u64)> = Vec::new();
-        let mut ends = Vec::new();
+        let (mut symbols, mut numbers) = (Vec::new(), Vec::new());
+        let mut compounds: Vec<((u16, u8), u64)> = Vec::new();
         let mut ranged = 0;
         for &(rule, want) in wants {
-            let name = match want {
-                Want::Symbol(id) => Named::Symbol(id),
-                Want::Compound { id, arity } => Named::Compound(id, arity),
-                Want::Range { low, high } => {
-                    ends.extend([(u32::from(low), 1 << rule), (u32::from(high) + 1, 1 << rule)]);
-                    ranged |= 1 << rule;
-                    continue;
+            let rules = 1 << rule;
+            match want {
+                Want::Symbols { low, high } => symbols.extend(ends(low, high, rules)),
+                Want::Compound { id, arity } => {
+                    match compounds.binary_search_by_key(&(id, arity), |(known, _)| *known) {
+                        Ok(at) => compounds[at].1 |= rules,
+                        Err(at) => compounds.insert(at, ((id, arity), rules)),
+                    }
                 }
-            };
-            match named.binary_search_by_key(&name, |(known, _)| *known) {
-                Ok(at) => named[at].1 |= 1 << rule,
-                Err(at) => named.insert(at, (name, 1 << rule)),
+                Want::Range { low, high } => {
+                    numbers.extend(ends(low, high, rules));
+                    ranged |= rules;
+                }
             }
         }
-        ends.sort_unstable();
-        let runs = if ranged == 0 { Vec::new() } else { runs(&ends) };
-        Cases { named, ranged, runs }
+        Cases { symbols: runs(symbols), compounds, ranged, numbers: runs(numbers) }
     }
 
-    /// The symbols and compounds that one of these rules wants, each with those that do.
-    pub fn named(&self, live: u64) -> impl Iterator<Item = (Named, u64)> + '_ {
-        self.named.iter().map(move |(name, rules)| (*name, rules & live)).filter(|(_, rules)| *rules != 0)
+    /// The maximal runs of ids that the same non-empty set of these rules accepts.
+    pub fn symbols(&self, live: u64, to: &mut Vec<Run>) {
+        maximal(&self.symbols, live, to);
+        to.retain(|run| run.rules != 0);
+    }
+
+    /// The compounds that one of these rules wants, by id and arity, each with those that do.
+    pub fn compounds(&self, live: u64) -> impl Iterator<Item = ((u16, u8), u64)> + '_ {
+        self.compounds.iter().map(move |(name, rules)| (*name, rules & live)).filter(|(_, rules)| *rules != 0)
     }
 
     /// All numbers in maximal runs that the same set of these rules accepts, none included; no runs if none of
     /// them wants a range.
-    pub fn runs(&self, live: u64, to: &mut Vec<Numbers>) {
-        to.clear();
-        if self.ranged & live == 0 {
-            return;
+    pub fn numbers(&self, live: u64, to: &mut Vec<Run>) {
+        match self.ranged & live {
+            0 => to.clear(),
+            _ => maximal(&self.numbers, live, to),
         }
-        for run in &self.runs {
-            let rules = run.rules & live;
-            match to.last_mut() {
-                Some(last) if last.rules == rules => last.high = run.high,
-                _ => to.push(Numbers { rules, ..*run }),
-            }
+    }
+}
+
+/// Runs that the same set of these rules accepts, joined.
+fn maximal(runs: &[Run], live: u64, to: &mut Vec<Run>) {
+    to.clear();
+    for run in runs {
+        let rules = run.rules & live;
+        match to.last_mut() {
+            Some(last) if last.rules == rules => last.high = run.high,
+            _ => to.push(Run { rules, ..*run }),
         }
     }
 }
 
 /// A case for each pair of first and last run, ordered so, with the rules that accept a number of it.
-pub fn pairs(runs: &[Numbers]) -> impl Iterator<Item = Numbers> + '_ {
+pub fn pairs(runs: &[Run]) -> impl Iterator<Item = Run> + '_ {
     runs.iter().enumerate().flat_map(move |(at, first)| {
         let mut some = 0;
         runs[at..].iter().map(move |last| {
             some |= last.rules;
-            Numbers { low: first.low, high: last.high, rules: some }
+            Run { low: first.low, high: last.high, rules: some }
         })
     })
 }
 
-/// All numbers in runs between ends of ranges. A rule's range begins at the first of its two ends and does not
-/// hold the second.
-fn runs(ends: &[(u32, u64)]) -> Vec<Numbers> {
+/// Where a series or range of these rules begins, and the first that it does not hold.
+fn ends(low: u16, high: u16, rules: u64) -> [(u32, u64); 2] {
+    [(u32::from(low), rules), (u32::from(high) + 1, rules)]
+}
+
+/// All ids, or numbers, in runs between ends; no runs if there is no end.
+fn runs(mut ends: Vec<(u32, u64)>) -> Vec<Run> {
     const ALL: u32 = 0x1_0000;
+    if ends.is_empty() {
+        return Vec::new();
+    }
+    ends.sort_unstable();
     let mut runs = Vec::with_capacity(ends.len() + 1);
     let (mut low, mut rules) = (0, 0);
     for &(end, rule) in ends.iter().chain(&[(ALL, 0)]) {
         if low < end {
-            runs.push(Numbers { low: low as u16, high: (end - 1) as u16, rules });
+            runs.push(Run { low: low as u16, high: (end - 1) as u16, rules });
         }
         low = end;
         rules ^= rule;

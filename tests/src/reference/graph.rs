@@ -26,10 +26,10 @@ fn in_range(node: &Node, sheet: &Sheet, count: u16) -> bool {
 
 /// Whether the second case may follow the first.
 fn ascending(first: &Case, second: &Case) -> bool {
-    use Case::{Compound, Numbers, Symbol};
+    use Case::{Compound, Numbers, Symbols};
     match (first, second) {
-        (Symbol { id: a, .. }, Symbol { id: b, .. }) => a < b,
-        (Symbol { .. }, _) => true,
+        (Symbols { high, .. }, Symbols { low, .. }) => high < low,
+        (Symbols { .. }, _) => true,
         (Compound { id: f, arity: j, .. }, Compound { id: g, arity: k, .. }) => (f, j) < (g, k),
         (Compound { .. }, Numbers { .. }) => true,
         (Numbers { low: a, high: b, .. }, Numbers { low: c, high: d, .. }) => (a, b) < (c, d),
@@ -37,13 +37,16 @@ fn ascending(first: &Case, second: &Case) -> bool {
     }
 }
 
-/// Question 24: are cases strictly ascending, numbers by low, then high, and low at most high?
+/// Question 24: are cases strictly ascending, numbers by low, then high, low at most high, and no id in two?
 fn in_order(node: &Node) -> bool {
     let Node::Switch { cases, .. } = node else {
         return true;
     };
-    cases.iter().all(|case| !matches!(case, Case::Numbers { low, high, .. } if low > high))
-        && cases.windows(2).all(|two| ascending(&two[0], &two[1]))
+    let reversed = |case: &Case| match case {
+        Case::Symbols { low, high, .. } | Case::Numbers { low, high, .. } => low > high,
+        Case::Compound { .. } => false,
+    };
+    !cases.iter().any(reversed) && cases.windows(2).all(|two| ascending(&two[0], &two[1]))
 }
 
 /// The nodes of a graph for an accepted sheet: questions 21 to 25.

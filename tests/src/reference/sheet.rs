@@ -12,10 +12,10 @@ pub const MOST_RULES: u8 = 64;
 /// The most tests that a sheet may have.
 pub const MOST_TESTS: usize = 64;
 
-/// What a rule wants at a place.
+/// What a rule wants at a place: a symbol with an id from low to high, a compound, or a number from low to high.
 #[derive(Clone, Copy, Debug, PartialEq, Eq)]
 pub enum Want {
-    Symbol(u16),
+    Symbols { low: u16, high: u16 },
     Compound { id: u16, arity: u8 },
     Range { low: u16, high: u16 },
 }
@@ -81,7 +81,11 @@ impl RuleReader<'_, '_> {
     fn pattern(&mut self, place: u16, depth: usize) -> Result<(), Refusal> {
         match self.from.pattern().ok_or(4)? {
             PatternRecord::Anything => {}
-            PatternRecord::Symbol(id) => self.rule.wants.push((place, Want::Symbol(id))),
+            PatternRecord::Symbol(id) => self.rule.wants.push((place, Want::Symbols { low: id, high: id })),
+            PatternRecord::Series { low, high } => {
+                in_order(low, high)?;
+                self.rule.wants.push((place, Want::Symbols { low, high }));
+            }
             PatternRecord::Range { low, high } => {
                 in_order(low, high)?;
                 self.rule.wants.push((place, Want::Range { low, high }));

@@ -32,7 +32,7 @@ fn collect(patterns: &[Pattern], to: &mut Variables) {
                 *range = Some((lowest.max(*low), highest.min(*high)));
                 *places += 1;
             }
-            Pattern::Anything | Pattern::Symbol(_) | Pattern::Range(..) => {}
+            Pattern::Anything | Pattern::Symbol(_) | Pattern::Series(..) | Pattern::Range(..) => {}
         }
     }
 }
@@ -53,7 +53,10 @@ impl Writer<'_> {
         match pattern {
             Pattern::Variable(number) | Pattern::Ranged(number, ..) => self.variable(*number),
             Pattern::Compound(id, arguments) => Pattern::Compound(*id, self.patterns(arguments)),
-            Pattern::Anything | Pattern::Symbol(_) | Pattern::Range(..) => pattern.clone(),
+            Pattern::Series(low, high) if low == high => Pattern::Symbol(*low),
+            Pattern::Anything | Pattern::Symbol(_) | Pattern::Series(..) | Pattern::Range(..) => {
+                pattern.clone()
+            }
         }
     }
 

@@ -41,7 +41,7 @@ pub fn wanted(piece: &Piece, place: u16, want: Want) -> Truth {
     };
     match (cell.term, want) {
         (TermRecord::Unknown, _) => NotKnown,
-        (TermRecord::Symbol(id), Want::Symbol(wanted)) => Truth::of(id == wanted),
+        (TermRecord::Symbol(id), Want::Symbols { low, high }) => Truth::of(low <= id && id <= high),
         (TermRecord::Number(n), Want::Range { low, high }) => inside((n, n), low, high),
         (TermRecord::Span { low: first, high: last }, Want::Range { low, high }) => {
             inside((first, last), low, high)

@@ -64,7 +64,7 @@ fn taken(cases: &[Case], term: TermRecord) -> Option<&Case> {
         return cases.iter().filter(contain).max_by_key(narrowest);
     }
     cases.iter().find(|case| match (case, term) {
-        (Case::Symbol { id, .. }, TermRecord::Symbol(other)) => *id == other,
+        (Case::Symbols { low, high, .. }, TermRecord::Symbol(id)) => *low <= id && id <= *high,
         (Case::Compound { id, arity, .. }, TermRecord::Compound { id: other, arity: many }) => {
             *id == other && *arity == many
         }

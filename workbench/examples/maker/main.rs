@@ -2,6 +2,8 @@
 //!
 //! `vt conform --program maker` finds no difference. `maker --wrong TRAP` is its wrong twin: see `wrong`.
 
+mod orders;
+mod series;
 mod wrong;
 
 use std::io::{stdin, BufRead};

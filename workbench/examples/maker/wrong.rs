@@ -5,6 +5,9 @@
 //! - `drop` drops a rule because its test is not known.
 //! - `coarse` takes a span of a piece for an unknown.
 //! - `first` takes the first case that contains a number or span, not the narrowest.
+//! - `single` takes a series for its first symbol.
+//! - `gaps` gives a case to ids that no rule accepts, too.
+//! - `kept` leaves a series of one symbol a series in a tidy sheet.
 //! - `lowest` asks the lowest test under every reading order.
 //! - `hurried` refuses by question 30 before it has asked 29 over the whole table.
 //! - `drift` puts places down by their positions alone, whether or not their parent is down.
@@ -18,18 +21,15 @@
 //! - `stale` gives each accepted piece the arity of the first.
 //! - `mute` says nothing at all, `chatter` says each reply twice, `half` knows no graphs.
 
-use super::{call as right, size, Said};
-use std::cmp::Reverse;
-use std::collections::{BTreeSet, BinaryHeap};
+use super::{call as right, orders, series, Said};
+use std::collections::BTreeSet;
 use std::sync::OnceLock;
 use voltunnis_tests::generate::trees::{piece_bytes, read_piece, SheetTree, Term};
 use voltunnis_tests::reference::nodes::{Case, Node};
 use voltunnis_tests::reference::piece::{Found, Piece};
-use voltunnis_tests::reference::places::{argument, child, depth, parent, DEEPEST, PLACES};
 use voltunnis_tests::reference::sheet::{Rule, Sheet};
 use voltunnis_tests::reference::truth::{ends, Truth};
-use voltunnis_tests::reference::{self, build, check_order, graph, plain, tidy, walk};
-use voltunnis_tests::results::Written;
+use voltunnis_tests::reference::{build, graph, plain, tidy, walk};
 
 type Result<T> = std::result::Result<T, u8>;
 
@@ -153,60 +153,45 @@ fn numbered(sheet: &[u8], buffer: &mut [u8]) -> Result<String> {
     Ok(bytes.len().to_string())
 }
 
-/// Question 30 asked of each place before 29 is asked of the next.
-fn hurried(order: &[u8]) -> Result<()> {
-    let asked = check_order(order);
-    let places: Vec<&[u8]> = order.chunks(2).collect();
-    let number = |at: usize| u16::from_be_bytes([places[at][0], places[at][1]]);
-    let good = |at: &usize| number(*at) < 680 && !places[..*at].contains(&places[*at]);
-    let late =
-        |at: usize| parent(number(at)).is_some_and(|above| !places[..at].contains(&&above.to_be_bytes()[..]));
-    match asked {
-        Err(29) if (0..places.len()).take_while(good).any(late) => Err(30),
-        asked => asked,
-    }
-}
-
-/// The table of these places where a list of positions is taken.
-fn laid(positions: &[u8], buffer: &mut [u8], places: impl Fn(&[u16]) -> Vec<u16>) -> Result<String> {
-    let Written { bytes } = reference::order(positions, buffer)?;
-    let wide: Vec<u16> = positions.chunks_exact(2).map(|two| u16::from_be_bytes([two[0], two[1]])).collect();
-    for (entry, place) in buffer.chunks_exact_mut(2).zip(places(&wide)) {
-        entry.copy_from_slice(&place.to_be_bytes());
-    }
-    Ok(bytes.to_string())
-}
-
-/// All places by position.
-fn drifted(positions: &[u16]) -> Vec<u16> {
-    let mut places: Vec<u16> = (0..PLACES).collect();
-    places.sort_by_key(|place| positions[usize::from(*place)]);
-    places
-}
-
-/// Of those that may come next always one with the smallest position, the highest of them.
-fn highest(positions: &[u16]) -> Vec<u16> {
-    let with_position = |place: u16| (Reverse(positions[usize::from(place)]), place);
-    let mut open: BinaryHeap<_> = (1..=8).map(argument).map(with_position).collect();
-    let mut down = Vec::new();
-    while let Some((_, place)) = open.pop() {
-        down.push(place);
-        let depth = depth(place);
-        if depth < DEEPEST {
-            open.extend((1..=4).map(|j| child(place, depth, j)).map(with_position));
-        }
-    }
-    down
-}
-
 /// The two fields of a reply, if it is accepted.
 fn fields(said: &Option<Said>) -> Option<[usize; 2]> {
     let (one, two) = said.as_ref()?.as_ref().ok()?.split_once(' ')?;
     Some([one.parse().ok()?, two.parse().ok()?])
 }
 
-/// The arity of the first accepted piece.
-static FIRST: OnceLock<String> = OnceLock::new();
+/// The results of many pieces, each in the place of the next.
+fn late(name: &str, arguments: &mut [Vec<u8>]) -> Option<Said> {
+    let result = right(name, arguments);
+    let written = fields(&result).map_or(0, |[results, _]| 16 * results);
+    arguments[3][..written].rotate_right(16.min(written));
+    result
+}
+
+/// The run over many pieces that takes all bytes where it could not read a piece.
+fn eager(name: &str, arguments: &mut [Vec<u8>]) -> Option<Said> {
+    let result = right(name, arguments);
+    let Some([results, bytes]) = fields(&result) else { return result };
+    let last = arguments[3][..16 * results].chunks(16).last().map_or(0, |last| last[0]);
+    let taken = if matches!(last, 12..=16 | 32) { arguments[2].len() } else { bytes };
+    Some(Ok(format!("{results} {taken}")))
+}
+
+/// The graph, and a zero after it.
+fn spill(name: &str, arguments: &mut [Vec<u8>]) -> Option<Said> {
+    let result = right(name, arguments);
+    let end = fields(&result).map(|[_, bytes]| bytes);
+    if let Some(byte) = end.and_then(|end| arguments[1].get_mut(end)) {
+        *byte = 0;
+    }
+    result
+}
+
+/// The arity of the first accepted piece, whichever is asked about.
+fn stale(name: &str, arguments: &mut [Vec<u8>]) -> Option<Said> {
+    static FIRST: OnceLock<String> = OnceLock::new();
+    let fresh = right(name, arguments)?;
+    Some(fresh.map(|arity| FIRST.get_or_init(|| arity).clone()))
+}
 
 /// A call with one mistake.
 pub fn call(trap: &str, name: &str, arguments: &mut [Vec<u8>]) -> Option<Said> {
@@ -216,49 +201,22 @@ pub fn call(trap: &str, name: &str, arguments: &mut [Vec<u8>]) -> Option<Said> {
         ("drop", "plain", [sheet, piece]) => Some(dropping(sheet, piece)),
         ("coarse", "plain" | "walk", _) => coarse(name, arguments),
         ("first", "walk", [sheet, graph, piece]) => Some(first_case(sheet, graph, piece)),
-        ("number", "tidy", [sheet, buffer]) => Some(numbered(sheet, buffer)),
-        ("lowest", "build_ordered", [sheet, order, buffer]) => {
-            let read = Sheet::read(sheet).and_then(|_| check_order(order));
-            let built = read.and_then(|()| reference::build(sheet, buffer));
-            Some(built.map(size))
-        }
-        ("hurried", "check_order", [order]) => Some(hurried(order).map(|()| String::new())),
-        ("drift", "order", [positions, buffer]) => Some(laid(positions, buffer, drifted)),
-        ("higher", "order", [positions, buffer]) => Some(laid(positions, buffer, highest)),
-        ("late", "walk_all", _) => {
-            let result = right(name, arguments);
-            let written = fields(&result).map_or(0, |[results, _]| 16 * results);
-            arguments[3][..written].rotate_right(16.min(written));
-            result
-        }
-        ("eager", "walk_all", _) => {
-            let result = right(name, arguments);
-            let Some([results, bytes]) = fields(&result) else { return result };
-            let last = arguments[3][..16 * results].chunks(16).last().map_or(0, |last| last[0]);
-            let taken = if matches!(last, 12..=16 | 32) { arguments[2].len() } else { bytes };
-            Some(Ok(format!("{results} {taken}")))
-        }
-        ("spill", "build", _) => {
-            let result = right(name, arguments);
-            let end = fields(&result).map(|[_, bytes]| bytes);
-            if let Some(byte) = end.and_then(|end| arguments[1].get_mut(end)) {
-                *byte = 0;
-            }
-            result
-        }
+        ("single" | "gaps" | "kept", ..) => series::call(trap, name, arguments),
+        ("lowest" | "hurried" | "drift" | "higher", ..) => orders::call(trap, name, arguments),
+        ("late", "walk_all", _) => late(name, arguments),
+        ("eager", "walk_all", _) => eager(name, arguments),
+        ("spill", "build", _) => spill(name, arguments),
         ("touch", "build", [_, buffer]) => {
             buffer.iter_mut().take(1).for_each(|byte| *byte = 0x12);
             right(name, arguments)
         }
+        ("number", "tidy", [sheet, buffer]) => Some(numbered(sheet, buffer)),
         ("panic", ..) => {
             let result = right(name, arguments);
             assert!(result != Some(Err(7)), "low is above high");
             result
         }
-        ("stale", "check_piece", _) => {
-            let fresh = right(name, arguments)?;
-            Some(fresh.map(|arity| FIRST.get_or_init(|| arity).clone()))
-        }
+        ("stale", "check_piece", _) => stale(name, arguments),
         ("mute", ..) => loop {
             std::thread::park();
         },

@@ -50,7 +50,7 @@ impl Spans<'_> {
                 .filter(|(at, _)| step.partly >> at & 1 == 1)
                 .filter_map(|(at, rule)| match rule.at(place)? {
                     Want::Numbers(low, high) => Some(format!("{low}..{high} (rule {})", at + 1)),
-                    Want::Symbol(_) | Want::Compound(..) => None,
+                    Want::Symbols(..) | Want::Compound(..) => None,
                 })
                 .collect();
             let asked = step.asks.words();

@@ -17,7 +17,7 @@ pub const COMMAND: Command = Command {
     about: "Two offices may write the same sheet with other variables. Tidy sheets are equal, byte for byte,\n\
             exactly when they have the same arity and, rule for rule, the same tests: variables are numbered by\n\
             first appearance, one that stands once is written as `_` or its range, a repeated one with its common\n\
-            range, if any, at each of its places.\n\n\
+            range, if any, at each of its places, and a series of one symbol as that symbol.\n\n\
             Prints the tidy sheet as text: with the sheet's names, without its comments. With -o it goes to a\n\
             file, as bytes if the file's name ends in .bin.",
     options: &[OUTPUT, BYTES, JSON],

@@ -1,7 +1,8 @@
-//! What a run of calls covered: calls, refusals, answer words, kinds of terms, nodes and cases, the largest graph.
+//! What a run of calls covered: calls, refusals, answer words, kinds of patterns, terms, nodes and cases, the largest
+//! graph.
 
 use super::replies::Reply;
-use crate::notation::count;
+use crate::notation::{count, Form, Pattern, Sheet};
 use std::collections::BTreeMap;
 use std::fmt;
 use voltunnis::{Refusal, Word};
@@ -16,12 +17,17 @@ pub struct Coverage {
     unknown: BTreeMap<Name, usize>,
     refusals: BTreeMap<Refusal, usize>,
     words: BTreeMap<Word, usize>,
+    patterns: [usize; PATTERNS.len()],
     terms: [usize; TERMS.len()],
     nodes: [usize; NODES.len()],
     cases: [usize; CASES.len()],
     /// The nodes and bytes of the largest graph.
     largest: Option<(usize, usize)>,
 }
+
+/// The kinds of patterns, in the order of their records.
+const PATTERNS: [&str; 7] =
+    ["anything", "symbol", "range", "compound", "variable", "ranged variable", "series"];
 
 /// The kinds of terms, in the order of their records.
 const TERMS: [&str; 5] = ["unknown", "symbol", "number", "compound", "span"];
@@ -30,7 +36,7 @@ const TERMS: [&str; 5] = ["unknown", "symbol", "number", "compound", "span"];
 const NODES: [&str; 5] = ["fail", "suspend", "execute", "switch", "pair"];
 
 /// The kinds of cases, in the order of their records.
-const CASES: [&str; 3] = ["symbol", "compound", "numbers"];
+const CASES: [&str; 3] = ["symbols", "compound", "numbers"];
 
 /// The question of a window's calls, which are not in the stream.
 const WINDOW: u8 = 36;
@@ -52,6 +58,9 @@ impl Coverage {
         if let Some(word) = reply.word {
             *self.words.entry(word).or_default() += 1;
         }
+        if let Some(sheet) = call.argument(Role::Sheet).and_then(|bytes| Sheet::read(bytes).ok()) {
+            sheet.rules.iter().for_each(|rule| self.add_patterns(&rule.patterns));
+        }
         if let Some((terms, _)) = call.argument(Role::Piece).and_then(read_piece) {
             self.add_terms(&terms);
         }
@@ -69,6 +78,21 @@ impl Coverage {
     /// Counts a call that the program doesn't know.
     pub fn add_unknown(&mut self, call: &Call) {
         *self.unknown.entry(call.name()).or_default() += 1;
+    }
+
+    fn add_patterns(&mut self, patterns: &[Pattern]) {
+        for pattern in patterns {
+            self.patterns[match pattern.form {
+                Form::Anything => 0,
+                Form::Symbol(_) => 1,
+                Form::Range(..) => 2,
+                Form::Compound(..) => 3,
+                Form::Variable(_) => 4,
+                Form::Ranged(..) => 5,
+                Form::Series(..) => 6,
+            }] += 1;
+            self.add_patterns(pattern.arguments());
+        }
     }
 
     fn add_terms(&mut self, terms: &[Term]) {
@@ -94,7 +118,7 @@ impl Coverage {
             Node::Switch { cases, .. } => {
                 for case in cases {
                     self.cases[match case {
-                        Case::Symbol { .. } => 0,
+                        Case::Symbols { .. } => 0,
                         Case::Compound { .. } => 1,
                         Case::Numbers { .. } => 2,
                     }] += 1;
@@ -122,7 +146,7 @@ impl Coverage {
     }
 
     /// All that is counted.
-    pub fn sections(&self) -> [Section; 7] {
+    pub fn sections(&self) -> [Section; 8] {
         let of = |counts: &BTreeMap<Name, usize>| {
             Name::ALL.map(|name| (name.text().to_string(), counts.get(&name).copied().unwrap_or(0))).to_vec()
         };
@@ -139,6 +163,7 @@ impl Coverage {
             Section { title: "unknown", counts: of(&self.unknown) },
             Section { title: "answers", counts: words.to_vec() },
             Section { title: "refusals", counts: refusals.collect() },
+            Section { title: "patterns", counts: named(&PATTERNS, &self.patterns) },
             Section { title: "terms", counts: named(&TERMS, &self.terms) },
             Section { title: "nodes", counts: named(&NODES, &self.nodes) },
             Section { title: "cases", counts: named(&CASES, &self.cases) },

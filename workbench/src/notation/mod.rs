@@ -41,9 +41,9 @@ pub use tree::{Case, Form, Graph, Kind, Node, Pattern, Piece, Rule, Sheet, Term,
 /// ```
 /// use voltunnis_workbench::notation::print_sheet;
 ///
-/// let bytes = [0x10, 2, 2, 0x24, 0, 0x24, 0, 0x21, 0, 1, 0x22, 0, 5, 0, 9];
-/// assert_eq!(print_sheet(&bytes).unwrap(), "sheet 2\n1: (X, X)\n2: (#1, 5..9)\n");
-/// assert_eq!(print_sheet(&[0x10, 1, 1, 0x26]).unwrap_err().at, 3);
+/// let bytes = [0x10, 2, 2, 0x24, 0, 0x24, 0, 0x26, 0, 1, 0, 3, 0x22, 0, 5, 0, 9];
+/// assert_eq!(print_sheet(&bytes).unwrap(), "sheet 2\n1: (X, X)\n2: (#1..#3, 5..9)\n");
+/// assert_eq!(print_sheet(&[0x10, 1, 1, 0x27]).unwrap_err().at, 3);
 /// ```
 pub fn print_sheet(bytes: &[u8]) -> Result<String, Unread> {
     Sheet::read(bytes).map(|sheet| sheet.print(&Names::default()))

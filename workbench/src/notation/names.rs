@@ -43,6 +43,11 @@ impl Names {
             .map_or_else(|| format!("#{id}"), |known| known.name.clone())
     }
 
+    /// A series as it is printed: both its ends, also where they are one id.
+    pub fn series(&self, low: u16, high: u16) -> String {
+        format!("{}..{}", self.show(low), self.show(high))
+    }
+
     /// The lines that declare the names by which these ids are printed.
     pub fn declarations(&self, mut ids: Vec<u16>) -> String {
         ids.sort_unstable();

@@ -2,7 +2,7 @@
 
 use super::names::Names;
 use super::parse_place::place;
-use super::parse_sheet::range;
+use super::parse_sheet::{range, series_end};
 use super::parser::Parser;
 use super::print_graph::count;
 use super::span::{Fault, Span};
@@ -14,11 +14,11 @@ use super::tree::{Case, Graph, Kind, Node};
 /// ```
 /// use voltunnis_workbench::notation::{parse_graph, Names};
 ///
-/// let text = "graph 1, 1 rule, 3 nodes\n0: argument 1\n  #17 -> 1\n  neither -> 2\n  unknown -> 1\n\
+/// let text = "graph 1, 1 rule, 3 nodes\n0: argument 1\n  #17..#19 -> 1\n  neither -> 2\n  unknown -> 1\n\
 ///             1: execute 1\n2: fail\n";
 /// let graph = parse_graph(text, &Names::default()).unwrap();
 /// assert_eq!(graph.bytes(), [
-///     0x12, 1, 1, 0, 3, 0x43, 0, 0, 0, 1, 0, 2, 0, 1, 0x44, 0, 17, 0, 1, 0x42, 1, 0x40,
+///     0x12, 1, 1, 0, 3, 0x43, 0, 0, 0, 1, 0, 2, 0, 1, 0x44, 0, 17, 0, 19, 0, 1, 0x42, 1, 0x40,
 /// ]);
 /// ```
 pub fn parse_graph(text: &str, names: &Names) -> Result<Graph, Fault> {
@@ -140,9 +140,12 @@ fn cases(parser: &mut Parser, switch: Span) -> Result<Vec<(Case, u16)>, Fault> {
             }
             _ => {
                 let id = parser.id("a case or the edge `neither`")?;
-                match parser.accept("/") {
-                    true => Case::Compound(id, parser.byte("the number of a compound's arguments")?),
-                    false => Case::Symbol(id),
+                if parser.accept("/") {
+                    Case::Compound(id, parser.byte("the number of a compound's arguments")?)
+                } else if parser.accept("..") {
+                    Case::Symbols(id, series_end(parser)?)
+                } else {
+                    Case::Symbols(id, id)
                 }
             }
         };

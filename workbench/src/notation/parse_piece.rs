@@ -81,6 +81,22 @@ fn number(parser: &mut Parser) -> Result<What, Fault> {
     }
 }
 
+/// A term that begins with an id: a symbol, or a compound and its arguments.
+fn by_id(parser: &mut Parser, depth: usize) -> Result<What, Fault> {
+    let id = parser.id("a term")?;
+    match parser.peek() {
+        Token::Mark("(") => {
+            let arguments = parser.list(depth + 1, |parser| term(parser, depth + 1))?;
+            Ok(What::Compound(id, arguments))
+        }
+        Token::Mark("..") => {
+            let help = "a series of symbols stands in a sheet; in a piece a symbol not known yet is `?`";
+            Err(parser.expected("`,` or `)`").help(help))
+        }
+        _ => Ok(What::Symbol(id)),
+    }
+}
+
 /// One term.
 fn term(parser: &mut Parser, depth: usize) -> Result<Term, Fault> {
     let start = parser.span();
@@ -90,15 +106,7 @@ fn term(parser: &mut Parser, depth: usize) -> Result<Term, Fault> {
             What::Unknown
         }
         Token::Number(_) => number(parser)?,
-        Token::Id(_) | Token::Word(_) => {
-            let id = parser.id("a term")?;
-            match parser.peek() {
-                Token::Mark("(") => {
-                    What::Compound(id, parser.list(depth + 1, |parser| term(parser, depth + 1))?)
-                }
-                _ => What::Symbol(id),
-            }
-        }
+        Token::Id(_) | Token::Word(_) => by_id(parser, depth)?,
         Token::Mark("_") | Token::Variable(_) => {
             let fault = parser.expected("a term: `?`, a name, a number or a span");
             return Err(fault.help("`_` and variables stand in sheets; in a piece `?` is an unknown reading"));

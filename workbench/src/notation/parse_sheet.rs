@@ -18,10 +18,10 @@ pub struct SheetText {
 /// ```
 /// use voltunnis_workbench::notation::parse_sheet;
 ///
-/// let text = "sheet 2\nname silver = 17\n1: (silver, 180..190)\n2: (X, X)\n";
+/// let text = "sheet 2\nname silver = 17\n1: (silver, 180..190)\n2: (X, X)\n3: (silver..#99, _)\n";
 /// let written = parse_sheet(text).unwrap();
 /// assert_eq!(written.sheet.bytes(), [
-///     0x10, 2, 2, 0x21, 0, 17, 0x22, 0, 180, 0, 190, 0x24, 0, 0x24, 0,
+///     0x10, 2, 3, 0x21, 0, 17, 0x22, 0, 180, 0, 190, 0x24, 0, 0x24, 0, 0x26, 0, 17, 0, 99, 0x20,
 /// ]);
 ///
 /// let fault = parse_sheet("sheet 1\n1: (190...200)\n").unwrap_err();
@@ -143,23 +143,33 @@ fn pattern(parser: &mut Parser, variables: &Variables, depth: usize) -> Result<P
                 false => Form::Variable(number),
             }
         }
-        Token::Id(_) | Token::Word(_) => {
-            let id = parser.id("a pattern")?;
-            match parser.peek() {
-                Token::Mark("(") => Form::Compound(
-                    id,
-                    parser.list(depth + 1, |parser| pattern(parser, variables, depth + 1))?,
-                ),
-                _ => Form::Symbol(id),
-            }
-        }
+        Token::Id(_) | Token::Word(_) => by_id(parser, variables, depth)?,
         Token::Mark("?") => {
             let fault = parser.expected("a pattern");
             return Err(fault.help("`?` is an unknown reading of a piece; in a sheet `_` is anything"));
         }
-        _ => return Err(parser.expected("a pattern: `_`, a name, a number, a range or a variable")),
+        _ => return Err(parser.expected("a pattern: `_`, a name, a series, a number, a range or a variable")),
     };
     Ok(Pattern { at: start.to(parser.last()), form })
+}
+
+/// A pattern that begins with an id: a symbol, a series of symbols, or a compound and its arguments.
+fn by_id(parser: &mut Parser, variables: &Variables, depth: usize) -> Result<Form, Fault> {
+    let id = parser.id("a pattern")?;
+    if *parser.peek() == Token::Mark("(") {
+        let arguments = parser.list(depth + 1, |parser| pattern(parser, variables, depth + 1))?;
+        return Ok(Form::Compound(id, arguments));
+    }
+    if !parser.accept("..") {
+        return Ok(Form::Symbol(id));
+    }
+    let high = series_end(parser)?;
+    match parser.peek() {
+        Token::Mark("(") => {
+            Err(parser.expected("`,` or `)`").help("a series is of symbols; a compound has one id"))
+        }
+        _ => Ok(Form::Series(id, high)),
+    }
 }
 
 /// The range of a pattern, which no `?` follows.
@@ -177,6 +187,26 @@ fn pattern_range(parser: &mut Parser) -> Result<(u16, u16), Fault> {
 /// A range: `low..high`, or one number.
 pub fn range(parser: &mut Parser) -> Result<(u16, u16), Fault> {
     let low = parser.number("a number or a range such as `180..190`")?;
-    let high = if parser.accept("..") { parser.number("the end of the range")? } else { low };
-    Ok((low, high))
+    if !parser.accept("..") {
+        return Ok((low, low));
+    }
+    match parser.peek() {
+        Token::Id(_) | Token::Word(_) => {
+            let help =
+                format!("a range ends with a number; a series of symbols begins with an id, as `#{low}`");
+            Err(parser.expected("the end of the range").help(help))
+        }
+        _ => parser.number("the end of the range").map(|high| (low, high)),
+    }
+}
+
+/// The end of a series, after its `..`: the last of its ids.
+pub fn series_end(parser: &mut Parser) -> Result<u16, Fault> {
+    match parser.peek() {
+        Token::Number(number) => {
+            let help = format!("a series ends with an id, as `#{number}`");
+            Err(parser.expected("the end of the series").help(help))
+        }
+        _ => parser.id("the end of the series"),
+    }
 }

@@ -56,6 +56,7 @@ fn pattern(pattern: &Pattern, names: &Names, letters: &Letters) -> String {
     match &pattern.form {
         Form::Anything => "_".into(),
         Form::Symbol(id) => names.show(*id),
+        Form::Series(low, high) => names.series(*low, *high),
         Form::Range(low, high) => range(*low, *high),
         Form::Compound(id, arguments) => {
             names.show(*id) + &list(arguments.iter().map(|argument| self::pattern(argument, names, letters)))
@@ -70,6 +71,7 @@ fn ids(patterns: &[Pattern], to: &mut Vec<u16>) {
     for pattern in patterns {
         match &pattern.form {
             Form::Symbol(id) => to.push(*id),
+            Form::Series(low, high) => to.extend([low, high]),
             Form::Compound(id, arguments) => {
                 to.push(*id);
                 ids(arguments, to);

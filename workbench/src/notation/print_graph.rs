@@ -14,10 +14,11 @@ pub fn count(number: usize, one: &str) -> String {
 }
 
 impl Case {
-    /// The case as text, by these names: a symbol, a compound with its arity, or numbers.
+    /// The case as text, by these names: a run of ids, a compound with its arity, or numbers.
     pub fn print(&self, names: &Names) -> String {
         match self {
-            Case::Symbol(id) => id_of_case(*id, names),
+            Case::Symbols(low, high) if low == high => id_of_case(*low, names),
+            Case::Symbols(low, high) => format!("{}..{}", id_of_case(*low, names), id_of_case(*high, names)),
             Case::Compound(id, arity) => format!("{}/{arity}", id_of_case(*id, names)),
             Case::Numbers(low, high) => range(*low, *high),
         }
@@ -75,9 +76,10 @@ impl Graph {
         let mut ids = Vec::new();
         for node in &self.nodes {
             if let Kind::Switch { cases, .. } = &node.kind {
-                ids.extend(cases.iter().filter_map(|(case, _)| match case {
-                    Case::Symbol(id) | Case::Compound(id, _) => Some(*id),
-                    Case::Numbers(..) => None,
+                ids.extend(cases.iter().flat_map(|(case, _)| match case {
+                    Case::Symbols(low, high) => vec![*low, *high],
+                    Case::Compound(id, _) => vec![*id],
+                    Case::Numbers(..) => Vec::new(),
                 }));
             }
         }

@@ -86,13 +86,14 @@ impl<'a> Reader<'a> {
             0x23 => return Some((Form::Compound(self.wide()?, Vec::new()), self.byte()?)),
             0x24 => Form::Variable(self.byte()?),
             0x25 => Form::Ranged(self.byte()?, self.wide()?, self.wide()?),
+            0x26 => Form::Series(self.wide()?, self.wide()?),
             _ => return None,
         };
         Some((form, 0))
     }
 
     fn pattern(&mut self, depth: usize) -> Result<Pattern, Unread> {
-        let ((mut form, arity), at) = self.record("a whole record of kinds 20 to 25", Reader::form)?;
+        let ((mut form, arity), at) = self.record("a whole record of kinds 20 to 26", Reader::form)?;
         if let Form::Compound(_, arguments) = &mut form {
             self.shallow(depth, at)?;
             for _ in 0..arity {
@@ -141,7 +142,7 @@ impl<'a> Reader<'a> {
 
     fn case(&mut self) -> Option<(Case, u16)> {
         let case = match self.byte()? {
-            0x44 => Case::Symbol(self.wide()?),
+            0x44 => Case::Symbols(self.wide()?, self.wide()?),
             0x45 => Case::Compound(self.wide()?, self.byte()?),
             0x46 => Case::Numbers(self.wide()?, self.wide()?),
             _ => return None,

@@ -30,6 +30,8 @@ pub struct Pattern {
 pub enum Form {
     Anything,
     Symbol(u16),
+    /// Every symbol with an id from low to high.
+    Series(u16, u16),
     Range(u16, u16),
     Compound(u16, Vec<Pattern>),
     Variable(u8),
@@ -102,7 +104,8 @@ pub enum Kind {
 /// What a case of a switch takes.
 #[derive(Clone, Copy, Debug, PartialEq, Eq)]
 pub enum Case {
-    Symbol(u16),
+    /// A run of ids, from low to high.
+    Symbols(u16, u16),
     Compound(u16, u8),
     Numbers(u16, u16),
 }

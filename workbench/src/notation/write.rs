@@ -16,6 +16,11 @@ impl Pattern {
                 to.push(0x21);
                 wide(to, *id);
             }
+            Form::Series(low, high) => {
+                to.push(0x26);
+                wide(to, *low);
+                wide(to, *high);
+            }
             Form::Range(low, high) => {
                 to.push(0x22);
                 wide(to, *low);
@@ -141,9 +146,10 @@ impl Kind {
 
 fn write_case(to: &mut Vec<u8>, case: Case, node: u16) {
     match case {
-        Case::Symbol(id) => {
+        Case::Symbols(low, high) => {
             to.push(0x44);
-            wide(to, id);
+            wide(to, low);
+            wide(to, high);
         }
         Case::Compound(id, arity) => {
             to.push(0x45);

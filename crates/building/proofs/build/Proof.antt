@@ -1,5 +1,4 @@
 -- The sheet's questions, then its graph.
-use Prim.Native.Nat.{ℕ}
 use mathlib.Core.Path.{refl, _∙_}
 use native.Mathlib.Omega.{arith}
 use Rattle.records.proofs.Parts.{rest}

@@ -51,18 +51,18 @@ abbrev pub unknownRun : ℕ
 unknownRun = runOf (symbolCode 0) highestCode
 
 abbrev pub wantLow : Want → ℕ
-wantLow (aSymbol a) = symbolCode a
+wantLow (aSymbol l h) = symbolCode l
 wantLow (aNumber l h) = numberCode l
 wantLow (aCompound a n) = compoundCode a n
 
 abbrev pub wantHigh : Want → ℕ
-wantHigh (aSymbol a) = symbolCode a
+wantHigh (aSymbol l h) = symbolCode h
 wantHigh (aNumber l h) = numberCode h
 wantHigh (aCompound a n) = compoundCode a n
 
 -- What a rule of an accepted sheet can want: "Is its arity 1 to 4?", "Is low at most high?", and fields are wide, so that no two
 -- sorts share a code.
 abbrev pub SoundWant : Want → Type 0
-SoundWant (aSymbol a) = Wide a
+SoundWant (aSymbol l h) = (l ≤ h) × Wide h
 SoundWant (aNumber l h) = (l ≤ h) × Wide h
 SoundWant (aCompound a n) = Wide a × (n ≤ 4)

@@ -20,19 +20,19 @@ add-result c = search needs
 mul-result : tie.Need-mul-result
 mul-result c =
     let a = c .before .args in
-    omega (arith, few (a .framed .count - a .framed .points) (omega arith))
+    omega (arith, few (a .framed .count - a .framed .names) (omega arith))
 
 add-result-2 : tie.Need-add-result-2
 add-result-2 c =
     let a = c .before .before .args in
-    omega (arith, few (a .framed .count - a .framed .points) (omega arith))
+    omega (arith, few (a .framed .count - a .framed .names) (omega arith))
 
 returns : tie.Need-returns
 returns c =
     let a = c .before .before .args in
-    let n = a .framed .count - a .framed .points in
+    let n = a .framed .count - a .framed .names in
     let next : n * suc n ≡ n * (n + 1) = ap (λ (m : ℕ). n * m) (let e : suc n ≡ n + 1 = omega arith in e) in
-    λ runs. omega (arith, cases-counted runs (a .framed .count) (a .framed .points) (omega arith), next)
+    λ runs. omega (arith, cases-counted runs (a .framed .count) (a .framed .names) (omega arith), next)
 
 pub case-count-spec : {M : Type 1} → statement M
 case-count-spec = tie.close (tie.spec sub-n add-result mul-result add-result-2 returns)

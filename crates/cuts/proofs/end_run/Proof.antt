@@ -4,7 +4,7 @@ use mathlib.Core.Path.{ap, _∙_}
 use native.Mathlib.Omega.{arith}
 use denote.Ref.{now}
 use Rattle.cuts.specs.views.Runs.{Run, withRun}
-use Rattle.cuts.proofs.FramedPass.{gap-none, gap-some, wanted-some, ended-none, ended-one, point-one, point-none}
+use Rattle.cuts.proofs.FramedPass.{gap-none, gap-some, wanted-some, ended-none, ended-one, name-one, name-none}
 use borrow.Author.Needs.{needs}
 use Rattle.cuts.proofs.end_run.Statement.{statement}
 use Rattle.cuts.proofs.end_run.Tie as tie
@@ -17,7 +17,7 @@ returns c =
     let start = c .before .before .before in
     let a = start .args in
     let low = c .before .higher .ensures in
-    ended-none (a .base) (a .start) (a .next) (a .set) (now (a .runs)) (a .done .count) (a .done .points) (start .pre .0)
+    ended-none (a .base) (a .start) (a .next) (a .set) (now (a .runs)) (a .done .count) (a .done .names) (start .pre .0)
     (gap-none (a .base) (a .start) (a .next) (a .set) (c .before .before .if1 .taken) (omega (arith, c .if2 .taken)))
 
 sub-put-run : tie.Need-sub-put-run
@@ -36,9 +36,9 @@ returns-2 c =
     let low = c .before .before .before .higher .ensures in
     let above : max (a .start) (a .base) < a .next = omega (arith, c .before .before .if2 .left) in
     let run : Run = record { low = max (a .start) (a .base); high = a .next - 1; set = 0 } in
-    let none = point-none (a .base) run (omega arith) in
-    ended-one (a .base) (a .start) (a .next) (a .set) (now (a .runs)) (a .done .count) (a .done .points) (start .pre .0)
-    (a .done .points) run _
+    let none = name-none (a .base) run (omega arith) in
+    ended-one (a .base) (a .start) (a .next) (a .set) (now (a .runs)) (a .done .count) (a .done .names) (start .pre .0)
+    (a .done .names) run _
     (gap-some (a .base) (a .start) (a .next) (a .set) (c .before .before .before .before .if1 .taken) above) (start .pre .1)
     (c .put-run .ensures
     ∙ ap (λ (l : ℕ). withRun (now (a .runs)) (a .done .count) (record { low = l; high = a .next - 1; set = 0 })) low)
@@ -61,9 +61,9 @@ returns-3 c =
     let start = c .before .before .before .before in
     let a = start .args in
     let run : Run = record { low = a .start; high = a .next - 1; set = a .set } in
-    let point = point-one (a .base) run (c .if3 .taken) in
-    ended-one (a .base) (a .start) (a .next) (a .set) (now (a .runs)) (a .done .count) (a .done .points) (start .pre .0)
-    (a .done .points + 1) run _ (wanted-some (a .base) (a .start) (a .next) (a .set) (c .before .before .before .if1 .left)) (start .pre .1)
+    let name = name-one (a .base) run (c .if3 .taken) in
+    ended-one (a .base) (a .start) (a .next) (a .set) (now (a .runs)) (a .done .count) (a .done .names) (start .pre .0)
+    (a .done .names + 1) run _ (wanted-some (a .base) (a .start) (a .next) (a .set) (c .before .before .before .if1 .left)) (start .pre .1)
     (c .before .put-run2 .ensures) (omega arith)
 
 add-t21 : tie.Need-add-t21
@@ -74,9 +74,9 @@ returns-4 c =
     let start = c .before .before .before .before in
     let a = start .args in
     let run : Run = record { low = a .start; high = a .next - 1; set = a .set } in
-    let point = point-none (a .base) run (c .if3 .left) in
-    ended-one (a .base) (a .start) (a .next) (a .set) (now (a .runs)) (a .done .count) (a .done .points) (start .pre .0)
-    (a .done .points) run _ (wanted-some (a .base) (a .start) (a .next) (a .set) (c .before .before .before .if1 .left)) (start .pre .1)
+    let name = name-none (a .base) run (c .if3 .left) in
+    ended-one (a .base) (a .start) (a .next) (a .set) (now (a .runs)) (a .done .count) (a .done .names) (start .pre .0)
+    (a .done .names) run _ (wanted-some (a .base) (a .start) (a .next) (a .set) (c .before .before .before .if1 .left)) (start .pre .1)
     (c .before .put-run2 .ensures) (omega arith)
 
 pub end-run-spec : {M : Type 1} → statement M

@@ -9,8 +9,8 @@ use lib.ListN.{length}
 use Rattle.basics.specs.Lists.{countFrom}
 use Rattle.cuts.specs.views.Cuts.{countAt, cutAt, cutsIn}
 use Rattle.cuts.specs.views.Runs.{runsIn}
-use Rattle.cuts.specs.views.FramedRuns.{framedRun, framedFrom, pointRuns}
-use Rattle.cuts.proofs.FramedPass.{framedWith, points-few, points-more, cut-passed, cut-ended, cut-done, cut-last}
+use Rattle.cuts.specs.views.FramedRuns.{framedRun, framedFrom, nameRuns}
+use Rattle.cuts.proofs.FramedPass.{framedWith, names-few, names-more, cut-passed, cut-ended, cut-done, cut-last}
 use borrow.Author.Needs.{needs}
 use Rattle.cuts.proofs.frame_switch.Statement.{statement}
 use Rattle.cuts.proofs.frame_switch.Tie as tie
@@ -19,7 +19,7 @@ abbrev Inv-loop : tie.InvT-loop
 Inv-loop c from live base runs₀ count framed₀ start₀ set₀ k₀ runs framed start set k =
     (k ≤ count)
     × (framed .count ≤ k)
-    × (framed .points ≡ length (pointRuns base (runsIn runs (framed .count))))
+    × (framed .names ≡ length (nameRuns base (runsIn runs (framed .count))))
     × (length runs ≡ 390)
     × (framedWith c from count base 0x301_0000 live runs (framed .count) start set k
     ≡ framedFrom base 0x301_0000 live 0 0 (cutsIn c from))
@@ -83,7 +83,7 @@ end-run-requires c κs =
     let loop = c .before .before .before .before .before in
     let start = loop .before .before .before .before in
     let at = loop .loop in
-    let few = points-few (start .args .base) (at .runs) (at .framed .count) in
+    let few = names-few (start .args .base) (at .runs) (at .framed .count) in
     (at .inv .3, omega arith, omega arith, start .pre .1 (at .k) (omega arith))
 
 add-k : tie.Need-add-k Inv-loop μ-loop
@@ -113,7 +113,7 @@ loop-again c =
     rw (w .4, w .5, w .6, w .7) (
       omega arith,
       omega (arith, inv .1, end .2),
-      points-more (a .base) (at .framed .points) (result .points) (runsIn (at .runs) (at .framed .count))
+      names-more (a .base) (at .framed .names) (result .names) (runsIn (at .runs) (at .framed .count))
           (runsIn after (result .count)) (framedRun (a .base) (at .start) code (at .set) []) (inv .2) (end .1) (end .0),
       end .3,
       sym (ended after (result .count) more (w .0 .taken) (end .0)) ∙ inv .4,
@@ -136,7 +136,7 @@ end-run-requires-2 : tie.Need-end-run-requires-2 Inv-loop μ-loop
 end-run-requires-2 c κs =
     let loop = c .before .before .before in
     let at = loop .loop in
-    let few = points-few (loop .before .before .before .before .args .base) (at .runs) (at .framed .count) in
+    let few = names-few (loop .before .before .before .before .args .base) (at .runs) (at .framed .count) in
     (at .inv .3, omega arith, omega arith, omega arith)
 
 returns-2 : tie.Need-returns-2 Inv-loop μ-loop
@@ -150,7 +150,7 @@ returns-2 c =
     cut-last (now (a .c)) (a .from) count (a .base) 0x301_0000 (a .live) (at .runs) (at .framed .count) (at .start) (at .set)
     (at .k) (c .end-run2 .last .0) (c .end-run2 .result .count) (omega arith) (c .before .before .if2 .left) (end .0) in (
       sym last ∙ at .inv .4,
-      points-more (a .base) (at .framed .points) (c .end-run2 .result .points) (runsIn (at .runs) (at .framed .count))
+      names-more (a .base) (at .framed .names) (c .end-run2 .result .names) (runsIn (at .runs) (at .framed .count))
           (runsIn (c .end-run2 .last .0) (c .end-run2 .result .count)) (framedRun (a .base) (at .start) 0x301_0000 0 [])
           (at .inv .2) (end .1) (end .0),
       omega (arith, end .2),

@@ -1,6 +1,6 @@
--- The cases that the runs of a switch make (document 02, request 4): first those that are cases by themselves, as symbols and
--- compounds are, then of the others "one case for each pair of first and last run, ordered so, with low and high their ends". It
--- has the rules of all runs from its first to its last.
+-- The cases that the runs of a switch make (document 02, requests 4 and 5): first those that are cases by themselves, as runs of
+-- ids and compounds are, then of the others "one case for each pair of first and last run, ordered so, with low and high their
+-- ends". It has the rules of all runs from its first to its last.
 use Prim.Native.Nat.{ℕ, _-_}
 use mathlib.Core.List.{List, [], _∷_, _++_, map}
 use lib.Bits.{bitOr}
@@ -8,7 +8,7 @@ use lib.ListN.{length, take, drop}
 use Rattle.basics.specs.Lists.{countFrom}
 use Rattle.cuts.specs.views.Cuts.{Cut}
 use Rattle.cuts.specs.views.Runs.{Run, runAt}
-use Rattle.cuts.specs.views.FramedRuns.{framedRuns, pointRuns}
+use Rattle.cuts.specs.views.FramedRuns.{framedRuns, nameRuns}
 
 -- The pairs of a first run that begins at `low` with each run of a list, where `union` is the union of the sets before them.
 abbrev pub unionRow : ℕ → ℕ → List Run → List Run
@@ -23,11 +23,11 @@ unionPairs (r ∷ rs) = unionRow (r .low) 0 (r ∷ rs) ++ unionPairs rs
 
 -- The cases of runs of which the first so many are cases by themselves.
 abbrev pub caseRuns : ℕ → List Run → List Run
-caseRuns points rs = take points rs ++ unionPairs (drop points rs)
+caseRuns names rs = take names rs ++ unionPairs (drop names rs)
 
 -- The cases of the switch with these cuts, where these rules are live: runs below the numbers are cases by themselves.
 abbrev pub switchRuns : ℕ → List Cut → List Run
-switchRuns live cuts = let rs = framedRuns live cuts in caseRuns (length (pointRuns 0x300_0000 rs)) rs
+switchRuns live cuts = let rs = framedRuns live cuts in caseRuns (length (nameRuns 0x300_0000 rs)) rs
 
 -- The runs in an array from the k-th on, of so many, and the pairs with the k-th as first.
 abbrev pub runsFrom : List ℕ → ℕ → ℕ → List Run

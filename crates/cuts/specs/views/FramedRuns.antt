@@ -33,8 +33,8 @@ abbrev pub framedRuns : ℕ → List Cut → List Run
 framedRuns live cuts = framedFrom 0x300_0000 0x301_0000 live 0 0 cuts
 
 -- The runs that begin below `base`, as symbols and compounds do.
-abbrev pub isPoint : ℕ → Run → Bool
-isPoint base r = ltb (r .low) base
+abbrev pub isNameRun : ℕ → Run → Bool
+isNameRun base r = ltb (r .low) base
 
-abbrev pub pointRuns : ℕ → List Run → List Run
-pointRuns base rs = filter (isPoint base) rs
+abbrev pub nameRuns : ℕ → List Run → List Run
+nameRuns base rs = filter (isNameRun base) rs

@@ -12,7 +12,7 @@ use Rattle.basics.specs.Lists.{Mem, All}
 use Rattle.basics.proofs.ListLaws.{all-at, all-from, mem-none}
 use Rattle.basics.proofs.Booleans.{both-true, same-truth}
 use Rattle.basics.proofs.Filters.{mem-right, mem-map}
-use Rattle.basics.proofs.Numbers.{eqb-swap}
+use Rattle.basics.proofs.Numbers.{eqb-swap, both-le}
 use Rattle.terms.specs.Term.{Term, Terms, count, unknown, symbol, numbers, compound}
 use Rattle.terms.specs.RuleTests.{Want, aSymbol, aNumber, aCompound, Range}
 use Rattle.terms.specs.Lookup.{found}
@@ -25,38 +25,28 @@ use Rattle.terms.proofs.KnownTests.{holds-true}
 use Rattle.terms.proofs.Spans.{range-open-at}
 use Rattle.codes.specs.views.Codes.{SoundWant}
 use Rattle.decision.specs.Runs.{numberPairs}
-use Rattle.decision.specs.Cases.{Case, symbolCase, compoundCase, numbersCase, takes, isWanted, rangesOf, numbersIn}
-use Rattle.decision.specs.Cases.{numberCases, casesOf}
+use Rattle.decision.specs.Cases.{Case, symbolsCase, compoundCase, numbersCase, takes, isWanted}
+use Rattle.decision.specs.Cases.{seriesOf, rangesOf, numbersIn, numberCases, casesOf}
 use Rattle.decision.specs.Node.{follow}
 use Rattle.decision.specs.Edges.{caseKeeps, gatherWants}
 use Rattle.decision.proofs.Truth.{known-contradicted, open-known, open-is}
+use Rattle.decision.proofs.cases.RangeRuns.{meets, meets-contains, run-between, in-run}
 use Rattle.decision.proofs.cases.FramedRuns.{InFrame}
-use Rattle.decision.proofs.cases.WantedRanges.{range-wanted, wanted-range}
-use Rattle.decision.proofs.cases.CaseList.{nameCases, names-all, symbol-listed, compound-listed}
+use Rattle.decision.proofs.cases.WantedRanges.{wanted-series, range-wanted, wanted-range}
+use Rattle.decision.proofs.cases.CaseList.{nameCases, names-all, symbols-listed, compound-listed, listed}
 use Rattle.decision.proofs.cases.SwitchEdges.{edgesTo, follow-case, follow-past, KeepsOpen, TakesOpen, takes-keeps}
 use Rattle.decision.proofs.cases.NumberPairs.{Followed, span-followed, numbers-follow}
 
--- The case that takes a symbol is that symbol's, and keeps the wants that are open at it;
-symbol-taken : (c : Case) (b : ℕ) → T (takes c (symbol b)) → c ≡ symbolCase b
-symbol-taken (symbolCase a) b h = ap symbolCase (eqb→eq a b h)
-symbol-taken (compoundCase a n) b h = absurd h
-symbol-taken (numbersCase x y) b h = absurd h
-
-symbol-open : (b : ℕ) (w : Want) → isOpen (fits w (symbol b)) ≡ isWanted (symbolCase b) w
-symbol-open b (aSymbol a) = open-known (eqb a b) ∙ eqb-swap a b
-symbol-open b (aNumber l h) = refl
-symbol-open b (aCompound a n) = refl
-
--- so it is with compounds.
+-- The case that takes a compound is that compound's, and keeps the wants that are open at it.
 compound-taken : (c : Case) (b : ℕ) (ts : Terms) → T (takes c (compound b ts)) → c ≡ compoundCase b (count ts)
-compound-taken (symbolCase a) b ts h = absurd h
+compound-taken (symbolsCase x y) b ts h = absurd h
 compound-taken (compoundCase a n) b ts h =
     let s = both-true (eqb a b) (eqb n (count ts)) h in
     rw (eqb→eq a b (s .0), eqb→eq n (count ts) (s .1))
 compound-taken (numbersCase x y) b ts h = absurd h
 
 compound-open : (b : ℕ) (ts : Terms) (w : Want) → isOpen (fits w (compound b ts)) ≡ isWanted (compoundCase b (count ts)) w
-compound-open b ts (aSymbol a) = refl
+compound-open b ts (aSymbol l h) = refl
 compound-open b ts (aNumber l h) = refl
 compound-open b ts (aCompound a n) =
     open-known (eqb a b && eqb n (count ts)) ∙ (λ i. eqb-swap a b i && eqb-swap n (count ts) i)
@@ -71,17 +61,38 @@ range-open l h a b x o same =
     (λ t. open-is (inside l h a b) (range-open-at l h a b o .1 (same .0 t)))
 
 module _ (ws : List Want) where
+  -- The case that takes a symbol keeps the wants that are open at it.
+  symbol-open
+      : (c : Case) (b : ℕ) → Mem c (casesOf ws) → T (takes c (symbol b)) → (w : Want) → Mem w ws
+      → isOpen (fits w (symbol b)) ≡ isWanted c w
+  symbol-open (compoundCase a n) b m t w k = absurd t
+  symbol-open (numbersCase x y) b m t w k = absurd t
+  symbol-open (symbolsCase x y) b m t (aNumber l h) k = refl
+  symbol-open (symbolsCase x y) b m t (aCompound a n) k = refl
+  symbol-open (symbolsCase x y) b m t (aSymbol l h) k =
+      let r : Range = record { low = x; high = y } in
+      let own : Range = record { low = l; high = h } in
+      let same =
+      meets-contains (seriesOf ws) r own b (run-between (seriesOf ws) r (listed ws (symbolsCase x y) m)) (wanted-series k)
+      (both-le x b b y .0 t) in
+      open-known (leb l b && leb b h)
+      ∙ same-truth (leb l b && leb b h) (meets own r) (λ s. same .1 (both-le l b b h .0 s)) (λ s. both-le l b b h .1 (same .0 s))
+
   -- No case of a name takes a number or span.
   pub names-untaken : (a b : ℕ) → All (λ (c : Case). T (takes c (numbers a b)) → ⊥) (nameCases ws)
-  names-untaken a b = names-all ws (λ (c : Case). T (takes c (numbers a b)) → ⊥) (λ x m t. t) (λ x n m t. t)
+  names-untaken a b = names-all ws (λ (c : Case). T (takes c (numbers a b)) → ⊥) (λ r m t. t) (λ x n m t. t)
 
   -- Where no case takes a symbol, all wants are contradicted there,
   symbol-none
       : (b : ℕ) → All (λ (c : Case). T (takes c (symbol b)) → ⊥) (casesOf ws) → (w : Want) → Mem w ws
       → fits w (symbol b) ≡ contradicted
-  symbol-none b untaken (aSymbol a) m =
-      known-contradicted (eqb a b) (λ h.
-      all-at (λ (c : Case). T (takes c (symbol b)) → ⊥) (symbol-listed ws a m) untaken (holds-true (eqb a b) h))
+  symbol-none b untaken (aSymbol l h) m =
+      known-contradicted (leb l b && leb b h) (λ k.
+      let r =
+      in-run (seriesOf ws) (record { low = l; high = h }) b (wanted-series m)
+      (both-le l b b h .0 (holds-true (leb l b && leb b h) k)) in
+      all-at (λ (c : Case). T (takes c (symbol b)) → ⊥) (symbols-listed ws (r .0) (r .1)) untaken
+      (both-le (r .0 .low) b b (r .0 .high) .1 (r .2)))
   symbol-none b untaken (aNumber l h) m = refl
   symbol-none b untaken (aCompound a n) m = refl
 
@@ -89,7 +100,7 @@ module _ (ws : List Want) where
   compound-none
       : (b : ℕ) (ts : Terms) → All (λ (c : Case). T (takes c (compound b ts)) → ⊥) (casesOf ws) → (w : Want) → Mem w ws
       → fits w (compound b ts) ≡ contradicted
-  compound-none b ts untaken (aSymbol a) m = refl
+  compound-none b ts untaken (aSymbol l h) m = refl
   compound-none b ts untaken (aNumber l h) m = refl
   compound-none b ts untaken (aCompound a n) m =
       known-contradicted (eqb a b && eqb n (count ts)) (λ h.
@@ -124,7 +135,7 @@ module _ (ws : List Want) where
       where
         against
             : ((l h : ℕ) → Mem (aNumber l h) ws → ⊥) → (w : Want) → Mem w ws → fits w (numbers a b) ≡ contradicted
-        against nothing (aSymbol x) m = refl
+        against nothing (aSymbol l h) m = refl
         against nothing (aNumber l h) m = absurd (nothing l h m)
         against nothing (aCompound x n) m = refl
     span-edge a b o wide (r ∷ rs) some framed =
@@ -143,7 +154,7 @@ module _ (ws : List Want) where
         keeps
             : (k : Followed 0 65536 (omega arith) r rs framed a b) → (w : Want) → Mem w ws
             → isOpen (fits w (numbers a b)) ≡ isWanted (numbersIn (k .pair)) w
-        keeps k (aSymbol x) m = refl
+        keeps k (aSymbol l h) m = refl
         keeps k (aNumber l h) m =
             range-open l h a b (k .pair) o
             (k .meetsSome (record { low = l; high = h }) (subst (Mem (record { low = l; high = h })) some (wanted-range m)))
@@ -157,8 +168,7 @@ module _ (ws : List Want) where
     edge-taken sound unknown ok k = absurd (k tt)
     edge-taken sound (symbol b) ok k =
         elim (follow-case f neither (symbol b) (casesOf ws)) [
-          | inl r ↦
-              inl (r .0, r .1, r .3, λ w m. symbol-open b w ∙ ap (λ (c : Case). isWanted c w) (sym (symbol-taken (r .0) b (r .2))))
+          | inl r ↦ inl (r .0, r .1, r .3, symbol-open (r .0) b (r .1) (r .2))
           | inr r ↦ inr (r .1, symbol-none b (r .0))
         ]
     edge-taken sound (numbers a b) ok k = span-edge a b (ok .0) (ok .1) (rangesOf ws) refl (wants-framed sound)

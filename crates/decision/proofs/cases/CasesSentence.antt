@@ -1,4 +1,4 @@
--- The cases of a switch, sentence by sentence (document 02, request 4): which cases there are, which rules a
+-- The cases of a switch, sentence by sentence (document 02, requests 4 and 5): which cases there are, which rules a
 -- number case keeps, and which case a number or span follows.
 use Prim.Native.Nat.{ℕ, suc, pred, _≤_}
 use mathlib.Core.Path.{_≡_, refl, ap, sym, subst, _∙_}
@@ -7,15 +7,14 @@ use mathlib.Core.List.{List, [], _∷_}
 use native.Mathlib.Omega.{arith}
 use lib.Dec.{T}
 use Rattle.basics.specs.Lists.{Mem, here, All}
-use Rattle.basics.proofs.ListLaws.{all-join, all-at, all-from, mem-none}
-use Rattle.basics.proofs.Filters.{mem-right, mem-map, all-mapped}
+use Rattle.basics.proofs.ListLaws.{mem-none}
+use Rattle.basics.proofs.Filters.{mem-right, mem-map}
 use Rattle.basics.proofs.Sorted.{AscendingBy}
-use Rattle.terms.specs.Term.{Wide, numbers}
+use Rattle.terms.specs.Term.{Wide, number, numbers}
 use Rattle.terms.specs.RuleTests.{Want, aSymbol, aNumber, aCompound, Range}
 use Rattle.codes.specs.views.Codes.{SoundWant}
 use Rattle.decision.specs.Runs.{framed, fromTo, runPairs, numberPairs}
-use Rattle.decision.specs.Cases.{Case, symbolCase, compoundCase, numbersCase, isWanted, rangesOf, numbersIn}
-use Rattle.decision.specs.Cases.{numberCases, casesOf}
+use Rattle.decision.specs.Cases.{Case, symbolsCase, compoundCase, numbersCase, isWanted, rangesOf, numbersIn, casesOf}
 use Rattle.decision.specs.Node.{follow}
 use Rattle.decision.specs.AcceptedGraph.{CaseBefore}
 use Rattle.decision.proofs.cases.Intervals.{Contains}
@@ -23,7 +22,8 @@ use Rattle.decision.proofs.cases.FramedRuns.{InFrame, SameRanges, Maxim
 use Rattle.decision.proofs.cases.RunPairs.{InTurn, meets-number}
 use Rattle.decision.proofs.cases.WantedRanges.{range-wanted, wanted-range}
 use Rattle.decision.proofs.cases.Accepts.{accepts-range, SameAccept}
-use Rattle.decision.proofs.cases.CaseList.{nameCases, names-all, symbol-listed, compound-listed}
+use Rattle.decision.proofs.cases.IdRuns.{RunOfIds, ids-are}
+use Rattle.decision.proofs.cases.CaseList.{nameCases, symbols-listed, compound-listed, listed}
 use Rattle.decision.proofs.cases.SwitchEdges.{edgesTo}
 use Rattle.decision.proofs.cases.Narrowest.{narrowest, narrowest-pair}
 use Rattle.decision.proofs.cases.NumberPairs.{number-pairs-are, numbers-follow}
@@ -35,9 +35,9 @@ use Rattle.decision.proofs.cases.CasesAccepted.{cases-ascend}
 pub record RunOfAll (ws : List Want) (l h : ℕ) : Type 0 where
   pub ordered : l ≤ h
   pub wide : Wide h
-  pub sameSet : (u v : ℕ) → l ≤ u → u ≤ h → l ≤ v → v ≤ h → SameAccept ws u v
-  pub maximalBelow : 1 ≤ l → SameAccept ws (pred l) l → ⊥
-  pub maximalAbove : Wide (suc h) → SameAccept ws h (suc h) → ⊥
+  pub sameSet : (u v : ℕ) → l ≤ u → u ≤ h → l ≤ v → v ≤ h → SameAccept number ws u v
+  pub maximalBelow : 1 ≤ l → SameAccept number ws (pred l) l → ⊥
+  pub maximalAbove : Wide (suc h) → SameAccept number ws h (suc h) → ⊥
 
 -- "Where a live rule has a range at a switch's place, .. one case for each pair of first and last run, .. with low and high their
 -- ends".
@@ -53,15 +53,15 @@ pub record PairOfRuns (ws : List Want) (x y : ℕ) : Type 0 where
 
 module _ (ws : List Want) where
   -- The same of the wants accept two numbers exactly when the same of the wanted ranges do,
-  same-ranges : (u v : ℕ) → SameRanges (rangesOf ws) u v ↔ SameAccept ws u v
+  same-ranges : (u v : ℕ) → SameRanges (rangesOf ws) u v ↔ SameAccept number ws u v
   same-ranges u v = (
     accept,
     λ same r m. Iff·trans (Iff·symm (accepts-range r u))
         (Iff·trans (same (aNumber (r .low) (r .high)) (range-wanted ws r m)) (accepts-range r v)),
   )
     where
-      accept : SameRanges (rangesOf ws) u v → SameAccept ws u v
-      accept same (aSymbol a) m = (λ h. h, λ h. h)
+      accept : SameRanges (rangesOf ws) u v → SameAccept number ws u v
+      accept same (aSymbol l h) m = (λ k. k, λ k. k)
       accept same (aNumber l h) m =
           let r : Range = record { low = l; high = h } in
           Iff·trans (accepts-range r u) (Iff·trans (same r (wanted-range m)) (Iff·symm (accepts-range r v)))
@@ -84,21 +84,6 @@ module _ (ws : List Want) where
       maximalAbove = λ a same. k .maximalAbove a (same-ranges (r .high) (suc (r .high)) .0 same);
     },
   )
-
-  -- A case is a symbol's, a compound's or a pair's.
-  abbrev Listed : Case → Type 0
-  Listed (symbolCase a) = Mem (aSymbol a) ws
-  Listed (compoundCase a n) = Mem (aCompound a n) ws
-  Listed (numbersCase x y) = Mem (record { low = x; high = y }) (numberPairs 0 65536 (rangesOf ws))
-
-  cases-listed : All Listed (casesOf ws)
-  cases-listed =
-      let pairs = numberPairs 0 65536 (rangesOf ws) in
-      all-join Listed (nameCases ws) (numberCases ws) (names-all ws Listed (λ a m. m) (λ a n m. m))
-      (all-mapped Listed numbersIn pairs (all-from (λ (x : Range). Listed (numbersIn x)) pairs (λ x m. m)))
-
-  listed : (c : Case) → Mem c (casesOf ws) → Listed c
-  listed c m = all-at Listed m cases-listed
 
   module _ (sound : All SoundWant ws) where
     -- A pair is one of two runs, where a range is wanted.
@@ -139,18 +124,21 @@ module _ (ws : List Want) where
                   ),
             )
 
--- The cases of a switch, for what the live rules want there: "a case for each symbol and compound that a live rule wants there",
--- and "one case for each pair of first and last run, ordered so, with low and high their ends"; "elsewhere a switch has no number
--- case".
+-- The cases of a switch, for what the live rules want there: one "for a run of ids, cut, ordered and questioned as numbers were in
+-- document 01", "a case for each .. compound that a live rule wants there", and "one case for each pair of first and last run,
+-- ordered so, with low and high their ends"; "elsewhere a switch has no number case".
 pub record CasesAre (ws : List Want) : Type 0 where
-  pub symbols : (a : ℕ) → Mem (symbolCase a) (casesOf ws) ↔ Mem (aSymbol a) ws
+  pub symbols : (x y : ℕ) → Mem (symbolsCase x y) (casesOf ws) ↔ RunOfIds ws x y
   pub compounds : (a n : ℕ) → Mem (compoundCase a n) (casesOf ws) ↔ Mem (aCompound a n) ws
   pub pairs : (x y : ℕ) → Mem (numbersCase x y) (casesOf ws) ↔ PairOfRuns ws x y
   pub ascend : AscendingBy CaseBefore (casesOf ws)
 
 pub cases-are : (ws : List Want) → All SoundWant ws → CasesAre ws
 cases-are ws sound = record {
-  symbols = λ a. (listed ws (symbolCase a), symbol-listed ws a);
+  symbols = λ x y.
+      let r : Range = record { low = x; high = y } in
+      let is = ids-are ws sound r in
+      (λ m. is .0 (listed ws (symbolsCase x y) m), λ k. symbols-listed ws r (is .1 k));
   compounds = λ a n. (listed ws (compoundCase a n), compound-listed ws a n);
   pairs = λ x y.
       let is = pair-is ws sound (record { low = x; high = y }) in

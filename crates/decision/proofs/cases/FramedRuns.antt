@@ -2,29 +2,23 @@
 -- one run; a range has all numbers of a run or none; the runs are the maximal ones accepted by the same set of the ranges.
 use Prim.Native.Nat.{ℕ, suc, pred, _*_, _≤_, _<_}
 use mathlib.Core.Path.{_≡_, refl, subst}
-use mathlib.Core.Bool.{Bool, _&&_}
 use mathlib.Core.Logic.{_↔_, Iff·trans, Iff·symm, _⊎_, inl, inr}
 use mathlib.Core.List.{List}
 use native.Mathlib.Omega.{arith}
-use lib.Dec.{T, leb, ltb}
+use lib.Dec.{T, ltb}
 use lib.ListN.{length}
 use Rattle.basics.specs.Lists.{Mem, All}
 use Rattle.basics.specs.Order.{insertBy}
 use Rattle.basics.proofs.ListLaws.{all-at, all-map}
-use Rattle.basics.proofs.Numbers.{not-apart, both-le}
 use Rattle.basics.proofs.Sorted.{AscendingBy as Ascending}
 use Rattle.terms.specs.RuleTests.{Range}
-use Rattle.decision.specs.Runs.{cuts, frame, framed}
+use Rattle.decision.specs.Runs.{cuts, covers, frame, framed}
 use Rattle.decision.proofs.cases.Insertion.{number-inserted}
-use Rattle.decision.proofs.cases.Intervals.{Contains, EndsBefore, Uncut, Between}
+use Rattle.decision.proofs.cases.Intervals.{Contains, EndsBefore, Uncut, Between, Ends, same-ends}
 use Rattle.decision.proofs.cases.Intervals.{between-cuts, between-ascends, between-covers, between-length, in-one-only}
-use Rattle.decision.proofs.cases.RangeRuns.{covers, cuts-ascend, cuts-length, cut-wanted, wanted-cut, uncut-covers}
-use Rattle.decision.proofs.cases.RangeRuns.{Parted, cut-parted}
+use Rattle.decision.proofs.cases.RangeRuns.{cuts-ascend, cuts-length, cut-wanted, wanted-cut, meets}
+use Rattle.decision.proofs.cases.RangeRuns.{uncut-covers, uncut-meets, Parted, cut-parted}
 use Rattle.decision.proofs.cases.RangeOrder.{Filled}
-
--- The range w has a number of r.
-abbrev pub meets : Range → Range → Bool
-meets w r = leb (w .low) (r .high) && leb (r .low) (w .high)
 
 module _ (base top : ℕ) (ws : List Range) where
   -- A number of the frame is its base, its top or a cut of a range.
@@ -89,13 +83,7 @@ module _ (base top : ℕ) (ws : List Range) where
     framed-uncut v h = uncut-covers r w v low-uncut high-uncut h
 
     pub framed-meets : (v : ℕ) → Contains r v → T (meets w r) ↔ Contains w v
-    framed-meets v h = (
-      λ t. let s = both-le (w .low) (r .high) (r .low) (w .high) .0 t in (
-        elim low-uncut [ inl p ↦ omega arith | inr p ↦ omega (arith, s .0) ],
-        elim high-uncut [ inl p ↦ omega (arith, s .1) | inr p ↦ omega arith ],
-      ),
-      λ k. both-le (w .low) (r .high) (r .low) (w .high) .1 (omega (arith, k .0), omega (arith, k .1)),
-    )
+    framed-meets v h = uncut-meets r w v low-uncut high-uncut h
 
 -- The range lies from base up to top.
 abbrev pub InFrame : ℕ → ℕ → Range → Type 0
@@ -104,6 +92,10 @@ InFrame base top w = (base ≤ w .low) × Filled w × (w .high < top)
 -- The same of the ranges accept the one number and the other.
 abbrev pub SameRanges : List Range → ℕ → ℕ → Type 0
 SameRanges ws u v = (w : Range) → Mem w ws → Contains w u ↔ Contains w v
+
+-- They are not the same where some range accepts one of the two and not the other.
+pub parted-other : (ws : List Range) (u v : ℕ) → Parted ws u v → SameRanges ws u v → ⊥
+parted-other ws u v (w, m, d) same = elim d [ inl p ↦ p .1 (same w m .0 (p .0)) | inr p ↦ p .1 (same w m .1 (p .0)) ]
 
 -- The numbers of r are a maximal run, from base up to top, accepted by the same set of the ranges.
 pub record MaximalIn (base top : ℕ) (ws : List Range) (r : Range) : Type 0 where
@@ -137,9 +129,6 @@ module _ (base top : ℕ) (ws : List Range) (o : base ≤ top) (wanted : All (In
       let high = cut-bounds (suc (r .high)) (b .ends) in
       (low .0, b .ordered, omega (arith, high .1))
 
-  parted-other : (u v : ℕ) → Parted ws u v → SameRanges ws u v → ⊥
-  parted-other u v (w, m, d) same = elim d [ inl p ↦ p .1 (same w m .0 (p .0)) | inr p ↦ p .1 (same w m .1 (p .0)) ]
-
   -- At a cut between base and top another set of the ranges accepts than just before it.
   inner-parted : (z : ℕ) → Mem z (frame base top ws) → base < z → z < top → SameRanges ws (pred z) z → ⊥
   inner-parted z m above below =
@@ -148,7 +137,7 @@ module _ (base top : ℕ) (ws : List Range) (o : base ≤ top) (wanted : All (In
         | inr d ↦ elim d [
           | inl e ↦ (λ same. omega arith)
           | inr k ↦ (let filled = all-map (InFrame base top) Filled (λ w h. h .1) ws wanted in
-              parted-other (pred z) z (cut-parted ws filled z (omega arith) k))
+              parted-other ws (pred z) z (cut-parted ws filled z (omega arith) k))
         ]
       ]
 
@@ -165,18 +154,13 @@ module _ (base top : ℕ) (ws : List Range) (o : base ≤ top) (wanted : All (In
         maximalAbove = λ h. inner-parted (suc (r .high)) (b .ends) (omega (arith, within .0, within .1)) h;
       }
 
-  -- and of two maximal runs with a number in common neither begins before the other nor ends after it,
-  begins-first : (r s : Range) (v : ℕ) → MaximalIn base top ws r → MaximalIn base top ws s → Contains r v → Contains s v
-      → s .low < r .low → ⊥
-  begins-first r s v a b h k before =
-      a .maximalBelow (omega (arith, b .inside .0))
-      (b .sameSet (pred (r .low)) (r .low) (omega arith, omega (arith, h .0, k .1)) (omega arith, omega (arith, h .0, k .1)))
-
-  ends-last : (r s : Range) (v : ℕ) → MaximalIn base top ws r → MaximalIn base top ws s → Contains r v → Contains s v
-      → r .high < s .high → ⊥
-  ends-last r s v a b h k after =
-      a .maximalAbove (omega (arith, b .inside .2))
-      (b .sameSet (r .high) (suc (r .high)) (omega (arith, h .1, k .0), omega arith) (omega (arith, h .1, k .0), omega arith))
+  -- and ends where another set of the ranges accepts,
+  ends-there : (r s : Range) → MaximalIn base top ws r → MaximalIn base top ws s → Ends (SameRanges ws) r s
+  ends-there r s a b = record {
+    sameSet = a .sameSet;
+    below = λ d. a .maximalBelow (omega (arith, b .inside .0));
+    above = λ d. a .maximalAbove (omega (arith, b .inside .2));
+  }
 
   -- so that the runs are the maximal ones.
   pub framed-are : (r : Range) → Mem r (framed base top ws) ↔ MaximalIn base top ws r
@@ -188,10 +172,5 @@ module _ (base top : ℕ) (ws : List Range) (o : base ≤ top) (wanted : All (In
           let s = framed-covers base top ws (r .low) (within .0) (omega (arith, within .1, within .2)) in
           let b = framed-maximal (s .0) (s .1) in
           let has : Contains r (r .low) = (omega arith, within .1) in
-          let low =
-          not-apart (s .0 .low) (r .low) (λ d. begins-first r (s .0) (r .low) a b has (s .2) d)
-          (λ d. begins-first (s .0) r (r .low) b a (s .2) has d) in
-          let high =
-          not-apart (s .0 .high) (r .high) (λ d. ends-last (s .0) r (r .low) b a (s .2) has d)
-          (λ d. ends-last r (s .0) (r .low) a b has (s .2) d) in
-          subst (λ (q : Range). Mem q (framed base top ws)) (λ i. record { low = low i; high = high i }) (s .1)
+          let same = same-ends (SameRanges ws) (s .0) r (r .low) (ends-there (s .0) r b a) (ends-there r (s .0) a b) (s .2) has in
+          subst (λ (q : Range). Mem q (framed base top ws)) same (s .1)

@@ -1,5 +1,5 @@
--- Insertion into an ascending list: what stands in it afterwards, and that it still ascends. Hence the symbols and the
--- compounds that have a case are the wanted ones, ascending.
+-- Insertion into an ascending list: what stands in it afterwards, and that it still ascends. Hence the compounds that have a case
+-- are the wanted ones, ascending.
 use Prim.Native.Nat.{ℕ, suc, _≤_, _<_}
 use mathlib.Core.Path.{_≡_, refl, sym, subst}
 use mathlib.Core.Bool.{Bool}
@@ -13,7 +13,7 @@ use Rattle.terms.specs.RuleTests.{Want, aSymbol, aNumber, aCompound}
 use Rattle.basics.proofs.ListLaws.{all-map, mem-none}
 use Rattle.basics.proofs.Sorted.{AscendingBy as Ascending, StrictOrder, number-order, insert-has, insert-keeps, insert-mem}
 use Rattle.basics.proofs.Sorted.{insert-ascends, insert-length}
-use Rattle.decision.specs.Cases.{symbolsOf, Functor, functorBefore, functorsOf}
+use Rattle.decision.specs.Cases.{Functor, functorBefore, functorsOf}
 use Rattle.decision.proofs.cases.FunctorOrder.{FunctorBefore, functor-order}
 
 -- The list zs is ys with x inserted: it has x and what ys has, it ascends if ys does, and it is at most one longer.
@@ -57,33 +57,10 @@ number-inserted x ys =
 pub functor-inserted : (f : Functor) (gs : List Functor) → Inserted FunctorBefore f gs (insertBy functorBefore f gs)
 functor-inserted f gs = inserted functor-order f gs
 
--- A symbol that has a case is wanted,
-pub symbol-wanted : (ws : List Want) (a : ℕ) → Mem a (symbolsOf ws) → Mem (aSymbol a) ws
-symbol-wanted [] a m = absurd (mem-none m)
-symbol-wanted (aSymbol b ∷ ws) a m =
-    elim (number-inserted b (symbolsOf ws) .members a .0 m) [ inl e ↦ rw e here | inr k ↦ there (symbol-wanted ws a k) ]
-symbol-wanted (aNumber l h ∷ ws) a m = there (symbol-wanted ws a m)
-symbol-wanted (aCompound b n ∷ ws) a m = there (symbol-wanted ws a m)
-
--- a wanted symbol has a case,
-pub wanted-symbol : {a : ℕ} {ws : List Want} → Mem (aSymbol a) ws → Mem a (symbolsOf ws)
-wanted-symbol {a} (here {xs = ws}) = number-inserted a (symbolsOf ws) .members a .1 (inl refl)
-wanted-symbol {a} (there {y = aSymbol b} {xs = ws} m) =
-    number-inserted b (symbolsOf ws) .members a .1 (inr (wanted-symbol m))
-wanted-symbol (there {y = aNumber l h} m) = wanted-symbol m
-wanted-symbol (there {y = aCompound b n} m) = wanted-symbol m
-
--- and the symbols ascend.
-pub symbols-ascend : (ws : List Want) → Ascending _<_ (symbolsOf ws)
-symbols-ascend [] = tt
-symbols-ascend (aSymbol a ∷ ws) = number-inserted a (symbolsOf ws) .ascends (symbols-ascend ws)
-symbols-ascend (aNumber l h ∷ ws) = symbols-ascend ws
-symbols-ascend (aCompound a n ∷ ws) = symbols-ascend ws
-
 -- A compound that has a case is wanted,
 pub functor-wanted : (ws : List Want) (f : Functor) → Mem f (functorsOf ws) → Mem (aCompound (f .name) (f .arity)) ws
 functor-wanted [] f m = absurd (mem-none m)
-functor-wanted (aSymbol b ∷ ws) f m = there (functor-wanted ws f m)
+functor-wanted (aSymbol l h ∷ ws) f m = there (functor-wanted ws f m)
 functor-wanted (aNumber l h ∷ ws) f m = there (functor-wanted ws f m)
 functor-wanted (aCompound b n ∷ ws) f m =
     elim (functor-inserted (record { name = b; arity = n }) (functorsOf ws) .members f .0 m)
@@ -94,7 +71,7 @@ pub wanted-functor
     : {a n : ℕ} {ws : List Want} → Mem (aCompound a n) ws → Mem (record { name = a; arity = n }) (functorsOf ws)
 wanted-functor {a} {n} (here {xs = ws}) =
     let f : Functor = record { name = a; arity = n } in functor-inserted f (functorsOf ws) .members f .1 (inl refl)
-wanted-functor (there {y = aSymbol b} m) = wanted-functor m
+wanted-functor (there {y = aSymbol l h} m) = wanted-functor m
 wanted-functor (there {y = aNumber l h} m) = wanted-functor m
 wanted-functor {a} {n} (there {y = aCompound b k} {xs = ws} m) =
     functor-inserted (record { name = b; arity = k }) (functorsOf ws) .members (record { name = a; arity = n }) .1
@@ -103,7 +80,7 @@ wanted-functor {a} {n} (there {y = aCompound b k} {xs = ws} m) =
 -- and the compounds ascend.
 pub functors-ascend : (ws : List Want) → Ascending FunctorBefore (functorsOf ws)
 functors-ascend [] = tt
-functors-ascend (aSymbol a ∷ ws) = functors-ascend ws
+functors-ascend (aSymbol l h ∷ ws) = functors-ascend ws
 functors-ascend (aNumber l h ∷ ws) = functors-ascend ws
 functors-ascend (aCompound a n ∷ ws) =
     functor-inserted (record { name = a; arity = n }) (functorsOf ws) .ascends (functors-ascend ws)

@@ -10,7 +10,7 @@ use Rattle.terms.specs.RuleTests.{Range}
 use Rattle.decision.specs.Runs.{between}
 use Rattle.basics.proofs.ListLaws.{all-at, all-map, mem-cases, mem-none}
 use Rattle.basics.proofs.Ascent.{ascending-two}
-use Rattle.basics.proofs.Numbers.{le-or-lt}
+use Rattle.basics.proofs.Numbers.{le-or-lt, not-apart}
 use Rattle.basics.proofs.Sorted.{AscendingBy as Ascending}
 
 -- The number lies in the range.
@@ -116,3 +116,27 @@ pub between-length : (zs : List ℕ) → length (between zs) ≡ pred (length zs
 between-length [] = refl
 between-length (x ∷ []) = refl
 between-length (x ∷ (y ∷ ys)) = ap suc (between-length (y ∷ ys))
+
+-- What is the same within each of two ranges, and neither just before nor just after them where the other goes on, makes them one
+-- where they have a number in common.
+pub record Ends (Same : ℕ → ℕ → Type 0) (r s : Range) : Type 0 where
+  pub sameSet : (u v : ℕ) → Contains r u → Contains r v → Same u v
+  pub below : s .low < r .low → Same (pred (r .low)) (r .low) → ⊥
+  pub above : r .high < s .high → Same (r .high) (suc (r .high)) → ⊥
+
+pub same-ends
+    : (Same : ℕ → ℕ → Type 0) (r s : Range) (v : ℕ) → Ends Same r s → Ends Same s r → Contains r v → Contains s v → r ≡ s
+same-ends Same r s v a b h k =
+    let low = not-apart (r .low) (s .low) (λ d. begins s r b a k h d) (λ d. begins r s a b h k d) in
+    let high = not-apart (r .high) (s .high) (λ d. ends r s a b h k d) (λ d. ends s r b a k h d) in
+    λ i. record { low = low i; high = high i }
+  where
+    begins : (p q : Range) → Ends Same p q → Ends Same q p → Contains p v → Contains q v → q .low < p .low → ⊥
+    begins p q c e m n d =
+        c .below d
+        (e .sameSet (pred (p .low)) (p .low) (omega arith, omega (arith, m .0, n .1)) (omega arith, omega (arith, m .0, n .1)))
+
+    ends : (p q : Range) → Ends Same p q → Ends Same q p → Contains p v → Contains q v → p .high < q .high → ⊥
+    ends p q c e m n d =
+        c .above d
+        (e .sameSet (p .high) (suc (p .high)) (omega (arith, m .1, n .0), omega arith) (omega (arith, m .1, n .0), omega arith))

@@ -15,13 +15,12 @@ use Rattle.basics.proofs.Numbers.{le-or-lt, both-le}
 use Rattle.basics.proofs.Sorted.{pair-before, before-pair, pair-irreflexive, pair-transitive, pair-total}
 use Rattle.terms.specs.Term.{Term, unknown, symbol, numbers, compound}
 use Rattle.terms.specs.RuleTests.{Range}
-use Rattle.decision.specs.Runs.{framed, fromTo, runPairs}
-use Rattle.decision.specs.Cases.{Case, symbolCase, compoundCase, numbersCase, numbersIn, takes}
+use Rattle.decision.specs.Runs.{covers, framed, fromTo, runPairs}
+use Rattle.decision.specs.Cases.{Case, symbolsCase, compoundCase, numbersCase, numbersIn, takes}
 use Rattle.decision.specs.Narrowest.{narrower, best}
 use Rattle.decision.specs.Node.{CaseEdge, leadsOr, follow}
 use Rattle.decision.proofs.cases.Best.{TakenOrder, Best, IsBest, IfSome, best-law, best-holds}
 use Rattle.decision.proofs.cases.Intervals.{Contains}
-use Rattle.decision.proofs.cases.RangeRuns.{covers}
 use Rattle.decision.proofs.cases.RangeOrder.{begins-below, ends-above}
 use Rattle.decision.proofs.cases.FramedRuns.{framed-filled, framed-ascends}
 use Rattle.decision.proofs.cases.RunPairs.{pair-runs, runs-pair, span-turn}
@@ -55,18 +54,20 @@ narrower-across a b v w x y h = go (pair-before x b a y h)
 
 -- So cases are ordered, of two that take a term.
 case-apart : (c d : Case) → T (narrower c d) → T (narrower d c) → ⊥
-case-apart (symbolCase a) d h k = absurd h
+case-apart (symbolsCase a b) (symbolsCase x y) h k = narrower-apart a b x y h k
+case-apart (symbolsCase a b) (compoundCase x n) h k = absurd h
+case-apart (symbolsCase a b) (numbersCase x y) h k = absurd h
 case-apart (compoundCase a n) d h k = absurd h
-case-apart (numbersCase a b) (symbolCase x) h k = absurd h
+case-apart (numbersCase a b) (symbolsCase x y) h k = absurd h
 case-apart (numbersCase a b) (compoundCase x n) h k = absurd h
 case-apart (numbersCase a b) (numbersCase x y) h k = narrower-apart a b x y h k
 
--- What a case of numbers takes no other case takes.
-no-symbol : (t : Term) (a b x : ℕ) → T (takes (numbersCase a b) t) → T (takes (symbolCase x) t) → ⊥
-no-symbol unknown a b x h k = absurd h
-no-symbol (symbol y) a b x h k = absurd h
-no-symbol (numbers y z) a b x h k = absurd k
-no-symbol (compound y ts) a b x h k = absurd h
+-- What a case of one kind takes no case of another takes.
+no-symbols : (t : Term) (a b x y : ℕ) → T (takes (numbersCase a b) t) → T (takes (symbolsCase x y) t) → ⊥
+no-symbols unknown a b x y h k = absurd h
+no-symbols (symbol z) a b x y h k = absurd h
+no-symbols (numbers z u) a b x y h k = absurd k
+no-symbols (compound z ts) a b x y h k = absurd h
 
 no-compound : (t : Term) (a b x n : ℕ) → T (takes (numbersCase a b) t) → T (takes (compoundCase x n) t) → ⊥
 no-compound unknown a b x n h k = absurd h
@@ -74,13 +75,23 @@ no-compound (symbol y) a b x n h k = absurd h
 no-compound (numbers y z) a b x n h k = absurd k
 no-compound (compound y ts) a b x n h k = absurd h
 
+no-id : (t : Term) (a b x n : ℕ) → T (takes (symbolsCase a b) t) → T (takes (compoundCase x n) t) → ⊥
+no-id unknown a b x n h k = absurd h
+no-id (symbol y) a b x n h k = absurd k
+no-id (numbers y z) a b x n h k = absurd h
+no-id (compound y ts) a b x n h k = absurd h
+
 case-across
     : (t : Term) (c d e : Case) → T (takes c t) → T (takes d t) → T (narrower c e) → T (narrower c d) ⊎ T (narrower d e)
-case-across t (symbolCase a) d e p q h = absurd h
+case-across t (symbolsCase a b) d (compoundCase x n) p q h = absurd h
+case-across t (symbolsCase a b) d (numbersCase x y) p q h = absurd h
+case-across t (symbolsCase a b) (symbolsCase v w) (symbolsCase x y) p q h = narrower-across a b v w x y h
+case-across t (symbolsCase a b) (compoundCase v n) (symbolsCase x y) p q h = absurd (no-id t a b v n p q)
+case-across t (symbolsCase a b) (numbersCase v w) (symbolsCase x y) p q h = absurd (no-symbols t v w a b q p)
 case-across t (compoundCase a n) d e p q h = absurd h
-case-across t (numbersCase a b) d (symbolCase x) p q h = absurd h
+case-across t (numbersCase a b) d (symbolsCase x y) p q h = absurd h
 case-across t (numbersCase a b) d (compoundCase x n) p q h = absurd h
-case-across t (numbersCase a b) (symbolCase v) (numbersCase x y) p q h = absurd (no-symbol t a b v p q)
+case-across t (numbersCase a b) (symbolsCase v w) (numbersCase x y) p q h = absurd (no-symbols t a b v w p q)
 case-across t (numbersCase a b) (compoundCase v n) (numbersCase x y) p q h = absurd (no-compound t a b v n p q)
 case-across t (numbersCase a b) (numbersCase v w) (numbersCase x y) p q h = narrower-across a b v w x y h
 

@@ -12,14 +12,14 @@ use Rattle.basics.specs.Lists.{Mem, All}
 use Rattle.basics.proofs.Sorted.{Ascending}
 use Rattle.terms.specs.Term.{numbers}
 use Rattle.terms.specs.RuleTests.{Range}
-use Rattle.decision.specs.Runs.{framed, fromTo, numberPairs}
+use Rattle.decision.specs.Runs.{covers, framed, fromTo, numberPairs}
 use Rattle.decision.specs.Cases.{Case, numbersIn, takes}
 use Rattle.decision.specs.Narrowest.{narrower}
 use Rattle.decision.specs.Node.{CaseEdge, leadsOr, follow}
 use Rattle.decision.proofs.cases.Intervals.{Contains}
-use Rattle.decision.proofs.cases.RangeRuns.{covers}
+use Rattle.decision.proofs.cases.RangeRuns.{meets}
 use Rattle.decision.proofs.cases.RangeOrder.{rangeBefore}
-use Rattle.decision.proofs.cases.FramedRuns.{meets, InFrame, MaximalIn, framed-filled, framed-ascends, framed-covers}
+use Rattle.decision.proofs.cases.FramedRuns.{InFrame, MaximalIn, framed-filled, framed-ascends, framed-covers}
 use Rattle.decision.proofs.cases.FramedRuns.{framed-inside, framed-few, framed-are}
 use Rattle.decision.proofs.cases.RunPairs.{InTurn, pairs-few, pair-runs, runs-pair, pair-filled}
 use Rattle.decision.proofs.cases.RunPairs.{pairs-ascend, span-turn, pair-covers, pair-meets}

@@ -1,4 +1,4 @@
--- The cuts of wanted ranges, and the runs of the numbers that these accept: a run lies between two cuts and is wanted.
+-- The cuts of wanted ranges, and the runs of what these accept: a run lies between two cuts and is wanted.
 use Prim.Native.Nat.{ℕ, suc, pred, _*_, _≤_, _<_}
 use mathlib.Core.Path.{_≡_, refl}
 use mathlib.Core.Bool.{Bool, _&&_}
@@ -7,30 +7,18 @@ use mathlib.Core.List.{List, [], _∷_}
 use native.Mathlib.Omega.{arith}
 use lib.Dec.{T, leb, ltb}
 use lib.ListN.{length}
-use Rattle.basics.specs.Lists.{Mem, here, there, All, filter, anyOf}
+use Rattle.basics.specs.Lists.{Mem, here, there, All}
 use Rattle.basics.specs.Order.{insertBy}
 use Rattle.terms.specs.RuleTests.{Range}
 use Rattle.basics.proofs.ListLaws.{all-at, mem-none}
-use Rattle.decision.specs.Runs.{cuts, between}
-use Rattle.basics.proofs.Filters.{mem-filter, filter-mem, mem-any}
+use Rattle.decision.specs.Runs.{cuts, between, covers, isCovered, runs}
+use Rattle.basics.proofs.Filters.{mem-filter, filter-mem, filter-length, mem-any, any-mem}
 use Rattle.basics.proofs.Ascent.{ascending-filter}
 use Rattle.decision.proofs.cases.Insertion.{number-inserted}
 use Rattle.decision.proofs.cases.Intervals.{Contains, EndsBefore, Uncut, Between}
-use Rattle.decision.proofs.cases.Intervals.{between-cuts, between-ascends, between-covers}
+use Rattle.decision.proofs.cases.Intervals.{between-cuts, between-ascends, between-covers, between-length}
 use Rattle.basics.proofs.Sorted.{AscendingBy as Ascending}
 use Rattle.basics.proofs.Numbers.{both-le}
-
--- The range w accepts all numbers of r,
-abbrev pub covers : Range → Range → Bool
-covers w r = leb (w .low) (r .low) && leb (r .high) (w .high)
-
--- or some range of the list does.
-abbrev pub isCovered : List Range → Range → Bool
-isCovered ws r = anyOf (λ (w : Range). covers w r) ws
-
--- The maximal runs that some range accepts: of codes, where the codes of symbols and compounds are cut.
-abbrev pub runs : List Range → List Range
-runs ws = filter (isCovered ws) (between (cuts ws))
 
 -- The cuts ascend.
 pub cuts-ascend : (ws : List Range) → Ascending _<_ (cuts ws)
@@ -87,6 +75,21 @@ uncut-covers r w v low high h = (
       (elim low [ inl p ↦ p | inr p ↦ omega arith ], elim high [ inl p ↦ omega arith | inr p ↦ omega arith ]),
 )
 
+-- The range w has something of r.
+abbrev pub meets : Range → Range → Bool
+meets w r = leb (w .low) (r .high) && leb (r .low) (w .high)
+
+-- One that does not cut r has something of it exactly where it has all of it.
+pub uncut-meets
+    : (r w : Range) (v : ℕ) → Uncut r (w .low) → Uncut r (suc (w .high)) → Contains r v → T (meets w r) ↔ Contains w v
+uncut-meets r w v low high h = (
+  λ t. let s = both-le (w .low) (r .high) (r .low) (w .high) .0 t in (
+    elim low [ inl p ↦ omega arith | inr p ↦ omega (arith, s .0) ],
+    elim high [ inl p ↦ omega (arith, s .1) | inr p ↦ omega arith ],
+  ),
+  λ k. both-le (w .low) (r .high) (r .low) (w .high) .1 (omega (arith, k .0), omega (arith, k .1)),
+)
+
 -- So it is with the wanted ranges and a range between their cuts.
 pub covers-contains
     : (ws : List Range) (r w : Range) (v : ℕ) → Between (cuts ws) r → Mem w ws → Contains r v
@@ -95,11 +98,25 @@ covers-contains ws r w v b m h =
     uncut-covers r w v (all-at (Uncut r) (wanted-cut m (w .low) (inl refl)) (b .uncut))
     (all-at (Uncut r) (wanted-cut m (suc (w .high)) (inr refl)) (b .uncut)) h
 
--- A run lies between two cuts.
+pub meets-contains
+    : (ws : List Range) (r w : Range) (v : ℕ) → Between (cuts ws) r → Mem w ws → Contains r v → T (meets w r) ↔ Contains w v
+meets-contains ws r w v b m h =
+    uncut-meets r w v (all-at (Uncut r) (wanted-cut m (w .low) (inl refl)) (b .uncut))
+    (all-at (Uncut r) (wanted-cut m (suc (w .high)) (inr refl)) (b .uncut)) h
+
+-- A run lies between two cuts,
 pub run-between : (ws : List Range) (r : Range) → Mem r (runs ws) → Between (cuts ws) r
 run-between ws r m =
     let inside = filter-mem (isCovered ws) (between (cuts ws)) m .0 in
     all-at (Between (cuts ws)) inside (between-cuts (cuts ws) (cuts-ascend ws))
+
+-- and in a wanted range.
+pub run-wanted : (ws : List Range) (r : Range) → Mem r (runs ws) → (w : Range) × Mem w ws × T (covers w r)
+run-wanted ws r m = any-mem (λ (w : Range). covers w r) ws (filter-mem (isCovered ws) (between (cuts ws)) m .1)
+
+-- There are at most two for each range.
+pub runs-length : (ws : List Range) → length (runs ws) ≤ 2 * length ws
+runs-length ws = omega (arith, filter-length (isCovered ws) (between (cuts ws)), between-length (cuts ws), cuts-length ws)
 
 -- The runs ascend and do not overlap.
 pub runs-ascend : (ws : List Range) → Ascending EndsBefore (runs ws)
@@ -107,7 +124,7 @@ runs-ascend ws =
     ascending-filter EndsBefore (isCovered ws) (between (cuts ws))
     (between-ascends (cuts ws) (cuts-ascend ws))
 
--- A number that a wanted range accepts lies in a run.
+-- What a wanted range accepts lies in a run.
 pub in-run
     : (ws : List Range) (w : Range) (v : ℕ) → Mem w ws → Contains w v
     → (r : Range) × Mem r (runs ws) × Contains r v

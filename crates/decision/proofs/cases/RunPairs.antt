@@ -16,11 +16,11 @@ use Rattle.basics.proofs.Ascent.{ascending-map, ascending-join, ascending-two}
 use Rattle.basics.proofs.Sorted.{AscendingBy, Ascending, before-pair}
 use Rattle.basics.proofs.Numbers.{both-le}
 use Rattle.terms.specs.RuleTests.{Range}
-use Rattle.decision.specs.Runs.{framed, fromTo, runPairs}
+use Rattle.decision.specs.Runs.{covers, framed, fromTo, runPairs}
 use Rattle.decision.proofs.cases.Intervals.{Contains, EndsBefore}
-use Rattle.decision.proofs.cases.RangeRuns.{covers}
+use Rattle.decision.proofs.cases.RangeRuns.{meets}
 use Rattle.decision.proofs.cases.RangeOrder.{ascending-imply, rangeBefore, Filled, begins-below, ends-above}
-use Rattle.decision.proofs.cases.FramedRuns.{meets, InFrame, framed-filled, framed-ascends, framed-covers}
+use Rattle.decision.proofs.cases.FramedRuns.{InFrame, framed-filled, framed-ascends, framed-covers}
 use Rattle.decision.proofs.cases.FramedRuns.{framed-inside, low-uncut, high-uncut, framed-meets}
 
 -- The last run is the first or comes after it.

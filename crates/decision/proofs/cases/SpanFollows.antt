@@ -10,7 +10,7 @@ use Rattle.basics.proofs.Filters.{mem-map, map-mem}
 use Rattle.basics.proofs.Numbers.{le-or-lt, both-le}
 use Rattle.basics.proofs.Sorted.{before-pair}
 use Rattle.terms.specs.Term.{numbers}
-use Rattle.decision.specs.Cases.{Case, symbolCase, compoundCase, numbersCase, takes}
+use Rattle.decision.specs.Cases.{Case, symbolsCase, compoundCase, numbersCase, takes}
 use Rattle.decision.specs.Narrowest.{narrower}
 use Rattle.decision.specs.Node.{CaseEdge, follow}
 use Rattle.decision.proofs.cases.Narrowest.{follow-narrowest}
@@ -50,7 +50,7 @@ module _ {A : Type 0} (f : Case → A) (neither : A) (a b : ℕ) where
           : (c : Case) → Mem c cs → T (takes c (numbers a b))
           → ((d : Case) → Mem d cs → T (takes d (numbers a b)) → T (narrower d c) → ⊥)
           → follow (edgesTo f cs) neither (numbers a b) ≡ f c → SpanFollows cs
-      go (symbolCase x) m t first e = absurd t
+      go (symbolsCase x y) m t first e = absurd t
       go (compoundCase x n) m t first e = absurd t
       go (numbersCase x y) m t first e = inl (
         x,

@@ -18,12 +18,12 @@ use Rattle.decision.proofs.rules.TestNumbers.{test-number}
 use Rattle.decision.proofs.elimination.LocalFacts.{Firm, Dead, Missing, firm-has, dead-firm, missing-firm}
 use Rattle.decision.proofs.rules.SoundWants.{rule-accepted}
 
-module _ (rules : List Patterns) (piece : Terms) where
-  -- Rule i is a rule of the sheet,
-  abbrev pub IsRule : ℕ → Type 0
-  IsRule i = i < length rules
+-- i counts a rule of the sheet from 0.
+abbrev pub IsIndex : List Patterns → ℕ → Type 0
+IsIndex rules i = i < length rules
 
-  -- it is dead,
+module _ (rules : List Patterns) (piece : Terms) where
+  -- The rule is dead,
   abbrev pub DeadRule : ℕ → Type 0
   DeadRule i = Dead (ruleAt rules (suc i)) piece
 
@@ -39,7 +39,7 @@ module _ (arity : ℕ) (rules : List Patterns) (piece : Terms)
     (accepted : All (AcceptedRule arity) rules) (ok : AcceptedPiece arity piece) where
   -- A firm test of a rule has a number.
   firm-number
-      : (i : ℕ) → IsRule rules piece i → (t : Test) → Firm (ruleAt rules (suc i)) piece t
+      : (i : ℕ) → IsIndex rules i → (t : Test) → Firm (ruleAt rules (suc i)) piece t
       → (u : ℕ) × FirmTest rules piece i u × (testAt rules u ≡ t)
   firm-number i l t f =
       let n = test-number rules i l t (firm-has (ruleAt rules (suc i)) piece t f) in
@@ -47,7 +47,7 @@ module _ (arity : ℕ) (rules : List Patterns) (piece : Terms)
 
   -- A dead rule has a firm test.
   pub dead-test
-      : (i : ℕ) → IsRule rules piece i → DeadRule rules piece i
+      : (i : ℕ) → IsIndex rules i → DeadRule rules piece i
       → (t : ℕ) × T (hasTest rules i t) × FirmTest rules piece i t
   dead-test i l d =
       let f = dead-firm arity (ruleAt rules (suc i)) piece (rule-accepted arity rules accepted i l) ok d in
@@ -56,7 +56,7 @@ module _ (arity : ℕ) (rules : List Patterns) (piece : Terms)
 
   -- A test whose place is missing has a firm one that must be asked before it.
   pub missing-test
-      : (i t : ℕ) → IsRule rules piece i → T (hasTest rules i t) → Missing piece (testAt rules t)
+      : (i t : ℕ) → IsIndex rules i → T (hasTest rules i t) → Missing piece (testAt rules t)
       → (u : ℕ) × FirmTest rules piece i u × MustPrecede (testAt rules u) (testAt rules t)
   missing-test i t l h m =
       let f = missing-firm arity (ruleAt rules (suc i)) piece (rule-accepted arity rules accepted i l) ok (testAt rules t) h m in

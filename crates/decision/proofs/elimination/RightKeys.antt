@@ -19,7 +19,7 @@ use Rattle.decision.specs.Rules.{hasTest, rulesWhere}
 use Rattle.decision.specs.Key.{Key, Vertex, isHeld, keyOf, rootKey, vertexOf}
 use Rattle.decision.specs.Edges.{leadsTo, butTest, byNone}
 use Rattle.decision.proofs.elimination.Elimination.{Invariant, step}
-use Rattle.decision.proofs.elimination.FirmTests.{IsRule, DeadRule, FirmTest, firm-own}
+use Rattle.decision.proofs.elimination.FirmTests.{IsIndex, DeadRule, FirmTest, firm-own}
 use Rattle.decision.proofs.elimination.SeenTests.{Accounted, accounted-more}
 use Rattle.decision.proofs.keys.Sets.{in-where, where-in}
 use Rattle.decision.proofs.keys.Vertices.{Live, Pending, Means, is-held, pending-in, in-pending, vertex-means}
@@ -33,14 +33,14 @@ module _ (rules : List Patterns) (piece : Terms) where
   -- The elimination's invariant for this piece.
   abbrev pub Eliminates : (ℕ → Type 0) → (ℕ → Type 0) → Type 0
   Eliminates Left Remaining =
-      Invariant (IsRule rules piece) (FirmTest rules piece) (DeadRule rules piece) Left Remaining
+      Invariant (IsIndex rules) (FirmTest rules piece) (DeadRule rules piece) Left Remaining
 
   -- A step of the elimination for this piece.
   eliminate
       : {Live Left : ℕ → Type 0} {Pending Remaining : ℕ → Type 0} → Eliminates Live Pending
       → ((i : ℕ) → Left i → Live i) → ((i : ℕ) → Live i → Left i ⊎ DeadRule rules piece i)
       → ((i t : ℕ) → Left i → FirmTest rules piece i t → Pending t → Remaining t) → Eliminates Left Remaining
-  eliminate = step (IsRule rules piece) (FirmTest rules piece) (DeadRule rules piece)
+  eliminate = step (IsIndex rules) (FirmTest rules piece) (DeadRule rules piece)
 
   -- A right key: the invariant holds of it, its pending tests are tests of live rules, and each test of a live rule is
   -- pending or accounted for.

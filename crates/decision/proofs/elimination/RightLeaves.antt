@@ -20,7 +20,7 @@ use Rattle.decision.specs.Key.{Key, Leaf, failNode, suspendNode, execute
 use Rattle.decision.specs.Node.{Node}
 use Rattle.decision.specs.Walk.{atLeaf}
 use Rattle.decision.proofs.elimination.Elimination.{none-left, one-left, alive}
-use Rattle.decision.proofs.elimination.FirmTests.{IsRule, DeadRule, FirmTest, dead-test}
+use Rattle.decision.proofs.elimination.FirmTests.{IsIndex, DeadRule, FirmTest, dead-test}
 use Rattle.decision.proofs.keys.Vertices.{Settled}
 use Rattle.decision.proofs.elimination.RightKeys.{RightKey, RightVertex}
 
@@ -42,7 +42,7 @@ module _ (arity : ℕ) (rules : List Patterns) (piece : Terms)
     where
       not-dead : DeadRule rules piece i → ⊥
       not-dead =
-          alive (IsRule rules piece) (FirmTest rules piece) (DeadRule rules piece) (right .invariant)
+          alive (IsIndex rules) (FirmTest rules piece) (DeadRule rules piece) (right .invariant)
           (λ j t. T (hasTest rules j t)) (dead-test arity rules piece accepted ok) i (s .0)
           (λ t h p. s .1 t (right .held t p .0) p h)
 
@@ -55,9 +55,9 @@ module _ (arity : ℕ) (rules : List Patterns) (piece : Terms)
       right-fail rules piece (ok .wellFormed) (rules-say arity rules piece accepted ok)
       (λ i isRule. dead (pred i) (omega arith))
     where
-      dead : (i : ℕ) → IsRule rules piece i → DeadRule rules piece i
+      dead : (i : ℕ) → IsIndex rules i → DeadRule rules piece i
       dead =
-          none-left (IsRule rules piece) (FirmTest rules piece) (DeadRule rules piece) (v .right .invariant)
+          none-left (IsIndex rules) (FirmTest rules piece) (DeadRule rules piece) (v .right .invariant)
           (λ i m. v .means i (v .right .invariant .inside i m) m)
   right-leaf nodes walked suspendNode v =
       let two = v .means in
@@ -69,7 +69,7 @@ module _ (arity : ℕ) (rules : List Patterns) (piece : Terms)
   right-leaf nodes walked (executeNode (suc i)) v =
       let only = v .means in
       let others =
-      one-left (IsRule rules piece) (FirmTest rules piece) (DeadRule rules piece) (v .right .invariant) i
+      one-left (IsIndex rules) (FirmTest rules piece) (DeadRule rules piece) (v .right .invariant) i
       (λ j m. only .2 j (v .right .invariant .inside j m) m) in
       right-only rules piece (ok .wellFormed) (rules-say arity rules piece accepted ok) (suc i)
       (omega arith, omega (arith, only .0))

@@ -23,7 +23,7 @@ use Rattle.decision.specs.AskingOrder.{MustPrecede, AskingOrder}
 use Rattle.decision.specs.Path.{Step, goTo, switchStep, byComparison, pairStep, stepAt}
 use Rattle.decision.proofs.elimination.Elimination.{present}
 use Rattle.decision.proofs.elimination.LocalFacts.{Firm, Missing, firm-dead}
-use Rattle.decision.proofs.elimination.FirmTests.{IsRule, DeadRule, FirmTest, missing-test}
+use Rattle.decision.proofs.elimination.FirmTests.{IsIndex, DeadRule, FirmTest, missing-test}
 use Rattle.decision.proofs.keys.Vertices.{Pending, held-by, asking-pending}
 use Rattle.decision.proofs.keys.AskedFirst.{First, first-found}
 use Rattle.decision.proofs.keys.EdgesLeft.{edgesLeft, pendingCount, edges-fewer}
@@ -45,7 +45,7 @@ module _ (arity : ℕ) (rules : List Patterns) (piece : Terms)
     asked-present : Missing piece (testAt rules t) → ⊥
     asked-present =
         let holder = held-by rules (key .live) t (right .held t (first .0) .1) in
-        present (IsRule rules piece) (FirmTest rules piece) (DeadRule rules piece) (right .invariant)
+        present (IsIndex rules) (FirmTest rules piece) (DeadRule rules piece) (right .invariant)
         (λ i u. T (hasTest rules i u)) (λ u v. MustPrecede (testAt rules u) (testAt rules v))
         (λ u. Missing piece (testAt rules u)) (missing-test arity rules piece accepted ok) t
         (λ u p. first .1 u (asks .whole u (right .held u p .0)) p) (holder .0) (holder .2) (holder .3)

@@ -1,12 +1,14 @@
--- What the rules of an accepted sheet want is sound: its ids and numbers are wide, no range is empty, arities are small.
+-- What the rules of an accepted sheet want is sound: its ids and numbers are wide, no series or range is empty, arities are small.
 use Prim.Native.Nat.{ℕ, suc, pred, _+_, _<_}
 use mathlib.Core.Path.{_≡_, refl}
 use mathlib.Core.List.{List}
 use mathlib.Core.Option.{Option, some, none}
+use native.Mathlib.Omega.{arith}
 use lib.ListN.{length}
 use Rattle.places.specs.Numbering.{stride}
 use Rattle.basics.specs.Lists.{All}
-use Rattle.terms.specs.Pattern.{Pattern, Patterns, anything, theSymbol, theRange, theCompound, variable, rangedVariable, pnil, pcons}
+use Rattle.terms.specs.Pattern.{Pattern, Patterns, pnil, pcons}
+use Rattle.terms.specs.Pattern.{anything, theSymbol, theSeries, theRange, theCompound, variable, rangedVariable}
 use Rattle.terms.specs.RuleTests.{Want, PlaceTest, Range, rangeTest, patternTests, patternsTests, patternsRange, placeTests}
 use Rattle.terms.specs.Accepted.{Sound, Sounds, InCommon, AcceptedRule}
 use Rattle.basics.proofs.ListLaws.{all-join, all-at}
@@ -34,7 +36,8 @@ module _ (rangeOf : ℕ → Option Range) (common : (v : ℕ) → InCommon (rang
     -- The tests of a pattern are sound,
     tests-sound : (p : Pattern) (r b : ℕ) → Sound p r → All SoundTest (patternTests rangeOf p r b)
     tests-sound anything r b s = tt
-    tests-sound (theSymbol a) r b s = (s .1, tt)
+    tests-sound (theSymbol a) r b s = ((omega arith, s .1), tt)
+    tests-sound (theSeries l h) r b s = ((s .1, s .2), tt)
     tests-sound (theRange l h) r b s = ((s .1, s .2), tt)
     tests-sound (theCompound a ps) r b s = ((s .1, s .3), all-tests-sound ps (pred r) (suc b) (s .4))
     tests-sound (variable v) r b s = range-sound b (rangeOf v) (common v) (wide v)

@@ -7,7 +7,7 @@ use mathlib.Core.Bool.{_&&_}
 use mathlib.Core.Logic.{_↔_, _⊎_, inl, inr}
 use mathlib.Core.List.{List, [], _∷_, _++_, append-assoc, append-nil}
 use mathlib.Core.Option.{Option, some, none}
-use lib.Dec.{T, eqb}
+use lib.Dec.{T, leb, eqb}
 use lib.ListN.{length}
 use Rattle.masks.specs.Mask.{has}
 use Rattle.basics.specs.Lists.{anyBelow}
@@ -37,9 +37,9 @@ Partly x w = (l h a b : ℕ) × (w ≡ aNumber l h) × (x ≡ found (numbers a b
 partly : (w : Want) (x : Found) → NotKnown (atPlace (fits w) x) → T (isUnknown x) ⊎ Partly x w
 partly w lacking u = absurd u
 partly w (found unknown) u = inl tt
-partly (aSymbol a) (found (symbol b)) u = absurd (known-decided (eqb a b) u)
-partly (aSymbol a) (found (numbers b c)) u = absurd u
-partly (aSymbol a) (found (compound b ts)) u = absurd u
+partly (aSymbol l h) (found (symbol a)) u = absurd (known-decided (leb l a && leb a h) u)
+partly (aSymbol l h) (found (numbers a b)) u = absurd u
+partly (aSymbol l h) (found (compound b ts)) u = absurd u
 partly (aNumber l h) (found (symbol b)) u = absurd u
 partly (aNumber l h) (found (numbers a b)) u = inr (l, h, a, b, refl, refl, u)
 partly (aNumber l h) (found (compound b ts)) u = absurd u

@@ -13,13 +13,14 @@ use Rattle.cuts.specs.views.CaseRuns.{switchRuns}
 use Rattle.edges.specs.declared.Asked.{Asked}
 use Rattle.edges.specs.views.KeysBehind.{askedIn, noneBehind, otherBehind, runBehind, unknownBehind}
 
-module _ (s c : List ℕ) where
-  -- The cases of the switch that asks a place, each with the key behind it.
-  abbrev pub runEdge : Asked → Run → CaseEdge Key
-  runEdge a run = record { case = runCase (run .low) (run .high); target = runBehind s a (run .set) }
+-- The case of a run, with the key behind it.
+abbrev pub runEdge : List ℕ → Asked → Run → CaseEdge Key
+runEdge s a run = record { case = runCase (run .low) (run .high); target = runBehind s a (run .set) }
 
+module _ (s c : List ℕ) where
+  -- The cases of the switch that asks a place.
   abbrev pub switchEdges : Asked → List (CaseEdge Key)
-  switchEdges a = map (runEdge a) (switchRuns (a .live) (cutsIn c (partAt (rulesIn s) (a .test))))
+  switchEdges a = map (runEdge s a) (switchRuns (a .live) (cutsIn c (partAt (rulesIn s) (a .test))))
 
   -- The node that asks.
   abbrev pub askIn : Asked → Node Key

@@ -1,5 +1,5 @@
 -- The record of a node, and of a case, that a list of bytes begins with (document 01, "Records", "Graph"; question 22; the
--- wide count of document 02, request 4).
+-- wide count and the runs of ids of document 02, requests 4 and 5).
 use Prim.Native.Nat.{ℕ}
 use mathlib.Core.Bool.{Bool, true, false, cond}
 use mathlib.Core.List.{List}
@@ -12,14 +12,14 @@ use Rattle.graph.specs.declared.Leaf.the-variants.{Fail, Suspend, Execut
 use Rattle.graph.specs.declared.NodeRecord.{NodeRecord}
 use Rattle.graph.specs.declared.NodeRecord.the-variants.{End, Switch, Pair}
 use Rattle.graph.specs.declared.CaseRecord.{CaseRecord}
-use Rattle.graph.specs.declared.CaseRecord.the-variants.{Symbol, Compound, Numbers}
+use Rattle.graph.specs.declared.CaseRecord.the-variants.{Symbols, Compound, Numbers}
 use Rattle.graph.specs.declared.NodeHead.{NodeHead}
 use Rattle.graph.specs.declared.NodeHead.the-variants.{Whole, Refused}
 use Rattle.graph.specs.declared.CaseHead.{CaseHead}
 use Rattle.graph.specs.declared.CaseHead.the-variants as case
 use Rattle.records.specs.Reading.{Reading, took, refused, ask, after}
 use Rattle.decision.specs.Key as key
-use Rattle.decision.specs.Cases.{symbolCase, compoundCase, numbersCase}
+use Rattle.decision.specs.Cases.{symbolsCase, compoundCase, numbersCase}
 use Rattle.decision.specs.Node.{Node, CaseEdge, end, switch, pairNode}
 use Rattle.graph.specs.ReadGraph.{edge, readCases}
 
@@ -55,9 +55,10 @@ nodeHead s =
     (cond (eqb (getD s 0 0) 0x47) (wholeNode (leb 9 (length s)) (pairRecord s))
     (Refused 22))))))
 
--- "44 symbol (wide id, wide node), 45 compound (wide id, arity, wide node), 46 numbers (wide low, wide high, wide node)".
-abbrev pub symbolHead : List ℕ → CaseHead
-symbolHead s = wholeCase (leb 5 (length s)) (Symbol (wideAt s 1) (wideAt s 3))
+-- "Record 44 becomes (wide low, wide high, wide node) for a run of ids", "45 compound (wide id, arity, wide node), 46 numbers (wide
+-- low, wide high, wide node)".
+abbrev pub symbolsHead : List ℕ → CaseHead
+symbolsHead s = wholeCase (leb 7 (length s)) (Symbols (wideAt s 1) (wideAt s 3) (wideAt s 5))
 
 abbrev pub compoundHead : List ℕ → CaseHead
 compoundHead s = wholeCase (leb 6 (length s)) (Compound (wideAt s 1) (getD s 3 0) (wideAt s 4))
@@ -69,14 +70,14 @@ numbersHead s = wholeCase (leb 7 (length s)) (Numbers (wideAt s 1) (wideAt s 3) 
 abbrev pub caseHead : List ℕ → CaseHead
 caseHead s =
     cond (eqb (length s) 0) (case.Refused 22)
-    (cond (eqb (getD s 0 0) 0x44) (symbolHead s)
+    (cond (eqb (getD s 0 0) 0x44) (symbolsHead s)
     (cond (eqb (getD s 0 0) 0x45) (compoundHead s)
     (cond (eqb (getD s 0 0) 0x46) (numbersHead s)
     (case.Refused 22))))
 
 -- The case that was read off its record, and the node: a leaf, a pair, or a switch with the cases behind its record.
 abbrev pub onCase : CaseHead → Reading (CaseEdge ℕ)
-onCase (case.Whole (Symbol a n)) = took 5 (edge (symbolCase a) n)
+onCase (case.Whole (Symbols l h n)) = took 7 (edge (symbolsCase l h) n)
 onCase (case.Whole (Compound a k n)) = took 6 (edge (compoundCase a k) n)
 onCase (case.Whole (Numbers l h n)) = took 7 (edge (numbersCase l h) n)
 onCase (case.Refused q) = refused q

@@ -2,12 +2,12 @@
 use Prim.Native.Nat.{ℕ}
 use mathlib.Core.List.{List, [], _∷_}
 use Rattle.records.specs.Fields.{wideThen}
-use Rattle.decision.specs.Cases.{symbolCase, compoundCase, numbersCase}
+use Rattle.decision.specs.Cases.{symbolsCase, compoundCase, numbersCase}
 use Rattle.decision.specs.GraphBytes.{leafBytes, caseBytes}
 use Rattle.graph.specs.declared.NodeRecord.{NodeRecord}
 use Rattle.graph.specs.declared.NodeRecord.the-variants.{End, Switch, Pair}
 use Rattle.graph.specs.declared.CaseRecord.{CaseRecord}
-use Rattle.graph.specs.declared.CaseRecord.the-variants.{Symbol, Compound, Numbers}
+use Rattle.graph.specs.declared.CaseRecord.the-variants.{Symbols, Compound, Numbers}
 use Rattle.graph.specs.views.NodeRecord.{leafOf}
 
 abbrev pub nodeRecordBytes : NodeRecord → List ℕ
@@ -16,7 +16,7 @@ nodeRecordBytes (Switch n count x y) = 0x43 ∷ wideThen n (wideThen count (wide
 nodeRecordBytes (Pair p q x y) = 0x47 ∷ wideThen p (wideThen q (wideThen x (wideThen y [])))
 
 abbrev pub caseRecordBytes : CaseRecord → List ℕ
-caseRecordBytes (Symbol a n) = caseBytes (symbolCase a) n
+caseRecordBytes (Symbols l h n) = caseBytes (symbolsCase l h) n
 caseRecordBytes (Compound a k n) = caseBytes (compoundCase a k) n
 caseRecordBytes (Numbers l h n) = caseBytes (numbersCase l h) n
 

@@ -1,5 +1,5 @@
--- A rule as it is kept while it is read: the places of its symbols, ranges and compounds in a set with the places before them,
--- and its variables as notes.
+-- A rule as it is kept while it is read: the places of its symbols, series, ranges and compounds in a set with the places before
+-- them, and its variables as notes.
 use Prim.Native.Nat.{ℕ, _/_, _%_}
 use mathlib.Core.Bool.{_||_}
 use mathlib.Core.List.{List, [], _∷_, _++_}
@@ -7,7 +7,7 @@ use lib.Dec.{eqb}
 use lib.ListN.{getD, set}
 use Rattle.masks.specs.Mask.{has, maskOf}
 use Rattle.patterns.specs.declared.PatternRecord.{PatternRecord}
-use Rattle.patterns.specs.declared.PatternRecord.the-variants.{Anything, Symbol, Range, Compound, Variable, Ranged}
+use Rattle.patterns.specs.declared.PatternRecord.the-variants.{Anything, Symbol, Range, Compound, Variable, Ranged, Series}
 use Rattle.patterns.specs.views.Note.{Note}
 use Rattle.sheet.specs.views.NoteArray.{notesIn}
 
@@ -34,6 +34,7 @@ markOf (Range l h) m n = placed m (n .place)
 markOf (Compound a k) m n = placed m (n .place)
 markOf (Variable v) m n = named m n
 markOf (Ranged v l h) m n = named m n
+markOf (Series l h) m n = placed m (n .place)
 
 abbrev pub marked : Marks → Note → Marks
 marked m n = markOf (n .what) m n

@@ -1,4 +1,4 @@
--- `graph::write::put_compound` meets its contract: the record is its fields' bytes.
+-- `node_writing::put_compound` meets its contract: the record is its fields' bytes.
 use borrow.Author.Needs.{needs}
 use Rattle.node_writing.proofs.put_compound.Statement.{statement}
 use Rattle.node_writing.proofs.put_compound.Tie as tie

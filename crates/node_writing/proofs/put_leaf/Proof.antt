@@ -1,4 +1,4 @@
--- `graph::write::put_leaf` meets its contract, for each leaf.
+-- `node_writing::put_leaf` meets its contract, for each leaf.
 use borrow.Author.Needs.{needs}
 use Rattle.node_writing.proofs.put_leaf.Statement.{statement}
 use Rattle.node_writing.proofs.put_leaf.Tie as tie

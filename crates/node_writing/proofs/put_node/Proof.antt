@@ -1,4 +1,4 @@
--- `graph::write::put_node` meets its contract, for each node.
+-- `node_writing::put_node` meets its contract, for each node.
 use borrow.Author.Needs.{needs}
 use Rattle.node_writing.proofs.put_node.Statement.{statement}
 use Rattle.node_writing.proofs.put_node.Tie as tie

@@ -1,4 +1,4 @@
--- `graph::write::put_pair` meets its contract: the record is its fields' bytes.
+-- `node_writing::put_pair` meets its contract: the record is its fields' bytes.
 use borrow.Author.Needs.{needs}
 use Rattle.node_writing.proofs.put_pair.Statement.{statement}
 use Rattle.node_writing.proofs.put_pair.Tie as tie

@@ -1,4 +1,4 @@
--- `graph::write::put_switch` meets its contract: the record is its fields' bytes.
+-- `node_writing::put_switch` meets its contract: the record is its fields' bytes.
 use borrow.Author.Needs.{needs}
 use Rattle.node_writing.proofs.put_switch.Statement.{statement}
 use Rattle.node_writing.proofs.put_switch.Tie as tie

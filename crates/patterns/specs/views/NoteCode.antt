@@ -5,7 +5,7 @@ use Prim.Native.Nat.{ℕ, _+_, _*_, _/_, _%_, _<_}
 use lib.Dec.{eqb}
 use Rattle.terms.specs.Term.{Wide}
 use Rattle.patterns.specs.declared.PatternRecord.{PatternRecord}
-use Rattle.patterns.specs.declared.PatternRecord.the-variants.{Anything, Symbol, Range, Compound, Variable, Ranged}
+use Rattle.patterns.specs.declared.PatternRecord.the-variants.{Anything, Symbol, Range, Compound, Variable, Ranged, Series}
 use Rattle.patterns.specs.views.Note.{Note, note}
 
 abbrev pub packedNote : ℕ → ℕ → ℕ → ℕ → ℕ → ℕ
@@ -20,6 +20,7 @@ recordCode n (Range l h) = packedNote n 2 0 l h
 recordCode n (Compound a k) = packedNote n 3 0 a k
 recordCode n (Variable v) = packedNote n 4 v 0 0
 recordCode n (Ranged v l h) = packedNote n 5 v l h
+recordCode n (Series l h) = packedNote n 6 0 l h
 
 abbrev pub noteCode : Note → ℕ
 noteCode n = recordCode (n .place) (n .what)
@@ -32,6 +33,7 @@ Fitting (Range l h) = Wide l × Wide h
 Fitting (Compound a k) = Wide a × (k < 256)
 Fitting (Variable v) = v < 16
 Fitting (Ranged v l h) = (v < 16) × Wide l × Wide h
+Fitting (Series l h) = Wide l × Wide h
 
 -- The parts of a number so made.
 abbrev pub codePlace : ℕ → ℕ
@@ -57,7 +59,8 @@ codeRecord c =
     (cond (eqb (codeKind c) 3) (Compound (codeFirst c) (c % 256))
     (cond (eqb (codeKind c) 4) (Variable (codeVariable c))
     (cond (eqb (codeKind c) 5) (Ranged (codeVariable c) (codeFirst c) (codeSecond c))
-    Anything))))
+    (cond (eqb (codeKind c) 6) (Series (codeFirst c) (codeSecond c))
+    Anything)))))
 
 abbrev pub noteOf : ℕ → Note
 noteOf c = note (codePlace c) (codeRecord c)

@@ -6,9 +6,9 @@ use lib.ListN.{length, getD}
 use lib.Dec.{leb, eqb}
 use Rattle.records.specs.Fields.{wideAt, wideThen}
 use Rattle.records.specs.Reading.{Reading, took, refused, ask}
-use Rattle.terms.specs.Pattern.{Pattern, anything, theSymbol, theRange, variable, rangedVariable}
+use Rattle.terms.specs.Pattern.{Pattern, anything, theSymbol, theSeries, theRange, variable, rangedVariable}
 use Rattle.patterns.specs.declared.PatternRecord.{PatternRecord}
-use Rattle.patterns.specs.declared.PatternRecord.the-variants.{Anything, Symbol, Range, Compound, Variable, Ranged}
+use Rattle.patterns.specs.declared.PatternRecord.the-variants.{Anything, Symbol, Range, Compound, Variable, Ranged, Series}
 use Rattle.patterns.specs.declared.PatternHead.{PatternHead}
 use Rattle.patterns.specs.declared.PatternHead.the-variants.{Whole, Refused}
 
@@ -20,6 +20,11 @@ recordBytes (Range l h) = 5
 recordBytes (Compound a n) = 4
 recordBytes (Variable v) = 2
 recordBytes (Ranged v l h) = 6
+recordBytes (Series l h) = 5
+
+-- The record of a series in one form: the series of one symbol is that symbol.
+abbrev pub seriesRecord : ℕ → ℕ → PatternRecord
+seriesRecord l h = cond (eqb l h) (Symbol l) (Series l h)
 
 -- The bytes that spell a record.
 abbrev pub recordSpelling : PatternRecord → List ℕ
@@ -29,6 +34,7 @@ recordSpelling (Range l h) = 0x22 ∷ wideThen l (wideThen h [])
 recordSpelling (Compound a n) = 0x23 ∷ wideThen a (n ∷ [])
 recordSpelling (Variable v) = 0x24 ∷ v ∷ []
 recordSpelling (Ranged v l h) = 0x25 ∷ v ∷ wideThen l (wideThen h [])
+recordSpelling (Series l h) = 0x26 ∷ wideThen l (wideThen h [])
 
 -- The bytes that spell records in a row.
 abbrev pub recordsSpelling : List PatternRecord → List ℕ
@@ -40,24 +46,30 @@ abbrev pub wholeIf : Bool → PatternRecord → PatternHead
 wholeIf true r = Whole r
 wholeIf false r = Refused 4
 
--- A record of kind 22 or 25, by the bytes that are there.
-abbrev pub rangeHead : List ℕ → PatternHead
-rangeHead s = wholeIf (leb 5 (length s)) (Range (wideAt s 1) (wideAt s 3))
+-- Two ends: a series of symbols, of kind 26, or a range of numbers, of kind 22.
+abbrev pub rangeRecord : Bool → ℕ → ℕ → PatternRecord
+rangeRecord true low high = Series low high
+rangeRecord false low high = Range low high
+
+-- A record of kind 22 or 26, or of kind 25, by the bytes that are there.
+abbrev pub rangeHead : Bool → List ℕ → PatternHead
+rangeHead symbols s = wholeIf (leb 5 (length s)) (rangeRecord symbols (wideAt s 1) (wideAt s 3))
 
 abbrev pub rangedHead : List ℕ → PatternHead
 rangedHead s = wholeIf (leb 6 (length s)) (Ranged (getD s 1 0) (wideAt s 2) (wideAt s 4))
 
--- "4 Is it a whole record of kinds 20 to 25?"
+-- "4 Is it a whole record of kinds 20 to 25?" Of kind 26: "Question 4 admits it" (document 02, request 5).
 abbrev pub patternHead : List ℕ → PatternHead
 patternHead s =
     cond (eqb (length s) 0) (Refused 4)
     (cond (eqb (getD s 0 0) 0x20) (Whole Anything)
     (cond (eqb (getD s 0 0) 0x21) (wholeIf (leb 3 (length s)) (Symbol (wideAt s 1)))
-    (cond (eqb (getD s 0 0) 0x22) (rangeHead s)
+    (cond (eqb (getD s 0 0) 0x22) (rangeHead false s)
     (cond (eqb (getD s 0 0) 0x23) (wholeIf (leb 4 (length s)) (Compound (wideAt s 1) (getD s 3 0)))
     (cond (eqb (getD s 0 0) 0x24) (wholeIf (leb 2 (length s)) (Variable (getD s 1 0)))
     (cond (eqb (getD s 0 0) 0x25) (rangedHead s)
-    (Refused 4)))))))
+    (cond (eqb (getD s 0 0) 0x26) (rangeHead true s)
+    (Refused 4))))))))
 
 -- The number of the question that a head got a no from, 0 for a whole record.
 abbrev pub headRefusal : PatternHead → ℕ
@@ -72,6 +84,7 @@ onRecord compoundOf (Range l h) = ask 7 (leb l h) (took 5 (theRange l h))
 onRecord compoundOf (Compound a n) = compoundOf a n
 onRecord compoundOf (Variable v) = ask 8 (leb v 15) (took 2 (variable v))
 onRecord compoundOf (Ranged v l h) = ask 7 (leb l h) (ask 8 (leb v 15) (took 6 (rangedVariable v l h)))
+onRecord compoundOf (Series l h) = ask 7 (leb l h) (took 5 (theSeries l h))
 
 -- "5 If compound, is its depth at most 3?" It is 4 where no level is below.
 abbrev pub readLeaf : PatternRecord → Reading Pattern

@@ -1,6 +1,6 @@
 -- `empty_argument` meets its contract: the argument's own cell is emptied, and where anything stands below it, those of its four
 -- children.
-use Prim.Native.Nat.{ℕ, _+_, _*_, _-_, _≤_}
+use Prim.Native.Nat.{_+_, _*_, _-_, _≤_}
 use mathlib.Core.Path.{_≡_, _∙_}
 use native.Mathlib.Omega.{arith}
 use lib.ListN.{length, set}

@@ -1,5 +1,5 @@
 -- `empty_child` meets its contract: the child's own cell is emptied, and where anything stands below it, the 20 behind.
-use Prim.Native.Nat.{ℕ, _+_, _-_, _≤_}
+use Prim.Native.Nat.{_+_, _-_, _≤_}
 use mathlib.Core.Path.{_≡_, _∙_}
 use native.Mathlib.Omega.{arith}
 use lib.ListN.{length, set}

@@ -8,7 +8,7 @@ use Rattle.terms.specs.Pattern.{Patterns}
 use Rattle.terms.specs.RuleTests.{PairTest, pairsOf}
 use Rattle.terms.specs.Outcome.{Outcome, holds, _and_, together}
 use Rattle.patterns.specs.declared.PatternRecord.{PatternRecord}
-use Rattle.patterns.specs.declared.PatternRecord.the-variants.{Anything, Symbol, Range, Compound, Variable, Ranged}
+use Rattle.patterns.specs.declared.PatternRecord.the-variants.{Anything, Symbol, Range, Compound, Variable, Ranged, Series}
 use Rattle.patterns.specs.views.Note.{Note}
 use Rattle.sheet.specs.views.Noted.{ruleNotes}
 use Rattle.sheet.specs.views.NoteRanges.{lowsOf, highsOf}
@@ -29,9 +29,10 @@ flatBytes (Range l h) = 5
 flatBytes (Compound a n) = 0
 flatBytes (Variable v) = 2
 flatBytes (Ranged v l h) = 6
+flatBytes (Series l h) = 5
 
 module _ (cells : List ℕ) where
-  -- The test of a symbol, a range or a compound at place p; a variable has its range's.
+  -- The test of a symbol, a series, a range or a compound at place p; a variable has its range's.
   abbrev pub fixedOutcome : ℕ → PatternRecord → Outcome
   fixedOutcome p Anything = holds
   fixedOutcome p (Symbol a) = placeCells cells p (symbolCode a) (symbolCode a)
@@ -39,6 +40,7 @@ module _ (cells : List ℕ) where
   fixedOutcome p (Compound a n) = placeCells cells p (compoundCode a n) (compoundCode a n)
   fixedOutcome p (Variable v) = holds
   fixedOutcome p (Ranged v l h) = holds
+  fixedOutcome p (Series l h) = placeCells cells p (symbolCode l) (symbolCode h)
 
   -- The test of a variable's common range at place p. A high end over 65,535 says that it has none.
   abbrev pub rangeOutcome : ℕ → ℕ → ℕ → Outcome
@@ -52,6 +54,7 @@ module _ (cells : List ℕ) where
   recordOutcome low high p (Compound a n) = placeCells cells p (compoundCode a n) (compoundCode a n)
   recordOutcome low high p (Variable v) = rangeOutcome p (getD low v 0) (getD high v 0)
   recordOutcome low high p (Ranged v l h) = rangeOutcome p (getD low v 0) (getD high v 0)
+  recordOutcome low high p (Series l h) = placeCells cells p (symbolCode l) (symbolCode h)
 
   abbrev pub noteOutcome : List ℕ → List ℕ → Note → Outcome
   noteOutcome low high n = recordOutcome low high (n .place) (n .what)

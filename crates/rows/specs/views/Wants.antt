@@ -8,7 +8,7 @@ use lib.Dec.{ltb}
 use lib.ListN.{getD}
 use Rattle.terms.specs.RuleTests.{Want, aSymbol, aNumber, aCompound, PlaceTest, at}
 use Rattle.patterns.specs.declared.PatternRecord.{PatternRecord}
-use Rattle.patterns.specs.declared.PatternRecord.the-variants.{Anything, Symbol, Range, Compound, Variable, Ranged}
+use Rattle.patterns.specs.declared.PatternRecord.the-variants.{Anything, Symbol, Range, Compound, Variable, Ranged, Series}
 use Rattle.patterns.specs.views.Note.{Note}
 use Rattle.codes.specs.views.Codes.{wantLow, wantHigh}
 use Rattle.rows.specs.declared.Wanted.{Wanted}
@@ -22,14 +22,15 @@ numberIf false low high = none
 abbrev pub rangeWant : ℕ → ℕ → Option Want
 rangeWant low high = numberIf (ltb high 0x1_0000) low high
 
--- "one place test for each symbol, range or compound (id and arity)"
+-- "one place test for each symbol, range or compound (id and arity)", "Pattern 21 is then the series of one symbol"
 abbrev pub recordWant : List ℕ → List ℕ → PatternRecord → Option Want
 recordWant low high Anything = none
-recordWant low high (Symbol a) = some (aSymbol a)
+recordWant low high (Symbol a) = some (aSymbol a a)
 recordWant low high (Range l h) = some (aNumber l h)
 recordWant low high (Compound a n) = some (aCompound a n)
 recordWant low high (Variable v) = rangeWant (getD low v 0) (getD high v 0)
 recordWant low high (Ranged v l h) = rangeWant (getD low v 0) (getD high v 0)
+recordWant low high (Series l h) = some (aSymbol l h)
 
 abbrev pub testIf : ℕ → Option Want → List PlaceTest → List PlaceTest
 testIf n none tests = tests

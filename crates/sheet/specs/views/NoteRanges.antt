@@ -8,7 +8,8 @@ use lib.ListN.{getD}
 use Rattle.basics.specs.Lists.{countFrom, allBelow}
 use Rattle.terms.specs.RuleTests.{Range, commonPart}
 use Rattle.patterns.specs.declared.PatternRecord.{PatternRecord}
-use Rattle.patterns.specs.declared.PatternRecord.the-variants.{Anything, Symbol, Range as RangeOf, Compound, Variable, Ranged}
+use Rattle.patterns.specs.declared.PatternRecord.the-variants.{Anything, Symbol, Series, Range as RangeOf, Compound}
+use Rattle.patterns.specs.declared.PatternRecord.the-variants.{Variable, Ranged}
 use Rattle.sheet.specs.declared.Ranges.{Ranges}
 use Rattle.patterns.specs.views.Note.{Note}
 
@@ -20,6 +21,7 @@ recordRange (RangeOf l h) v = none
 recordRange (Compound a n) v = none
 recordRange (Variable u) v = none
 recordRange (Ranged u l h) v = cond (eqb u v) (some (record { low = l; high = h })) none
+recordRange (Series l h) v = none
 
 -- "The common part of those ranges", of variable v.
 abbrev pub rangeIn : List Note → ℕ → Option Range

@@ -5,10 +5,10 @@ use mathlib.Core.List.{List, [], _∷_}
 use lib.Dec.{ltb}
 use lib.ListN.{getD}
 use Rattle.patterns.specs.declared.PatternRecord.{PatternRecord}
-use Rattle.patterns.specs.declared.PatternRecord.the-variants.{Anything, Symbol, Range, Compound, Variable, Ranged}
+use Rattle.patterns.specs.declared.PatternRecord.the-variants.{Anything, Symbol, Range, Compound, Variable, Ranged, Series}
 use Rattle.patterns.specs.views.Note.{Note}
 
--- A record is a place test: a symbol, a range, a compound, or a variable with a range.
+-- A record is a place test: a symbol, a series, a range, a compound, or a variable with a range.
 abbrev pub isTested : (ℕ → Bool) → PatternRecord → Bool
 isTested ranged Anything = false
 isTested ranged (Symbol a) = true
@@ -16,6 +16,7 @@ isTested ranged (Range l h) = true
 isTested ranged (Compound a n) = true
 isTested ranged (Variable v) = ranged v
 isTested ranged (Ranged v l h) = ranged v
+isTested ranged (Series l h) = true
 
 -- The places of the place tests.
 abbrev pub testedPlaces : (ℕ → Bool) → List Note → List ℕ

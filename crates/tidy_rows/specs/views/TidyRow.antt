@@ -5,8 +5,8 @@ use mathlib.Core.List.{List, [], _∷_, _++_, map}
 use lib.Dec.{eqb, ltb}
 use lib.ListN.{getD}
 use Rattle.patterns.specs.declared.PatternRecord.{PatternRecord}
-use Rattle.patterns.specs.declared.PatternRecord.the-variants.{Anything, Symbol, Range, Compound, Variable, Ranged}
-use Rattle.patterns.specs.views.PatternRecord.{recordSpelling, recordsSpelling}
+use Rattle.patterns.specs.declared.PatternRecord.the-variants.{Anything, Symbol, Series, Range, Compound, Variable, Ranged}
+use Rattle.patterns.specs.views.PatternRecord.{seriesRecord, recordSpelling, recordsSpelling}
 use Rattle.rule_rows.specs.views.Words.{wordLow, wordHigh, wordUses, wordPlace, freshWords, metRecords, Numbering, numberRecord}
 
 -- What a variable becomes, by its word.
@@ -18,9 +18,11 @@ tidyWord w =
     (Variable (w / 0x8_0000_0000 % 256))
     (Ranged (w / 0x8_0000_0000 % 256) (wordLow w) (w / 0x1_0000 % 0x1_0000)))
 
+-- What a record becomes.
 abbrev pub tidyIn : List ℕ → PatternRecord → PatternRecord
 tidyIn words Anything = Anything
 tidyIn words (Symbol a) = Symbol a
+tidyIn words (Series l h) = seriesRecord l h
 tidyIn words (Range l h) = Range l h
 tidyIn words (Compound a n) = Compound a n
 tidyIn words (Variable v) = tidyWord (getD words (wordPlace v) 0)

@@ -112,6 +112,14 @@ fn spans(count: u16) -> Vec<u8> {
     ])
 }
 
+/// Series at 4 places, and a piece that the rule in the middle takes: two symbols that the next rule takes too, one not
+/// taken yet, and one that the next rule does not take.
+fn series(name: &'static str, rules: u16) -> Case {
+    let id = rules / 2 * 20;
+    let symbols = [Term::Symbol(id + 22), Term::Symbol(id + 25), Term::Unknown, Term::Symbol(id + 10)];
+    case(name, known::series_4(rules), piece_bytes(&symbols))
+}
+
 /// Nested ranges at one place, and one reading.
 fn one(name: &'static str, rules: u16, term: Term) -> Case {
     case(name, known::nested_1(rules), piece_bytes(&[term]))
@@ -146,6 +154,7 @@ pub fn for_graphs() -> Vec<Case> {
         one("64 nested ranges", 64, Term::Number(500)),
         open("nested ranges at 8 places", known::nested_8(32)),
         open("nested ranges at 16 places", known::nested_16(32)),
+        series("32 series at 4 places", 32),
         open("most nodes", known::nodes_1024()),
         open("too many nodes", known::nodes_1027()),
     ]
@@ -165,6 +174,7 @@ pub fn for_listing() -> Vec<Case> {
         case("8 rules of 4 readings", coins(8), coin(8)),
         case("8 rules of 4 readings, spans", coins(8), spans(8)),
         random_bits("16 rules of zeros and ones", 16),
+        series("32 series at 4 places", 32),
     ]
 }
 
@@ -182,6 +192,7 @@ pub fn all() -> Vec<Case> {
         case("32 rules of 4 readings", coins(32), coin(32)),
         case("64 rules of 4 readings", coins(64), coin(64)),
         case("64 rules of 4 readings, spans", coins(64), spans(64)),
+        series("32 series at 4 places", 32),
         case("32 equal rules of 64 places", places_64(32).bytes(), piece_bytes(&open)),
         case("64 equal rules of 64 places", places_64(64).bytes(), piece_bytes(&open)),
         case("32 equal rules of 55 pairs", pairs_64(32).bytes(), piece_bytes(&paired)),

@@ -1,6 +1,6 @@
 //! The first pass: all nodes numbered breadth first, and their bytes counted.
 
-use super::super::records::SWITCH;
+use super::super::records::{COMPOUND_BYTES, RUN_BYTES, SWITCH};
 use super::items;
 use super::keys::{Key, Keys};
 use super::rules::Tests;
@@ -82,11 +82,14 @@ fn switch<R: Rules>(
             break;
         }
         marked = marked.rest();
-        grown = grown.edge(tests.key(others | item.rules & key.live, unsettled, cover), keys, edges)?;
-        grown.bytes += 5 + items::kind(item.code) as usize;
+        let rules = item.rules & key.live;
+        if rules != R::NONE {
+            grown = grown.edge(tests.key(others | rules, unsettled, cover), keys, edges)?;
+            grown.bytes += if items::kind(item.code) == items::SYMBOLS { RUN_BYTES } else { COMPOUND_BYTES };
+        }
     }
     runs.cut(items, marked, key.live);
-    grown.bytes += 7 * runs.cases();
+    grown.bytes += RUN_BYTES * runs.cases();
     let key_with = |some: R| tests.key(others | some, unsettled, cover);
     grown = numbers(runs, key_with, grown, keys, edges)?;
     grown = grown.edge(tests.key(others, unsettled, cover), keys, edges)?;

@@ -1,16 +1,18 @@
 //! The items of a place test: what its rules want there, in the order of a switch's cases.
 //!
-//! An item is a code and a set of rules. The code of a symbol or a compound is its kind, id and arity, and
-//! the set holds the rules that want it. The code of a number says that ranges of rules begin or end there:
-//! first the set holds those rules, then, once `run` has been over the items, the rules whose range holds
-//! the numbers from there to the next item. The code of cell 0 is how many items there are.
+//! An item is a code and a set of rules. The code of a compound is its kind, id and arity, and the set holds the
+//! rules that want it. The code of a symbol or a number says that series or ranges of rules begin or end there:
+//! first the set holds those rules, then, once `run` has been over the items, the rules whose series or range holds
+//! what comes from there to the next item. The code of cell 0 is how many items there are.
 
 use super::sets::{Rules, Set};
 
 /// Few items are looked at one by one.
 const FEW: u32 = 5;
 
-/// The kind of codes of numbers; symbols have kind 0, compounds kind 1.
+/// The kinds of codes, in the order of cases.
+pub const SYMBOLS: u32 = 0;
+pub const COMPOUND: u32 = 1;
 pub const NUMBERS: u32 = 2;
 
 #[derive(Clone, Copy)]
@@ -27,13 +29,13 @@ impl<R: Rules> Item<R> {
 /// The code of a symbol.
 #[inline(always)]
 pub fn symbol(id: u16) -> u32 {
-    u32::from(id) << 8
+    SYMBOLS << 24 | u32::from(id)
 }
 
 /// The code of a compound.
 #[inline(always)]
 pub fn compound(id: u16, arity: u8) -> u32 {
-    1 << 24 | u32::from(id) << 8 | u32::from(arity)
+    COMPOUND << 24 | u32::from(id) << 8 | u32::from(arity)
 }
 
 /// The code of a number.
@@ -55,13 +57,13 @@ pub fn want<R: Rules>(items: &mut [Item<R>], rule: usize, code: u32) {
     items[0].code = put(&mut items[1..], count, Item { code, rules: R::of(rule) }) as u32;
 }
 
-/// Puts in the two ends of a range that a rule wants.
+/// Puts in the two ends of what a rule wants, by its first code and its last.
 #[inline(always)]
-pub fn want_range<R: Rules>(items: &mut [Item<R>], rule: usize, low: u16, high: u16) {
+pub fn want_all<R: Rules>(items: &mut [Item<R>], rule: usize, first: u32, last: u32) {
     let count = items[0].code as usize;
     let rules = R::of(rule);
-    let count = put(&mut items[1..], count, Item { code: number(low), rules });
-    items[0].code = put(&mut items[1..], count, Item { code: number(high) + 1, rules }) as u32;
+    let count = put(&mut items[1..], count, Item { code: first, rules });
+    items[0].code = put(&mut items[1..], count, Item { code: last + 1, rules }) as u32;
 }
 
 /// Puts an item in its position; the sets of equal codes are joined. Gives how many there are then.
@@ -83,7 +85,7 @@ fn put<R: Rules>(items: &mut [Item<R>], count: usize, item: Item<R>) -> usize {
     count + 1
 }
 
-/// Turns ends of ranges to running sets, and notes for each rule the items where it begins or ends; gives
+/// Turns ends of series and ranges to running sets, and notes for each rule the items where it begins or ends; gives
 /// the rules that have the test.
 #[inline(always)]
 pub fn run<R: Rules>(items: &mut [Item<R>], marks: &mut [R::Items]) -> R {
@@ -92,7 +94,7 @@ pub fn run<R: Rules>(items: &mut [Item<R>], marks: &mut [R::Items]) -> R {
     for i in 0..items[0].code as usize {
         let Item { code, mut rules } = items[1 + i];
         having |= rules;
-        if kind(code) == NUMBERS {
+        if kind(code) != COMPOUND {
             running ^= rules;
             items[1 + i].rules = running;
         }
@@ -127,7 +129,7 @@ fn marked_by_items<R: Rules>(items: &[Item<R>], rules: R) -> R::Items {
     for i in 0..items[0].code as usize {
         let item = items[1 + i];
         let now = item.rules & rules;
-        if kind(item.code) == NUMBERS {
+        if kind(item.code) != COMPOUND {
             if now != last {
                 marked |= R::Items::of(i);
             }

@@ -26,9 +26,14 @@ impl<R: Rules> Wants<'_, R> {
     }
 
     #[inline(always)]
-    fn want_range(&mut self, place: usize, low: u16, high: u16) {
+    fn want_all(&mut self, place: usize, first: u32, last: u32) {
         let test = usize::from(self.numbers[place]);
-        items::want_range(&mut self.items[test * self.room..], self.rule, low, high);
+        items::want_all(&mut self.items[test * self.room..], self.rule, first, last);
+    }
+
+    #[inline(always)]
+    fn want_range(&mut self, place: usize, low: u16, high: u16) {
+        self.want_all(place, items::number(low), items::number(high));
     }
 
     /// Puts in what a pattern wants; gives how many bytes it has.
@@ -36,8 +41,12 @@ impl<R: Rules> Wants<'_, R> {
         match records::pattern(bytes) {
             None | Some(Pattern::Anything) => 1,
             Some(Pattern::Symbol(id)) => {
-                self.want(place, items::symbol(id));
+                self.want_all(place, items::symbol(id), items::symbol(id));
                 3
+            }
+            Some(Pattern::Series(low, high)) => {
+                self.want_all(place, items::symbol(low), items::symbol(high));
+                5
             }
             Some(Pattern::Range(low, high)) => {
                 self.want_range(place, low, high);

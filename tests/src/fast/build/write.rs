@@ -1,6 +1,8 @@
 //! The second pass: the numbered nodes written to the buffer.
 
-use super::super::records::{put_wide, COMPOUND_CASE, NUMBERS_CASE, SWITCH, SYMBOL_CASE};
+use super::super::records::{
+    put_wide, COMPOUND_BYTES, COMPOUND_CASE, NUMBERS_CASE, RUN_BYTES, SWITCH, SYMBOLS_CASE,
+};
 use super::items;
 use super::keys::{Key, Keys};
 use super::rules::Tests;
@@ -96,8 +98,13 @@ fn switch<R: Rules>(
             break;
         }
         marked = marked.rest();
-        at += case(&mut bytes[at..], item.code, targets.next(others | item.rules & key.live));
-        cases += 1;
+        let rules = item.rules & key.live;
+        if rules != R::NONE {
+            // Where a run of ids ends is marked too.
+            let last = || items[1 + marked.lowest()].code - 1;
+            at += case(&mut bytes[at..], item.code, last, targets.next(others | rules));
+            cases += 1;
+        }
     }
     runs.cut(items, marked, key.live);
     at += numbers(&mut bytes[at..], runs, others, targets);
@@ -110,7 +117,7 @@ fn switch<R: Rules>(
 
 /// Writes the cases of pairs of runs; gives how many bytes they have.
 fn numbers<R: Rules>(bytes: &mut [u8], runs: &Runs<R>, others: R, targets: &mut Targets<R>) -> usize {
-    let mut cases = bytes.chunks_exact_mut(NUMBERS);
+    let mut cases = bytes.chunks_exact_mut(RUN_BYTES);
     let mut last = None;
     let mut node = 0;
     for first in 0..runs.count {
@@ -128,11 +135,8 @@ fn numbers<R: Rules>(bytes: &mut [u8], runs: &Runs<R>, others: R, targets: &mut 
             }
         }
     }
-    NUMBERS * runs.cases()
+    RUN_BYTES * runs.cases()
 }
-
-/// The bytes of a number case.
-const NUMBERS: usize = 7;
 
 /// Writes a switch's record, its cases apart.
 #[inline(always)]
@@ -156,19 +160,20 @@ fn pair<R: Rules>(bytes: &mut [u8], key: Key<R>, test: usize, targets: &mut Targ
     9
 }
 
-/// Writes the case of a symbol or compound, its last field first, so that bounds are checked once; gives how many
-/// bytes it has.
+/// Writes the case of a run of ids, of which the last code is asked for, or of a compound, its last field first, so
+/// that bounds are checked once; gives how many bytes it has.
 #[inline(always)]
-fn case(bytes: &mut [u8], code: u32, node: u16) -> usize {
-    if items::kind(code) == 0 {
-        put_wide(bytes, 3, node);
-        put_wide(bytes, 1, (code >> 8) as u16);
-        bytes[0] = SYMBOL_CASE;
-        return 5;
+fn case(bytes: &mut [u8], code: u32, last: impl Fn() -> u32, node: u16) -> usize {
+    if items::kind(code) == items::SYMBOLS {
+        put_wide(bytes, 5, node);
+        put_wide(bytes, 3, last() as u16);
+        put_wide(bytes, 1, code as u16);
+        bytes[0] = SYMBOLS_CASE;
+        return RUN_BYTES;
     }
     put_wide(bytes, 4, node);
     bytes[3] = code as u8;
     put_wide(bytes, 1, (code >> 8) as u16);
     bytes[0] = COMPOUND_CASE;
-    6
+    COMPOUND_BYTES
 }

@@ -30,7 +30,7 @@ loop-holds c =
     let keys = keysIn (now (a .keys)) in
     let runs = now (a .runs) in
     let count = a .framed .count in
-    let all = runBytes s keys (a .asked) (unionPairs (runsFrom runs count (a .framed .points))) in
+    let all = runBytes s keys (a .asked) (unionPairs (runsFrom runs count (a .framed .names))) in
     (refl, start .pre .1, left-start (now (a .buf)) (a .start) all all refl)
 
 put-row-requires : tie.Need-put-row-requires Inv-loop μ-loop

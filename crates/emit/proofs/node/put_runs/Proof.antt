@@ -11,18 +11,18 @@ use Rattle.emit.proofs.InTurn.{cases-bytes}
 use Rattle.emit.proofs.node.put_runs.Statement.{statement}
 use Rattle.emit.proofs.node.put_runs.Tie as tie
 
-put-points-requires : tie.Need-put-points-requires
-put-points-requires c κs =
+put-names-requires : tie.Need-put-names-requires
+put-names-requires c κs =
     let start = c .before .before in
     let a = start .args in
     let s = now (a .s) in
     let keys = keysIn (now (a .keys)) in
     let runs = now (a .runs) in
     let count = a .framed .count in
-    let points = a .framed .points in
-    let first = runBytes s keys (a .asked) (runsIn runs points) in
-    let second = runBytes s keys (a .asked) (unionPairs (runsFrom runs count points)) in
-    let joined = cases-bytes s keys (a .asked) runs count points (start .pre .1) in
+    let names = a .framed .names in
+    let first = runBytes s keys (a .asked) (runsIn runs names) in
+    let second = runBytes s keys (a .asked) (unionPairs (runsFrom runs count names)) in
+    let joined = cases-bytes s keys (a .asked) runs count names (start .pre .1) in
     let room = first-room (now (a .buf)) (a .start) first second joined (start .pre .3) in
     (start .pre .0, omega (arith, start .pre .1, start .pre .2), room)
 
@@ -34,12 +34,12 @@ put-pairs-requires c κs =
     let keys = keysIn (now (a .keys)) in
     let runs = now (a .runs) in
     let count = a .framed .count in
-    let points = a .framed .points in
-    let first = runBytes s keys (a .asked) (runsIn runs points) in
-    let second = runBytes s keys (a .asked) (unionPairs (runsFrom runs count points)) in
-    let joined = cases-bytes s keys (a .asked) runs count points (start .pre .1) in
-    let points-put = c .before .before .before .put-points .ensures in
-    let room = second-room (now (a .buf)) (a .start) first second joined (start .pre .3) points-put in
+    let names = a .framed .names in
+    let first = runBytes s keys (a .asked) (runsIn runs names) in
+    let second = runBytes s keys (a .asked) (unionPairs (runsFrom runs count names)) in
+    let joined = cases-bytes s keys (a .asked) runs count names (start .pre .1) in
+    let names-put = c .before .before .before .put-names .ensures in
+    let room = second-room (now (a .buf)) (a .start) first second joined (start .pre .3) names-put in
     (start .pre .0, start .pre .1, start .pre .2, room)
 
 same-length : tie.Need-same-length
@@ -53,12 +53,12 @@ returns c =
     let keys = keysIn (now (a .keys)) in
     let runs = now (a .runs) in
     let count = a .framed .count in
-    let points = a .framed .points in
-    let first = runBytes s keys (a .asked) (runsIn runs points) in
-    let second = runBytes s keys (a .asked) (unionPairs (runsFrom runs count points)) in
-    let joined = cases-bytes s keys (a .asked) runs count points (start .pre .1) in
-    let points-put = c .before .before .before .before .before .before .put-points .ensures in
-    both-wrote (now (a .buf)) (a .start) first second joined (start .pre .3) points-put (c .before .before .put-pairs .ensures)
+    let names = a .framed .names in
+    let first = runBytes s keys (a .asked) (runsIn runs names) in
+    let second = runBytes s keys (a .asked) (unionPairs (runsFrom runs count names)) in
+    let joined = cases-bytes s keys (a .asked) runs count names (start .pre .1) in
+    let names-put = c .before .before .before .before .before .before .put-names .ensures in
+    both-wrote (now (a .buf)) (a .start) first second joined (start .pre .3) names-put (c .before .before .put-pairs .ensures)
 
 pub put-runs-spec : {M : Type 1} → statement M
-put-runs-spec = tie.close (tie.spec put-points-requires put-pairs-requires same-length returns)
+put-runs-spec = tie.close (tie.spec put-names-requires put-pairs-requires same-length returns)

@@ -90,7 +90,7 @@ put-node-requires c κs =
     let a = start .args in
     let is = part .ensures ∙ ap (λ (n : ℕ). partAt n (a .asked .test)) (rules .ensures) in
     let runs = cut .last .1 .1 .1 .0 in
-    let cases = caseRuns (cut .result .points) (runsIn runs (cut .result .count)) in
+    let cases = caseRuns (cut .result .names) (runsIn runs (cut .result .count)) in
     let keys = keysIn (now (a .keys)) in
     let joined =
     switch-bytes (now (a .s)) keys (a .asked) (now (a .c)) (start .pre .0 .2) cases is (cut .ensures .0) (count .ensures runs)
@@ -116,7 +116,7 @@ put-runs-requires c κs =
     let a = start .args in
     let is = part .ensures ∙ ap (λ (n : ℕ). partAt n (a .asked .test)) (rules .ensures) in
     let runs = cut .last .1 .1 .1 .0 in
-    let cases = caseRuns (cut .result .points) (runsIn runs (cut .result .count)) in
+    let cases = caseRuns (cut .result .names) (runsIn runs (cut .result .count)) in
     let keys = keysIn (now (a .keys)) in
     let joined =
     switch-bytes (now (a .s)) keys (a .asked) (now (a .c)) (start .pre .0 .2) cases is (cut .ensures .0) (count .ensures runs)
@@ -147,7 +147,7 @@ returns c =
     let a = start .args in
     let is = part .ensures ∙ ap (λ (n : ℕ). partAt n (a .asked .test)) (rules .ensures) in
     let runs = cut .last .1 .1 .1 .0 in
-    let cases = caseRuns (cut .result .points) (runsIn runs (cut .result .count)) in
+    let cases = caseRuns (cut .result .names) (runsIn runs (cut .result .count)) in
     let keys = keysIn (now (a .keys)) in
     let joined =
     switch-bytes (now (a .s)) keys (a .asked) (now (a .c)) (start .pre .0 .2) cases is (cut .ensures .0) (count .ensures runs)

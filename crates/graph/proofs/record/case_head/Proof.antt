@@ -10,8 +10,8 @@ returns c = simp (eq-eqb _ _ (c .if1 .taken))
 shared-slice-read-kind : tie.Need-shared-slice-read-kind
 shared-slice-read-kind c = search needs
 
-symbol-head-requires : tie.Need-symbol-head-requires
-symbol-head-requires c κs = search needs
+symbols-head-requires : tie.Need-symbols-head-requires
+symbols-head-requires c κs = search needs
 
 compound-head-requires : tie.Need-compound-head-requires
 compound-head-requires c κs = search needs
@@ -20,7 +20,7 @@ numbers-head-requires : tie.Need-numbers-head-requires
 numbers-head-requires c κs = search needs
 
 returns-2 : tie.Need-returns-2
-returns-2 c = simp (ne-eqb _ _ (c .before .before .before .if1 .left), c .before .match .keys1, c .symbol-head .ensures)
+returns-2 c = simp (ne-eqb _ _ (c .before .before .before .if1 .left), c .before .match .keys1, c .symbols-head .ensures)
 
 returns-3 : tie.Need-returns-3
 returns-3 c = simp (ne-eqb _ _ (c .before .before .before .if1 .left), c .before .match .keys2, c .compound-head .ensures)
@@ -37,7 +37,7 @@ case-head-spec =
     (tie.spec
     returns
     shared-slice-read-kind
-    symbol-head-requires
+    symbols-head-requires
     compound-head-requires
     numbers-head-requires
     returns-2

@@ -66,12 +66,12 @@ returns c =
     let a = start .args in
     let is = part .ensures ∙ ap (λ (n : ℕ). partAt n (a .asked .test)) (rules .ensures) in
     let runs = cut .last .1 .1 .1 .0 in
-    let cases-of = caseRuns (cut .result .points) (runsIn runs (cut .result .count)) in
+    let cases-of = caseRuns (cut .result .names) (runsIn runs (cut .result .count)) in
     let node = switch-is (now (a .s)) (now (a .c)) (a .asked) (start .pre .2) cases-of is (cut .ensures .0) in
     let many = switch-many (testIn (now (a .s)) (a .asked .test) % 0x1_0000)
-    (map (runEdge (now (a .s)) (now (a .c)) (a .asked)) cases-of) (keysIn (now (a .keys)))
+    (map (runEdge (now (a .s)) (a .asked)) cases-of) (keysIn (now (a .keys)))
     (noneBehind (now (a .s)) (a .asked)) (unknownBehind (now (a .s)) (a .asked)) (cases .result) (cases .last .0)
-    (enum-told .given .1) (cases .ensures .0 (now (a .c))) in (
+    (enum-told .given .1) (cases .ensures .0) in (
       subst (λ (n : Node Key). EdgesMet n (keysIn (now (a .keys))) (cases .result) (cases .last .0)) (sym node) many,
       (cases .ensures .1 .0, most-more (cases .result) (omega arith) (cases .ensures .1 .1), cut .ensures .4),
     )
@@ -110,12 +110,12 @@ returns-2 c =
     let is = part .ensures ∙ ap (λ (n : ℕ). partAt n (a .asked .test)) (rules .ensures) in
     let few = bytes-most (met .given .1) (cases .ensures .1 .1) in
     let runs = cut .last .1 .1 .1 .0 in
-    let cases-of = caseRuns (cut .result .points) (runsIn runs (cut .result .count)) in
+    let cases-of = caseRuns (cut .result .names) (runsIn runs (cut .result .count)) in
     let node = switch-is (now (a .s)) (now (a .c)) (a .asked) (start .pre .2) cases-of is (cut .ensures .0) in
     let all = switch-met (testIn (now (a .s)) (a .asked .test) % 0x1_0000)
-    (map (runEdge (now (a .s)) (now (a .c)) (a .asked)) cases-of) (keysIn (now (a .keys)))
+    (map (runEdge (now (a .s)) (a .asked)) cases-of) (keysIn (now (a .keys)))
     (noneBehind (now (a .s)) (a .asked)) (unknownBehind (now (a .s)) (a .asked)) (cases .result) (cases .last .0)
-    (met .given .1) (cases .ensures .0 (now (a .c))) (last .result) (last .last .0) (by-none .ensures)
+    (met .given .1) (cases .ensures .0) (last .result) (last .last .0) (by-none .ensures)
     (by-unknown .ensures) (last .ensures .0) in (
       subst (λ (n : Node Key). EdgesMet n (keysIn (now (a .keys))) (last .result) (last .last .0)) (sym node) all,
       (

@@ -1,7 +1,6 @@
 -- `expand::meet_pairs` meets its contract. The loop's invariant: the pairs of the first runs from `first` on are still to come.
-use Prim.Native.Nat.{ℕ, _+_, _-_, _*_, _≤_}
+use Prim.Native.Nat.{_+_, _-_, _*_, _≤_}
 use mathlib.Core.Path.{refl}
-use mathlib.Core.List.{List}
 use native.Mathlib.Omega.{arith}
 use denote.Ref.{now}
 use borrow.Author.Needs.{needs}
@@ -14,8 +13,7 @@ use Rattle.keys.proofs.expand.meet_pairs.Tie as tie
 abbrev Inv-loop : tie.InvT-loop
 Inv-loop keys₀ s asked runs count bytes₀ first₀ keys bytes first =
     (first ≤ count) × (bytes + 903 * first₀ ≤ 903 * first) × Chained keys
-    × ((c : List ℕ)
-    → CasesLeft (pairsLeft s c asked runs count first₀) (pairsLeft s c asked runs count first) (keysIn keys₀) keys bytes)
+    × CasesLeft (pairsLeft s asked runs count first₀) (pairsLeft s asked runs count first) (keysIn keys₀) keys bytes
 
 abbrev μ-loop : tie.MeasureT-loop
 μ-loop keys₀ s asked runs count bytes₀ first₀ keys bytes first = count - first
@@ -30,7 +28,7 @@ loop-holds c =
       omega (arith, start .pre .1),
       omega arith,
       start .pre .0,
-      λ cuts. cases-start refl (now (a .keys)),
+      cases-start refl (now (a .keys)),
     )
 
 meet-row-requires : tie.Need-meet-row-requires Inv-loop μ-loop
@@ -53,11 +51,10 @@ returns c =
     let test = c .before .before .before .before .loop-test .taken in
     let row = c .before .before .meet-row in
     let many = c .enum-told .given .1 in (
-      λ cuts.
-          part-many (rowEdges s cuts (a .asked) runs count (at .first)) (pairsLeft s cuts (a .asked) runs count (at .first + 1))
-          (pairs-next s cuts (a .asked) runs count (at .first) test) (at .inv .3 cuts)
-          (row .result) (row .last .0) many (row .ensures .0 cuts),
-      (row .ensures .1 .0, many-most (903 * (count - a .framed .points)) many),
+      part-many (rowEdges s (a .asked) runs count (at .first)) (pairsLeft s (a .asked) runs count (at .first + 1))
+          (pairs-next s (a .asked) runs count (at .first) test) (at .inv .3)
+          (row .result) (row .last .0) many (row .ensures .0),
+      (row .ensures .1 .0, many-most (903 * (count - a .framed .names)) many),
     )
 
 add-bytes : tie.Need-add-bytes Inv-loop μ-loop
@@ -90,10 +87,9 @@ loop-again c =
       omega (arith, test),
       omega (arith, few, at .inv .1),
       row .ensures .1 .0,
-      λ cuts.
-          part-met (rowEdges s cuts (a .asked) runs count (at .first)) (pairsLeft s cuts (a .asked) runs count (at .first + 1))
-          (pairs-next s cuts (a .asked) runs count (at .first) test) (at .inv .3 cuts)
-          (row .result) (row .last .0) some (row .ensures .0 cuts),
+      part-met (rowEdges s (a .asked) runs count (at .first)) (pairsLeft s (a .asked) runs count (at .first + 1))
+          (pairs-next s (a .asked) runs count (at .first) test) (at .inv .3)
+          (row .result) (row .last .0) some (row .ensures .0),
     )
 
 returns-2 : tie.Need-returns-2 Inv-loop μ-loop
@@ -104,7 +100,7 @@ returns-2 c =
     let runs = now (a .runs) in
     let count = a .framed .count in
     let at = c .before .loop in (
-      λ cuts. cases-end (pairs-end s cuts (a .asked) runs count (at .first) (c .loop-test .left)) (at .inv .3 cuts),
+      cases-end (pairs-end s (a .asked) runs count (at .first) (c .loop-test .left)) (at .inv .3),
       (at .inv .2, omega (arith, at .inv .0, at .inv .1)),
     )
 

@@ -2,7 +2,6 @@
 -- the union so far is met.
 use Prim.Native.Nat.{ℕ, _-_, _*_, _≤_}
 use mathlib.Core.Path.{_≡_, sym, ap, _∙_}
-use mathlib.Core.List.{List}
 use mathlib.Core.Logic.{⊎-elim}
 use native.Mathlib.Omega.{arith}
 use lib.Bits.{bitOr}
@@ -22,8 +21,7 @@ use Rattle.keys.proofs.expand.meet_row.Tie as tie
 abbrev Inv-loop : tie.InvT-loop
 Inv-loop keys₀ s asked runs first count size set₀ bytes₀ k₀ keys set bytes k =
     (k ≤ count) × (bytes ≤ 7 * k) × Chained keys × (keysIn keys ≡ meet (keysIn keys) (runBehind s asked set))
-    × ((c : List ℕ)
-    → CasesLeft (rowEdges s c asked runs count first) (rowLeft s c asked runs count first set k) (keysIn keys₀) keys bytes)
+    × CasesLeft (rowEdges s asked runs count first) (rowLeft s asked runs count first set k) (keysIn keys₀) keys bytes
 
 abbrev μ-loop : tie.MeasureT-loop
 μ-loop keys₀ s asked runs first count size set₀ bytes₀ k₀ keys set bytes k = count - k
@@ -68,8 +66,7 @@ returns c =
     let first = a .row .first in
     let behind = c .before .before .by-run .ensures in
     let met = c .before .meet in (
-      λ cuts.
-          row-many s cuts (a .asked) runs count first (start .pre .1) (now (a .keys)) (met .last .0) behind
+      row-many s (a .asked) runs count first (start .pre .1) (now (a .keys)) (met .last .0) behind
           (met .ensures .0 .1 (c .if1 .taken)),
       (met .ensures .1, tt),
     )
@@ -89,7 +86,7 @@ loop-holds c =
       omega arith,
       met .ensures .1,
       met-last (keysIn (now (a .keys))) (runBehind s (a .asked) (runAt runs first .set)) (met .last .0) same,
-      λ cuts. row-start s cuts (a .asked) runs count first (start .pre .1) (met .last .0),
+      row-start s (a .asked) runs count first (start .pre .1) (met .last .0),
     )
 
 mul-more : tie.Need-mul-more Inv-loop μ-loop
@@ -126,10 +123,9 @@ returns-2 c =
     let test = c .before .before .before .before .before .before .loop-test .taken in
     let behind2 = c .before .before .by-run2 .ensures in
     let next = c .before .meet2 in (
-      λ cuts.
-          row-met s cuts (a .asked) runs count first (start .pre .1) (now (a .keys)) (met .last .0) behind one TooMany
+      row-met s (a .asked) runs count first (start .pre .1) (now (a .keys)) (met .last .0) behind one TooMany
           (next .last .0)
-          (next-many s cuts (a .asked) runs count first (at .set) (at .k) (at .inv .4 cuts) (next .last .0) test behind2
+          (next-many s (a .asked) runs count first (at .set) (at .k) (at .inv .4) (next .last .0) test behind2
           (next .ensures .0 .1 (c .if3 .taken))),
       (next .ensures .1, tt),
     )
@@ -168,7 +164,7 @@ loop-again c =
       omega (arith, at .inv .1, size .1),
       w .3 .ensures .1,
       met-last (keysIn (at .keys)) (runBehind s (a .asked) more) (w .3 .last .0) same,
-      λ cuts. row-next s cuts (a .asked) runs count first (at .set) (at .k) (at .inv .4 cuts) test same (size .0 _),
+      row-next s (a .asked) runs count first (at .set) (at .k) (at .inv .4) test same (size .0 _),
     ))
     (λ w.
     let same = at .inv .3 ∙ ap (λ (set : ℕ). meet (keysIn (at .keys)) (runBehind s (a .asked) set)) (sym (w .0 .left)) in
@@ -177,7 +173,7 @@ loop-again c =
       omega (arith, at .inv .1, size .1),
       at .inv .2,
       same,
-      λ cuts. row-next s cuts (a .asked) runs count first (at .set) (at .k) (at .inv .4 cuts) test same (size .0 _),
+      row-next s (a .asked) runs count first (at .set) (at .k) (at .inv .4) test same (size .0 _),
     ))
     (c .if2 .came)
 
@@ -193,10 +189,9 @@ returns-3 c =
     let met = c .before .before .before .meet in
     let one = met .ensures .0 .0 (c .before .before .if1 .left) in
     let at = c .before .loop in (
-      λ cuts.
-          row-met s cuts (a .asked) runs count first (start .pre .1) (now (a .keys)) (met .last .0) behind one
+      row-met s (a .asked) runs count first (start .pre .1) (now (a .keys)) (met .last .0) behind one
           (Bytes (at .bytes)) (at .keys)
-          (row-end s cuts (a .asked) runs count first (at .set) (at .k) (at .inv .4 cuts) (c .loop-test .left)),
+          (row-end s (a .asked) runs count first (at .set) (at .k) (at .inv .4) (c .loop-test .left)),
       (at .inv .2, omega (arith, at .inv .0, at .inv .1, start .pre .2)),
     )
 

@@ -1,4 +1,4 @@
--- `expand::meet_runs` meets its contract: the keys behind the points are met, then those behind the pairs.
+-- `expand::meet_runs` meets its contract: the keys behind the names are met, then those behind the pairs.
 use mathlib.Core.List.{map}
 use native.Mathlib.Omega.{arith}
 use denote.Ref.{now}
@@ -10,11 +10,11 @@ use Rattle.keys.proofs.RowsInTurn.{pairsLeft, cases-both}
 use Rattle.keys.proofs.expand.meet_runs.Statement.{statement}
 use Rattle.keys.proofs.expand.meet_runs.Tie as tie
 
-meet-points-requires : tie.Need-meet-points-requires
-meet-points-requires c κs = search needs
+meet-names-requires : tie.Need-meet-names-requires
+meet-names-requires c κs = search needs
 
-enum-known-points : tie.Need-enum-known-points
-enum-known-points c = search needs
+enum-known-names : tie.Need-enum-known-names
+enum-known-names c = search needs
 
 enum-told : tie.Need-enum-told
 enum-told c = search needs
@@ -25,13 +25,12 @@ returns c =
     let a = start .args in
     let s = now (a .s) in
     let runs = now (a .runs) in
-    let points = a .framed .points in
-    let first = c .before .before .meet-points in (
-      λ cuts.
-          first-many (map (runEdge s cuts (a .asked)) (runsIn runs points))
-          (pairsLeft s cuts (a .asked) runs (a .framed .count) points)
-          (cases-both s cuts (a .asked) runs (a .framed .count) points (start .pre .1)) (now (a .keys)) (first .result)
-          (first .last .0) (first .ensures .0 cuts) (c .enum-told .given .1),
+    let names = a .framed .names in
+    let first = c .before .before .meet-names in (
+      first-many (map (runEdge s (a .asked)) (runsIn runs names))
+          (pairsLeft s (a .asked) runs (a .framed .count) names)
+          (cases-both s (a .asked) runs (a .framed .count) names (start .pre .1)) (now (a .keys)) (first .result)
+          (first .last .0) (first .ensures .0) (c .enum-told .given .1),
       (
         first .ensures .1 .0,
         most-more (first .result) (omega (arith, start .pre .1, start .pre .2)) (first .ensures .1 .1),
@@ -53,17 +52,16 @@ returns-2 c =
     let a = start .args in
     let s = now (a .s) in
     let runs = now (a .runs) in
-    let points = a .framed .points in
-    let first = c .before .before .before .before .before .before .before .meet-points in
-    let some = c .before .before .before .before .before .points .given .1 in
+    let names = a .framed .names in
+    let first = c .before .before .before .before .before .before .before .meet-names in
+    let some = c .before .before .before .before .before .names .given .1 in
     let second = c .before .before .meet-pairs in
     let many = c .enum-told2 .given .1 in (
-      λ cuts.
-          then-many (map (runEdge s cuts (a .asked)) (runsIn runs points))
-          (pairsLeft s cuts (a .asked) runs (a .framed .count) points)
-          (cases-both s cuts (a .asked) runs (a .framed .count) points (start .pre .1)) (now (a .keys)) (first .result)
-          (first .last .0) (first .ensures .0 cuts) some (second .result) (second .last .0)
-          (second .ensures .0 cuts) many,
+      then-many (map (runEdge s (a .asked)) (runsIn runs names))
+          (pairsLeft s (a .asked) runs (a .framed .count) names)
+          (cases-both s (a .asked) runs (a .framed .count) names (start .pre .1)) (now (a .keys)) (first .result)
+          (first .last .0) (first .ensures .0) some (second .result) (second .last .0)
+          (second .ensures .0) many,
       (
         second .ensures .1 .0,
         most-more (second .result) (omega (arith, start .pre .1, start .pre .2)) (second .ensures .1 .1),
@@ -73,8 +71,8 @@ returns-2 c =
 add-t12 : tie.Need-add-t12
 add-t12 c =
     let start = c .before .before .before .before .before .before .before .before .before .before in
-    let first = c .before .before .before .before .before .before .before .before .meet-points in
-    let few = bytes-most (c .before .before .before .before .before .before .points .given .1) (first .ensures .1 .1) in
+    let first = c .before .before .before .before .before .before .before .before .meet-names in
+    let few = bytes-most (c .before .before .before .before .before .before .names .given .1) (first .ensures .1 .1) in
     let more = bytes-most (c .before .pairs .given .1) (c .before .before .before .meet-pairs .ensures .1 .1) in
     omega (arith, few, more, start .pre .1, start .pre .2)
 
@@ -84,19 +82,18 @@ returns-3 c =
     let a = start .args in
     let s = now (a .s) in
     let runs = now (a .runs) in
-    let points = a .framed .points in
-    let first = c .before .before .before .before .before .before .before .before .meet-points in
-    let some = c .before .before .before .before .before .before .points .given .1 in
+    let names = a .framed .names in
+    let first = c .before .before .before .before .before .before .before .before .meet-names in
+    let some = c .before .before .before .before .before .before .names .given .1 in
     let second = c .before .before .before .meet-pairs in
     let others = c .before .pairs .given .1 in
     let few = bytes-most some (first .ensures .1 .1) in
     let more = bytes-most others (second .ensures .1 .1) in (
-      λ cuts.
-          both-met (map (runEdge s cuts (a .asked)) (runsIn runs points))
-          (pairsLeft s cuts (a .asked) runs (a .framed .count) points)
-          (cases-both s cuts (a .asked) runs (a .framed .count) points (start .pre .1)) (now (a .keys)) (first .result)
-          (first .last .0) (first .ensures .0 cuts) some (second .result) (second .last .0)
-          (second .ensures .0 cuts) others,
+      both-met (map (runEdge s (a .asked)) (runsIn runs names))
+          (pairsLeft s (a .asked) runs (a .framed .count) names)
+          (cases-both s (a .asked) runs (a .framed .count) names (start .pre .1)) (now (a .keys)) (first .result)
+          (first .last .0) (first .ensures .0) some (second .result) (second .last .0)
+          (second .ensures .0) others,
       (second .ensures .1 .0, omega (arith, few, more, start .pre .1, start .pre .2)),
     )
 
@@ -104,8 +101,8 @@ pub meet-runs-spec : {M : Type 1} → statement M
 meet-runs-spec =
     tie.close
     (tie.spec
-    meet-points-requires
-    enum-known-points
+    meet-names-requires
+    enum-known-names
     enum-told
     returns
     meet-pairs-requires

@@ -17,12 +17,12 @@ use Rattle.node_check.proofs.cases.check_cases.Tie as tie
 use Rattle.records.proofs.ByteLists.{bytes-all}
 
 abbrev Inv-loop : tie.InvT-loop
-Inv-loop s count nodes at₀ last₀ inside₀ ascend₀ i₀ at last inside ascend i =
+Inv-loop s count nodes at₀ end₀ inside₀ ascend₀ i₀ at end inside ascend i =
     (i ≤ count) × (at ≤ length s)
-    × (mapReading (casesFound nodes) (readCases count s) ≡ resume nodes at last inside ascend (readCases (count - i) (drop at s)))
+    × (mapReading (casesFound nodes) (readCases count s) ≡ resume nodes at end inside ascend (readCases (count - i) (drop at s)))
 
 abbrev μ-loop : tie.MeasureT-loop
-μ-loop s count nodes at₀ last₀ inside₀ ascend₀ i₀ at last inside ascend i = count - i
+μ-loop s count nodes at₀ end₀ inside₀ ascend₀ i₀ at end inside ascend i = count - i
 
 loop-holds : tie.Need-loop-holds Inv-loop μ-loop
 loop-holds c = let a = c .before .args in (omega arith, omega arith, pass-starts (a .nodes) (a .count) (now (a .s)) (bytes-all (now (a .s)) (λ i. omega (arith, c .shared-slice-known .given i))))
@@ -54,7 +54,7 @@ returns c =
     let loop = c .before .before .before .before .before .before .loop in
     sym
     (loop .inv .2
-    ∙ pass-refused (a .nodes) (a .count) (now (a .s)) (loop .i) (loop .at) (loop .last) (loop .inside) (loop .ascend) (c .before .before .before .before .before .loop-test .taken)
+    ∙ pass-refused (a .nodes) (a .count) (now (a .s)) (loop .i) (loop .at) (loop .end) (loop .inside) (loop .ascend) (c .before .before .before .before .before .loop-test .taken)
     (ap caseHead (sym (rest (now (c .before .before .before .before .before .before .before .before .args .s)) (c .before .before .before .before .before .before .loop .at))) ∙ sym (c .before .before .before .case-head .ensures) ∙ c .before .enum-told .given .1)
     (c .case-refusal .ensures ∙ ap caseRefusal (c .before .enum-told .given .1)))
 
@@ -64,21 +64,21 @@ case-range-requires c κs = search needs
 both-requires : tie.Need-both-requires Inv-loop μ-loop
 both-requires c κs = search needs
 
+comes-after-requires : tie.Need-comes-after-requires Inv-loop μ-loop
+comes-after-requires c κs = search needs
+
 both-requires-2 : tie.Need-both-requires-2 Inv-loop μ-loop
 both-requires-2 c κs = search needs
 
-both-requires-3 : tie.Need-both-requires-3 Inv-loop μ-loop
-both-requires-3 c κs = search needs
-
 add-at : tie.Need-add-at Inv-loop μ-loop
 add-at c =
-    let a = c .before .before .before .before .before .before .before .before .before .before .before .before .before .before .before .before .args in
+    let a = c .before .before .before .before .before .before .before .before .before .before .before .before .before .before .args in
     let s = now (a .s) in
-    let loop = c .before .before .before .before .before .before .before .before .before .before .before .before .before .before .loop in
-    let c' = c .before .before .before .before .before .before .before .before .before .head .given .0 .0 in
-    let told : caseHead (drop (loop .at) s) ≡ Whole c' = ap caseHead (sym (rest (now (c .before .before .before .before .before .before .before .before .before .before .before .before .before .before .before .before .args .s)) (c .before .before .before .before .before .before .before .before .before .before .before .before .before .before .loop .at))) ∙ sym (c .before .before .before .before .before .before .before .before .before .before .before .case-head .ensures) ∙ c .before .before .before .before .before .before .before .before .before .head .given .1 in
+    let loop = c .before .before .before .before .before .before .before .before .before .before .before .before .loop in
+    let c' = c .before .before .before .before .before .before .before .head .given .0 .0 in
+    let told : caseHead (drop (loop .at) s) ≡ Whole c' = ap caseHead (sym (rest (now (c .before .before .before .before .before .before .before .before .before .before .before .before .before .before .args .s)) (c .before .before .before .before .before .before .before .before .before .before .before .before .loop .at))) ∙ sym (c .before .before .before .before .before .before .before .before .before .case-head .ensures) ∙ c .before .before .before .before .before .before .before .head .given .1 in
     let fits = case-fits (drop (loop .at) s) told in
-    omega (arith, ap (λ r. r .bytes) (c .before .before .before .before .before .before .before .case-range .ensures), length-drop (loop .at) s)
+    omega (arith, ap (λ r. r .bytes) (c .before .before .before .before .before .case-range .ensures), length-drop (loop .at) s)
 
 add-i : tie.Need-add-i Inv-loop μ-loop
 add-i c = search needs
@@ -88,17 +88,17 @@ loop-less c = search needs
 
 loop-again : tie.Need-loop-again Inv-loop μ-loop
 loop-again c =
-    let a = c .before .before .before .before .before .before .before .before .before .before .before .before .before .before .before .before .args in
+    let a = c .before .before .before .before .before .before .before .before .before .before .before .before .before .before .args in
     let s = now (a .s) in
-    let loop = c .before .before .before .before .before .before .before .before .before .before .before .before .before .before .loop in
-    let c' = c .before .before .before .before .before .before .before .before .before .head .given .0 .0 in
-    let told : caseHead (drop (loop .at) s) ≡ Whole c' = ap caseHead (sym (rest (now (c .before .before .before .before .before .before .before .before .before .before .before .before .before .before .before .before .args .s)) (c .before .before .before .before .before .before .before .before .before .before .before .before .before .before .loop .at))) ∙ sym (c .before .before .before .before .before .before .before .before .before .before .before .case-head .ensures) ∙ c .before .before .before .before .before .before .before .before .before .head .given .1 in
+    let loop = c .before .before .before .before .before .before .before .before .before .before .before .before .loop in
+    let c' = c .before .before .before .before .before .before .before .head .given .0 .0 in
+    let told : caseHead (drop (loop .at) s) ≡ Whole c' = ap caseHead (sym (rest (now (c .before .before .before .before .before .before .before .before .before .before .before .before .before .before .args .s)) (c .before .before .before .before .before .before .before .before .before .before .before .before .loop .at))) ∙ sym (c .before .before .before .before .before .before .before .before .before .case-head .ensures) ∙ c .before .before .before .before .before .before .before .head .given .1 in
     let fits = case-fits (drop (loop .at) s) told in (
       omega arith,
-      omega (arith, ap (λ r. r .bytes) (c .before .before .before .before .before .before .before .case-range .ensures), length-drop (loop .at) s),
-      simp (c .before .before .before .before .before .both .ensures, c .before .before .both2 .ensures, c .before .both3 .ensures, c .before .before .before .before .before .before .before .case-range .ensures)
+      omega (arith, ap (λ r. r .bytes) (c .before .before .before .before .before .case-range .ensures), length-drop (loop .at) s),
+      simp (c .before .before .before .both .ensures, c .before .before .comes-after .ensures, c .before .both2 .ensures, c .before .before .before .before .before .case-range .ensures)
           (loop .inv .2
-          ∙ pass-next (a .nodes) (a .count) s (loop .i) (loop .at) (loop .last) (loop .inside) (loop .ascend) (c .before .before .before .before .before .before .before .before .before .before .before .before .before .loop-test .taken) c' told),
+          ∙ pass-next (a .nodes) (a .count) s (loop .i) (loop .at) (loop .end) (loop .inside) (loop .ascend) (c .before .before .before .before .before .before .before .before .before .before .before .loop-test .taken) c' told),
     )
 
 returns-2 : tie.Need-returns-2 Inv-loop μ-loop
@@ -107,7 +107,7 @@ returns-2 c =
     let loop = c .before .loop in
     sym
     (loop .inv .2
-    ∙ pass-ends (a .nodes) (a .count) (now (a .s)) (loop .i) (loop .at) (loop .last) (loop .inside) (loop .ascend) (c .loop-test .left))
+    ∙ pass-ends (a .nodes) (a .count) (now (a .s)) (loop .i) (loop .at) (loop .end) (loop .inside) (loop .ascend) (c .loop-test .left))
 
 pub check-cases-spec : {M : Type 1} → statement M
 check-cases-spec =
@@ -126,8 +126,8 @@ check-cases-spec =
     returns
     case-range-requires
     both-requires
+    comes-after-requires
     both-requires-2
-    both-requires-3
     add-at
     add-i
     loop-less

@@ -1,7 +1,6 @@
 -- `order::table::is_late` meets its contract: the entry of a place's parent, or of 680, is read.
 use mathlib.Core.Path.{ap}
 use native.Mathlib.Omega.{arith}
-use borrow.Author.Needs.{needs}
 use lib.Dec.{eqb}
 use lib.ListN.{getD}
 use Prim.Native.Nat.{ℕ}

@@ -2,7 +2,6 @@
 use mathlib.Core.Path.{sym, ap}
 use mathlib.Core.Bool.{Bool, cond}
 use borrow.Author.Tests.{lt-ltb, le-ltb}
-use borrow.Author.Needs.{needs}
 use Rattle.pairs.proofs.kept.passed_by.Statement.{statement}
 use Rattle.pairs.proofs.kept.passed_by.Tie as tie
 

@@ -11,6 +11,7 @@ note-code-spec =
     (tie.spec (λ c. search needs) (λ c κs. search needs) (λ c. search needs) (λ c κs. search needs)
     (λ c. search needs) (λ c κs. search needs) (λ c. search needs) (λ c. search needs) (λ c κs. search needs)
     (λ c. search needs) (λ c κs. search needs) (λ c. search needs) (λ c κs. search needs)
+    (λ c. search needs) (λ c κs. search needs)
     (λ c. c .pack .ensures
     ∙ ap (recordCode (c .before .before .before .args .place)) (sym (c .before .enum-told .given .1)))
     (λ c. c .pack2 .ensures
@@ -22,4 +23,6 @@ note-code-spec =
     (λ c. c .pack5 .ensures
     ∙ ap (recordCode (c .before .before .before .before .args .place)) (sym (c .before .before .what4 .given .1)))
     (λ c. c .pack6 .ensures
-    ∙ ap (recordCode (c .before .before .before .before .args .place)) (sym (c .before .before .what5 .given .1))))
+    ∙ ap (recordCode (c .before .before .before .before .args .place)) (sym (c .before .before .what5 .given .1)))
+    (λ c. c .pack7 .ensures
+    ∙ ap (recordCode (c .before .before .before .before .args .place)) (sym (c .before .before .what6 .given .1))))

@@ -33,7 +33,13 @@ returns-5 c =
 returns-6 : tie.Need-returns-6
 unfolding codeRecord
 returns-6 c =
+    simp (c .match .keys6)
+
+returns-7 : tie.Need-returns-7
+unfolding codeRecord
+returns-7 c =
     simp (
+      ne-eqb _ _ (c .match .rest .0 .0 .0 .0 .0 .1),
       ne-eqb _ _ (c .match .rest .0 .0 .0 .0 .1),
       ne-eqb _ _ (c .match .rest .0 .0 .0 .1),
       ne-eqb _ _ (c .match .rest .0 .0 .1),
@@ -45,4 +51,4 @@ pub note-record-spec : {M : Type 1} → statement M
 note-record-spec =
     tie.close
     (tie.spec (λ c. search needs) (λ c. search needs) (λ c. search needs) (λ c. search needs) returns returns-2
-    returns-3 returns-4 returns-5 returns-6)
+    returns-3 returns-4 returns-5 returns-6 returns-7)

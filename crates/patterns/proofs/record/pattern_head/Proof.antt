@@ -1,5 +1,8 @@
 -- The record that the input begins with, by its kind and by the bytes that are there.
+use mathlib.Core.Path.{_∙_}
+use mathlib.Core.Logic.{inl, inr}
 use borrow.Author.Tests.{eq-eqb, ne-eqb, lt-leb, le-leb}
+use Rattle.patterns.proofs.Heads.{two-ends}
 use borrow.Author.Needs.{needs}
 use Rattle.patterns.proofs.record.pattern_head.Statement.{statement}
 use Rattle.patterns.proofs.record.pattern_head.Tie as tie
@@ -41,7 +44,8 @@ returns-7 : tie.Need-returns-7
 returns-7 c =
     let at-match = c .before in
     let at-if1 = at-match .before .before in
-    simp (ne-eqb _ _ (at-if1 .if1 .left), at-match .match .keys3, c .range-head .ensures)
+    let s = at-if1 .before .before .args .s .now in
+    c .range-head .ensures ∙ two-ends s (at-if1 .if1 .left) (at-match .match .keys3)
 
 returns-8 : tie.Need-returns-8
 returns-8 c =
@@ -76,7 +80,8 @@ returns-11 c =
       ne-eqb _ _ (c .before .before .if1 .left),
       ne-eqb _ _ (c .match .rest .0 .0 .0 .0 .0 .1),
       ne-eqb _ _ (c .match .rest .0 .0 .0 .0 .1),
-      ne-eqb _ _ (c .match .rest .0 .0 .0 .1),
+      ne-eqb _ _ (λ e. c .match .rest .0 .0 .0 .1 (inl e)),
+      ne-eqb _ _ (λ e. c .match .rest .0 .0 .0 .1 (inr e)),
       ne-eqb _ _ (c .match .rest .0 .0 .1),
       ne-eqb _ _ (c .match .rest .0 .1),
       ne-eqb _ _ (c .match .rest .1),
@@ -87,5 +92,5 @@ pattern-head-spec =
     tie.close
     (tie.spec returns (λ c. search needs) returns-2 (λ c. search needs) (λ c. search needs) (λ c κs. search needs)
     (λ c κs. search needs) returns-3 (λ c. search needs) (λ c. search needs) (λ c κs. search needs)
-    (λ c. search needs) returns-4 (λ c. search needs) (λ c κs. search needs) returns-5 returns-6 returns-7 returns-8
-    returns-9 returns-10 returns-11)
+    (λ c. search needs) returns-4 (λ c. search needs) (λ c κs. search needs) returns-5
+    returns-6 returns-7 returns-8 returns-9 returns-10 returns-11)

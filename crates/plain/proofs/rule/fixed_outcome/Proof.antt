@@ -1,4 +1,4 @@
--- The test of a symbol, a range or a compound, by the kind of the record.
+-- The test of a symbol, a series, a range or a compound, by the kind of the record.
 use mathlib.Core.Path.{sym, ap, _∙_}
 use denote.Ref.{now}
 use Rattle.outcomes.specs.views.CellOutcome.{placeCells}
@@ -31,10 +31,19 @@ returns-3 c =
     ∙ (λ j. placeCells cells (a .place) (c .before .compound-code .ensures j) (c .before .compound-code .ensures j))
     ∙ ap (fixedOutcome cells (a .place)) (sym (c .before .before .before .what3 .given .1))
 
+returns-4 : tie.Need-returns-4
+returns-4 c =
+    let a = c .before .before .before .before .before .before .args in
+    let cells = now (a .cells) in
+    c .place-outcome4 .ensures
+    ∙ (λ j. placeCells cells (a .place) (c .before .before .symbol-code2 .ensures j) (c .before .symbol-code3 .ensures j))
+    ∙ ap (fixedOutcome cells (a .place)) (sym (c .before .before .before .before .what4 .given .1))
+
 pub fixed-outcome-spec : {M : Type 1} → statement M
 fixed-outcome-spec =
     tie.close
     (tie.spec (λ c. search needs) (λ c κs. search needs) (λ c κs. search needs) (λ c. search needs) (λ c κs. search needs)
     (λ c κs. search needs) (λ c κs. search needs) (λ c. search needs) (λ c κs. search needs) (λ c κs. search needs)
-    (λ c. search needs) (λ c. search needs) (λ c. search needs) returns returns-2 returns-3 (λ c. search needs)
+    (λ c. search needs) (λ c κs. search needs) (λ c κs. search needs) (λ c κs. search needs) (λ c. search needs)
+    (λ c. search needs) (λ c. search needs) returns returns-2 returns-3 returns-4 (λ c. search needs)
     (λ c. search needs) (λ c. search needs))

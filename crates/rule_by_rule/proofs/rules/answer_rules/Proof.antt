@@ -1,14 +1,12 @@
 -- A loop over the rules: what comes of those left, with what is answered so far, is what comes of all.
 use Prim.Native.Nat.{ℕ, _+_, _-_, _≤_}
-use mathlib.Core.Path.{_≡_, refl, sym, ap, subst, _∙_}
-use mathlib.Core.List.{List}
+use mathlib.Core.Path.{_≡_, refl, sym, ap, _∙_}
 use native.Mathlib.Omega.{arith}
 use denote.Ref.{now}
 use lib.ListN.{length, drop}
-use Rattle.records.specs.Reading.{took, mapReading}
+use Rattle.records.specs.Reading.{mapReading}
 use Rattle.records.proofs.Parts.{rest}
 use Rattle.terms.specs.Answer.{Answer, fail}
-use Rattle.terms.specs.Pattern.{Patterns}
 use Rattle.sheet.specs.ReadSheet.{readRule, readRules}
 use Rattle.sheet_tests.specs.views.Starts.{ruleStart}
 use Rattle.sheet_tests.proofs.Starting.{start-next}

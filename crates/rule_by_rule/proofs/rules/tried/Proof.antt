@@ -1,12 +1,8 @@
 -- A rule that is contradicted at one of its first arguments, or read whole.
-use Prim.Native.Nat.{ℕ}
-use mathlib.Core.Path.{_≡_, refl, sym, ap, _∙_}
-use mathlib.Core.List.{List}
+use mathlib.Core.Path.{sym, ap, _∙_}
 use native.Mathlib.Omega.{arith}
 use denote.Ref.{now}
-use Rattle.records.specs.Reading.{took}
 use Rattle.records.proofs.Parts.{rest}
-use Rattle.patterns.specs.views.Note.{Note}
 use Rattle.sheet.specs.ReadSheet.{readPatterns}
 use Rattle.sheet.proofs.SheetReads.{rule-is}
 use Rattle.sheet_tests.proofs.Scanning.{RuleRead, bytes-known, rule-read, rule-refused}

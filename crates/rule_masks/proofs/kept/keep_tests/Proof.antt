@@ -6,7 +6,6 @@ use native.Mathlib.Omega.{arith}
 use lib.ListN.{take, length-replicate}
 use denote.Ref.{now}
 use Rattle.test_list.specs.views.Tests.{testsPut}
-use borrow.Author.Needs.{needs}
 use Rattle.rule_masks.proofs.kept.keep_tests.Statement.{statement}
 use Rattle.rule_masks.proofs.kept.keep_tests.Tie as tie
 

@@ -1,5 +1,5 @@
 -- The masks with one test more, for each outcome.
-use mathlib.Core.Path.{_≡_, sym, ap, _∙_}
+use mathlib.Core.Path.{sym, ap, _∙_}
 use mathlib.Core.Bool.{true}
 use denote.Ref.{now}
 use Rattle.terms.specs.Outcome.{Outcome}

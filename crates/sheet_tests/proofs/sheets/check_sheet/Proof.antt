@@ -1,7 +1,6 @@
 -- The sheet is checked with notes and starts of its own.
 use Prim.Native.Nat.{ℕ}
 use lib.ListN.{length-replicate}
-use borrow.Author.Needs.{needs}
 use Rattle.sheet_tests.proofs.sheets.check_sheet.Statement.{statement}
 use Rattle.sheet_tests.proofs.sheets.check_sheet.Tie as tie
 

@@ -1,7 +1,6 @@
 -- The tests are read with notes and starts of its own.
 use Prim.Native.Nat.{ℕ}
 use lib.ListN.{length-replicate}
-use borrow.Author.Needs.{needs}
 use Rattle.sheet_tests.proofs.sheets.read_tests.Statement.{statement}
 use Rattle.sheet_tests.proofs.sheets.read_tests.Tie as tie
 

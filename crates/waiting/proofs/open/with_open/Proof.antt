@@ -7,7 +7,6 @@ use Rattle.rule_masks.specs.views.TestNumbers.{testNumber, codeTest, withIf}
 use Rattle.rule_masks.specs.views.Kept.{listedTests}
 use Rattle.rule_masks.proofs.Numbers.{number-there}
 use Rattle.rule_masks.proofs.CodeNumbers.{listed-few}
-use borrow.Author.Needs.{needs}
 use Rattle.waiting.proofs.open.with_open.Statement.{statement}
 use Rattle.waiting.proofs.open.with_open.Tie as tie
 

@@ -1,7 +1,6 @@
 -- The graph is refused, or walked over.
 use Prim.Native.Nat.{ℕ}
 use mathlib.Core.Path.{sym, subst}
-use mathlib.Core.List.{List}
 use native.Mathlib.Omega.{arith}
 use lib.ListN.{drop, replicate, length-replicate}
 use denote.Ref.{now}
