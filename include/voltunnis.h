@@ -24,7 +24,7 @@
  *               11  at most 64 tests
  *   piece       12  begins with a whole 11 record
  *               13  arity 1 to 8
- *               14  each term is a whole record of kinds 30 to 34
+ *               14  each term is a whole record of kinds 30 to 35
  *               15  a compound's depth is at most 3
  *               16  a compound's arity is 1 to 4
  *               32  a span's low is at most its high; asked after 16 at that term, before the next term's 14
@@ -38,7 +38,7 @@
  *               24  cases strictly ascending, numbers by low, then high, low at most high, no id in two
  *   graph's end 25  no bytes are left
  *   each switch 26  fewer than 64 edges have been walked
- *   or pair     27  each place that it tests is in the piece, or below an unknown
+ *   or pair     27  each place it tests is in the piece, or below an unknown or record 35
  *   walked
  *   order       28  the table is 1,360 bytes
  *               29  each of its places is 0 to 679, none twice
@@ -59,6 +59,11 @@
  * that number. A switch of a graph is 43 (wide place, wide number of cases, wide node for neither, wide node for
  * unknown), then its cases. Number cases, 46, may overlap: of those that contain it, a number or span follows the one
  * with the highest low, then the lowest high.
+ *
+ * A piece may hold record 35, which has no body: a reading that will never come, as of a sensor that the machine lacks. It
+ * contradicts every test of its place and of the places below it, and at a switch it takes the edge for neither. A term that
+ * is or holds it differs from every term, itself and unknowns included. So an unknown settles no pair: behind the edge for
+ * unknown the pairs of its place are still pending.
  */
 #ifndef VOLTUNNIS_H
 #define VOLTUNNIS_H
@@ -152,8 +157,8 @@ uint64_t vt_walk(const uint8_t *sheet, size_t sheet_len, const uint8_t *graph, s
 /* The wait list of the same walk, test t being bit t: for suspend the tests met that are not known, and each place met whose span
  * lies partly inside and partly outside the range of a rule live there; for execute the tests of the rule that are not known; else
  * none. On a built graph a suspended piece filled in further suspends while each listed place keeps the unknown or span that it
- * held and each listed pair is still not known. The whole result is the list; on a refusal it is 0, so read it only where vt_walk
- * is not refused. */
+ * held and each listed pair is still not known. What never comes, record 35, is in no list. The whole result is the list; on a
+ * refusal it is 0, so read it only where vt_walk is not refused. */
 uint64_t vt_wait(const uint8_t *sheet, size_t sheet_len, const uint8_t *graph, size_t graph_len,
                  const uint8_t *piece, size_t piece_len);
 

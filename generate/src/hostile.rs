@@ -80,10 +80,13 @@ pub fn hostile_sheet(random: &mut Random, sheet: &SheetTree) -> Vec<u8> {
     sheet.bytes()
 }
 
-/// Compounds inside each other, so many.
+/// Readings that are missing.
+const MISSING: [&Term; 2] = [&Term::Unknown, &Term::Never];
+
+/// Compounds inside each other, so many, with a missing reading in the last.
 fn nested_term(random: &mut Random, levels: usize) -> Term {
     match levels {
-        0 => Term::Unknown,
+        0 => random.pick(&MISSING).clone(),
         _ => Term::Compound(random.byte().into(), vec![nested_term(random, levels - 1)]),
     }
 }
@@ -102,10 +105,13 @@ pub fn hostile_piece(random: &mut Random, terms: &[Term]) -> Vec<u8> {
     let mut terms = terms.to_vec();
     let (at, levels) = (random.below(terms.len().max(1)), random.between(3, 5));
     match (random.below(4), terms.get_mut(at)) {
-        (1, Some(term)) => *term = Term::Compound(2, vec![Term::Unknown; random.pick(&[0, 4, 5, 255])]),
+        (1, Some(term)) => {
+            let part = random.pick(&MISSING);
+            *term = Term::Compound(2, vec![part.clone(); random.pick(&[0, 4, 5, 255])]);
+        }
         (2, Some(term)) => *term = nested_term(random, levels),
         (3, Some(term)) => *term = hostile_span(random),
-        _ => terms.resize(random.pick(&[0, 9, 255]), Term::Unknown),
+        _ => terms.resize(random.pick(&[0, 9, 255]), random.pick(&MISSING).clone()),
     }
     piece_bytes(&terms)
 }

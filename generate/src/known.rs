@@ -1,10 +1,10 @@
-//! Sheets whose graphs have a known size, for the limits and for timing.
+//! Sheets whose graphs have a known size, for the limits and for timing, and the cases with which a stream begins.
 
 use crate::bytes::from_hex;
 use crate::random::Random;
 use crate::trees::{piece_bytes, Pattern, SheetTree, Term};
 
-/// Document 01's example, f(X, X), f(1, 2) in symbols: 7 nodes.
+/// Document 01's example, f(X, X), f(1, 2) in symbols: 6 nodes in 51 bytes.
 pub fn example() -> Vec<u8> {
     from_hex("10 02 02 24 00 24 00 21 00 01 21 00 02")
 }
@@ -28,6 +28,30 @@ pub fn marked_pieces() -> Vec<Vec<u8>> {
     let pieces = [[0, 0, 2], [2, 0, 1], [1, 0, 0], [3, 0, 0], [1, 2, 1]];
     let term = |n: &u16| if *n == 0 { Term::Unknown } else { Term::Number(*n) };
     pieces.iter().map(|numbers| piece_bytes(&numbers.iter().map(term).collect::<Vec<_>>())).collect()
+}
+
+/// Sheets, each with pieces in which readings will never come (document 02, request 6).
+pub fn nevers() -> Vec<(Vec<u8>, Vec<Vec<u8>>)> {
+    let cases: [(&str, &[&str]); 4] = [
+        // (X, X): two of them differ, and one inside a compound shows beside an unknown and beside its like.
+        ("10020124002400", &["11023535", "1102303300010135", "110233000101353300010135"]),
+        // (_, _) takes them.
+        ("1002012020", &["11023535"]),
+        // (X, X), (_, 2..3): after the unknown the pair is asked.
+        ("10020224002400202200020003", &["11023530"]),
+        // (V1, V1), (V0:2..2, V1), (_, #1(V1)): so it is where argument 1 was asked and led to neither.
+        ("10020324012401250000020002240120230001012401", &["11023530"]),
+    ];
+    let spelled = |pieces: &[&str]| pieces.iter().map(|piece| from_hex(piece)).collect();
+    cases.iter().map(|(sheet, pieces)| (from_hex(sheet), spelled(pieces))).collect()
+}
+
+/// Sheet, graph and piece, where the graph asks below an argument that will never come: for the part of #1(#5), and
+/// for the pair of #1(X) and #1(X). No built graph does. An unknown there suspends, so that the walk tells the two apart.
+pub fn below_nevers() -> [[Vec<u8>; 3]; 2] {
+    let part = ["10010123000101210005", "12010100044300010001000200034400050005000142014041", "110135"];
+    let pair = ["100201230001012400230001012400", "12020100034700010056000100024041", "11023530"];
+    [part, pair].map(|case| case.map(from_hex))
 }
 
 /// A variable at each of 3 places, for which every two have to be compared.
@@ -92,51 +116,53 @@ pub fn nested_16(count: u16) -> Vec<u8> {
     nested(count, |low, high| vec![Pattern::Compound(1, vec![Pattern::Range(low, high); 2]); 8])
 }
 
-/// Nested ranges at so many places, which a variable ties in the last rules: each of these sets is one rule's. An
-/// unknown at such a place settles pairs, so that many keys have all rules live and as many cases as there may be.
-fn tied(rules: u16, places: u16, sets: &[u16], rule: impl Fn(Vec<Pattern>) -> Vec<Pattern>) -> Vec<u8> {
-    let first = rules - sets.len() as u16;
+/// Nested ranges from 1 on at 17 places or more, 10 of them inside the first argument. Its three compounds are asked
+/// first, with all rules live. At each place but the first of a range every number of rules from 2 on is live in
+/// some key, and cuts all numbers into as many runs as it can. So many of the other arguments are compounds of 4 ranges.
+fn longest(rules: u16, wide: usize) -> Vec<u8> {
     nested(rules, |low, high| {
-        let set = low.checked_sub(first).map_or(0, |at| sets[usize::from(at)]);
-        let pattern = |place: u16| match set >> place & 1 {
-            1 => Pattern::Ranged(0, low, high),
-            _ => Pattern::Range(low, high),
-        };
-        rule((0..places).map(pattern).collect())
+        let ranges = |count| vec![Pattern::Range(low + 1, high); count];
+        let with_3 = |first: Pattern| Pattern::Compound(1, [vec![first], ranges(3)].concat());
+        let four = Pattern::Compound(1, ranges(4));
+        let mut rule = vec![with_3(with_3(four.clone()))];
+        rule.extend(vec![four; wide]);
+        rule.extend(ranges(7 - wide));
+        rule
     })
 }
 
-/// 32 rules with a long graph, the first two of their 9 places inside a compound: 1,023 nodes in 12,229,032 bytes.
+/// 32 rules with a long graph: 999 nodes in 4,824,790 bytes.
 pub fn longest_32() -> Vec<u8> {
-    tied(32, 9, &[0b1_1001_0111, 0b1_1001_1011, 0b1_1111_1110], |mut patterns| {
-        let others = patterns.split_off(2);
-        [vec![Pattern::Compound(1, patterns)], others].concat()
-    })
+    longest(32, 4)
 }
 
-/// 64 rules with a long graph: 1,024 nodes in 41,613,131 bytes.
+/// 64 rules with a long graph: 1,015 nodes in 20,807,766 bytes.
 pub fn longest_64() -> Vec<u8> {
-    tied(64, 8, &[0b10_0100, 0b111_0011, 0b1101_1101, 0b101_1111], |patterns| patterns)
+    longest(64, 0)
 }
 
-/// A small sheet with exactly 1,024 nodes.
+/// A sheet with exactly 1,024 nodes, in 31,038 bytes.
 pub fn nodes_1024() -> Vec<u8> {
     from_hex(
-        "1008042100012022000400082100022200020006210000210002240124012024002401210002210001\
-         24002100022401240024002400240024012400240124012200010004210001240024012020210002",
+        "10080b2021000221000220210001202100012400202021000221000221000220202024002020220001000220\
+         2100012100022100012022000100022100022100022100012020220001000221000220210002202100012200\
+         0100022100022200010002220001000224012400202100012100022400210002210001202401210001210002\
+         2401202100022401240024012100012021000120210002210002202021000121000124002024002100022020\
+         202100022100012021000120202100012021000121000221000120",
     )
 }
 
 /// A small sheet whose graph would have exactly 1,025 nodes.
 pub fn nodes_1025() -> Vec<u8> {
     from_hex(
-        "1008042401202200000001240021000024012401240124002024012100022400220001000322000300\
-         072024002100022024012401240124012100022400202400240020240022000200062401",
+        "1008062401240124012100012401202401240121000324002400202024002200040006240020240121000321\
+         0003202100022400210001240022000400062100022400240024002200020004240022000200032401210002\
+         2100022200040005240121000124012400220004000524012401220004000520202401",
     )
 }
 
-/// f(X, X, X, X, X, X, X, X) and f(1, 1, 1, 1, 1, 1, 1, 1), whose graph would have 1,027 nodes.
-pub fn nodes_1027() -> Vec<u8> {
+/// f(X, X, X, X, X, X, X, X) and f(1, 1, 1, 1, 1, 1, 1, 1), with 28 pairs: 39 nodes in 390 bytes.
+pub fn eight_alike() -> Vec<u8> {
     let rules = [Pattern::Variable(0), Pattern::Symbol(1)].map(|pattern| vec![pattern; 8]);
     SheetTree { arity: 8, rules: rules.to_vec() }.bytes()
 }

@@ -1,4 +1,5 @@
-//! Random pieces, most of them close to a rule of a sheet, with unknowns and spans at random places.
+//! Random pieces, most of them close to a rule of a sheet, with unknowns, spans and readings that will never come at
+//! random places.
 
 use crate::random::Random;
 use crate::stock::Stock;
@@ -7,16 +8,24 @@ use crate::trees::{Pattern, SheetTree, Term};
 /// How a piece is made: chances out of a hundred, asked anew at each of its places, and what its
 /// terms are made of.
 struct Mood {
-    unknown: usize,
+    missing: usize,
     stray: usize,
     stock: Stock,
+}
+
+/// A reading that is missing: unknown, or one that will never come.
+fn missing(random: &mut Random, stock: &Stock) -> Term {
+    match random.percent(stock.nevers) {
+        true => Term::Never,
+        false => Term::Unknown,
+    }
 }
 
 /// A term that may stand at this depth.
 pub fn term(random: &mut Random, stock: &Stock, depth: usize) -> Term {
     let id = random.pick(stock.ids);
     match random.below(10) {
-        0..=1 => Term::Unknown,
+        0..=1 => missing(random, stock),
         2..=4 => Term::Symbol(if random.percent(30) { random.pick(stock.series) } else { id }),
         5..=7 if random.percent(stock.spans) => {
             let (one, other) = (random.pick(stock.numbers), random.pick(stock.numbers));
@@ -68,18 +77,19 @@ fn number(random: &mut Random, stock: &Stock, low: u16, high: u16) -> Term {
 impl Mood {
     fn random(random: &mut Random, stock: Stock) -> Mood {
         let stock = if random.percent(30) { stock.without_spans() } else { stock };
-        Mood { unknown: random.pick(&[0, 5, 15, 40]), stray: random.pick(&[0, 0, 3, 10]), stock }
+        let stock = if random.percent(50) { stock.without_nevers() } else { stock };
+        Mood { missing: random.pick(&[0, 5, 15, 40]), stray: random.pick(&[0, 0, 3, 10]), stock }
     }
 
-    /// An unknown or a stray in the term's stead, if chance has it.
+    /// A missing reading or a stray in the term's stead, if chance has it.
     fn instead(&self, random: &mut Random, depth: usize) -> Option<Term> {
-        if random.percent(self.unknown) {
-            return Some(Term::Unknown);
+        if random.percent(self.missing) {
+            return Some(missing(random, &self.stock));
         }
         random.percent(self.stray).then(|| term(random, &self.stock, depth))
     }
 
-    /// The term with unknowns and strays put in, cut to what fits at this depth.
+    /// The term with missing readings and strays put in, cut to what fits at this depth.
     fn spoil(&self, random: &mut Random, what: &Term, depth: usize) -> Term {
         if let Some(other) = self.instead(random, depth) {
             return other;
@@ -98,7 +108,7 @@ impl Mood {
         }
     }
 
-    /// A term that a pattern takes, with unknowns and strays put in. A variable met before has
+    /// A term that a pattern takes, with missing readings and strays put in. A variable met before has
     /// the term that it had then.
     fn instance(
         &self,
@@ -139,7 +149,8 @@ impl Mood {
 }
 
 /// The terms of a piece for this sheet: most are made from one of its rules. Now and then the
-/// arity is another than the sheet's. With the full stock about half of all pieces have no span.
+/// arity is another than the sheet's. With the full stock about half of all pieces have no span, and most no reading
+/// that will never come.
 pub fn piece(random: &mut Random, sheet: &SheetTree, stock: Stock) -> Vec<Term> {
     let mood = Mood::random(random, stock);
     let mut terms: Vec<Term> = if sheet.rules.is_empty() || random.percent(10) {
@@ -155,10 +166,11 @@ pub fn piece(random: &mut Random, sheet: &SheetTree, stock: Stock) -> Vec<Term> 
     terms
 }
 
-/// The terms with more filled in: an unknown, or a span, so many times out of a hundred each, is made a term, or a
-/// narrower span or a number of it.
+/// The terms with more filled in: an unknown, or a span, so many times out of a hundred each, is made a term, also one
+/// that will never come, or a narrower span or a number of it.
 pub fn further(random: &mut Random, terms: &[Term], depth: usize, chance: usize) -> Vec<Term> {
     let fill = |random: &mut Random, known: &Term| match known {
+        Term::Unknown if random.percent(chance) && random.percent(15) => Term::Never,
         Term::Unknown if random.percent(chance) => term(random, &Stock::FULL, depth),
         Term::Span(low, high) if random.percent(chance) => narrower(random, *low, *high),
         Term::Compound(id, arguments) => Term::Compound(*id, further(random, arguments, depth + 1, chance)),

@@ -24,8 +24,16 @@ pub enum TermRecord {
     Unknown,
     Symbol(u16),
     Number(u16),
-    Compound { id: u16, arity: u8 },
-    Span { low: u16, high: u16 },
+    Compound {
+        id: u16,
+        arity: u8,
+    },
+    Span {
+        low: u16,
+        high: u16,
+    },
+    /// A reading that will never come.
+    Never,
 }
 
 /// A wide field.
@@ -97,7 +105,7 @@ impl<'a> Reader<'a> {
         })
     }
 
-    /// The term's record that comes next, if it is whole and of kinds 30 to 34.
+    /// The term's record that comes next, if it is whole and of kinds 30 to 35.
     #[inline]
     pub fn term(&mut self) -> Option<TermRecord> {
         let [kind] = self.take()?;
@@ -119,6 +127,7 @@ impl<'a> Reader<'a> {
                 let [a, b, c, d] = self.take()?;
                 TermRecord::Span { low: wide(a, b), high: wide(c, d) }
             }
+            0x35 => TermRecord::Never,
             _ => return None,
         })
     }

@@ -23,6 +23,8 @@ pub struct Stock {
     pub deepest_compound: usize,
     /// How many numbers of a piece out of a hundred are spans.
     pub spans: usize,
+    /// How many readings of a piece that are missing, out of a hundred, will never come.
+    pub nevers: usize,
 }
 
 impl Stock {
@@ -34,11 +36,17 @@ impl Stock {
         most_arguments: 4,
         deepest_compound: 3,
         spans: 65,
+        nevers: 40,
     };
 
     /// The same without spans.
     pub fn without_spans(self) -> Stock {
         Stock { spans: 0, ..self }
+    }
+
+    /// The same without readings that will never come.
+    pub fn without_nevers(self) -> Stock {
+        Stock { nevers: 0, ..self }
     }
 
     /// A part of it.
@@ -50,6 +58,7 @@ impl Stock {
             most_arguments: random.between(1, 4),
             deepest_compound: random.between(1, 3),
             spans: random.pick(&[0, 65]),
+            nevers: random.pick(&[0, 40]),
         }
     }
 }

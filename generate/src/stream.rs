@@ -19,7 +19,8 @@ use crate::trees::{piece_bytes, SheetTree};
 use crate::variables::tidy_length;
 use std::collections::VecDeque;
 
-/// The calls, without end. It begins with document 01's example and its marked cases, whatever the seed.
+/// The calls, without end. It begins with document 01's example and its marked cases and with readings that will never
+/// come, whatever the seed.
 ///
 /// `build` says the bytes of the graph that an accepted sheet has, in a reading order if one is given, none
 /// if it has none. The stream asks it for graphs to walk and for the lengths of buffers.
@@ -82,7 +83,7 @@ const KNOWN: [fn() -> Vec<u8>; 9] = [
     || known::series_4(32),
     known::nodes_1024,
     known::nodes_1025,
-    known::nodes_1027,
+    known::eight_alike,
 ];
 
 /// A sheet as a tree: of all sorts, few rules, close to 64 tests, or one of known size.
@@ -109,11 +110,19 @@ impl<B: Fn(&[u8], Option<&[u8]>) -> Option<Vec<u8>>> Stream<B> {
             [(known::example(), known::example_pieces()), (known::marked(), known::marked_pieces())]
         {
             stream.opening(&sheet, &pieces);
+            stream.backwards(&sheet, &pieces);
+        }
+        // Two such readings under one variable, or one deep beside an unknown, are rare among random pieces.
+        for (sheet, pieces) in known::nevers() {
+            stream.opening(&sheet, &pieces);
+        }
+        for [sheet, graph, piece] in &known::below_nevers() {
+            stream.call(Name::Walk, Given { sheet, graph, piece, ..Given::default() });
         }
         stream
     }
 
-    /// The calls on a sheet and its pieces as they stand in document 01, and on its arguments read backwards.
+    /// The calls on a known sheet and its pieces.
     fn opening(&mut self, sheet: &[u8], pieces: &[Vec<u8>]) {
         let graph = &(self.build)(sheet, None).unwrap_or_default()[..];
         let buffer = &lent(graph.len() + 3)[..];
@@ -127,6 +136,10 @@ impl<B: Fn(&[u8], Option<&[u8]>) -> Option<Vec<u8>>> Stream<B> {
         }
         let (all, buffer) = (&pieces.concat()[..], &lent(RESULT * pieces.len() + 3)[..]);
         self.call(Name::WalkAll, Given { sheet, graph, pieces: all, buffer, ..Given::default() });
+    }
+
+    /// The same with the sheet's arguments read backwards.
+    fn backwards(&mut self, sheet: &[u8], pieces: &[Vec<u8>]) {
         let (positions, buffer) = (&list(&numbered(&reversed()))[..], &lent(ORDER + 3)[..]);
         self.call(Name::Order, Given { positions, buffer, ..Given::default() });
         let order = &table(&reversed())[..];

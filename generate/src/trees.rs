@@ -27,6 +27,8 @@ pub enum Term {
     Compound(u16, Vec<Term>),
     /// A number known to lie between two.
     Span(u16, u16),
+    /// A reading that will never come.
+    Never,
 }
 
 /// A sheet: its rules, each one pattern for an argument.
@@ -106,6 +108,7 @@ impl Term {
                 Term::Compound(id, arguments.collect::<Option<_>>()?)
             }
             TermRecord::Span { low, high } => Term::Span(low, high),
+            TermRecord::Never => Term::Never,
         })
     }
 
@@ -131,6 +134,7 @@ impl Term {
                 wide(to, *low);
                 wide(to, *high);
             }
+            Term::Never => to.push(0x35),
         }
     }
 }

@@ -153,6 +153,17 @@ pub fn walk(sheet: &[u8], graph: &[u8], piece: &[u8]) -> Result<Answer, Refusal>
     result
 }
 
+/// Walks an accepted piece over the sheet's own graph; word and rule are the plain answer's.
+#[inline]
+#[track_caller]
+pub fn walk_own(sheet: &[u8], piece: &[u8]) -> Answer {
+    let graph = reference::own_graph(sheet).expect("a graph");
+    let answer = walk(sheet, &graph, piece).expect("an answer");
+    let said = Plain { word: answer.walk.word, rule: answer.walk.rule };
+    assert_eq!(plain(sheet, piece), Ok(said), "sheet {} piece {}", to_hex(sheet), to_hex(piece));
+    answer
+}
+
 /// Walks many pieces with results in a buffer of this length; gives how far it came and the buffer.
 #[inline]
 pub fn walk_all(sheet: &[u8], graph: &[u8], pieces: &[u8], len: usize) -> (Result<Run, Refusal>, Vec<u8>) {

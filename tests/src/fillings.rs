@@ -1,7 +1,8 @@
 //! The plain answer by trying fillings, on small sheets: a check of the reference that uses no
 //! places, no tests and no comparison of terms with unknowns or spans.
 //!
-//! A filling puts a number of a span in its place: each is tried, and no span has many here. Document 01 fills
+//! A filling puts a number of a span in its place: each is tried, and no span has many here. A reading that will never
+//! come stays as it is: no pattern but anything and a variable that stands once takes it. Document 01 fills
 //! unknowns with any terms without unknowns. Here they come from a finite set: every symbol and number that
 //! sheet or piece mention, all numbers of spans, the numbers beside those of ranges, the symbols beside those of
 //! series and, as a series may take all symbols, a number, two symbols that neither mentions, and every compound
@@ -35,10 +36,27 @@ fn takes<'a>(pattern: &Pattern, term: &'a Term, bound: &mut [Option<&'a Term>; 1
         (Pattern::Compound(id, patterns), Term::Compound(other, terms)) => {
             id == other && takes_all(patterns, terms, bound)
         }
-        (Pattern::Variable(number), _) => *bound[usize::from(*number)].get_or_insert(term) == term,
+        (Pattern::Variable(number), _) => binds(&mut bound[usize::from(*number)], term),
         (Pattern::Ranged(number, low, high), Term::Number(n)) => {
-            (low..=high).contains(&n) && *bound[usize::from(*number)].get_or_insert(term) == term
+            (low..=high).contains(&n) && binds(&mut bound[usize::from(*number)], term)
         }
+        _ => false,
+    }
+}
+
+/// Whether a variable takes a term: it has none yet, or the same, with no reading in it that will never come.
+fn binds<'a>(variable: &mut Option<&'a Term>, term: &'a Term) -> bool {
+    match variable.replace(term) {
+        None => true,
+        Some(before) => before == term && !holds_never(term),
+    }
+}
+
+/// Whether a term is or holds a reading that will never come.
+pub fn holds_never(term: &Term) -> bool {
+    match term {
+        Term::Never => true,
+        Term::Compound(_, arguments) => arguments.iter().any(holds_never),
         _ => false,
     }
 }
@@ -88,7 +106,7 @@ impl Mentioned {
     fn term(&mut self, term: &Term, level: usize) {
         self.terms = self.terms.max(level);
         match term {
-            Term::Unknown => {}
+            Term::Unknown | Term::Never => {}
             Term::Symbol(id) => self.symbols.extend([*id]),
             Term::Number(n) => self.numbers.extend([*n]),
             Term::Compound(id, arguments) => {

@@ -119,13 +119,19 @@ fn words_of_cuts(sheet: &[u8]) -> usize {
     (1 + 4 * read.rules.len()) * read.tests.places.len()
 }
 
-/// Sheets, their graphs and pieces: of document 01, large ones, with spans, and ones of full depth.
+/// Sheets, their graphs and pieces: of document 01, large ones, with spans, and ones of full depth, also with readings
+/// that will never come deepest, beside an unknown.
 fn inputs() -> Vec<Input> {
     let mut deep_sheet = vec![0x10, 2, 2, 0x24, 0, 0x24, 0];
     (0..2).for_each(|_| full(0x23, &[0x20], 1, &mut deep_sheet));
     let mut deep_piece = vec![0x11, 2];
     (0..2).for_each(|_| full(0x33, &[0x31, 0, 1], 1, &mut deep_piece));
-    let mut inputs = vec![(known::example(), deep_piece.clone()), (deep_sheet, deep_piece)];
+    let mut never_piece = vec![0x11, 2, 0x30];
+    full(0x33, &[0x35], 1, &mut never_piece);
+    let pieces = [deep_piece, never_piece];
+    let sheets = [known::example(), deep_sheet];
+    let mut inputs: Vec<(Vec<u8>, Vec<u8>)> =
+        sheets.iter().flat_map(|sheet| pieces.iter().map(|piece| (sheet.clone(), piece.clone()))).collect();
     inputs.extend(known::example_pieces().into_iter().map(|piece| (known::example(), piece)));
     for sheet in [
         most_places(),
@@ -133,7 +139,7 @@ fn inputs() -> Vec<Input> {
         known::nested_8(64),
         known::zeros_and_ones(32),
         known::nodes_1024(),
-        known::nodes_1027(),
+        known::nodes_1025(),
     ] {
         let unknowns = [vec![0x11, sheet[1]], vec![0x30; sheet[1] as usize]].concat();
         inputs.push((sheet, unknowns));

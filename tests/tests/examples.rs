@@ -35,13 +35,13 @@ fn the_counts_of_a_window_are_printed() {
 #[test]
 fn the_examples_pieces_are_walked_two_at_a_time() {
     let first = "commit 2 3 0000000000000000\nexecute 1 2 0000000000000004\n2 results, 14 bytes\n";
-    let second = "suspend 0 2 0000000000000003\nfail 0 1 0000000000000000\n2 results, 12 bytes\n";
+    let second = "suspend 0 3 0000000000000007\nfail 0 1 0000000000000000\n2 results, 12 bytes\n";
     assert_eq!(printed("walk_all"), [first, second, "0 results, 0 bytes\n"].concat());
 }
 
 #[test]
 fn the_example_is_built_in_the_order_of_a_track_drawing() {
-    let said = "1360 bytes, place 85 first\ntable 0\n7 nodes, place 85 asked first\nrefused 37 and 38\n";
+    let said = "1360 bytes, place 85 first\ntable 0\n6 nodes, place 85 asked first\nrefused 37 and 38\n";
     assert_eq!(printed("order"), said);
 }
 

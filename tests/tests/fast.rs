@@ -223,11 +223,11 @@ fn the_fast_code_stops_at_the_most_nodes() {
     let known = [
         known::nodes_1024(),
         known::nodes_1025(),
-        known::nodes_1027(),
+        known::eight_alike(),
         known::coins(28),
         known::coins(32),
         known::longest_32(),
     ];
     let built = known.map(|sheet| count.build(&sheet, enough(&sheet, None)).map(|built| built.nodes));
-    assert_eq!(built, [Some(1024), None, None, Some(960), None, Some(1023)]);
+    assert_eq!(built, [Some(1024), None, Some(39), Some(960), None, Some(999)]);
 }

@@ -2,7 +2,7 @@
 //! one that trying every filling gives, each number of a span among them. The library plays no part here.
 
 use voltunnis_tests::bytes::{from_hex, to_hex};
-use voltunnis_tests::fillings;
+use voltunnis_tests::fillings::{self, holds_never};
 use voltunnis_tests::generate::pieces::piece;
 use voltunnis_tests::generate::random::Random;
 use voltunnis_tests::generate::sheets::small_sheet;
@@ -14,41 +14,24 @@ use voltunnis_tests::results::{Plain, Word};
 /// The most fillings to try for one piece.
 const MOST: usize = 20_000;
 
+/// A stock of these, with compounds of so many arguments down to a depth, and spans so often.
+const fn stock(
+    ids: &'static [u16],
+    series: &'static [u16],
+    numbers: &'static [u16],
+    (most_arguments, deepest_compound): (usize, usize),
+    spans: usize,
+) -> Stock {
+    Stock { ids, series, numbers, most_arguments, deepest_compound, spans, nevers: 30 }
+}
+
 /// Few ids and numbers with wide compounds, or fewer still with deep ones.
 const STOCKS: [Stock; 5] = [
-    Stock {
-        ids: &[1, 2],
-        series: &[1, 2, 4],
-        numbers: &[1, 2, 4],
-        most_arguments: 2,
-        deepest_compound: 1,
-        spans: 50,
-    },
-    Stock {
-        ids: &[1],
-        series: &[0, 0xffff],
-        numbers: &[0, 0xffff],
-        most_arguments: 1,
-        deepest_compound: 3,
-        spans: 20,
-    },
-    Stock {
-        ids: &[1, 2],
-        series: &[1, 2],
-        numbers: &[3, 5],
-        most_arguments: 1,
-        deepest_compound: 2,
-        spans: 50,
-    },
-    Stock { ids: &[1], series: &[0, 1], numbers: &[2], most_arguments: 2, deepest_compound: 2, spans: 50 },
-    Stock {
-        ids: &[1],
-        series: &[1, 2],
-        numbers: &[0, 1, 2, 3, 4, 5],
-        most_arguments: 2,
-        deepest_compound: 1,
-        spans: 80,
-    },
+    stock(&[1, 2], &[1, 2, 4], &[1, 2, 4], (2, 1), 50),
+    stock(&[1], &[0, 0xffff], &[0, 0xffff], (1, 3), 20),
+    stock(&[1, 2], &[1, 2], &[3, 5], (1, 2), 50),
+    stock(&[1], &[0, 1], &[2], (2, 2), 50),
+    stock(&[1], &[1, 2], &[0, 1, 2, 3, 4, 5], (2, 1), 80),
 ];
 
 /// The answer to compare, if sheet and piece are accepted and their fillings are few enough.
@@ -74,20 +57,27 @@ fn tried(sheet: &SheetTree, piece: &[Term]) -> Option<Plain> {
 #[test]
 fn the_plain_answer_is_the_one_over_fillings() {
     let mut random = Random::new(0x6669_6c6c);
-    let (mut words, mut spans) = ([0; 5], [0; 5]);
+    let (mut words, mut spans, mut nevers) = ([0; 5], [0; 5], [0; 5]);
     for round in 0..25_000 {
         let stock = STOCKS[round % STOCKS.len()];
         let sheet = small_sheet(&mut random, stock);
         let piece = piece(&mut random, &sheet, stock);
         if let Some(answer) = tried(&sheet, &piece) {
-            let words = if has_span(&piece) { &mut spans } else { &mut words };
+            let words = match (piece.iter().any(holds_never), has_span(&piece)) {
+                (true, _) => &mut nevers,
+                (false, true) => &mut spans,
+                (false, false) => &mut words,
+            };
             words[answer.word as usize] += 1;
         }
     }
-    println!("answers by word: {words:?}, of pieces with spans {spans:?}");
+    println!(
+        "answers by word: {words:?}, with spans {spans:?}, with readings that will never come {nevers:?}"
+    );
     for word in [Word::Commit, Word::Execute, Word::Suspend, Word::Fail] {
-        assert!(words[word as usize] >= 1_000, "{}: {} answers", word.name(), words[word as usize]);
-        assert!(spans[word as usize] >= 150, "{}: {} answers", word.name(), spans[word as usize]);
+        for (words, least) in [(words, 1_000), (spans, 150), (nevers, 50)] {
+            assert!(words[word as usize] >= least, "{}: {} answers", word.name(), words[word as usize]);
+        }
     }
 }
 
@@ -150,6 +140,50 @@ fn pieces_full_of_spans_have_the_answer_over_fillings() {
     println!("answers by word: {words:?}");
     for word in [Word::Commit, Word::Execute, Word::Suspend, Word::Fail] {
         assert!(words[word as usize] >= 2_000, "{}: {} answers", word.name(), words[word as usize]);
+    }
+}
+
+/// A pattern, mostly a variable or anything.
+fn tied(random: &mut Random, depth: usize) -> Pattern {
+    match random.below(8) {
+        0..=3 => Pattern::Variable(random.below(2) as u8),
+        4 if depth < 3 => Pattern::Compound(1, vec![tied(random, depth + 1)]),
+        5 => Pattern::Symbol(1),
+        _ => Pattern::Anything,
+    }
+}
+
+/// A term of readings that are missing or a symbol, made for this pattern's place.
+fn missing(random: &mut Random, pattern: &Pattern, depth: usize) -> Term {
+    match (random.below(10), pattern) {
+        (0..=2, _) => Term::Never,
+        (3 | 4, _) => Term::Unknown,
+        (_, Pattern::Compound(id, parts)) => {
+            Term::Compound(*id, parts.iter().map(|part| missing(random, part, depth + 1)).collect())
+        }
+        (5 | 6, _) if depth < 3 => Term::Compound(1, vec![missing(random, pattern, depth + 1)]),
+        _ => Term::Symbol(1),
+    }
+}
+
+#[test]
+fn pieces_full_of_missing_readings_have_the_answer_over_fillings() {
+    let mut random = Random::new(0x6e65_7665);
+    let mut words = [0; 5];
+    for _ in 0..40_000 {
+        let arity = random.between(1, 3);
+        let rules = (0..random.between(1, 4)).map(|_| (0..arity).map(|_| tied(&mut random, 1)).collect());
+        let sheet = SheetTree { arity: arity as u8, rules: rules.collect() };
+        let made_for = random.below(sheet.rules.len());
+        let piece: Vec<Term> =
+            sheet.rules[made_for].iter().map(|part| missing(&mut random, part, 1)).collect();
+        if let Some(answer) = tried(&sheet, &piece).filter(|_| piece.iter().any(holds_never)) {
+            words[answer.word as usize] += 1;
+        }
+    }
+    println!("answers by word: {words:?}");
+    for word in [Word::Commit, Word::Execute, Word::Suspend, Word::Fail] {
+        assert!(words[word as usize] >= 500, "{}: {} answers", word.name(), words[word as usize]);
     }
 }
 

@@ -1,18 +1,23 @@
-//! What spans and series leave of older graphs. `vectors/graphs_of_32_rules.txt` says what the library wrote for sheets of up to 32
-//! rules before requests 9, 4 and 5, in document 01's order and with the arguments backwards. Request 9 kept these
+//! What requests leave of older graphs. `vectors/graphs_of_32_rules.txt` says what the library wrote for sheets of up to 32
+//! rules before requests 9, 4, 5 and 6, in document 01's order and with the arguments backwards. Request 9 kept these
 //! graphs; request 4 adds cases for spans and for runs of numbers that no rule accepts, and counts cases in two bytes;
-//! request 5 writes a symbol's case with two ends, which in these sheets are one id. Without the cases of request 4,
-//! numbered anew, counted in one byte and with symbols as one id, the graphs are still the same. Sheets that were refused
-//! are refused by the same numbers.
+//! request 5 writes a symbol's case with two ends, which in these sheets are one id; since request 6 an unknown settles
+//! no pair. With unknowns that settle pairs again, and without the cases of request 4, numbered anew, counted in one
+//! byte and with symbols as one id, the graphs are still the same; those of sheets without pairs are so as they are
+//! built. Sheets that were refused are refused by the same numbers, but for graphs that were too large: all of these
+//! have pairs, and are built since request 6.
 
 use std::collections::BTreeMap;
 use voltunnis_tests::both::{build, build_ordered, enough};
 use voltunnis_tests::bytes::from_hex;
 use voltunnis_tests::generate::orders::{reversed, table};
-use voltunnis_tests::reference::build::nodes_in;
+use voltunnis_tests::reference::build::{nodes_asking, nodes_in};
+use voltunnis_tests::reference::graph::MOST_NODES;
+use voltunnis_tests::reference::keys::Asking;
 use voltunnis_tests::reference::nodes::{Case, Node};
 use voltunnis_tests::reference::order::asking;
 use voltunnis_tests::reference::sheet::{Sheet, Want};
+use voltunnis_tests::results::Refusal;
 
 /// After a line of words a line for each sheet: what it is, its bytes, and what was said of its two graphs.
 const KEPT: &str = include_str!("../vectors/graphs_of_32_rules.txt");
@@ -144,10 +149,22 @@ fn before(sheet: &Sheet, nodes: &[Node]) -> String {
     format!("ok {at} {} {:016x}", graph.len(), hash(&graph))
 }
 
-/// What was said of the graph of a sheet before, by its graph now; the refusal if there is none.
+/// The nodes of a sheet's graph in this order, with unknowns that settle the pairs with a place at or below theirs, if
+/// there are at most so many.
+fn settling(sheet: &Sheet, places: &[u16], most: u16) -> Result<Vec<Node>, Refusal> {
+    let asking = Asking::new(sheet, asking(places.iter().copied(), &sheet.tests));
+    nodes_asking(&asking.settling_pairs(), sheet.rules.len(), most)
+}
+
+/// What was said of the graph of a sheet before, by its graph now but for the pairs that unknowns settled; the refusal
+/// if there is none.
 fn said(bytes: &[u8], places: &[u16]) -> String {
     let nodes = Sheet::read(bytes).and_then(|sheet| {
-        let nodes = nodes_in(&sheet, asking(places.iter().copied(), &sheet.tests), MOST)?;
+        let nodes = settling(&sheet, places, MOST)?;
+        if sheet.tests.pairs.is_empty() {
+            let built = nodes_in(&sheet, asking(places.iter().copied(), &sheet.tests), MOST);
+            assert_eq!(built.as_ref(), Ok(&nodes));
+        }
         Ok((sheet, nodes))
     });
     match nodes {
@@ -157,7 +174,7 @@ fn said(bytes: &[u8], places: &[u16]) -> String {
 }
 
 #[test]
-fn without_the_cases_for_spans_sheets_of_up_to_32_rules_keep_their_graph() {
+fn but_for_pairs_and_the_cases_for_spans_sheets_of_up_to_32_rules_keep_their_graph() {
     let (ascending, backwards): (Vec<u16>, Vec<u16>) = ((0..680).collect(), reversed());
     let (mut rules, mut refusals, mut built) = (BTreeMap::new(), BTreeMap::new(), 0);
     for line in KEPT.lines().skip(1) {
@@ -167,11 +184,17 @@ fn without_the_cases_for_spans_sheets_of_up_to_32_rules_keep_their_graph() {
         let sheet = from_hex(sheet);
         let order = table(&backwards);
         // The library's graphs are those of the reference, which are looked at.
-        built += usize::from(build(&sheet, enough(&sheet, None)).0.is_ok());
-        built += usize::from(build_ordered(&sheet, &order, enough(&sheet, Some(&order))).0.is_ok());
-        for (places, before) in [(&ascending, first), (&backwards, second)] {
+        let in_turn = build(&sheet, enough(&sheet, None)).0;
+        let ordered = build_ordered(&sheet, &order, enough(&sheet, Some(&order))).0;
+        built += [in_turn, ordered].iter().filter(|graph| graph.is_ok()).count();
+        for (places, before, now) in [(&ascending, first, in_turn), (&backwards, second, ordered)] {
             match before {
-                "refused 18" => assert_eq!(build_ordered(&sheet, &table(places), 100).0, Err(18), "{name}"),
+                // Each of these sheets has pairs, and a smaller graph since unknowns settle none.
+                "refused 18" => {
+                    let read = Sheet::read(&sheet).expect("a sheet");
+                    assert_eq!(settling(&read, places, MOST_NODES), Err(18), "{name}");
+                    assert!(now.is_ok() && !read.tests.pairs.is_empty(), "{name}: {now:?}");
+                }
                 _ => assert_eq!(said(&sheet, places), before, "{name}"),
             }
         }

@@ -74,11 +74,12 @@ fn refusals_end_the_run_and_leave_the_lines_before() {
     let listed = |sheet: &str, pieces: &str| lines(&folder, &from_hex(sheet), &from_hex(pieces));
     assert_eq!(listed("10 02 00 20", "11 02 30 30"), "refused 10\n");
     assert_eq!(listed("10 02 00", ""), "sheet 2 0 0 1\n");
-    let first = "sheet 2 2 3 7\n1 suspend 0 2 0000000000000003\n";
+    let first = "sheet 2 2 3 6\n1 suspend 0 3 0000000000000007\n";
     for (rest, refusal) in [
         ("11", 12),
         ("11 09", 13),
         ("11 02 30", 14),
+        ("11 02 35", 14),
         ("11 02 33 00 01 05", 16),
         ("11 01 30", 20),
         ("00", 12),
@@ -88,7 +89,7 @@ fn refusals_end_the_run_and_leave_the_lines_before() {
         assert_eq!(listed(EXAMPLE, &pieces), format!("{first}refused {refusal}\n"));
     }
     assert_eq!(lines(&folder, &known::nodes_1025(), &[]), "refused 18\n");
-    assert_eq!(lines(&folder, &known::nodes_1024(), &[]), "sheet 8 4 23 1024\n");
+    assert_eq!(lines(&folder, &known::nodes_1024(), &[]), "sheet 8 11 12 1024\n");
     assert_eq!(lines(&folder, &known::nested_8(8), &[]), "sheet 8 8 8 53\n");
     assert_eq!(lines(&folder, &known::nested_8(16), &[]), "refused 19\n");
     assert_eq!(lines(&folder, &known::coins(32), &[]), "refused 18\n");
@@ -133,6 +134,23 @@ fn series_are_listed() {
                   4 execute 17 1 0000000000000008\n\
                   5 fail 0 1 0000000000000000\n";
     assert_eq!(lines(&folder, &known::series_4(32), &pieces.concat()), listed);
+}
+
+#[test]
+fn pieces_of_machines_without_a_coil_are_listed() {
+    let folder = folder("never");
+    let pieces = from_hex("11 02 30 30 11 02 35 30 11 02 35 35 11 02 33 00 01 01 35 30 11 02 31 00 01 35");
+    let said = "sheet 2 2 3 6\n\
+                1 suspend 0 3 0000000000000007\n\
+                2 fail 0 1 0000000000000000\n\
+                3 fail 0 1 0000000000000000\n\
+                4 fail 0 1 0000000000000000\n\
+                5 fail 0 2 0000000000000000\n";
+    assert_eq!(lines(&folder, &from_hex(EXAMPLE), &pieces), said);
+    // (X, X) and (_, 2..3): the pair is asked beside the unknown.
+    let sheet = from_hex("10 02 02 24 00 24 00 20 22 00 02 00 03");
+    let said = "sheet 2 2 2 5\n1 execute 2 2 0000000000000001\nrefused 14\n";
+    assert_eq!(lines(&folder, &sheet, &from_hex("11 02 35 30 11 02 35 36")), said);
 }
 
 #[test]

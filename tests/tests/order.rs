@@ -36,7 +36,7 @@ fn refused(sheet: &[u8], table: &[u8], len: usize, refusal: Refusal) {
 fn the_shared_vectors_are_met() {
     let mut met = Vec::new();
     for line in VECTORS.lines() {
-        let (call, said) = line.strip_prefix("5|").and_then(|rest| rest.split_once('|')).expect("a vector");
+        let (call, said) = line.strip_prefix("6|").and_then(|rest| rest.split_once('|')).expect("a vector");
         let words: Vec<&str> = call.split(' ').collect();
         let said = match words[..] {
             ["build", sheet, len] => {
@@ -63,24 +63,23 @@ fn the_shared_vectors_are_met() {
 fn the_examples_graph_asks_argument_2_first() {
     let (built, bytes) = graph(&known::example(), &reversed());
     let nodes = [
-        "12 02 02 00 07",
-        "43 00 55 00 01 00 02 00 03 44 00 02 00 02 00 01",
-        "43 00 00 00 01 00 02 00 05 44 00 01 00 01 00 04",
+        "12 02 02 00 06",
+        "43 00 55 00 01 00 02 00 01 44 00 02 00 02 00 01",
+        "43 00 00 00 01 00 02 00 03 44 00 01 00 01 00 03",
         "42 01",
-        "43 00 00 00 01 00 02 00 05 44 00 01 00 01 00 05",
-        "47 00 00 00 55 00 06 00 05",
-        "41",
+        "47 00 00 00 55 00 04 00 05",
         "42 02",
+        "41",
     ];
     assert_eq!(to_hex(&bytes), to_hex(&from_hex(&nodes.concat())));
-    assert_eq!(built, Built { nodes: 7, bytes: 67 });
+    assert_eq!(built, Built { nodes: 6, bytes: 51 });
     let said = known::example_pieces();
     let said =
         said.iter().map(|piece| walk(&known::example(), &bytes, piece).expect("an answer").to_string());
     let answers = [
         "commit 2 3 0000000000000000",
         "execute 1 1 0000000000000004",
-        "suspend 0 2 0000000000000003",
+        "suspend 0 3 0000000000000007",
         "fail 0 1 0000000000000000",
     ];
     assert_eq!(said.collect::<Vec<_>>(), answers);
@@ -93,8 +92,8 @@ fn tests_keep_their_numbers_and_pairs_come_last() {
     let (_, bytes) = graph(&sheet, &reversed());
     assert_eq!(bytes[5..8], [0x43, 0, 170]);
     let open = walk(&sheet, &bytes, &from_hex("11 03 30 30 30")).expect("an answer");
-    assert_eq!(open.to_string(), "suspend 0 2 0000000000000003");
-    // Unknown at 3 lists test 1, unknown at 1 test 0.
+    assert_eq!(open.to_string(), "suspend 0 3 0000000000000007");
+    // Unknown at 3 lists test 1, unknown at 1 test 0, and the pair is test 2.
     let known = walk(&sheet, &bytes, &from_hex("11 03 30 30 31 00 01")).expect("an answer");
     assert_eq!(known.to_string(), "execute 1 1 0000000000000004");
 }
@@ -119,12 +118,12 @@ fn all_places_in_turn_give_the_plain_graph() {
         known::nested_16(32),
         known::nodes_1024(),
         known::nodes_1025(),
-        known::nodes_1027(),
+        known::eight_alike(),
         known::coins(64),
         known::nested_1(64),
         from_hex("10 03 00"),
     ] {
-        for len in [0, 5, 67, enough(&sheet, None)] {
+        for len in [0, 5, 51, enough(&sheet, None)] {
             assert!(build_ordered(&sheet, &ascending, len) == build(&sheet, len), "{}", to_hex(&sheet));
         }
     }
@@ -207,7 +206,7 @@ fn a_place_out_of_range_or_twice_anywhere_comes_before_one_before_its_parent() {
             let places = any(&mut random);
             let table = fault.put(&mut random, &places);
             assert_eq!(check_order(&table), Err(refusal), "{fault:?}");
-            refused(&known::example(), &table, random.pick(&[0, 66, 67, 100]), refusal);
+            refused(&known::example(), &table, random.pick(&[0, 50, 51, 100]), refusal);
         }
     }
 }
@@ -223,12 +222,12 @@ fn questions_28_to_30_come_after_the_sheets_and_before_18_and_19() {
             refused(&[], &table, len, 1);
             refused(&from_hex("10 01 01 21"), &table, len, 4);
             refused(&long, &table, len, 10);
-            refused(&known::nodes_1027(), &table, len, refusal);
+            refused(&known::nodes_1025(), &table, len, refusal);
             refused(&from_hex("10 01 00"), &table, len, refusal);
         }
     }
-    refused(&known::nodes_1027(), &table(&reversed()), 0, 18);
-    refused(&known::example(), &table(&reversed()), 66, 19);
+    refused(&known::coins(64), &table(&reversed()), 0, 18);
+    refused(&known::example(), &table(&reversed()), 50, 19);
 }
 
 #[test]

@@ -94,8 +94,10 @@ fn try_sheets(seed: u64, sheets: usize) -> Count {
         assert!(one == other, "vt_build: {}", to_hex(&sheet));
         count.met(format!("{} graphs", graphs.len()));
         count.met(if graphs.windows(2).all(|two| two[0] == two[1]) { "same graph" } else { "other graph" });
-        let piece = piece_bytes(&piece(&mut random, &tree, Stock::FULL));
-        walked(&mut count, &sheet, &graphs, &piece);
+        for _ in 0..2 {
+            let piece = piece_bytes(&piece(&mut random, &tree, Stock::FULL));
+            walked(&mut count, &sheet, &graphs, &piece);
+        }
     }
     count
 }

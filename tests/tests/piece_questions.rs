@@ -44,13 +44,22 @@ fn question_13_asks_for_an_arity_of_1_to_8() {
 }
 
 #[test]
-fn question_14_asks_for_whole_records_of_kinds_30_to_34() {
-    for kind in (0..=0xff).filter(|kind| !(0x30..=0x34).contains(kind)) {
+fn question_14_asks_for_whole_records_of_kinds_30_to_35() {
+    for kind in (0..=0xff).filter(|kind| !(0x30..=0x35).contains(kind)) {
         refused(&one(&format!("{kind:02x} 00 00 00 00 00")), 14);
     }
     let span = "33 00 01 02 30 34 00 01 00 02";
-    for term in ["31 00 01", "32 00 01", "34 00 01 00 02", "33 00 01 01 30", "33 00 01 02 30 31 00 01", span]
-    {
+    let never = "33 00 01 02 35 33 00 02 01 35";
+    for term in [
+        "31 00 01",
+        "32 00 01",
+        "34 00 01 00 02",
+        "33 00 01 01 30",
+        "33 00 01 02 30 31 00 01",
+        span,
+        never,
+        "35",
+    ] {
         let bytes = from_hex(&one(term));
         assert_eq!(check_piece(&bytes), Ok(PieceSize { arity: 1 }));
         for cut in 2..bytes.len() {
@@ -58,6 +67,28 @@ fn question_14_asks_for_whole_records_of_kinds_30_to_34() {
         }
     }
     refused("11 02 30", 14);
+    refused("11 02 35", 14);
+}
+
+#[test]
+fn record_35_has_no_body() {
+    accepted("11 01 35", 1);
+    accepted("11 03 35 30 35", 3);
+    refused("11 01 35 00", 17);
+    refused("11 01 35 35", 17);
+    refused("11 02 35 00 01", 14);
+    refused("11 09 35", 13);
+    // At every depth, the deepest too.
+    let mut term = "35".to_string();
+    for _ in 0..3 {
+        accepted(&one(&term), 1);
+        term = compound(&[&term[..]; 4]);
+        accepted(&one(&term), 1);
+    }
+    refused(&one(&compound(&[&term])), 15);
+    // A compound of 35s has 1 to 4 of them.
+    refused(&one("33 00 01 00 35"), 16);
+    refused(&one(&compound(&["35"; 5])), 16);
 }
 
 #[test]
@@ -112,9 +143,10 @@ fn questions_come_term_by_term_in_number_order() {
     let three = |inside: &str| compound(&[&compound(&[&compound(&[inside])])]);
     refused(&one(&three("33 00 01 00")), 15);
     refused(&one(&three("33 00 01")), 14);
-    refused("11 02 33 00 01 00 35", 16);
-    refused("11 02 35 33 00 01 00", 14);
-    refused("11 00 35", 13);
+    refused("11 02 33 00 01 00 36", 16);
+    refused("11 02 36 33 00 01 00", 14);
+    refused("11 02 35 33 00 01 00", 16);
+    refused("11 00 36", 13);
 }
 
 #[test]

@@ -10,12 +10,13 @@ use voltunnis_tests::generate::trees::{piece_bytes, Pattern, SheetTree, Term};
 use voltunnis_tests::request;
 use voltunnis_tests::results::{GraphSize, Plain};
 
-/// The vectors of request 5. One that is shared twice is here with 26 and with 21.
+/// The vectors of request 5, the example's graph and answers as request 6 makes them. One that is shared twice is here
+/// with 26 and with 21.
 const VECTORS: &str = include_str!("../vectors/series.txt");
 
 #[test]
 fn the_shared_vectors_are_met() {
-    let calls: Vec<&str> = VECTORS.lines().map(|line| request::met(line, &["5"])).collect();
+    let calls: Vec<&str> = VECTORS.lines().map(|line| request::met(line, &["5", "6"])).collect();
     let of = |name: &str| calls.iter().filter(|call| **call == name).count();
     assert_eq!((of("build"), of("tidy"), of("listing"), calls.len()), (5, 2, 2, 9));
 }

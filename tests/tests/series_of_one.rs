@@ -111,9 +111,9 @@ fn a_symbol_and_the_series_of_it_take_the_same_graphs_and_pieces() {
 fn the_example_written_with_series_has_the_example_s_graph() {
     let other = from_hex("10 02 02 24 00 24 00 26 00 01 00 01 26 00 02 00 02");
     let graph = own_graph(&known::example()).expect("a graph");
-    assert_eq!(graph.len(), 67);
-    let (built, buffer) = build(&other, 67);
-    assert_eq!(built.map(|built| (built.nodes, built.bytes)), Ok((7, 67)));
+    assert_eq!(graph.len(), 51);
+    let (built, buffer) = build(&other, 51);
+    assert_eq!(built.map(|built| (built.nodes, built.bytes)), Ok((6, 51)));
     assert_eq!(to_hex(&buffer), to_hex(&graph));
     assert_eq!(to_hex(&tidied(&other)), to_hex(&known::example()));
 }
@@ -231,7 +231,7 @@ fn graphs_in_the_older_form_are_refused() {
     // The example: the node of its first case would be 4300.
     let example = own_graph(&known::example()).as_deref().and_then(read).as_ref().and_then(older);
     let example = example.expect("symbols");
-    assert_eq!(example.len(), 61);
+    assert_eq!(example.len(), 47);
     assert_eq!(check_graph(&known::example(), &example), Err(23));
     // Where nothing follows, the case is cut.
     let alone = from_hex("12 01 01 00 01 43 00 00 00 01 00 00 00 00 44 00 01 00 00");

@@ -11,12 +11,12 @@ use voltunnis_tests::reference::own_graph;
 use voltunnis_tests::request;
 use voltunnis_tests::results::GraphSize;
 
-/// The vectors of request 4, the example's graph as request 5 makes it.
+/// The vectors of request 4, the example's graph and answers as request 6 makes them.
 const VECTORS: &str = include_str!("../vectors/spans.txt");
 
 #[test]
 fn the_shared_vectors_are_met() {
-    let calls: Vec<&str> = VECTORS.lines().map(|line| request::met(line, &["4", "5"])).collect();
+    let calls: Vec<&str> = VECTORS.lines().map(|line| request::met(line, &["4", "6"])).collect();
     assert_eq!(calls.len(), 20);
 }
 

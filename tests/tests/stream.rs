@@ -3,12 +3,14 @@
 
 use std::collections::BTreeMap;
 use voltunnis_tests::both;
+use voltunnis_tests::fillings::holds_never;
 use voltunnis_tests::generate::asked::Asked;
 use voltunnis_tests::generate::calls::{Call, Fault, Name, Role};
 use voltunnis_tests::generate::crowded::crowded;
 use voltunnis_tests::generate::random::Random;
 use voltunnis_tests::generate::sheets::sheet;
 use voltunnis_tests::generate::stream::{lent, Stream};
+use voltunnis_tests::generate::trees::read_piece;
 use voltunnis_tests::generate::variables::tidy_length;
 use voltunnis_tests::reference::{graph_in, sheet::Sheet, tidy};
 
@@ -20,7 +22,10 @@ fn outcome(call: &Call) -> String {
     assert!(buffer == lent(buffer.len()), "a buffer as it is lent");
     let said = match call.name() {
         Name::CheckSheet => both::check_sheet(sheet).map(|_| "sheet".to_string()),
-        Name::CheckPiece => both::check_piece(piece).map(|_| "piece".to_string()),
+        Name::CheckPiece => both::check_piece(piece).map(|_| match read_piece(piece) {
+            Some((terms, _)) if terms.iter().any(holds_never) => "piece with 35".to_string(),
+            _ => "piece".to_string(),
+        }),
         Name::CheckOrder => both::check_order(order).map(|_| "order".to_string()),
         Name::Plain => both::plain(sheet, piece).map(|plain| format!("plain {}", plain.word.name())),
         Name::CheckGraph => both::check_graph(sheet, graph).map(|_| "graph".to_string()),
@@ -51,7 +56,10 @@ fn every_refusal_and_every_word_is_met_whatever_the_seed() {
         let plain = words.map(|word| format!("plain {word}"));
         let refusals = (1..=32).chain([37, 38]).map(|number| format!("refused {number}"));
         let written = ["tidy", "ordered", "built", "built in order", "rewritten", "walked all"];
-        let accepted = ["sheet", "piece", "graph", "order"].into_iter().chain(written).map(String::from);
+        let accepted = ["sheet", "piece", "piece with 35", "graph", "order"]
+            .into_iter()
+            .chain(written)
+            .map(String::from);
         for wanted in refusals.chain(words.map(String::from)).chain(plain).chain(accepted) {
             assert!(counts.contains_key(&wanted), "seed {seed}: {wanted} never");
         }

@@ -159,8 +159,8 @@ fn the_result_is_a_table_that_is_accepted_and_built_with() {
         let table = table(&ordered(&sort.positions(&mut random)));
         assert_eq!(check_order(&table), Ok(()), "{sort:?}");
         count.met(format!("{sort:?}"));
-        let (example, _) = build_ordered(&known::example(), &table, 67);
-        assert_eq!(example, Ok(Built { nodes: 7, bytes: 67 }), "{sort:?}");
+        let (example, _) = build_ordered(&known::example(), &table, 51);
+        assert_eq!(example, Ok(Built { nodes: 6, bytes: 51 }), "{sort:?}");
         let sheet = small_sheet(&mut random, Stock::FULL).bytes();
         if voltunnis::check_sheet(&sheet).is_ok() {
             let (result, _) = build_ordered(&sheet, &table, 40_000);

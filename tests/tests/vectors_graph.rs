@@ -40,22 +40,21 @@ fn the_reference_lists_as_is_said() {
 }
 
 #[test]
-fn the_example_is_document_01s_with_the_wide_count_and_runs_of_ids() {
+fn the_example_is_document_01s_with_the_wide_count_runs_of_ids_and_pairs_asked() {
     let sheet = from_hex("10 02 02 24 00 24 00 21 00 01 21 00 02");
     let graph = from_hex(
-        "12 02 02 00 07 | 43 00 00 00 01 00 02 00 03 44 00 01 00 01 00 01 | \
-         43 00 55 00 01 00 02 00 05 44 00 02 00 02 00 04 | 42 01 | \
-         43 00 55 00 01 00 02 00 05 44 00 02 00 02 00 05 | 47 00 00 00 55 00 06 00 05 | 41 | 42 02",
+        "12 02 02 00 06 | 43 00 00 00 01 00 02 00 01 44 00 01 00 01 00 01 | \
+         43 00 55 00 01 00 02 00 03 44 00 02 00 02 00 03 | 42 01 | 47 00 00 00 55 00 04 00 05 | 42 02 | 41",
     );
-    let mut buffer = [0; 67];
-    assert_eq!(reference::build(&sheet, &mut buffer).map(|built| built.bytes), Ok(67));
+    let mut buffer = [0; 51];
+    assert_eq!(reference::build(&sheet, &mut buffer).map(|built| built.bytes), Ok(51));
     assert_eq!(buffer[..], graph);
     let pieces =
         from_hex("11 02 31 00 01 31 00 02 | 11 02 30 31 00 01 | 11 02 30 30 | 11 02 31 00 03 31 00 04");
-    let lines = "sheet 2 2 3 7\n\
+    let lines = "sheet 2 2 3 6\n\
                  1 commit 2 3 0000000000000000\n\
                  2 execute 1 2 0000000000000004\n\
-                 3 suspend 0 2 0000000000000003\n\
+                 3 suspend 0 3 0000000000000007\n\
                  4 fail 0 1 0000000000000000\n";
     assert_eq!(listing(&sheet, &pieces), lines);
 }

@@ -48,9 +48,10 @@ fn the_vectors_pieces_are_walked_as_is_said() {
 fn questions_come_in_order() {
     let graph = "12 02 02 00 01 41";
     assert_eq!(said("10 02 02", "12", "11"), Err(4));
-    assert_eq!(said(EXAMPLE, "12", "11 01 35"), Err(14));
+    assert_eq!(said(EXAMPLE, "12", "11 01 36"), Err(14));
     assert_eq!(said(EXAMPLE, "12", "11 01 34 00 01 00 00"), Err(32));
     assert_eq!(said(EXAMPLE, "12", "11 01 30"), Err(20));
+    assert_eq!(said(EXAMPLE, "12", "11 01 35"), Err(20));
     assert_eq!(said(EXAMPLE, "12", "11 02 30 30"), Err(21));
     assert_eq!(said(EXAMPLE, "12 02 02 00 01 42 03", "11 02 30 30"), Err(23));
     assert_eq!(said(EXAMPLE, "12 02 02 00 01 41 41", "11 02 30 30"), Err(25));

@@ -50,7 +50,7 @@ fn example() -> (Vec<u8>, Vec<u8>, Vec<u8>) {
 const EXAMPLE: [&str; 4] = [
     "00010203000000000000000000000000",
     "00020102000000000000000000000004",
-    "00030002000000000000000000000003",
+    "00030003000000000000000000000007",
     "00040001000000000000000000000000",
 ];
 
@@ -103,7 +103,7 @@ fn the_sheet_is_asked_before_the_graph_and_the_graph_before_the_pieces() {
     refused(&[], &[], &[], 1);
     refused(&from_hex("10 01 01 21"), &[], &[0xff], 4);
     refused(&sheet, &[], &pieces, 21);
-    refused(&sheet, &graph[..66], &[0xff], 22);
+    refused(&sheet, &graph[..50], &[0xff], 22);
     refused(&sheet, &from_hex("12 02 02 00 01 42 03"), &from_hex("11 01 30"), 23);
     refused(&sheet, &[&graph[..], &[0x41]].concat(), &[], 25);
     assert_eq!(said(&sheet, &graph, &[0xff], 40).1, ["0c000000000000000000000000000000"]);
@@ -137,7 +137,7 @@ fn a_piece_that_cannot_be_read_gets_the_last_result() {
         ("11 00", 13),
         ("11 09 30", 13),
         ("11 02 30", 14),
-        ("11 02 35 30", 14),
+        ("11 02 36 30", 14),
         ("11 02 34 00 01 30", 14),
         ("11 02 34 00 02 00 01 30", 32),
         ("11 02 33 00 01 01 33 00 01 01 33 00 01 01 33 00 01 01 30 30", 15),

@@ -23,7 +23,7 @@ pub enum Where {
 /// The length of a pattern's or a term's record, and how many arguments follow it.
 fn record(bytes: &[u8]) -> Option<(usize, usize)> {
     let length = match bytes.first()? {
-        0x20 | 0x30 => 1,
+        0x20 | 0x30 | 0x35 => 1,
         0x24 => 2,
         0x21 | 0x31 | 0x32 => 3,
         0x23 | 0x33 => 4,
@@ -234,6 +234,19 @@ mod tests {
         let inside = [0x11, 1, 0x33, 0, 7, 2, 0x34, 0, 5, 0, 5, 0x34, 0, 9, 0, 5];
         assert_eq!(found(&inside), (32, at(2, 11)));
         assert_eq!(found(&low[..11]), (14, Where::Rest(7)));
+    }
+
+    #[test]
+    fn records_without_a_body_are_passed() {
+        // (!, #7(!, 9..5?)): the span is the fourth term, after two readings that will never come.
+        let piece = [0x11, 2, 0x35, 0x33, 0, 7, 2, 0x35, 0x34, 0, 9, 0, 5];
+        let (entries, rest) = entries(&piece, 2, 1, 2);
+        let starts: Vec<usize> = entries.iter().map(|entry| entry.at.start).collect();
+        assert_eq!((starts, rest), (vec![2, 3, 7, 8], 13));
+        let refusal = check_piece(&piece).expect_err("a refusal");
+        assert_eq!(refusal.number(), 32);
+        let span = Where::Record { index: 3, rule: 0, at: Span::new(8, 13) };
+        assert_eq!(in_piece(&piece, refusal), span);
     }
 
     #[test]

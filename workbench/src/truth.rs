@@ -1,7 +1,7 @@
 //! What a piece says about a test: it holds, is contradicted, or is not known.
 
 use crate::notation::{places, Piece, Term, What};
-use crate::sheet_tests::Want;
+use crate::sheet_tests::{Test, Want};
 
 /// What is known of a test.
 #[derive(Clone, Copy, Debug, PartialEq, Eq)]
@@ -39,19 +39,40 @@ impl Truth {
     }
 }
 
-/// What a piece has at a place.
+/// What a piece has at a place. A place below a reading that will never come has that reading.
 pub fn find(piece: &Piece, place: u16) -> Found<'_> {
     let Some(path) = places::path(place) else { return Found::Lacking };
     let mut terms: &[Term] = &piece.terms;
     let mut found = Found::Lacking;
     for step in path {
-        if matches!(found, Found::Term(Term { what: What::Unknown, .. })) {
-            return Found::BelowUnknown;
+        match found {
+            Found::Term(Term { what: What::Unknown, .. }) => return Found::BelowUnknown,
+            Found::Term(Term { what: What::Never, .. }) => return found,
+            _ => {}
         }
         let Some(term) = terms.get(usize::from(step) - 1) else { return Found::Lacking };
         (found, terms) = (Found::Term(term), term.arguments());
     }
     found
+}
+
+/// Whether the reading at a place will never come.
+pub fn is_never(piece: &Piece, place: u16) -> bool {
+    matches!(find(piece, place), Found::Term(Term { what: What::Never, .. }))
+}
+
+/// Whether the reading at a place will never come, or one inside it: then the place differs from every other.
+fn holds_never(piece: &Piece, place: u16) -> bool {
+    matches!(find(piece, place), Found::Term(term) if term.what.holds_never())
+}
+
+/// The places of a test at which a reading that will never come contradicts it: a compound is what it is whatever it
+/// holds, but where it is compared a reading inside it tells, too.
+pub fn nevers(piece: &Piece, test: Test) -> Vec<u16> {
+    match test {
+        Test::Place(place) => is_never(piece, place).then_some(place).into_iter().collect(),
+        Test::Pair(p, q) => [p, q].into_iter().filter(|place| holds_never(piece, *place)).collect(),
+    }
 }
 
 /// Whether a rule's want at a place holds.
@@ -83,16 +104,18 @@ fn within((a, b): (u16, u16), (low, high): (u16, u16)) -> Truth {
     }
 }
 
-/// Whether two places are equal.
+/// Whether two places are equal. A reading that will never come differs from every term, from itself and from unknowns
+/// too.
 pub fn equal(piece: &Piece, p: u16, q: u16) -> Truth {
     match (find(piece, p), find(piece, q)) {
         (Found::Lacking, _) | (_, Found::Lacking) => Truth::Contradicted,
+        _ if [p, q].into_iter().any(|place| holds_never(piece, place)) => Truth::Contradicted,
         (Found::Term(a), Found::Term(b)) => same(a, b),
         _ => Truth::NotKnown,
     }
 }
 
-/// Whether two terms are the same.
+/// Whether two terms are the same, in which all readings may still come.
 fn same(a: &Term, b: &Term) -> Truth {
     match (&a.what, &b.what) {
         (What::Unknown, _) | (_, What::Unknown) => Truth::NotKnown,
@@ -193,5 +216,56 @@ mod tests {
         // Nothing is below a span.
         assert_eq!(wanted(&piece, 1, Want::Numbers(0, 9)), contradicted);
         assert!(matches!(find(&piece, 1), Found::Lacking));
+    }
+
+    /// Terms that are or hold a reading which will never come, and terms beside them.
+    const NEVERS: [&str; 4] = ["!", "#1(!)", "#1(?, !)", "#1(#2(?, #3(!)))"];
+    const OTHERS: [&str; 8] = ["?", "7", "5..9?", "#1", "#1(?)", "#1(?, ?)", "#1(?, 5)", "#1(#2(?, ?))"];
+
+    #[test]
+    fn what_will_never_come_differs_from_every_term() {
+        for (one, other) in NEVERS.iter().flat_map(|one| NEVERS.iter().chain(&OTHERS).map(move |o| (one, o)))
+        {
+            let piece = read(format!("({one}, {other})"));
+            assert_eq!(equal(&piece, 0, 85), Truth::Contradicted, "{one} and {other}");
+            assert_eq!(
+                equal(&read(format!("({other}, {one})")), 0, 85),
+                Truth::Contradicted,
+                "{other} and {one}"
+            );
+            // It is by the reading that they differ, not by what stands around it.
+            let late = read(format!("({one}, {one})").replace('!', "?"));
+            assert_eq!(equal(&late, 0, 85), Truth::NotKnown, "{one} twice, not read yet");
+        }
+    }
+
+    #[test]
+    fn what_will_never_come_contradicts_every_place_test() {
+        let piece = read("(!, #5(!))".into());
+        for want in [Want::Symbols(0, 65535), Want::Compound(5, 1), Want::Numbers(0, 65535)] {
+            // At the reading, and at places below it, whether or not it is inside a compound.
+            for place in [0, 1, 2, 84, 86, 87] {
+                assert_eq!(wanted(&piece, place, want), Truth::Contradicted, "{want:?} at {place}");
+                assert!(
+                    matches!(find(&piece, place), Found::Term(Term { what: What::Never, .. })),
+                    "{place}"
+                );
+            }
+        }
+        // A compound that holds one is that compound; a place that it lacks is lacking.
+        assert_eq!(wanted(&piece, 85, Want::Compound(5, 1)), Truth::Holds);
+        assert!(matches!(find(&piece, 107), Found::Lacking));
+    }
+
+    #[test]
+    fn a_place_below_what_will_never_come_differs_too() {
+        let piece = read("(!, ?, 7, ?)".into());
+        // Beside itself, an unknown, a place below one, a number, and a place that is lacking.
+        for (p, q) in [(0, 1), (1, 2), (1, 85), (1, 86), (1, 170), (1, 171)] {
+            assert_eq!(equal(&piece, p, q), Truth::Contradicted, "{p} and {q}");
+        }
+        for (p, q) in [(85, 86), (86, 256), (85, 170)] {
+            assert_eq!(equal(&piece, p, q), Truth::NotKnown, "{p} and {q}");
+        }
     }
 }

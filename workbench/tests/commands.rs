@@ -5,27 +5,23 @@ mod common;
 use common::Folder;
 
 const GRAPH: &str = "\
-graph 2, 2 rules, 7 nodes
+graph 2, 2 rules, 6 nodes
 name one = 1
 name two = 2
 0: argument 1
    one     -> 1
    neither -> 2
-   unknown -> 3
+   unknown -> 1
 1: argument 2
-   two     -> 4
+   two     -> 3
    neither -> 2
-   unknown -> 5
+   unknown -> 3
 2: execute 1  -- 1: (X, X)
-3: argument 2
-   two     -> 5
-   neither -> 2
-   unknown -> 5
-4: argument 1 = argument 2
-   no    -> 6
+3: argument 1 = argument 2
+   no    -> 4
    other -> 5
+4: execute 2  -- 2: (one, two)
 5: suspend
-6: execute 2  -- 2: (one, two)
 ";
 
 const ANSWERS: &str = "\
@@ -36,7 +32,7 @@ const ANSWERS: &str = "\
     rule 1: (X, X)
     2 edges, waits for argument 1 = argument 2
 (?, ?)  suspend
-    2 edges, waits for argument 1; for argument 2
+    3 edges, waits for argument 1; for argument 2; for argument 1 = argument 2
 (three, four)  fail
     1 edge
 ";
@@ -49,20 +45,22 @@ fn check_says_what_files_hold() {
     folder.write("tray.pieces", "(one, two)\n\n(?, one) -- the first reading is late\n");
     folder.says(&["build", "example.sheet", "-o", "graph.bin"]);
     let words = ["check", "--sheet", "example.sheet", "example.sheet", "tray.pieces", "graph.bin"];
-    let said = "example.sheet: sheet, 2 arguments, 2 rules, 3 tests; its graph has 7 nodes, 67 bytes\n\
-                tray.pieces: 2 pieces of 2 arguments\ngraph.bin: graph, 7 nodes, 67 bytes\n";
+    let said = "example.sheet: sheet, 2 arguments, 2 rules, 3 tests; its graph has 6 nodes, 51 bytes\n\
+                tray.pieces: 2 pieces of 2 arguments\ngraph.bin: graph, 6 nodes, 51 bytes\n";
     assert_eq!(folder.says(&words), said);
     let json = "[\n  {\n    \"file\": \"example.sheet\",\n    \"kind\": \"sheet\",\n    \"accepted\": true,\n    \
-                \"arity\": 2,\n    \"rules\": 2,\n    \"tests\": 3,\n    \"nodes\": 7,\n    \"bytes\": 67\n  }\n]\n";
+                \"arity\": 2,\n    \"rules\": 2,\n    \"tests\": 3,\n    \"nodes\": 6,\n    \"bytes\": 51\n  }\n]\n";
     assert_eq!(folder.says(&["check", "--json", "example.sheet"]), json);
 }
 
 #[test]
 fn an_accepted_sheet_may_have_no_graph() {
     let folder = Folder::new("no-graph");
-    folder.write("wide.sheet", "sheet 8\n1: (X, X, X, X, X, X, X, X)\n2: (1, 1, 1, 1, 1, 1, 1, 1)\n");
+    // The second argument has the numbers 1 to 16 in another order: runs of one and of the other leave many sets of rules.
+    let rules = (1..=16).map(|rule| format!("{rule}: ({rule}, {}, {rule})\n", 5 * rule % 17));
+    folder.write("wide.sheet", format!("sheet 3\n{}", rules.collect::<String>()));
     let said =
-        "wide.sheet: sheet, 8 arguments, 2 rules, 36 tests; its graph is refused 18: Has the graph at most \
+        "wide.sheet: sheet, 3 arguments, 16 rules, 3 tests; its graph is refused 18: Has the graph at most \
                 1,024 nodes?\n";
     assert_eq!(folder.says(&["check", "wide.sheet"]), said);
     folder.complains(
@@ -136,10 +134,10 @@ fn two_offices_have_one_tidy_sheet() {
 fn graphs_are_built_and_shown_in_words() {
     let folder = Folder::new("build");
     assert_eq!(folder.says(&["build", "example.sheet", "-o", "graph.bin"]), "");
-    assert_eq!(folder.read("graph.bin").len(), 67);
+    assert_eq!(folder.read("graph.bin").len(), 51);
     assert_eq!(folder.says(&["text", "graph.bin", "--sheet", "example.sheet"]), GRAPH);
     let plain = folder.says(&["text", "graph.bin"]);
-    assert!(plain.starts_with("graph 2, 2 rules, 7 nodes\n0: argument 1\n   #1      -> 1\n"), "{plain}");
+    assert!(plain.starts_with("graph 2, 2 rules, 6 nodes\n0: argument 1\n   #1      -> 1\n"), "{plain}");
     // The words are a notation too: they come back as the same bytes.
     folder.write("words.graph", GRAPH);
     folder.says(&["bytes", "words.graph", "--sheet", "example.sheet", "-o", "again.bin"]);
@@ -151,7 +149,7 @@ fn graphs_are_built_and_shown_in_words() {
 fn standard_input_is_read_as_text_or_bytes() {
     let folder = Folder::new("stdin");
     let ran = folder.run_with(&["check", "-"], common::EXAMPLE.as_bytes());
-    assert_eq!(ran.stdout, "-: sheet, 2 arguments, 2 rules, 3 tests; its graph has 7 nodes, 67 bytes\n");
+    assert_eq!(ran.stdout, "-: sheet, 2 arguments, 2 rules, 3 tests; its graph has 6 nodes, 51 bytes\n");
     let graph = folder.output(&["build", "example.sheet", "-o", "-"], b"").stdout;
     let ran = folder.run_with(&["text", "--bytes", "--sheet", "example.sheet", "-"], &graph);
     assert_eq!((ran.status, ran.stdout.as_str()), (0, GRAPH));
@@ -183,7 +181,8 @@ fn answers_are_coloured_only_when_asked_for() {
         command.args(["try", "example.sheet", "(?, ?)"]).current_dir(&folder.0).env("CLICOLOR_FORCE", "1");
         String::from_utf8(command.env(name, value).output().expect("vt runs").stdout).expect("text")
     };
-    let said = "\u{1b}[1m(?, ?)\u{1b}[0m  \u{1b}[1;33msuspend\u{1b}[0m\n    2 edges, waits for argument 1; for argument 2\n";
+    let said = "\u{1b}[1m(?, ?)\u{1b}[0m  \u{1b}[1;33msuspend\u{1b}[0m\n    \
+                3 edges, waits for argument 1; for argument 2; for argument 1 = argument 2\n";
     assert_eq!(run("TERM", "xterm"), said);
     assert!(!run("NO_COLOR", "1").contains('\u{1b}'));
 }
@@ -195,8 +194,8 @@ fn explain_goes_step_by_step() {
 (?, one)
 
 node  asks        finds  takes    to  rules left
-   0  argument 1  ?      unknown   3  1 2
-   3  argument 2  one    neither   2  1
+   0  argument 1  ?      unknown   1  1 2
+   1  argument 2  one    neither   2  1
    2  execute 1
 
 execute 1 after 2 edges: rule 1 is left, and not all its tests are known yet
@@ -211,7 +210,7 @@ waits for argument 1 = argument 2
         "{failed}"
     );
     let json = folder.says(&["explain", "--json", "example.sheet", "(one, two)"]);
-    for part in ["\"end\": 6", "\"takes\": \"no\"", "\"left\": [2]", "\"truth\": \"holds\""] {
+    for part in ["\"end\": 4", "\"takes\": \"no\"", "\"left\": [2]", "\"truth\": \"holds\""] {
         assert!(json.contains(part), "{part} in {json}");
     }
 }
@@ -238,16 +237,16 @@ fn another_makers_graph_is_walked_too() {
 }
 
 #[test]
-fn the_listing_is_document_01s() {
+fn the_listing_of_the_example_asks_its_pair() {
     let folder = Folder::new("listing");
     folder.write("tray.pieces", PIECES.join("\n"));
-    let lines = "sheet 2 2 3 7\n1 commit 2 3 0000000000000000\n2 execute 1 2 0000000000000004\n\
-                 3 suspend 0 2 0000000000000003\n4 fail 0 1 0000000000000000\n";
+    let lines = "sheet 2 2 3 6\n1 commit 2 3 0000000000000000\n2 execute 1 2 0000000000000004\n\
+                 3 suspend 0 3 0000000000000007\n4 fail 0 1 0000000000000000\n";
     assert_eq!(folder.says(&["listing", "example.sheet", "tray.pieces"]), lines);
     let ran = folder.run_with(&["listing", "example.sheet"], PIECES.join("\n").as_bytes());
     assert_eq!(ran.stdout, lines);
     let ran = folder.run_with(&["listing", "example.sheet"], b"(?, ?)\n(?)\n(?, ?)\n");
-    assert_eq!(ran.stdout, "sheet 2 2 3 7\n1 suspend 0 2 0000000000000003\nrefused 20\n");
+    assert_eq!(ran.stdout, "sheet 2 2 3 6\n1 suspend 0 3 0000000000000007\nrefused 20\n");
     assert_eq!((ran.status, ran.stderr.as_str()), (1, "piece 2: refused 20: Are the two arities equal?\n"));
     let json = folder.run_with(&["listing", "--json", "example.sheet"], b"(?)").stdout;
     assert!(json.ends_with("\"pieces\": [],\n  \"refusal\": 20\n}\n"), "{json}");

@@ -57,7 +57,7 @@ fn damaged_files_are_refused_or_read() {
             &["check", "--sheet", "whole.bin", "graph.bin", "pieces.bin"],
             &["try", "--pieces", "pieces.bin", "whole.bin"],
             &["try", "--graph", "graph.bin", "--pieces", "pieces.bin", "whole.bin"],
-            &["explain", "--graph", "graph.bin", "whole.bin", "(?, 1, #1(?))"],
+            &["explain", "--graph", "graph.bin", "whole.bin", "(?, !, #1(?, !))"],
             &["listing", "sheet.bin", "pieces.bin"],
             &["check", "--sheet", "whole.bin", "order.bin"],
             &["text", "order.bin"],
@@ -91,7 +91,7 @@ fn bytes_taken_as_text_are_refused_or_read() {
 }
 
 /// Pieces of texts, of which odd ones are made.
-const CHIPS: [&str; 40] = [
+const CHIPS: [&str; 41] = [
     "order\n",
     "track\n",
     " at ",
@@ -108,6 +108,7 @@ const CHIPS: [&str; 40] = [
     "..",
     ".",
     "?",
+    "!",
     "_",
     "->",
     "/",

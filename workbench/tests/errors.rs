@@ -47,8 +47,8 @@ fn refusals_of_bytes_name_the_byte() {
     );
     refused(
         "f.bin",
-        &[0x11, 2, 0x30, 0x35],
-        ", piece 1: refused 14: Is each term a whole record of kinds 30 to 34?\n  byte 3: 35\n",
+        &[0x11, 2, 0x30, 0x36],
+        ", piece 1: refused 14: Is each term a whole record of kinds 30 to 35?\n  byte 3: 36\n",
     );
     refused("g.bin", &[0x11, 1, 0x30], ", piece 1: refused 20: Are the two arities equal?\n");
     folder.write("i.bin", [0x12, 1, 1, 0, 1, 0x44]);
@@ -71,7 +71,7 @@ fn refusals_of_spans_name_the_byte() {
     refused(
         "l.bin",
         &[0x11, 2, 0x30, 0x34, 0, 239, 0],
-        ", piece 1: refused 14: Is each term a whole record of kinds 30 to 34?\n  byte 3: 34 00 ef 00\n",
+        ", piece 1: refused 14: Is each term a whole record of kinds 30 to 35?\n  byte 3: 34 00 ef 00\n",
     );
 }
 
@@ -134,7 +134,10 @@ fn refusals_are_said_to_programs_too() {
 fn one_bad_piece_does_not_hide_the_others() {
     let folder = Folder::new("bad-piece");
     let ran = folder.run(&["try", "example.sheet", "(one", "(?, ?)", "(?)"]);
-    assert_eq!(ran.stdout, "(?, ?)  suspend\n    2 edges, waits for argument 1; for argument 2\n");
+    assert_eq!(
+        ran.stdout,
+        "(?, ?)  suspend\n    3 edges, waits for argument 1; for argument 2; for argument 1 = argument 2\n"
+    );
     let said = "piece:1:5: expected `,` or `)`, found the end of the line\n  1 | (one\n    |     ^\n\
                 (?): refused 20: Are the two arities equal?\n  the piece has 1 argument, the sheet 2\n";
     assert_eq!((ran.status, ran.stderr.as_str()), (1, said));

@@ -11,12 +11,14 @@ use voltunnis_generate::random::Random;
 use voltunnis_generate::sheets::sheet;
 use voltunnis_generate::stock::Stock;
 use voltunnis_generate::trees::{piece_bytes, SheetTree};
-use voltunnis_workbench::notation::{Case, Graph, Kind, Piece, Sheet};
+use voltunnis_workbench::notation::{Case, Graph, Kind, Piece, Sheet, Term, What};
 use voltunnis_workbench::retrace::{retrace, Step};
-use voltunnis_workbench::sheet_tests::SheetTests;
+use voltunnis_workbench::sheet_tests::{SheetTests, Test};
+use voltunnis_workbench::truth::{find, nevers, Found};
 
 /// How often each answer's word was met, and the refusals 26 and 27; steps at which several cases contain what stands
-/// there, steps of suspended pieces at which a span lies partly inside a range, and steps by a run of several ids.
+/// there, steps of suspended pieces at which a span lies partly inside a range, and steps by a run of several ids; and
+/// walks that wait although a reading of theirs will never come, and pairs that differ by one beside an unknown.
 #[derive(Debug, Default)]
 struct Met {
     words: [usize; 5],
@@ -24,12 +26,25 @@ struct Met {
     chosen: usize,
     partly: usize,
     runs: usize,
+    waits: usize,
+    beside: usize,
 }
 
 /// Whether a step goes by a case of several ids.
 fn takes_run(graph: &Graph, step: &Step) -> bool {
     let Kind::Switch { cases, .. } = &graph.nodes[usize::from(step.node)].kind else { return false };
     matches!(cases.get(step.edge), Some((Case::Symbols(low, high), _)) if low < high)
+}
+
+/// Whether a step asks for two places, one of which has what will never come, and the other an unknown.
+fn is_beside(piece: &Piece, step: &Step) -> bool {
+    let Test::Pair(p, q) = step.asks else { return false };
+    let late = |place| match find(piece, place) {
+        Found::Term(Term { what, .. }) => matches!(what, What::Unknown),
+        Found::BelowUnknown => true,
+        Found::Lacking => false,
+    };
+    !nevers(piece, step.asks).is_empty() && (late(p) || late(q))
 }
 
 /// Retraces the walks of some pieces over a graph that the library accepts.
@@ -43,11 +58,17 @@ fn retraced(random: &mut Random, tree: &SheetTree, graph: &[u8], met: &mut Met) 
         if library.is_err_and(|number| number < 26) {
             continue;
         }
-        let way = retrace(&tests, &nodes, &Piece::read(&bytes).expect("a piece"));
+        let piece = Piece::read(&bytes).expect("a piece");
+        let way = retrace(&tests, &nodes, &piece);
         let what = || format!("sheet {} graph {} piece {}", to_hex(&sheet), to_hex(graph), to_hex(&bytes));
         assert_eq!(way.answer, library, "here, library: {}", what());
         match library {
             Ok(answer) => {
+                // What will never come is not waited for.
+                let listed = tests.tests.iter().filter(|test| tests.bit(**test) & answer.wait != 0);
+                assert!(listed.copied().all(|test| nevers(&piece, test).is_empty()), "{}", what());
+                let holds = piece.terms.iter().any(|term| term.what.holds_never());
+                met.waits += usize::from(answer.wait != 0 && holds);
                 met.words[answer.walk.word as usize] += 1;
                 let partly = way.steps.iter().filter(|step| step.partly != 0).count();
                 met.partly += if answer.walk.word == Word::Suspend { partly } else { 0 };
@@ -56,6 +77,7 @@ fn retraced(random: &mut Random, tree: &SheetTree, graph: &[u8], met: &mut Met) 
         }
         met.chosen += way.steps.iter().filter(|step| step.contain > 1).count();
         met.runs += way.steps.iter().filter(|step| takes_run(&nodes, step)).count();
+        met.beside += way.steps.iter().filter(|step| is_beside(&piece, step)).count();
     }
 }
 
@@ -81,4 +103,5 @@ fn retraced_walks_come_to_the_librarys_answer() {
     assert!(met.words[1..].iter().all(|count| *count > 500), "{met:?}");
     assert!(met.refusals[26] > 20 && met.refusals[27] > 20, "{met:?}");
     assert!(met.chosen > 500 && met.partly > 100 && met.runs > 500, "{met:?}");
+    assert!(met.waits > 500 && met.beside > 50, "{met:?}");
 }

@@ -23,10 +23,10 @@ fn check_says_what_an_order_is() {
     let alone = "track.order: order, all places once, each after its parent\n";
     assert_eq!(folder.says(&["check", "track.order"]), alone);
     let with =
-        "track.order: order, example.sheet asks argument 2; argument 1; its graph has 7 nodes, 67 bytes\n";
+        "track.order: order, example.sheet asks argument 2; argument 1; its graph has 6 nodes, 51 bytes\n";
     assert_eq!(folder.says(&["check", "--sheet", "example.sheet", "track.order"]), with);
     let json = folder.says(&["check", "--json", "--sheet", "example.sheet", "track.order"]);
-    assert!(json.contains("\"asks\": [\"argument 2\", \"argument 1\"],\n    \"nodes\": 7"), "{json}");
+    assert!(json.contains("\"asks\": [\"argument 2\", \"argument 1\"],\n    \"nodes\": 6"), "{json}");
     folder.write("none.sheet", "sheet 1\n1: (_)\n");
     let none = "track.order: order, none.sheet asks no place; its graph has 1 node, 7 bytes\n";
     assert_eq!(folder.says(&["check", "--sheet", "none.sheet", "track.order"]), none);
@@ -64,7 +64,7 @@ fn graphs_are_built_in_an_order() {
     let folder = folder("order-build");
     folder.says(&["build", "example.sheet", "--order", "track.order", "-o", "graph.bin"]);
     let words = folder.says(&["text", "graph.bin", "--sheet", "example.sheet"]);
-    let begin = "graph 2, 2 rules, 7 nodes\nname one = 1\nname two = 2\n0: argument 2\n   two     -> 1\n";
+    let begin = "graph 2, 2 rules, 6 nodes\nname one = 1\nname two = 2\n0: argument 2\n   two     -> 1\n";
     assert!(words.starts_with(begin), "{words}");
     folder.says(&["bytes", "track.order", "-o", "order.bin"]);
     folder.says(&["build", "example.sheet", "--order", "order.bin", "-o", "again.bin"]);
@@ -87,7 +87,7 @@ fn answers_are_the_same_by_another_way() {
     let way = "node  asks        finds  takes    to  rules left\n   0  argument 2  one    neither   2  1\n";
     let explained = folder.says(&["explain", "example.sheet", "--order", "track.order", "(?, one)"]);
     assert!(explained.contains(way), "{explained}");
-    let lines = "sheet 2 2 3 7\n1 execute 1 1 0000000000000004\n2 suspend 0 2 0000000000000003\n";
+    let lines = "sheet 2 2 3 6\n1 execute 1 1 0000000000000004\n2 suspend 0 3 0000000000000007\n";
     let words = ["listing", "example.sheet", "--order", "track.order"];
     assert_eq!(folder.run_with(&words, b"(?, one)\n(?, ?)\n").stdout, lines);
 }

@@ -43,15 +43,15 @@ fn the_example_is_drawn() {
     let texts = texts(&svg);
     let shown = |text: &str| texts.iter().filter(|known| *known == text).count();
     for (text, times) in
-        [("argument 1", 1), ("argument 2", 2), ("argument 1 = argument 2", 1), ("execute 1", 1)]
+        [("argument 1", 1), ("argument 2", 1), ("argument 1 = argument 2", 1), ("execute 1", 1)]
     {
         assert_eq!(shown(text), times, "{text}");
     }
-    for (text, times) in [("neither", 3), ("unknown", 3), ("one", 1), ("two", 2), ("no", 1), ("other", 1)] {
+    for (text, times) in [("neither", 2), ("unknown", 2), ("one", 1), ("two", 1), ("no", 1), ("other", 1)] {
         assert_eq!(shown(text), times, "{text}");
     }
     assert_eq!((shown("1: (X, X)"), shown("2: (one, two)"), shown("waits for readings")), (1, 1, 1));
-    assert_eq!(svg.matches("<g id=\"edge").count(), 11);
+    assert_eq!(svg.matches("<g id=\"edge").count(), 8);
     // The picture in the repository shows the same.
     let kept = include_str!("../../docs/pictures/example.svg");
     assert_eq!(self::texts(kept), texts, "draw docs/pictures/example.svg again");
@@ -66,7 +66,7 @@ fn pictures_have_the_format_that_their_name_says() {
     assert!(folder.read("example.pdf").starts_with(b"%PDF"));
     folder.says(&["draw", "example.sheet", "-o", "example.dot"]);
     assert_eq!(folder.read("example.dot"), folder.says(&["draw", "example.sheet"]).into_bytes());
-    let json = "{\n  \"file\": \"example.svg\",\n  \"nodes\": 7,\n  \"edges\": 11\n}\n";
+    let json = "{\n  \"file\": \"example.svg\",\n  \"nodes\": 6,\n  \"edges\": 8\n}\n";
     assert_eq!(folder.says(&["draw", "--json", "example.sheet", "-o", "example.svg"]), json);
 }
 
@@ -78,7 +78,7 @@ fn the_way_is_marked() {
     let marked: Vec<&str> =
         dot.lines().filter(|line| line.contains("#d9480f") && line.contains("->")).collect();
     assert_eq!(marked.len(), 2, "{marked:?}");
-    assert!(marked[0].starts_with("  n0 -> n3 [label=\" 1: unknown \"") && marked[1].contains("2: neither"));
+    assert!(marked[0].starts_with("  n0 -> n1 [label=\" 1: unknown \"") && marked[1].contains("2: neither"));
     assert!(texts(&drawn(dot.as_bytes())).contains(&"(?, one): execute 1".to_string()));
 }
 
@@ -98,12 +98,12 @@ fn large_graphs_are_drawn() {
     // 80 nodes, whose switches have 1,932 cases of numbers.
     folder.write("coins.bin", known::coins(8));
     drawn(folder.says(&["draw", "coins.bin"]).as_bytes());
-    // 1,023 nodes and 12,229,032 bytes: the text for Graphviz is made, and is a tenth as long.
+    // 999 nodes and 4,824,790 bytes: the text for Graphviz is made, and is less than a fourth as long.
     folder.write("longest.bin", known::longest_32());
     let dot = folder.says(&["draw", "longest.bin"]);
-    assert!(dot.matches("\n  n").count() > 1_023 && dot.contains("… "), "{} bytes", dot.len());
-    assert!(dot.contains(" spans ") && dot.len() < 1_222_903, "{} bytes", dot.len());
-    let said = folder.says(&["explain", "longest.bin", "(#1(5, ?), 7, 8..12?, 9, 1, 2, 3, 4)"]);
+    assert!(dot.matches("\n  n").count() > 999 && dot.contains("… "), "{} bytes", dot.len());
+    assert!(dot.contains(" spans ") && dot.len() < 4_824_790 / 4, "{} bytes", dot.len());
+    let said = folder.says(&["explain", "longest.bin", "(?, ?, ?, ?, ?, 8..12?, 9, 7)"]);
     assert!(said.contains("suspend after"), "{said}");
 }
 
@@ -154,6 +154,24 @@ fn the_way_of_a_span_is_marked() {
     let marked: Vec<&str> = dot.lines().filter(|line| line.contains("label=\" 1: 10..29 \"")).collect();
     assert!(matches!(marked[..], [one] if one.contains("#d9480f")), "{dot}");
     assert!(texts(&drawn(dot.as_bytes())).contains(&"(12..25?): suspend".to_string()));
+}
+
+/// What will never come goes by neither, and at a pair by no, also beside an unknown.
+#[test]
+fn the_way_of_what_will_never_come_is_marked() {
+    let folder = Folder::new("never-marked");
+    folder.write("pair.sheet", "sheet 2\n1: (2..3, _)\n2: (X, X)\n");
+    for (piece, way, title) in [
+        ("(!, ?)", &["1: neither"][..], "(!, ?): fail"),
+        ("(?, !)", &["1: unknown", "2: no"], "(?, !): execute 1"),
+    ] {
+        folder.says(&["explain", "pair.sheet", piece, "-o", "walk.dot"]);
+        let dot = String::from_utf8(folder.read("walk.dot")).expect("text");
+        let marked = dot.lines().filter(|line| line.contains("#d9480f") && line.contains("->"));
+        let labels: Vec<&str> = marked.filter_map(|line| line.split('"').nth(1)).map(str::trim).collect();
+        assert_eq!(labels, way, "{piece}: {dot}");
+        assert!(texts(&drawn(dot.as_bytes())).contains(&title.to_string()), "{dot}");
+    }
 }
 
 #[test]

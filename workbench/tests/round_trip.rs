@@ -79,7 +79,7 @@ fn tidy_sheets_are_printed_by_letters_and_come_back() {
 #[test]
 fn accepted_pieces_come_back_as_they_were() {
     let mut random = Random::new(0x7069_6563);
-    let (mut accepted, mut spans) = (0, 0);
+    let (mut accepted, mut spans, mut nevers) = (0, 0, 0);
     while accepted < ROUNDS {
         let tree = sheet(&mut random);
         for _ in 0..10 {
@@ -87,9 +87,10 @@ fn accepted_pieces_come_back_as_they_were() {
             accepted += usize::from(voltunnis::check_piece(&bytes).is_ok());
             piece_again(&bytes);
             spans += usize::from(print_piece(&bytes).is_ok_and(|text| text.contains("..")));
+            nevers += usize::from(print_piece(&bytes).is_ok_and(|text| text.contains('!')));
         }
     }
-    assert!(spans > ROUNDS / 10, "{spans} pieces with spans");
+    assert!(spans > ROUNDS / 10 && nevers > ROUNDS / 10, "{spans} pieces with spans, {nevers} with nevers");
 }
 
 /// Spans of all sorts: of one number, which stays a span, and with low above high, which is refused.

@@ -54,12 +54,12 @@ fn the_case_that_a_span_takes_is_explained() {
 
 node  asks        finds      takes     to  rules left
    0  argument 1  ?          unknown    6  1 2 3 4 5
-   6  argument 2  215..223?  210..225  13  2 3
-  13  argument 3  17..18?    17..18    12  2 3
-  12  suspend
+   6  argument 2  215..223?  210..225  12  2 3
+  12  argument 3  17..18?    17..18    11  2 3
+  11  suspend
 
 node 6: of the 24 cases that contain 215..223?, 210..225 has the highest low, then the lowest high
-node 13: of the 9 cases that contain 17..18?, 17..18 has the highest low, then the lowest high
+node 12: of the 9 cases that contain 17..18?, 17..18 has the highest low, then the lowest high
 
 suspend after 3 edges: rules 2 and 3 are left
 waits for argument 1; for argument 2
@@ -67,8 +67,8 @@ waits for argument 1; for argument 2
 ";
     assert_eq!(folder.says(&["explain", "coins.sheet", "(?, 215..223?, 17..18?)"]), said);
     let json = folder.says(&["explain", "--json", "coins.sheet", "(?, 215..223?, 17..18?)"]);
-    let step = "\"finds\": \"215..223?\",\n      \"contain\": 24,\n      \"takes\": \"210..225\",\n      \"to\": 13,\n      \
-                \"left\": [2, 3],\n      \"partly\": [2]\n";
+    let step = "\"finds\": \"215..223?\",\n      \"contain\": 24,\n      \"takes\": \"210..225\",\n      \"to\": 12,\n      \
+                \"left\": [2, 3],\n      \"partly\": [2],\n      \"never\": []\n";
     assert!(json.contains(step), "{json}");
     let said = folder.says(&["explain", "coins.sheet", "(nickel, 205..215?, 18)"]);
     assert!(said.contains("    argument 2 in 210..220  205..215?  not known\n"), "{said}");

@@ -162,7 +162,7 @@ fn a_drawing_stands_for_its_order() {
         assert_ne!(by("drawing.track"), folder.says(words), "{words:?}");
     }
     let words = ["listing", "example.sheet", "--order", "drawing.track"];
-    let lines = "sheet 2 2 3 7\n1 execute 1 1 0000000000000004\n";
+    let lines = "sheet 2 2 3 6\n1 execute 1 1 0000000000000004\n";
     assert_eq!(folder.run_with(&words, b"(?, one)\n").stdout, lines);
     // In another text the first word tells, and a fault is shown where it is.
     folder.write("mounted.txt", format!("-- as mounted\n{DRAWING}"));

@@ -10,7 +10,7 @@ use std::path::Path;
 const PIECES: [(&str, &str); 4] = [
     ("(one, two)", "commit 2 3 0000000000000000"),
     ("(?, one)", "execute 1 2 0000000000000004"),
-    ("(?, ?)", "suspend 0 2 0000000000000003"),
+    ("(?, ?)", "suspend 0 3 0000000000000007"),
     ("(three, four)", "fail 0 1 0000000000000000"),
 ];
 
@@ -21,7 +21,7 @@ fn the_listing_goes_over_any_number_of_pieces() {
         let many: Vec<_> = PIECES.into_iter().cycle().take(count).collect();
         let pieces: String = many.iter().map(|(piece, _)| format!("{piece}\n")).collect();
         let lines = many.iter().enumerate().map(|(at, (_, answer))| format!("{} {answer}\n", at + 1));
-        let lines = format!("sheet 2 2 3 7\n{}", lines.collect::<String>());
+        let lines = format!("sheet 2 2 3 6\n{}", lines.collect::<String>());
         let ran = folder.run_with(&["listing", "example.sheet"], pieces.as_bytes());
         assert_eq!((ran.stdout, ran.status), (lines.clone(), 0));
         // A piece of another arity ends it, whatever follows.

@@ -60,6 +60,9 @@ pub fn check_sheet(sheet: &[u8]) -> Result<SheetSize, Refusal> {
 /// ```
 /// // (?, 180)
 /// assert_eq!(voltunnis::check_piece(&[0x11, 2, 0x30, 0x32, 0, 180])?.arity, 2);
+/// // A reading that will never come, and the next kind, which is no term.
+/// assert_eq!(voltunnis::check_piece(&[0x11, 1, 0x35])?.arity, 1);
+/// assert_eq!(voltunnis::check_piece(&[0x11, 1, 0x36]).unwrap_err().number(), 14);
 /// // A number between 231 and 239, and the same the wrong way round.
 /// assert_eq!(voltunnis::check_piece(&[0x11, 1, 0x34, 0, 231, 0, 239])?.arity, 1);
 /// let refusal = voltunnis::check_piece(&[0x11, 1, 0x34, 0, 239, 0, 231]).unwrap_err();
@@ -95,8 +98,8 @@ pub fn plain(sheet: &[u8], piece: &[u8]) -> Result<Plain, Refusal> {
 /// ```
 /// # let sheet = [0x10, 2, 2, 0x24, 0, 0x24, 0, 0x21, 0, 1, 0x21, 0, 2];
 /// let graph = voltunnis::graph(&sheet)?;
-/// assert_eq!(voltunnis::check_graph(&sheet, &graph)?.nodes, 7);
-/// let cut = voltunnis::check_graph(&sheet, &graph[..66]);
+/// assert_eq!(voltunnis::check_graph(&sheet, &graph)?.nodes, 6);
+/// let cut = voltunnis::check_graph(&sheet, &graph[..50]);
 /// assert_eq!(cut.unwrap_err().number(), 22);
 /// # Ok::<(), voltunnis::Refusal>(())
 /// ```
@@ -141,8 +144,8 @@ pub fn rewrite(sheet: &[u8], graph: &[u8], buffer: &mut [u8]) -> Result<Written,
 /// # let sheet = [0x10, 2, 2, 0x24, 0, 0x24, 0, 0x21, 0, 1, 0x21, 0, 2];
 /// let mut buffer = [0; 100];
 /// let built = voltunnis::build(&sheet, &mut buffer)?;
-/// assert_eq!((built.nodes, built.bytes), (7, 67));
-/// assert_eq!(voltunnis::build(&sheet, &mut buffer[..66]).unwrap_err().number(), 19);
+/// assert_eq!((built.nodes, built.bytes), (6, 51));
+/// assert_eq!(voltunnis::build(&sheet, &mut buffer[..50]).unwrap_err().number(), 19);
 /// # Ok::<(), voltunnis::Refusal>(())
 /// ```
 #[inline]
@@ -182,7 +185,9 @@ pub fn tidy(sheet: &[u8], buffer: &mut [u8]) -> Result<Written, Refusal> {
 /// let graph = voltunnis::graph(&sheet)?;
 /// // (?, ?): both rules can still be met.
 /// let walk = voltunnis::walk(&sheet, &graph, &[0x11, 2, 0x30, 0x30])?;
-/// assert_eq!((walk.word, walk.rule, walk.edges), (Word::Suspend, 0, 2));
+/// assert_eq!((walk.word, walk.rule, walk.edges), (Word::Suspend, 0, 3));
+/// // (35, ?): the first reading will never come, so it differs from every other, and is no 1.
+/// assert_eq!(voltunnis::walk(&sheet, &graph, &[0x11, 2, 0x35, 0x30])?.word, Word::Fail);
 /// # Ok::<(), voltunnis::Refusal>(())
 /// ```
 #[inline]
@@ -199,8 +204,8 @@ pub fn walk(sheet: &[u8], graph: &[u8], piece: &[u8]) -> Result<Walk, Refusal> {
 /// ```
 /// # let sheet = [0x10, 2, 2, 0x24, 0, 0x24, 0, 0x21, 0, 1, 0x21, 0, 2];
 /// let graph = voltunnis::graph(&sheet)?;
-/// // (?, ?) waits for tests 0 and 1: both arguments.
-/// assert_eq!(voltunnis::wait(&sheet, &graph, &[0x11, 2, 0x30, 0x30]), 0b11);
+/// // (?, ?) waits for tests 0, 1 and 2: both arguments, and whether they are equal.
+/// assert_eq!(voltunnis::wait(&sheet, &graph, &[0x11, 2, 0x30, 0x30]), 0b111);
 /// // A number from 3 to 4, or anything: a span partly inside the range waits, one inside it does not.
 /// let sheet = [0x10, 1, 2, 0x22, 0, 3, 0, 4, 0x20];
 /// let graph = voltunnis::graph(&sheet)?;
@@ -222,8 +227,8 @@ pub fn wait(sheet: &[u8], graph: &[u8], piece: &[u8]) -> u64 {
 /// // f(X, X) and f(1, 2), in symbols.
 /// let sheet = [0x10, 2, 2, 0x24, 0, 0x24, 0, 0x21, 0, 1, 0x21, 0, 2];
 /// let graph = voltunnis::graph(&sheet)?;
-/// assert_eq!(graph[..5], [0x12, 2, 2, 0, 7]);
-/// assert_eq!(graph.len(), 67);
+/// assert_eq!(graph[..5], [0x12, 2, 2, 0, 6]);
+/// assert_eq!(graph.len(), 51);
 /// # Ok::<(), voltunnis::Refusal>(())
 /// ```
 #[inline]

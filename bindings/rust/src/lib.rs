@@ -45,6 +45,25 @@
 //! assert_eq!(plain(&sheet, &wide)?.word, Word::Suspend);
 //! # Ok::<(), voltunnis::Refusal>(())
 //! ```
+//!
+//! A reading that will never come, as of a sensor that the machine lacks, is record 35. A piece does not wait for it:
+//! every test of it is contradicted, and it differs from every term, itself and unknowns included.
+//!
+//! ```
+//! use voltunnis::{plain, Word};
+//!
+//! // A diameter from 231 to 239 with any metal, or metal 7.
+//! let sheet = [0x10, 2, 2, 0x22, 0, 231, 0, 239, 0x20, 0x20, 0x21, 0, 7];
+//! // The diameter is 235, and the metal is not read yet, or the machine has no coil.
+//! let (late, never) = ([0x11, 2, 0x32, 0, 235, 0x30], [0x11, 2, 0x32, 0, 235, 0x35]);
+//! assert_eq!(plain(&sheet, &late)?.word, Word::Suspend);
+//! let answer = plain(&sheet, &never)?;
+//! assert_eq!((answer.word, answer.rule), (Word::Commit, 1));
+//! // f(X, X) on a compound that holds such a reading, beside an unknown.
+//! let pair = [0x10, 2, 1, 0x24, 0, 0x24, 0];
+//! assert_eq!(plain(&pair, &[0x11, 2, 0x30, 0x33, 0, 1, 1, 0x35])?.word, Word::Fail);
+//! # Ok::<(), voltunnis::Refusal>(())
+//! ```
 
 mod calls;
 mod grown;

@@ -49,7 +49,7 @@ pub fn check_order(table: &[u8]) -> Result<(), Refusal> {
 /// let table: Vec<u8> = places.flat_map(u16::to_be_bytes).collect();
 /// let mut buffer = [0; 100];
 /// let built = voltunnis::build_ordered(&sheet, &table, &mut buffer)?;
-/// assert_eq!((built.nodes, built.bytes), (7, 67));
+/// assert_eq!((built.nodes, built.bytes), (6, 51));
 /// // The root is a switch on place 85.
 /// assert_eq!(buffer[5..8], [0x43, 0, 85]);
 /// let short = voltunnis::build_ordered(&sheet, &table[2..], &mut buffer);

@@ -1,7 +1,7 @@
 //! Refusals: the questions of document 01, each in its words, and of requests of document 02. Question 3
 //! reads 64 by request 9; by request 4 question 14 admits record 34, 24 number cases that overlap, and 32 comes
 //! after 16 at each term; by request 5 question 4 admits record 26, 7 applies to it, and 24 asks that no id is in
-//! two cases.
+//! two cases; by request 6 question 14 admits record 35, and a place below one is in 27 as it is.
 
 use std::error::Error;
 use std::fmt;
@@ -32,7 +32,7 @@ const QUESTIONS: [(u8, &str, &str); 35] = [
     (11, SHEET_END, "Are there at most 64 tests?"),
     (12, PIECE, "Does it begin with a whole 11 record?"),
     (13, PIECE, "Is its arity 1 to 8?"),
-    (14, PIECE, "Is each term a whole record of kinds 30 to 34?"),
+    (14, PIECE, "Is each term a whole record of kinds 30 to 35?"),
     (15, PIECE, "If compound, is its depth at most 3?"),
     (16, PIECE, "Is its arity 1 to 4?"),
     (17, PIECE, "Are no bytes left?"),
@@ -52,7 +52,7 @@ const QUESTIONS: [(u8, &str, &str); 35] = [
     (24, NODE, "Are cases strictly ascending, numbers by low, then high, low at most high, no id in two?"),
     (25, "Then", "Are no bytes left?"),
     (26, WALKED, "Have fewer than 64 edges been walked?"),
-    (27, WALKED, "Is each place it tests in the piece, or below an unknown?"),
+    (27, WALKED, "Is each place it tests in the piece, or below an unknown or record 35?"),
     (28, ORDER, "Is the table 1,360 bytes?"),
     (29, ORDER, "Is each of its places 0 to 679, and none twice?"),
     (30, ORDER, "Does none stand before its parent?"),

@@ -35,7 +35,7 @@ extern "C" {
 /// let first = walk_all(&sheet, &graph, &pieces, &mut buffer)?;
 /// assert_eq!((first.results, first.bytes), (2, 10));
 /// let words: Vec<String> = results(&buffer).map(|answer| answer.unwrap().to_string()).collect();
-/// assert_eq!(words, ["execute 1 2 0000000000000004", "suspend 0 2 0000000000000003"]);
+/// assert_eq!(words, ["execute 1 2 0000000000000004", "suspend 0 3 0000000000000007"]);
 /// let rest = &pieces[first.bytes as usize..];
 /// assert_eq!(walk_all(&sheet, &graph, rest, &mut buffer)?.results, 1);
 /// # Ok::<(), voltunnis::Refusal>(())

@@ -4,12 +4,12 @@ use mathlib.Core.Path.{_≡_, refl, ap}
 use mathlib.Core.Bool.{Bool, true, false, _&&_}
 use native.Mathlib.Omega.{arith}
 use lib.Dec.{T, leb, eqb, leb→le, le→leb, eqb→eq}
-use Rattle.terms.specs.Term.{Terms, count, symbol, compound, Wide}
+use Rattle.terms.specs.Term.{Terms, count, never, symbol, compound, Wide}
 use Rattle.terms.specs.RuleTests.{Want, aSymbol, aNumber, aCompound}
 use Rattle.terms.specs.Outcome.{known, fits}
 use Rattle.basics.proofs.Booleans.{both-true, true-both, same-truth}
 use Rattle.basics.proofs.Numbers.{eq-true, both-le}
-use Rattle.codes.specs.views.Codes.{symbolCode, compoundCode, numberCode, wantLow, wantHigh}
+use Rattle.codes.specs.views.Codes.{symbolCode, compoundCode, numberCode, neverCode, wantLow, wantHigh}
 
 -- A run holds a code exactly where b is true.
 within
@@ -28,10 +28,10 @@ under low high code h = within false low high code (λ f. absurd f) (λ l u. abs
 pub over : (low high code : ℕ) → high < code → leb low code && leb code high ≡ false
 over low high code h = within false low high code (λ f. absurd f) (λ l u. absurd (omega arith))
 
--- The ids of a series, the id and the arity of a compound, and the low of a range fit a record.
+-- The ids of a series, the id and the arity of a compound, and the numbers of a range fit a record.
 abbrev pub WantFields : Want → Type 0
 WantFields (aSymbol l h) = Wide l × Wide h
-WantFields (aNumber l h) = Wide l
+WantFields (aNumber l h) = Wide l × Wide h
 WantFields (aCompound a n) = Wide a × (n < 256)
 
 -- A want at a symbol,
@@ -65,6 +65,12 @@ compound-fits (aCompound a n) b ts f ok few =
     let same-arity = eqb→eq n (count ts) (both .1) in
     (omega arith, omega arith))
     (λ l u. true-both (eqb a b) (eqb n (count ts)) (eq-true a b (omega arith)) (eq-true n (count ts) (omega arith))))
+
+-- No want holds at record 35, whose code is above all that a want can have.
+pub never-fits : (w : Want) → WantFields w → known (leb (wantLow w) neverCode && leb neverCode (wantHigh w)) ≡ fits w never
+never-fits (aSymbol l h) f = ap known (over (symbolCode l) (symbolCode h) neverCode (omega (arith, f .1)))
+never-fits (aNumber l h) f = ap known (over (numberCode l) (numberCode h) neverCode (omega (arith, f .1)))
+never-fits (aCompound a n) f = ap known (over (compoundCode a n) (compoundCode a n) neverCode (omega (arith, f .0, f .1)))
 
 -- A test is what its outcome says.
 pub same-known : (a b : Bool) → known a ≡ known b → a ≡ b

@@ -10,8 +10,11 @@ pub const COMPOUNDS: u32 = 0x200_0000;
 
 pub const NUMBERS: u32 = 0x300_0000;
 
-// The run of all codes: what an unknown can become has any of them.
+// The run of all codes that a test can want: what an unknown can become has any of them.
 pub const UNKNOWN: u64 = 0x2ff_ffff_0100_0000;
+
+// The run of the one code of a reading that will never come, above all that a test can want.
+pub const NEVER: u64 = 0x400_0000;
 
 // The code of a symbol. Not that of a number with the same bytes, nor of a compound with the same id.
 pub fn symbol_code(id: u16) -> u32

@@ -5,3 +5,4 @@ pub mod SpanWaits
 pub mod SpanWaitsSentence
 pub mod WaitSentenceSpans
 pub mod WaitSentenceKept
+pub mod NothingOpen

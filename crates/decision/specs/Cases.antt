@@ -1,10 +1,10 @@
--- The cases of a switch (document 01, "Nodes", and document 02, requests 4 and 5).
+-- The cases of a switch (document 01, "Nodes", and document 02, requests 4 to 6).
 use Prim.Native.Nat.{ℕ}
 use mathlib.Core.Bool.{Bool, false, _&&_}
 use mathlib.Core.List.{List, [], _∷_, _++_, map}
 use lib.Dec.{leb, eqb}
 use Rattle.basics.specs.Order.{insertBy, pairBefore}
-use Rattle.terms.specs.Term.{Term, count, unknown, symbol, numbers, compound}
+use Rattle.terms.specs.Term.{Term, count, unknown, never, symbol, numbers, compound}
 use Rattle.terms.specs.RuleTests.{Want, aSymbol, aNumber, aCompound, Range}
 use Rattle.decision.specs.Runs.{runs, numberPairs}
 
@@ -15,9 +15,10 @@ pub data Case : Type 0 where
   compoundCase : ℕ → ℕ → Case
   numbersCase : ℕ → ℕ → Case
 
--- The case takes a term: a symbol or a number that it contains, a span if it contains all of it.
+-- The case takes a term: a symbol or a number that it contains, a span if it contains all of it. None takes record 35.
 abbrev pub takes : Case → Term → Bool
 takes c unknown = false
+takes c never = false
 takes (symbolsCase l h) (symbol a) = leb l a && leb a h
 takes (symbolsCase l h) (numbers a b) = false
 takes (symbolsCase l h) (compound b ts) = false

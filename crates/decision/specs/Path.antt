@@ -1,24 +1,27 @@
--- The path of a piece over the nodes of a graph (document 01, "The walk"): "The walk follows edges from node 0."
+-- The path of a piece over the nodes of a graph (document 01, "The walk", and document 02, request 6): "The walk follows edges from
+-- node 0."
 use Prim.Native.Nat.{ℕ, zero, suc}
 use mathlib.Core.List.{List, [], _∷_}
 use lib.ListN.{getD}
 use Rattle.records.specs.Reading.{Reading, took, refused, mapReading}
-use Rattle.terms.specs.Term.{Terms, unknown, symbol, numbers, compound}
+use Rattle.terms.specs.Term.{Terms, unknown, never, symbol, numbers, compound}
 use Rattle.terms.specs.Lookup.{Found, lacking, found, termAt}
 use Rattle.terms.specs.Outcome.{Outcome, holds, notKnown, contradicted, compare}
 use Rattle.decision.specs.Key.{Leaf, failNode}
 use Rattle.decision.specs.Node.{Node, CaseEdge, end, switch, pairNode, follow}
 
 -- What happens at a node: the walk ends at a leaf, goes on to a node, or "27 Is each place it tests in the piece, or below an
--- unknown?" gets a no.
+-- unknown?" gets a no. A place below record 35 "is treated as it is, by question 27 too".
 pub data Step (A : Type 0) : Type 0 where
   stop : Leaf → Step A
   goTo : A → Step A
   noWay : Step A
 
+-- "At a switch 35 takes the neither edge", as no case takes it.
 abbrev pub switchStep : {A : Type 0} → List (CaseEdge A) → A → A → Found → Step A
 switchStep cs neither unknownEdge lacking = noWay
 switchStep cs neither unknownEdge (found unknown) = goTo unknownEdge
+switchStep cs neither unknownEdge (found never) = goTo (follow cs neither never)
 switchStep cs neither unknownEdge (found (symbol a)) = goTo (follow cs neither (symbol a))
 switchStep cs neither unknownEdge (found (numbers a b)) = goTo (follow cs neither (numbers a b))
 switchStep cs neither unknownEdge (found (compound a ts)) = goTo (follow cs neither (compound a ts))

@@ -5,7 +5,7 @@ use mathlib.Core.List.{List, [], _∷_, _++_}
 use mathlib.Core.Option.{Option, some, none}
 use lib.ListN.{length}
 use Rattle.records.specs.Reading.{Reading, mapReading}
-use Rattle.terms.specs.Term.{Terms, unknown, symbol, numbers, compound}
+use Rattle.terms.specs.Term.{Terms, unknown, never, symbol, numbers, compound}
 use Rattle.terms.specs.Pattern.{Patterns}
 use Rattle.terms.specs.RuleTests.{Want}
 use Rattle.terms.specs.Lookup.{Found, lacking, found, termAt}
@@ -34,6 +34,7 @@ isNotKnown contradicted = false
 abbrev pub isUnknown : Found → Bool
 isUnknown lacking = false
 isUnknown (found unknown) = true
+isUnknown (found never) = false
 isUnknown (found (symbol a)) = false
 isUnknown (found (numbers a b)) = false
 isUnknown (found (compound a ts)) = false

@@ -52,4 +52,5 @@ module _ (w : ℕ) (q : ℕ → ℕ → Bool) (from m all left : ℕ) (s : Dropp
   pub dropping-done : left ≡ 0 → all ≡ maskOf w (λ i. has from i && not (anyBelow w (λ t. has m t && q t i)))
   dropping-done e =
       maskOf-unique w all (λ i. has from i && not (anyBelow w (λ t. has m t && q t i))) (s .all-fits)
-      (λ i l. sym (and-true (has all i)) ∙ ap (λ (b : Bool). has all i && not b) (sym (none-left w left (λ t. q t i) e)) ∙ s .whole i l)
+      (λ i l.
+      sym (and-true (has all i)) ∙ ap (λ (b : Bool). has all i && not b) (sym (none-left w left (λ t. q t i) e)) ∙ s .whole i l)

@@ -158,7 +158,8 @@ module _ (rules : List Patterns) (order s : List ℕ) (tables : TablesOf rules o
           rw (itself, and-false (butTest key t u), and-false (has (key .pending) u)))
           (λ (e : ¬ (u ≡ t)). rw (ne-eqb u t e, and-true (has (key .pending) u)))
 
-      -- "Unknown drops no rule and settles the place, all place tests below it and all pairs with a place at or below it."
+      -- "Unknown drops no rule and settles the place, all place tests below it", and "no longer settles any pair" (document 02,
+      -- request 6).
       pub unknown-is : unknownBehind s (askedIn s key t) ≡ vertexKey (byUnknown rules key n)
       unknown-is =
           let left = minus (without (key .pending) t) (underIn s t) in

@@ -119,7 +119,8 @@ pub fn by_other(s: &Tables, asked: Asked) -> Key
     lead(s, asked.live, asked.left, asked.settled)
 }
 
-// The key behind unknown: no rule is dropped. Not with a place below it still pending, nor without a test of another place.
+// The key behind unknown: no rule is dropped. Not with a place below it still pending, nor with a pair, or a place elsewhere,
+// settled.
 pub fn by_unknown(s: &Tables, asked: Asked) -> Key
     requires { ⌜ asked .test < 64 ⌝ }
     ensures { λ r. ⌜ keyIn r ≡ unknownBehind (now (s .entry)) asked ⌝ }

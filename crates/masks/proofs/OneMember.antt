@@ -27,7 +27,8 @@ one-power w m h e =
     (λ j l.
     by-test (has m j)
     (λ y. y ∙ sym (has-singleton i j ∙ eq-eqb i j (sym (alone j y))))
-    (λ n. n ∙ sym (has-singleton i j ∙ ne-eqb i j (λ (s : i ≡ j). false≢true (sym n ∙ ap (has m) (sym s) ∙ trailing-in w m h pos)))))
+    (λ n.
+    n ∙ sym (has-singleton i j ∙ ne-eqb i j (λ (s : i ≡ j). false≢true (sym n ∙ ap (has m) (sym s) ∙ trailing-in w m h pos)))))
   where
     i : ℕ
     i = trailingZeros w m

@@ -1,61 +1,48 @@
 -- Laws of comparing two terms by their cells, for any number of levels below them and of arguments.
 use Prim.Native.Nat.{ℕ, zero, suc, _+_, _-_, _≤_, _<_}
 use mathlib.Core.Path.{_≡_, refl, ap, ap₂, sym, _∙_}
-use mathlib.Core.Bool.{true, false, cond}
+use mathlib.Core.Bool.{true, false, not, cond}
 use mathlib.Core.List.{List}
 use mathlib.Core.Logic.{_⊎_, inl, inr, ⊎-elim}
 use native.Mathlib.Omega.{arith}
-use lib.Dec.{T, leb, ltb, eqb, le→leb, lt→ltb}
-use borrow.Author.Tests.{le-leb, lt-leb, lt-ltb, le-ltb, eq-eqb, leb-true, leb-false, ltb-true, ltb-false, eqb-true, eqb-false}
+use lib.Dec.{leb, ltb, eqb}
+use borrow.Author.Tests.{le-ltb, eq-eqb, ltb-true, ltb-false, eqb-true, eqb-false}
 use Rattle.places.specs.Numbering.{stride}
-use Rattle.terms.specs.Outcome.{Outcome, holds, notKnown, contradicted, _and_, compareSpans}
-use Rattle.codes.specs.views.Codes.{compoundCode, numberCode, lowOf, highOf}
-use Rattle.outcomes.specs.views.CompareCells.{isCompound, arityOf, ifSame, compareRuns, compareRow, compareAt, compareCells}
-use Rattle.basics.proofs.Booleans.{true-both}
+use Rattle.terms.specs.Outcome.{Outcome, holds, notKnown, contradicted, known, _and_}
+use Rattle.codes.specs.views.Codes.{compoundCode, numberCode, neverCode, lowOf}
+use Rattle.outcomes.specs.views.CompareCells.{isCompound, arityOf, sameCode, leftOpen}
+use Rattle.outcomes.specs.views.CompareCells.{compareRuns, compareRow, compareBy, compareAt, compareCells}
+use Rattle.basics.proofs.Booleans.{cond-true}
+use Rattle.outcomes.proofs.FoundRuns.{a-leaf, a-compound}
 use Rattle.outcomes.proofs.RunsCompare.{runs-differ, runs-overlap}
 
-module _ (x y u v : ℕ) (arguments : Outcome) where
+module _ (x y u v : ℕ) (arguments unsure : Outcome) where
   abbrev compared : Outcome
-  compared = compareRuns x y u v arguments
+  compared = compareRuns x y u v arguments unsure
 
   -- Runs with no code in common differ.
   pub none-common : (y < u) ⊎ (ltb v x ≡ true) → contradicted ≡ compared
-  none-common h =
-      let d = ⊎-elim (λ l. inl l) (λ l. inr (ltb-true v x l)) h in
-      ap (λ o. ifSame o (cond (isCompound x) arguments holds)) (sym (runs-differ x y u v d))
+  none-common h = sym (runs-differ x y u v arguments unsure (⊎-elim (λ l. inl l) (λ l. inr (ltb-true v x l)) h))
 
   module _ (common : u ≤ y) (common-other : ltb v x ≡ false) where
-    -- Where one of them has several, it is not known whether they are equal.
-    pub several-codes : (x ≡ y → ⊥) ⊎ (eqb u v ≡ false) → notKnown ≡ compared
+    -- Where one of them has several, it is unsure whether they are equal.
+    pub several-codes : (x ≡ y → ⊥) ⊎ (eqb u v ≡ false) → compared ≡ unsure
     several-codes h =
-        let several = ⊎-elim (λ l. inl l) (λ l. inr (eqb-false u v l)) h in
-        ap (λ o. ifSame o (cond (isCompound x) arguments holds))
-        (sym (runs-overlap x y u v common (ltb-false v x common-other) several))
+        runs-overlap x y u v arguments unsure common (ltb-false v x common-other)
+        (⊎-elim (λ l. inl l) (λ l. inr (eqb-false u v l)) h)
 
     module _ (single : x ≡ y) (single-other : eqb u v ≡ true) where
       -- Two single codes with one in common are the same, and the arguments of compounds decide.
-      one-code : compareSpans x y u v ≡ holds
+      one-code : compared ≡ sameCode x arguments
       one-code = rw (le-ltb y u common, common-other, eq-eqb x y single, single-other)
 
-      -- The same code of symbols or numbers is equal.
-      pub same-leaf : (x < compoundCode 0 0) ⊎ (leb (numberCode 0) x ≡ true) → holds ≡ compared
-      same-leaf (inl low) = simp (one-code, lt-leb (compoundCode 0 0) x low)
-      same-leaf (inr high) =
-          let number = leb-true (numberCode 0) x high in
-          simp (one-code, le-leb (compoundCode 0 0) x (omega arith), le-ltb x (numberCode 0) number)
+      -- The same code of symbols or numbers is equal, and record 35 is not.
+      pub same-leaf : (x < compoundCode 0 0) ⊎ (leb (numberCode 0) x ≡ true) → compared ≡ known (not (eqb x neverCode))
+      same-leaf h = one-code ∙ ap (λ b. cond b arguments (known (not (eqb x neverCode)))) (a-leaf x h)
 
       -- The same code of compounds is as the arguments are.
       pub same-compound : compoundCode 0 0 ≤ x → leb (numberCode 0) x ≡ false → compared ≡ arguments
-      same-compound low high =
-          let below = leb-false (numberCode 0) x high in
-          simp (one-code, le-leb (compoundCode 0 0) x low, lt-ltb x (numberCode 0) below)
-
--- A code from the first of compounds on and below the first of numbers is a compound's.
-pub a-compound : (a : ℕ) → compoundCode 0 0 ≤ a → leb (numberCode 0) a ≡ false → T (isCompound a)
-a-compound a low high =
-    let below = leb-false (numberCode 0) a high in
-    true-both (leb (compoundCode 0 0) a) (ltb a (numberCode 0)) (le→leb (compoundCode 0 0) a low)
-    (lt→ltb a (numberCode 0) below)
+      same-compound low high = one-code ∙ cond-true (isCompound x) arguments _ (a-compound x low high)
 
 -- What the n arguments of two compounds say, with so many levels below the one and the other.
 abbrev pub compareBelow : List ℕ → ℕ → ℕ → ℕ → ℕ → ℕ → Outcome
@@ -68,7 +55,7 @@ compareBelow cells n (suc below) (suc other) p q =
 pub by-runs
     : (cells : List ℕ) (below other p q a b : ℕ)
     → compareAt cells below other p q a b
-    ≡ compareRuns (lowOf a) (highOf a) (lowOf b) (highOf b) (compareBelow cells (arityOf (lowOf a)) below other p q)
+    ≡ compareBy a b (compareBelow cells (arityOf (lowOf a)) below other p q) (leftOpen cells below other p q (lowOf a) (lowOf b))
 by-runs cells zero other p q a b = refl
 by-runs cells (suc below) zero p q a b = refl
 by-runs cells (suc below) (suc other) p q a b = refl

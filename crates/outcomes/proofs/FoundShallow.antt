@@ -5,7 +5,7 @@ use native.Mathlib.Decide.{decLt}
 use native.Mathlib.Omega.{arith}
 use Rattle.places.specs.Numbering.{stride, levelsIn}
 use Rattle.places.proofs.Levels.{levels-first, levels-next, levels-below, levels-range}
-use Rattle.terms.specs.Term.{Term, Terms, unknown, symbol, numbers, compound, nil, cons}
+use Rattle.terms.specs.Term.{Term, Terms, unknown, never, symbol, numbers, compound, nil, cons}
 use Rattle.terms.specs.Lookup.{Found, lacking, found, find, finds}
 use Rattle.terms.specs.Accepted.{Shallow, Shallows}
 use Rattle.terms.proofs.TermPlaces.{finds-here, finds-there}
@@ -24,6 +24,7 @@ mutual
   -- In a term,
   pub find-shallow : (t : Term) (r n : ℕ) → Shallow t r → n < stride r → ShallowFound (find t r n) (levelsIn r n)
   find-shallow unknown r n h inside = levels-range r n h .0
+  find-shallow never r n h inside = levels-range r n h .0
   find-shallow (symbol a) r zero h inside = levels-range r 0 h .0
   find-shallow (symbol a) r (suc n) h inside = tt
   find-shallow (numbers a b) r zero h inside = levels-range r 0 h .0

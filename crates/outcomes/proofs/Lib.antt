@@ -8,9 +8,12 @@ pub mod Hidden
 pub mod FoundRuns
 pub mod RunsCompare
 pub mod Comparing
+pub mod HoldsNeverSteps
 pub mod PairCells
 pub mod LookFinds
 pub mod PlaceTestsAgree
+pub mod Held
+pub mod CellsHoldNever
 pub mod HeldTerms
 pub mod FoundShallow
 pub mod PairTestsAgree

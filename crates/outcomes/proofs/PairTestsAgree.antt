@@ -1,7 +1,6 @@
 -- In the cells of an accepted piece, an equality test has the outcome that it has in the piece.
 use Prim.Native.Nat.{ℕ, suc, pred, _+_, _≤_, _<_}
 use mathlib.Core.Path.{_≡_, refl, ap, ap₂, sym, subst, _∙_}
-use mathlib.Core.Bool.{false, false≢true}
 use mathlib.Core.Logic.{inr}
 use native.Mathlib.Omega.{arith}
 use borrow.Author.Tests.{ne-eqb}
@@ -14,6 +13,7 @@ use Rattle.terms.specs.Outcome.{Outcome, contradicted, compare, atPlaces, pairO
 use Rattle.terms.specs.Filling.{WellFormed}
 use Rattle.terms.specs.Accepted.{AcceptedPiece, Shallow}
 use Rattle.terms.proofs.TermPlaces.{IfFound}
+use Rattle.terms.proofs.Unknown.{Hides}
 use Rattle.terms.proofs.WellFormed.{finds-well-formed}
 use Rattle.codes.specs.views.Codes.{termRun}
 use Rattle.codes.proofs.TermRuns.{run-some}
@@ -21,12 +21,13 @@ use Rattle.piece.specs.views.Cells.{foundRun}
 use Rattle.piece.specs.views.LaidOut.{pieceCells}
 use Rattle.outcomes.specs.views.CompareCells.{compareAt}
 use Rattle.outcomes.specs.views.CellOutcome.{runsOutcome, pairCells}
-use Rattle.outcomes.proofs.FindWith.{findWith, finds-is, row-composes, lacking-stays, goOn}
-use Rattle.outcomes.proofs.Hidden.{Stores, shown, hidden, stores-row, isUnknown}
+use Rattle.outcomes.proofs.FindWith.{findWith, nothing, finds-is, row-composes, nothing-stays, goOn}
+use Rattle.outcomes.proofs.Hidden.{Stores, shown, hidden, stores-row}
 use Rattle.outcomes.proofs.FoundShallow.{ShallowFound, finds-shallow}
 use Rattle.outcomes.proofs.LookFinds.{cell-stored, look-finds}
 use Rattle.outcomes.proofs.PairCells.{one-lacking, both-there}
-use Rattle.outcomes.proofs.HeldTerms.{HeldKnown, terms-compare}
+use Rattle.outcomes.proofs.Held.{HeldShown}
+use Rattle.outcomes.proofs.HeldTerms.{terms-compare}
 
 -- Where the second place is lacking, the test is contradicted.
 second-lacking : (a : ℕ) (x : Outcome) → runsOutcome a 0 x ≡ contradicted
@@ -42,10 +43,10 @@ runs-agree (found t) lacking x compared = second-lacking (termRun t) _
 runs-agree (found t) (found u) x compared =
     both-there (termRun t) (termRun u) _ (run-some t) (ne-eqb (termRun u) 0 (run-some u)) ∙ compared t u refl refl
 
--- What is found and no unknown is stored.
-known-stored : {f s : Found} → Stores f s → isUnknown f ≡ false → s ≡ f
-known-stored (shown f) known = refl
-known-stored hidden known = absurd (false≢true (sym known))
+-- A term that is found and hides nothing is stored.
+shown-stored : {f s : Found} → Stores f s → (t : Term) → f ≡ found t → (Hides t → ⊥) → s ≡ found t
+shown-stored (shown f) t is shows = is
+shown-stored (hidden u h) t is shows = let same : u ≡ t = cc in absurd (shows (subst Hides same h))
 
 module _ (arity : ℕ) (piece : Terms) (accepted : AcceptedPiece arity piece) (few : arity ≤ 8) where
   module _ (p : ℕ) (inside : p < 680) (t : Term) (at-p : termAt piece p ≡ found t) where
@@ -53,17 +54,16 @@ module _ (arity : ℕ) (piece : Terms) (accepted : AcceptedPiece arity piece) (f
     levels : levelsAt p ≡ suc (pred (levelsAt p))
     levels = omega (arith, levels-range 4 p (omega arith))
 
-    -- A known term at a place is held by the cells from there on.
-    held : HeldKnown (pieceCells piece) t (suc (pred (levelsAt p))) p
-    held known m near =
-        let first = sym (finds-is piece 4 p) ∙ at-p in
-        let stored = known-stored (stores-row piece 4 p) (ap isUnknown first ∙ known) ∙ first in
+    -- A term that hides nothing is held by the cells from its place on.
+    held : HeldShown (pieceCells piece) t (suc (pred (levelsAt p))) p
+    held shows m near =
+        let stored = shown-stored (stores-row piece 4 p) t (sym (finds-is piece 4 p) ∙ at-p) shows in
         let near-p : m < stride (levelsAt p) = omega (arith, ap stride levels) in
         cell-stored arity piece accepted few (p + m) (omega (arith, levels-fit-row 4 p 8 inside))
         ∙ ap foundRun
-        (row-composes lacking lacking-stays piece 4 p m near-p
-        ∙ ap (goOn (λ u. findWith lacking u (levelsAt p) m)) stored
-        ∙ ap (λ l. findWith lacking t l m) levels)
+        (row-composes nothing nothing-stays piece 4 p m near-p
+        ∙ ap (goOn (λ u. findWith nothing u (levelsAt p) m)) stored
+        ∙ ap (λ l. findWith nothing t l m) levels)
 
     -- It is shallow enough for its levels.
     shallow : Shallow t (suc (pred (levelsAt p)))

@@ -4,7 +4,7 @@ use mathlib.Core.Path.{_≡_, refl, ap, _∙_}
 use mathlib.Core.Bool.{_&&_, _||_, cond}
 use mathlib.Core.Logic.{inl, inr}
 use native.Mathlib.Omega.{arith}
-use Rattle.terms.specs.Term.{Term, Terms, count, unknown, symbol, numbers, compound}
+use Rattle.terms.specs.Term.{Term, Terms, count, unknown, never, symbol, numbers, compound}
 use Rattle.terms.specs.RuleTests.{Want, aSymbol, aNumber, aCompound, at}
 use Rattle.terms.specs.Lookup.{Found, lacking, found, termAt}
 use Rattle.terms.specs.Outcome.{Outcome, holds, notKnown, contradicted, known, fits, atPlace, placeOutcome}
@@ -13,10 +13,10 @@ use Rattle.terms.specs.Filling.{WellFormed}
 use Rattle.terms.proofs.Spans.{inside-number}
 use Rattle.terms.proofs.TermPlaces.{IfFound}
 use Rattle.terms.proofs.WellFormed.{finds-well-formed}
-use Rattle.codes.specs.views.Codes.{symbolCode, numberCode, compoundCode, highestCode, wantLow, wantHigh}
+use Rattle.codes.specs.views.Codes.{symbolCode, numberCode, compoundCode, highestCode, neverCode, wantLow, wantHigh}
 use Rattle.codes.specs.views.Codes.{lowOf, highOf, termLow, termHigh}
 use Rattle.codes.proofs.CodeOrder.{in-order, before}
-use Rattle.codes.proofs.FitCodes.{WantFields, under, symbol-fits, compound-fits}
+use Rattle.codes.proofs.FitCodes.{WantFields, under, symbol-fits, compound-fits, never-fits}
 use Rattle.codes.proofs.TermRuns.{term-low, term-high}
 use Rattle.piece.specs.views.Cells.{foundRun}
 use Rattle.piece.specs.views.LaidOut.{pieceCells}
@@ -61,6 +61,7 @@ at-span (aCompound a n) b c f =
 -- What a want says of the codes that a term can have is what it says of the term.
 term-agrees : (w : Want) (t : Term) → WantFields w → WellFormed t → outcomeAt w (termLow t) (termHigh t) ≡ fits w t
 term-agrees w unknown fields ok = at-unknown w fields
+term-agrees w never fields ok = inside-number (wantLow w) (wantHigh w) neverCode neverCode refl ∙ never-fits w fields
 term-agrees w (symbol b) fields ok =
     inside-number (wantLow w) (wantHigh w) (symbolCode b) (symbolCode b) refl ∙ symbol-fits w b fields ok
 term-agrees w (numbers b c) fields ok = at-span w b c fields

@@ -1,5 +1,5 @@
 -- What the cells hold after terms are stored in them, for any number of levels below the terms and of terms in a row:
--- at each place the run of what stands there, and nothing below an unknown.
+-- at each place the run of what stands there, and nothing below what hides it.
 use Prim.Native.Nat.{ℕ, zero, suc, pred, _+_, _-_, _*_, _≤_, _<_}
 use mathlib.Core.Path.{_≡_, ap, sym, _∙_}
 use mathlib.Core.List.{List}
@@ -9,15 +9,14 @@ use native.Mathlib.Omega.{arith}
 use lib.ListN.{length, getD, set, length-set}
 use lib.Seq.{getD-set-other}
 use Rattle.places.specs.Numbering.{stride}
-use Rattle.terms.specs.Term.{Term, Terms, count, unknown, symbol, numbers, compound, nil, cons}
-use Rattle.terms.specs.Lookup.{lacking}
+use Rattle.terms.specs.Term.{Term, Terms, count, unknown, never, symbol, numbers, compound, nil, cons}
 use Rattle.terms.specs.Filling.{WellFormed, WellFormeds}
 use Rattle.terms.specs.Accepted.{Shallow, Shallows}
 use Rattle.terms.proofs.TermPlaces.{extent}
 use Rattle.codes.specs.views.Codes.{termRun}
 use Rattle.piece.specs.views.Cells.{foundRun, storeTerm, storeTerms}
 use Rattle.piece.proofs.StoredCells.{term-length, terms-before, term-here, term-after, extent-four}
-use Rattle.outcomes.proofs.FindWith.{findWith, findsWith, with-zero, with-here, with-there}
+use Rattle.outcomes.proofs.FindWith.{findWith, findsWith, nothing, with-zero, with-here, with-there}
 
 -- The k cells from place p on are there and empty.
 pub record Empty (cells : List ℕ) (p k : ℕ) : Type 0 where
@@ -62,20 +61,22 @@ module _ (cells : List ℕ) (p k : ℕ) (empty : Empty cells p k) where
 -- A term's own place.
 own-place
     : (t : Term) (below p : ℕ) (cells : List ℕ) → Empty cells p (stride (suc below))
-    → getD (storeTerm t below p cells) (p + 0) 0 ≡ foundRun (findWith lacking t (suc below) 0)
+    → getD (storeTerm t below p cells) (p + 0) 0 ≡ foundRun (findWith nothing t (suc below) 0)
 own-place t below p cells empty =
     let there = empty .there in
     ap (λ (i : ℕ). getD (storeTerm t below p cells) i 0) (add-zero p) ∙ term-here t below p cells (omega arith)
-    ∙ ap foundRun (sym (with-zero lacking t (suc below)))
+    ∙ ap foundRun (sym (with-zero nothing t (suc below)))
 
 mutual
   -- A term that is stored in empty cells is held by them at each of its places.
   pub term-stored
       : (t : Term) (below p : ℕ) (cells : List ℕ) (n : ℕ) → WellFormed t → Shallow t (suc below)
       → Empty cells p (stride (suc below)) → n < stride (suc below)
-      → getD (storeTerm t below p cells) (p + n) 0 ≡ foundRun (findWith lacking t (suc below) n)
+      → getD (storeTerm t below p cells) (p + n) 0 ≡ foundRun (findWith nothing t (suc below) n)
   term-stored unknown below p cells zero ok shallow empty h = own-place unknown below p cells empty
   term-stored unknown below p cells (suc n) ok shallow empty h = run-later cells p _ empty (termRun unknown) n h
+  term-stored never below p cells zero ok shallow empty h = own-place never below p cells empty
+  term-stored never below p cells (suc n) ok shallow empty h = run-later cells p _ empty (termRun never) n h
   term-stored (symbol a) below p cells zero ok shallow empty h = own-place (symbol a) below p cells empty
   term-stored (symbol a) below p cells (suc n) ok shallow empty h = run-later cells p _ empty (termRun (symbol a)) n h
   term-stored (numbers a b) below p cells zero ok shallow empty h = own-place (numbers a b) below p cells empty
@@ -93,7 +94,7 @@ mutual
   pub terms-stored
       : (ts : Terms) (below p : ℕ) (cells : List ℕ) (k n : ℕ) → WellFormeds ts → Shallows ts (suc below)
       → Empty cells p k → extent (count ts) (suc below) ≤ k → n < k
-      → getD (storeTerms ts below p cells) (p + n) 0 ≡ foundRun (findsWith lacking ts (suc below) n)
+      → getD (storeTerms ts below p cells) (p + n) 0 ≡ foundRun (findsWith nothing ts (suc below) n)
   terms-stored nil below p cells k n ok shallow empty room h = empty .none n h
   terms-stored (cons t ts) below p cells k n ok shallow empty room h =
       let step = stride (suc below) in
@@ -102,7 +103,7 @@ mutual
         | yes first ↦
             terms-before ts below (p + step) stored (p + n) (omega arith)
             ∙ term-stored t below p cells n (ok .0) (shallow .0) (first-empty cells p k empty step (omega arith)) first
-            ∙ ap foundRun (sym (with-here lacking t ts (suc below) n first))
+            ∙ ap foundRun (sym (with-here nothing t ts (suc below) n first))
         | no later ↦
             let i = n - step in
             let n-is : n ≡ step + i = omega arith in
@@ -111,5 +112,5 @@ mutual
             ∙ terms-stored ts below (p + step) stored (k - step) i (ok .1) (shallow .1)
             (others-empty cells p k empty t below (ok .0) (shallow .0) (omega arith)) (omega arith) (omega arith)
             ∙ ap foundRun
-            (sym (ap (findsWith lacking (cons t ts) (suc below)) n-is ∙ with-there lacking t ts (suc below) i))
+            (sym (ap (findsWith nothing (cons t ts) (suc below)) n-is ∙ with-there nothing t ts (suc below) i))
       ]

@@ -136,7 +136,8 @@ piece-used arity piece few accepted =
     record {
       size = terms-length piece 3 0 emptyCells ∙ size;
       behind = λ j h.
-          terms-after piece 3 0 emptyCells j (accepted .wellFormed) (accepted .shallow) (omega arith) ∙ none .behind j (omega arith);
+          terms-after piece 3 0 emptyCells j (accepted .wellFormed) (accepted .shallow) (omega arith)
+          ∙ none .behind j (omega arith);
       arguments = λ a.
           argument-tells piece emptyCells (accepted .wellFormed) (accepted .shallow) (λ i. none .behind i (omega arith))
           (omega arith) a (85 * a) (sym (arguments-extent a));

@@ -11,7 +11,7 @@ use Rattle.records.specs.Fields.{wideOf, wideAt, wideThen, AreBytes}
 use Rattle.records.proofs.WideFields.{wide-bound, high-of, low-of, wide-of}
 use Rattle.terms.specs.Term.{Wide}
 use Rattle.piece.specs.declared.TermRecord.{TermRecord}
-use Rattle.piece.specs.declared.TermRecord.the-variants.{Unknown, Symbol, Number, Compound, Span}
+use Rattle.piece.specs.declared.TermRecord.the-variants.{Unknown, Symbol, Number, Compound, Span, Never}
 use Rattle.piece.specs.declared.TermHead.{TermHead}
 use Rattle.piece.specs.declared.TermHead.the-variants.{Whole, Refused}
 use Rattle.piece.specs.views.TermRecord.{termHead}
@@ -25,6 +25,7 @@ recordThen (Symbol a) rest = 0x31 ∷ wideThen a rest
 recordThen (Number a) rest = 0x32 ∷ wideThen a rest
 recordThen (Compound a n) rest = 0x33 ∷ wideThen a (n ∷ rest)
 recordThen (Span l h) rest = 0x34 ∷ wideThen l (wideThen h rest)
+recordThen Never rest = 0x35 ∷ rest
 
 -- The id or number of a record fits a wide field, and so do the ends of a span.
 abbrev pub WideRecord : TermRecord → Type 0
@@ -33,6 +34,7 @@ WideRecord (Symbol a) = Wide a
 WideRecord (Number a) = Wide a
 WideRecord (Compound a n) = Wide a
 WideRecord (Span l h) = Wide l × Wide h
+WideRecord Never = Unit
 
 -- A head says that the bytes spell its record.
 abbrev pub HeadSpells : List ℕ → TermHead → Type 0
@@ -85,6 +87,7 @@ module _ (s : List ℕ) (bytes : AreBytes s) where
         two-fields there ∙ ap (λ x. x ∷ wideThen (wideAt s 1) (wideThen (wideAt s 3) (drop 5 s))) kind,
         (wide, wide-at 3),
       ))
+      (λ there kind. (first there ∙ ap (λ x. x ∷ drop 1 s) kind, tt))
 
 -- What is spelled is read as the record.
 pub spelled-head : (r : TermRecord) (rest : List ℕ) → WideRecord r → termHead (recordThen r rest) ≡ Whole r
@@ -102,3 +105,4 @@ spelled-head (Span l h) rest wide =
     let k = length rest in
     let there = le-leb 5 (suc (suc (suc (suc (suc k))))) (omega arith) in
     simp (eqb·suc-zero (suc (suc (suc (suc k)))), there, wide-of l (wide .0), wide-of h (wide .1))
+spelled-head Never rest wide = rw (eqb·suc-zero (length rest))

@@ -5,7 +5,7 @@ use mathlib.Core.Path.{_≡_, ap, _∙_}
 use native.Mathlib.Nat.{mul-le-mul-right}
 use native.Mathlib.Omega.{arith}
 use Rattle.places.specs.Numbering.{stride}
-use Rattle.terms.specs.Term.{Term, Terms, count, unknown, symbol, numbers, compound, nil, cons}
+use Rattle.terms.specs.Term.{Term, Terms, count, unknown, never, symbol, numbers, compound, nil, cons}
 use Rattle.terms.specs.Accepted.{Shallow, Shallows}
 
 -- A term with a level below it has room for itself and for its arguments, at most 4.
@@ -26,6 +26,7 @@ no-arguments (cons t ts) some shallow = first t (shallow .0)
   where
     first : (t : Term) → Shallow t 0 → ⊥
     first unknown h = omega arith
+    first never h = omega arith
     first (symbol a) h = omega arith
     first (numbers a b) h = omega arith
     first (compound a ts) h = omega (arith, h .0)

@@ -11,7 +11,7 @@ use lib.Seq.{drop-cons, drop-drop, drop-length}
 use lib.Dec.{eqb}
 use borrow.Author.Tests.{eq-eqb, eqb-true}
 use Rattle.records.specs.Reading.{Reading, took, refused, ask, after, andThen}
-use Rattle.terms.specs.Term.{Term, Terms, unknown, symbol, numbers, compound, nil, cons}
+use Rattle.terms.specs.Term.{Term, Terms, unknown, never, symbol, numbers, compound, nil, cons}
 use Rattle.piece.specs.Piece.{Piece, SoundPiece}
 use Rattle.piece.specs.ReadPiece.{readTerms, readArity, readPrefix, readPiece}
 use Rattle.piece.specs.WritePiece.{SpellsTerm, SpellsTerms, SpellsPiece, termBytes, termsBytes, pieceBytes}
@@ -113,7 +113,7 @@ no-bytes-left
 no-bytes-left n k piece (took a x) e =
     let answer = asked 17 (eqb a n) (took a x) e in
     (answer .1, sym (took-bytes (answer .1)) ∙ eqb-true a n (answer .0))
-no-bytes-left n k piece (refused q) e = let never : _≡_ {A = ℕ} 0 1 = cc in absurd (omega arith)
+no-bytes-left n k piece (refused q) e = let no-yes : _≡_ {A = ℕ} 0 1 = cc in absurd (omega arith)
 
 -- So the whole piece is read exactly where the piece that the bytes begin with takes them all.
 whole-piece
@@ -150,6 +150,7 @@ mutual
   -- The written bytes of a term spell it,
   term-spells : (t : Term) → SpellsTerm t (termBytes t)
   term-spells unknown = refl
+  term-spells never = refl
   term-spells (symbol a) = refl
   term-spells (numbers a b) = go (eqb a b) (eqb-true a b)
     where

@@ -7,7 +7,7 @@ use native.Mathlib.Omega.{arith}
 use lib.ListN.{length, getD, set, length-set}
 use lib.Seq.{getD-set-same, getD-set-other}
 use Rattle.places.specs.Numbering.{stride}
-use Rattle.terms.specs.Term.{Term, Terms, count, unknown, symbol, numbers, compound, nil, cons}
+use Rattle.terms.specs.Term.{Term, Terms, count, unknown, never, symbol, numbers, compound, nil, cons}
 use Rattle.terms.specs.Filling.{WellFormed, WellFormeds}
 use Rattle.terms.specs.Accepted.{Shallow, Shallows}
 use Rattle.terms.proofs.TermPlaces.{extent, extent-le}
@@ -19,6 +19,7 @@ mutual
   -- Storing a term keeps the number of cells,
   pub term-length : (t : Term) (below p : ℕ) (cells : List ℕ) → length (storeTerm t below p cells) ≡ length cells
   term-length unknown below p cells = length-set cells p (termRun unknown)
+  term-length never below p cells = length-set cells p (termRun never)
   term-length (symbol a) below p cells = length-set cells p (termRun (symbol a))
   term-length (numbers a b) below p cells = length-set cells p (termRun (numbers a b))
   term-length (compound a ts) below p cells =
@@ -37,6 +38,7 @@ mutual
       : (t : Term) (below p : ℕ) (cells : List ℕ) (i : ℕ) → i < p
       → getD (storeTerm t below p cells) i 0 ≡ getD cells i 0
   term-before unknown below p cells i h = getD-set-other cells p i (termRun unknown) 0 (λ e. omega arith)
+  term-before never below p cells i h = getD-set-other cells p i (termRun never) 0 (λ e. omega arith)
   term-before (symbol a) below p cells i h = getD-set-other cells p i (termRun (symbol a)) 0 (λ e. omega arith)
   term-before (numbers a b) below p cells i h = getD-set-other cells p i (termRun (numbers a b)) 0 (λ e. omega arith)
   term-before (compound a ts) below p cells i h =
@@ -57,6 +59,7 @@ mutual
 pub term-here
     : (t : Term) (below p : ℕ) (cells : List ℕ) → p < length cells → getD (storeTerm t below p cells) p 0 ≡ termRun t
 term-here unknown below p cells there = getD-set-same cells p (termRun unknown) 0 there
+term-here never below p cells there = getD-set-same cells p (termRun never) 0 there
 term-here (symbol a) below p cells there = getD-set-same cells p (termRun (symbol a)) 0 there
 term-here (numbers a b) below p cells there = getD-set-same cells p (termRun (numbers a b)) 0 there
 term-here (compound a ts) below p cells there =
@@ -73,6 +76,7 @@ mutual
       : (t : Term) (below p : ℕ) (cells : List ℕ) (i : ℕ) → WellFormed t → Shallow t (suc below)
       → p + stride (suc below) ≤ i → getD (storeTerm t below p cells) i 0 ≡ getD cells i 0
   term-after unknown below p cells i ok shallow h = getD-set-other cells p i (termRun unknown) 0 (λ e. omega arith)
+  term-after never below p cells i ok shallow h = getD-set-other cells p i (termRun never) 0 (λ e. omega arith)
   term-after (symbol a) below p cells i ok shallow h = getD-set-other cells p i (termRun (symbol a)) 0 (λ e. omega arith)
   term-after (numbers a b) below p cells i ok shallow h = getD-set-other cells p i (termRun (numbers a b)) 0 (λ e. omega arith)
   term-after (compound a ts) zero p cells i ok shallow h = absurd (no-arguments ts (ok .1) (shallow .1))

@@ -7,7 +7,7 @@ use native.Mathlib.Omega.{arith}
 use lib.ListN.{length, getD, set, length-set}
 use lib.Seq.{getD-set-other}
 use Rattle.places.specs.Numbering.{stride}
-use Rattle.terms.specs.Term.{Term, Terms, count, unknown, symbol, numbers, compound, nil, cons}
+use Rattle.terms.specs.Term.{Term, Terms, count, unknown, never, symbol, numbers, compound, nil, cons}
 use Rattle.terms.specs.Filling.{WellFormed, WellFormeds}
 use Rattle.terms.specs.Accepted.{Shallow, Shallows}
 use Rattle.terms.proofs.TermPlaces.{extent, extent-fits}
@@ -75,6 +75,7 @@ mutual
       : (t : Term) (below p : ℕ) (cells : List ℕ) → WellFormed t → Shallow t (suc below) → Clear p cells
       → p + stride (suc below) ≤ length cells → Tells (suc below) p (storeTerm t below p cells)
   term-tells unknown below p cells ok shallow clear room = none-tells (suc below) p _ (alone p cells _ clear)
+  term-tells never below p cells ok shallow clear room = none-tells (suc below) p _ (alone p cells _ clear)
   term-tells (symbol a) below p cells ok shallow clear room = none-tells (suc below) p _ (alone p cells _ clear)
   term-tells (numbers a b) below p cells ok shallow clear room = none-tells (suc below) p _ (alone p cells _ clear)
   term-tells (compound a ts) zero p cells ok shallow clear room = absurd (no-arguments ts (ok .1) (shallow .1))

@@ -12,10 +12,10 @@ use lib.Dec.{leb}
 use borrow.Author.Tests.{leb-true, le-leb, lt-leb}
 use Rattle.records.specs.Fields.{wideThen, AreBytes}
 use Rattle.records.specs.Reading.{Reading, took, refused, ask, after, andThen, readRow}
-use Rattle.terms.specs.Term.{Term, Terms, count, unknown, symbol, numbers, compound, nil, cons, Wide}
+use Rattle.terms.specs.Term.{Term, Terms, count, unknown, never, symbol, numbers, compound, nil, cons, Wide}
 use Rattle.terms.specs.Filling.{WellFormed, WellFormeds}
 use Rattle.terms.specs.Accepted.{Shallow, Shallows}
-use Rattle.piece.specs.declared.TermRecord.the-variants.{Unknown, Symbol, Number, Compound, Span}
+use Rattle.piece.specs.declared.TermRecord.the-variants.{Unknown, Symbol, Number, Compound, Span, Never}
 use Rattle.piece.specs.declared.TermHead.{TermHead}
 use Rattle.piece.specs.declared.TermHead.the-variants.{Whole, Refused}
 use Rattle.piece.specs.views.TermRecord.{termHead, onHead}
@@ -173,6 +173,8 @@ by-head-spelled s below compounds (Whole (Number a)) spelled =
     }
 by-head-spelled s below compounds (Whole (Compound a n)) spelled = compounds a n (spelled .0) (spelled .1)
 by-head-spelled s below compounds (Whole (Span l h)) spelled = span-read s below l h (spelled .0) (spelled .1 .1)
+by-head-spelled s below compounds (Whole Never) spelled =
+    record { wellFormed = tt; shallow = omega arith; own = _; spells = refl; size = refl; bytes = spelled .0 }
 by-head-spelled s below compounds (Refused q) spelled = tt
 
 -- What is read as a term is accepted and spelled,
@@ -228,6 +230,8 @@ mutual
       → readTerm below (own ++ rest) ≡ took (length own) t
   term-reads unknown below own rest ok shallow spells =
       rw spells (read-head below (0x30 ∷ rest) (spelled-head Unknown rest tt))
+  term-reads never below own rest ok shallow spells =
+      rw spells (read-head below (0x35 ∷ rest) (spelled-head Never rest tt))
   term-reads (symbol a) below own rest ok shallow spells =
       rw spells (read-head below (0x31 ∷ wideThen a rest) (spelled-head (Symbol a) rest ok))
   term-reads (numbers a b) below own rest ok shallow (inl spells) =

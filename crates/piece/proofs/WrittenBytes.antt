@@ -5,7 +5,7 @@ use native.Mathlib.Omega.{arith}
 use lib.Dec.{eqb}
 use Rattle.records.specs.Fields.{wideThen, AreBytes}
 use Rattle.records.proofs.ByteLists.{bytes-append, wide-bytes}
-use Rattle.terms.specs.Term.{Term, Terms, count, unknown, symbol, numbers, compound, nil, cons}
+use Rattle.terms.specs.Term.{Term, Terms, count, unknown, never, symbol, numbers, compound, nil, cons}
 use Rattle.terms.specs.Filling.{WellFormed, WellFormeds}
 use Rattle.piece.specs.Piece.{Piece, SoundPiece}
 use Rattle.piece.specs.WritePiece.{termBytes, termsBytes, pieceBytes}
@@ -14,6 +14,7 @@ mutual
   -- The bytes of a well-formed term are bytes,
   term-written : (t : Term) → WellFormed t → AreBytes (termBytes t)
   term-written unknown ok = (omega arith, tt)
+  term-written never ok = (omega arith, tt)
   term-written (symbol a) ok = (omega arith, wide-bytes a [] tt)
   term-written (numbers a b) ok =
       elim (eqb a b) as (λ c. AreBytes (cond c (0x32 ∷ wideThen a []) (0x34 ∷ wideThen a (wideThen b []))))

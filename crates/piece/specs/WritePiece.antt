@@ -1,4 +1,4 @@
--- The bytes that spell a piece (document 01, "Records", "Piece"; document 02, request 4).
+-- The bytes that spell a piece (document 01, "Records", "Piece"; document 02, requests 4 and 6).
 use Prim.Native.Nat.{ℕ}
 use mathlib.Core.Path.{_≡_}
 use mathlib.Core.Bool.{cond}
@@ -6,14 +6,15 @@ use mathlib.Core.List.{List, [], _∷_, _++_}
 use mathlib.Core.Logic.{_⊎_}
 use lib.Dec.{eqb}
 use Rattle.records.specs.Fields.{wideThen}
-use Rattle.terms.specs.Term.{Term, Terms, count, unknown, symbol, numbers, compound, nil, cons}
+use Rattle.terms.specs.Term.{Term, Terms, count, unknown, never, symbol, numbers, compound, nil, cons}
 use Rattle.piece.specs.Piece.{Piece}
 
 -- "30 unknown; 31 symbol (wide id); 32 number (wide); 33 compound (wide id, arity), then its arguments"; "record 34 (wide low, wide
--- high)". "A span with equal ends is that number", so a number is spelled in two ways.
+-- high)"; record 35. "A span with equal ends is that number", so a number is spelled in two ways.
 abbrev mutual
   pub SpellsTerm : Term → List ℕ → Type 0
   SpellsTerm unknown s = s ≡ 0x30 ∷ []
+  SpellsTerm never s = s ≡ 0x35 ∷ []
   SpellsTerm (symbol a) s = s ≡ 0x31 ∷ wideThen a []
   SpellsTerm (numbers a b) s = (s ≡ 0x34 ∷ wideThen a (wideThen b [])) ⊎ ((a ≡ b) × (s ≡ 0x32 ∷ wideThen a []))
   SpellsTerm (compound a ts) s = (rest : List ℕ) × (s ≡ 0x33 ∷ wideThen a (count ts ∷ rest)) × SpellsTerms ts rest
@@ -30,6 +31,7 @@ SpellsPiece piece s = (rest : List ℕ) × (s ≡ 0x11 ∷ piece .arity ∷ rest
 abbrev mutual
   pub termBytes : Term → List ℕ
   termBytes unknown = 0x30 ∷ []
+  termBytes never = 0x35 ∷ []
   termBytes (symbol a) = 0x31 ∷ wideThen a []
   termBytes (numbers a b) = cond (eqb a b) (0x32 ∷ wideThen a []) (0x34 ∷ wideThen a (wideThen b []))
   termBytes (compound a ts) = 0x33 ∷ wideThen a (count ts ∷ termsBytes ts)

@@ -1,4 +1,5 @@
 // Reads pieces: checks their bytes and lays their terms out by place, one run of codes a place.
+use codes::NEVER;
 use codes::UNKNOWN;
 use codes::compound_code;
 use codes::number_code;
@@ -27,6 +28,7 @@ pub enum TermRecord {
     Number(u16),
     Compound(u16, u8),
     Span(u16, u16),
+    Never,
 }
 
 // The record that the input begins with, or the number of the question that it got a no from.
@@ -88,7 +90,8 @@ pub fn term_head(s: &[u8]) -> TermHead
             }
             TermHead::Whole(TermRecord::Span(records::wide(s[1], s[2]), records::wide(s[3], s[4])))
         }
-        0..=0x2f | 0x35..=255 => TermHead::Refused(14),
+        0x35 => TermHead::Whole(TermRecord::Never),
+        0..=0x2f | 0x36..=255 => TermHead::Refused(14),
     }
 }
 
@@ -147,6 +150,10 @@ fn term(s: &[u8], below: usize, p: usize, cells: &mut Cells) -> Taken
             }
             cells[p] = run_of(number_code(low), number_code(high));
             Taken::Bytes(5)
+        }
+        TermRecord::Never => {
+            cells[p] = NEVER;
+            Taken::Bytes(1)
         }
     }
 }

@@ -87,7 +87,7 @@ module _ {arity : ℕ} (piece : Terms) (ok : AcceptedPiece arity piece) (few : a
   range-right p (some x) h some-number wide =
       let test = placeCells cells p (wantLow (aNumber (x .low) (x .high))) (wantHigh (aNumber (x .low) (x .high))) in
       ap (λ (b : Bool). testedIf b test) (le-leb (x .high) 65535 (omega (arith, wide)))
-      ∙ one-test p (aNumber (x .low) (x .high)) h (omega (arith, some-number, wide))
+      ∙ one-test p (aNumber (x .low) (x .high)) h (omega (arith, some-number, wide), wide)
 
   module _ (rangeOf : ℕ → Option Range) (low high : List ℕ)
       (lows : (v : ℕ) → v < 16 → getD low v 0 ≡ lowEnd (rangeOf v))
@@ -105,7 +105,7 @@ module _ {arity : ℕ} (piece : Terms) (ok : AcceptedPiece arity piece) (few : a
         → recordOutcome cells low high p r ≡ together (placeOutcome piece) (recordTests rangeOf p r)
     record-right p Anything h fits = refl
     record-right p (Symbol a) h fits = one-test p (aSymbol a a) h (fits, fits)
-    record-right p (RangeOf l u) h fits = one-test p (aNumber l u) h (fits .0)
+    record-right p (RangeOf l u) h fits = one-test p (aNumber l u) h fits
     record-right p (Compound a k) h fits = one-test p (aCompound a k) h fits
     record-right p (Variable v) h fits = variable-right p v h fits
     record-right p (Ranged v l u) h fits = variable-right p v h (fits .0)

@@ -1,4 +1,4 @@
--- Document 01's example, through bytes: its sheet is built to its 67 bytes.
+-- Document 01's example, through bytes: its sheet is built to its 51 bytes.
 use Prim.Native.Nat.{ℕ}
 use mathlib.Core.Path.{_≡_, refl, sym, ap, _∙_}
 use mathlib.Core.List.{List, [], _∷_}
@@ -33,26 +33,25 @@ example-accepted = refl
 abbrev pub oneCase : ℕ → ℕ → List (CaseEdge ℕ)
 oneCase a n = record { case = symbolsCase a a; target = n } ∷ []
 
--- Its seven nodes.
+-- Its six nodes.
 abbrev exampleNodes : List (Node ℕ)
 exampleNodes =
-    switch 0 (oneCase 1 1) 2 3
-    ∷ switch 85 (oneCase 2 4) 2 5
+    switch 0 (oneCase 1 1) 2 1
+    ∷ switch 85 (oneCase 2 3) 2 3
     ∷ end (executeNode 1)
-    ∷ switch 85 (oneCase 2 5) 2 5
-    ∷ pairNode 0 85 6 5
-    ∷ end suspendNode
+    ∷ pairNode 0 85 4 5
     ∷ end (executeNode 2)
+    ∷ end suspendNode
     ∷ []
 
 example-nodes : graphOf exampleRules ≡ some exampleNodes
 unfolding has maskOf members anyBelow
 example-nodes = refl
 
--- Building the example into a buffer of 67 bytes, all 0 before, writes its 7 nodes.
+-- Building the example into a buffer of 51 bytes, all 0 before, writes its 6 nodes.
 pub example-built
     : buildOutcome exampleSheet exampleBuffer
-    ≡ record { values = record { refusal = 0; nodes = 7; bytes = 67 }; buffer = exampleGraph }
+    ≡ record { values = record { refusal = 0; nodes = 6; bytes = 51 }; buffer = exampleGraph }
 example-built = built-outcome lowest exampleSheet exampleBuffer building ∙ refl
   where
     building : Building lowest exampleSheet exampleBuffer
@@ -68,7 +67,7 @@ example-built = built-outcome lowest exampleSheet exampleBuffer building ∙ ref
       fits = omega arith;
     }
 
--- So its 67 bytes are a built graph.
+-- So its 51 bytes are a built graph.
 pub example-graph : BuiltGraph lowest exampleSheet exampleBuffer exampleGraph
 example-graph = record {
   notRefused = ap (λ (y : BuildOutcome). y .values .refusal) example-built;

@@ -29,13 +29,12 @@ example-table = bytes-read examplePlaces refl refl refl
 
 abbrev orderedNodes : List (Node ℕ)
 orderedNodes =
-    switch 85 (oneCase 2 1) 2 3
-    ∷ switch 0 (oneCase 1 4) 2 5
+    switch 85 (oneCase 2 1) 2 1
+    ∷ switch 0 (oneCase 1 3) 2 3
     ∷ end (executeNode 1)
-    ∷ switch 0 (oneCase 1 5) 2 5
-    ∷ pairNode 0 85 6 5
-    ∷ end suspendNode
+    ∷ pairNode 0 85 4 5
     ∷ end (executeNode 2)
+    ∷ end suspendNode
     ∷ []
 
 tests-asked : orderBy examplePlaces exampleRules ≡ 1 ∷ 0 ∷ 2 ∷ []
@@ -59,9 +58,9 @@ ordered-building = record {
   fits = omega arith;
 }
 
--- Its 7 nodes are written, in 67 bytes, and the root asks place 85.
+-- Its 6 nodes are written, in 51 bytes, and the root asks place 85.
 pub example-asked-last
-    : (orderedOutcome exampleSheet exampleTable exampleBuffer .values ≡ record { refusal = 0; nodes = 7; bytes = 67 })
+    : (orderedOutcome exampleSheet exampleTable exampleBuffer .values ≡ record { refusal = 0; nodes = 6; bytes = 51 })
     × (wideAt (orderedOutcome exampleSheet exampleTable exampleBuffer .buffer) 6 ≡ 85)
 unfolding ordered-building
 example-asked-last =

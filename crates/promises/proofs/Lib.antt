@@ -25,6 +25,9 @@ pub mod BuiltSize
 -- Request 5:
 pub mod SeriesForm
 pub mod Request5
+-- Request 6:
+pub mod TurnedNever
+pub mod Request6
 -- Request 9:
 pub mod Request9
 -- The cases that document 01 gives, its fakes, and its example by a table:

@@ -84,7 +84,7 @@ module _ (p q : List ℕ) {k l : ℕ} {piece : Piece} (read : readPiece p ≡ to
       (λ _ sheet. same-read (λ x. ask 20 (eqb (sheet .arity) (x .arity)) (graphReply sheet g (x .terms))) i)
 
 -- A vertex that asks is that of its own key.
-asks-own : (rules : List Patterns) (live : List ℕ) (key k : Key) → vertexWith rules live key ≡ asking k → k ≡ key
+pub asks-own : (rules : List Patterns) (live : List ℕ) (key k : Key) → vertexWith rules live key ≡ asking k → k ≡ key
 asks-own rules [] key k e = clash (cc)
 asks-own rules (i ∷ []) key k e = clash (cc)
 asks-own rules (i ∷ (j ∷ l)) key k e = go (twoOrMore (members (length rules) (settled rules key))) e

@@ -4,6 +4,7 @@ pub mod AcceptedBytes
 pub mod BuiltGraph
 pub mod TidyWritten
 pub mod SeriesForm
+pub mod TurnedNever
 pub mod Path
 pub mod Marked
 pub mod Example

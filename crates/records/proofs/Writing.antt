@@ -44,7 +44,8 @@ splice-more xs at a b h =
     let lead = take at xs ++ a in
     let end = at + length a in
     let left = drop end xs in
-    let size : length lead ≡ end = length-append (take at xs) a ∙ ap (λ (k : ℕ). k + length a) (length-take-le at xs (omega arith)) in
+    let size : length lead ≡ end =
+    length-append (take at xs) a ∙ ap (λ (k : ℕ). k + length a) (length-take-le at xs (omega arith)) in
     let whole : take at xs ++ (a ++ left) ≡ lead ++ left = sym (append-assoc (take at xs) a left) in
     let front : take end (take at xs ++ (a ++ left)) ≡ lead = ap (take end) whole ∙ take-at lead left end size in
     let back : drop (end + length b) (take at xs ++ (a ++ left)) ≡ drop (at + length (a ++ b)) xs =
@@ -53,7 +54,8 @@ splice-more xs at a b h =
     ∙ drop-append-add lead left (length b)
     ∙ drop-drop (length b) end xs
     ∙ ap (λ (k : ℕ). drop k xs) (add-assoc at (length a) (length b) ∙ ap (λ (k : ℕ). at + k) (sym (length-append a b))) in
-    rw (front, back, append-assoc (take at xs) a (b ++ drop (at + length (a ++ b)) xs), append-assoc a b (drop (at + length (a ++ b)) xs))
+    let behind = drop (at + length (a ++ b)) xs in
+    rw (front, back, append-assoc (take at xs) a (b ++ behind), append-assoc a b behind)
 
 -- The buffer keeps its length.
 pub splice-length : (xs : List ℕ) (at : ℕ) (r : List ℕ) → at + length r ≤ length xs → length (splice xs at r) ≡ length xs

@@ -1,5 +1,5 @@
--- The kinds of records (document 01, "Records"): "A record is one kind byte and a body whose length the kind fixes." "Kinds .. are
--- hexadecimal." "A wide field is two bytes, high byte first; the others are one byte."
+-- The kinds of records (document 01, "Records"; document 02, requests 4 to 6): "A record is one kind byte and a body whose length
+-- the kind fixes." "Kinds .. are hexadecimal." "A wide field is two bytes, high byte first; the others are one byte."
 use Prim.Native.Nat.{ℕ, suc}
 use mathlib.Core.Bool.{Bool, cond, _&&_}
 use mathlib.Core.List.{List, [], _∷_}
@@ -14,14 +14,15 @@ pub record Kind : Type 0 where
 abbrev pub kind : ℕ → ℕ → Kind
 kind b n = record { byte = b; body = n }
 
--- All kinds, in the order of document 01.
+-- All kinds, in the order of document 01; those of document 02 stand behind the others of their sort.
 abbrev pub kinds : List Kind
 kinds =
     -- Sheet: (arity, number of rules); anything, symbol (wide id), range (wide low, wide high), compound (wide id, arity),
     -- variable (its number), ranged variable (its number, wide low, wide high), series (wide low, wide high).
     kind 0x10 2 ∷ kind 0x20 0 ∷ kind 0x21 2 ∷ kind 0x22 4 ∷ kind 0x23 3 ∷ kind 0x24 1 ∷ kind 0x25 5 ∷ kind 0x26 4
-    -- Piece: (arity); unknown, symbol (wide id), number (wide), compound (wide id, arity), span (wide low, wide high).
-    ∷ kind 0x11 1 ∷ kind 0x30 0 ∷ kind 0x31 2 ∷ kind 0x32 2 ∷ kind 0x33 3 ∷ kind 0x34 4
+    -- Piece: (arity); unknown, symbol (wide id), number (wide), compound (wide id, arity), span (wide low, wide high), a reading
+    -- that will never come.
+    ∷ kind 0x11 1 ∷ kind 0x30 0 ∷ kind 0x31 2 ∷ kind 0x32 2 ∷ kind 0x33 3 ∷ kind 0x34 4 ∷ kind 0x35 0
     -- Graph: (arity, number of rules, wide node count); fail, suspend, execute (rule), switch (wide place, wide number of cases,
     -- wide node for neither, wide node for unknown); cases: symbols (wide low, wide high, wide node), compound (wide id, arity,
     -- wide node), numbers (wide low, wide high, wide node); pair (wide place p, wide place q, wide node for no, wide node for

@@ -157,7 +157,8 @@ module _ (arity : ℕ) (rules : List Patterns) (few : arity ≤ 8) (accepted : A
       → underIn s t ≡ testsWhere rules (λ u. settledByUnknown n (testAt rules u))
   unknown-settles t n h is =
       let (inside, spot) = number-place rules (l .places) (l .pairs) (l .tests) t n h is in
-      l .under t inside ∙ under-right rules s tests-are tests-near tests-coded t n h is
+      let many : placeTestsIn s ≤ length (sheetTests rules) = omega (arith, tests-are, l .counted .places) in
+      l .under t inside ∙ under-right rules s many tests-near tests-coded tests-split t n h is
 
   -- and a rule's row is the set of its tests.
   pub row-is

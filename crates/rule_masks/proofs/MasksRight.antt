@@ -48,7 +48,7 @@ use Rattle.rule_masks.proofs.MasksOutcome.{masksOutcome, outcome-after,
 -- What is sound has fields of its codes.
 want-fields : (w : Want) → SoundWant w → WantFields w
 want-fields (aSymbol l u) h = (omega (arith, h .0, h .1), h .1)
-want-fields (aNumber l u) h = omega (arith, h .0, h .1)
+want-fields (aNumber l u) h = (omega (arith, h .0, h .1), h .1)
 want-fields (aCompound a n) h = (h .0, omega (arith, h .1))
 
 module _ (arity : ℕ) (rules : List Patterns) (few : arity ≤ 8) (accepted : All (AcceptedRule arity) rules)

@@ -12,12 +12,12 @@ use Rattle.basics.specs.Order.{pairBefore}
 use Rattle.basics.proofs.Booleans.{same-truth}
 use Rattle.basics.proofs.Numbers.{both-le}
 use Rattle.basics.proofs.Sorted.{pair-before}
-use Rattle.terms.specs.Term.{Term, count, unknown, symbol, numbers, compound}
+use Rattle.terms.specs.Term.{Term, count, unknown, never, symbol, numbers, compound}
 use Rattle.terms.specs.RuleTests.{aSymbol, aNumber, aCompound}
 use Rattle.terms.specs.Filling.{WellFormed}
 use Rattle.codes.specs.views.Codes.{symbolCode, compoundCode, numberCode, highestCode, termLow, termHigh}
 use Rattle.codes.proofs.CodeOrder.{in-order, before, same-of-sort}
-use Rattle.codes.proofs.FitCodes.{symbol-fits, compound-fits, same-known}
+use Rattle.codes.proofs.FitCodes.{symbol-fits, compound-fits, never-fits, same-known}
 use Rattle.codes.proofs.TermRuns.{ends-ordered}
 use Rattle.decision.specs.Cases.{Case, symbolsCase, compoundCase, numbersCase, takes}
 use Rattle.decision.specs.Narrowest.{narrower}
@@ -36,6 +36,7 @@ ends-behind first last low high h =
 pub takes-codes : (c : Case) (t : Term) → CaseFields c → WellFormed t → takesCodes c (termLow t) (termHigh t) ≡ takes c t
 takes-codes (symbolsCase l u) unknown h ok =
     ends-behind (symbolCode l) (symbolCode u) (symbolCode 0) highestCode (omega (arith, h .1))
+takes-codes (symbolsCase l u) never h ok = same-known _ false (never-fits (aSymbol l u) h)
 takes-codes (symbolsCase l u) (symbol b) h ok = same-known _ (leb l b && leb b u) (symbol-fits (aSymbol l u) b h ok)
 takes-codes (symbolsCase l u) (numbers b c) h ok =
     ends-behind (symbolCode l) (symbolCode u) (numberCode b) (numberCode c) (omega (arith, h .1))
@@ -43,6 +44,7 @@ takes-codes (symbolsCase l u) (compound b ts) h ok =
     same-known _ false (compound-fits (aSymbol l u) b ts h (ok .0) (ok .2))
 takes-codes (compoundCase a n) unknown h ok =
     ends-behind (compoundCode a n) (compoundCode a n) (symbolCode 0) highestCode (omega (arith, h .0, h .1))
+takes-codes (compoundCase a n) never h ok = same-known _ false (never-fits (aCompound a n) h)
 takes-codes (compoundCase a n) (symbol b) h ok = same-known _ false (symbol-fits (aCompound a n) b h ok)
 takes-codes (compoundCase a n) (numbers b c) h ok =
     ends-behind (compoundCode a n) (compoundCode a n) (numberCode b) (numberCode c) (omega (arith, h .0, h .1))
@@ -50,10 +52,11 @@ takes-codes (compoundCase a n) (compound b ts) h ok =
     same-known _ (eqb a b && eqb n (count ts)) (compound-fits (aCompound a n) b ts h (ok .0) (ok .2))
 takes-codes (numbersCase l u) unknown h ok =
     ends-behind (numberCode l) (numberCode u) (symbolCode 0) highestCode (omega (arith, h .1))
-takes-codes (numbersCase l u) (symbol b) h ok = same-known _ false (symbol-fits (aNumber l u) b (h .0) ok)
+takes-codes (numbersCase l u) never h ok = same-known _ false (never-fits (aNumber l u) h)
+takes-codes (numbersCase l u) (symbol b) h ok = same-known _ false (symbol-fits (aNumber l u) b h ok)
 takes-codes (numbersCase l u) (numbers b c) h ok = λ i. in-order 0x3000000 l b i && in-order 0x3000000 c u i
 takes-codes (numbersCase l u) (compound b ts) h ok =
-    same-known _ false (compound-fits (aNumber l u) b ts (h .0) (ok .0) (ok .2))
+    same-known _ false (compound-fits (aNumber l u) b ts h (ok .0) (ok .2))
 
 -- Numbers that are no pair in order come in no order.
 out-of-order : (p q x y : ℕ) → ((p < x) ⊎ ((p ≡ x) × (q < y)) → ⊥) → pairBefore p q x y ≡ false

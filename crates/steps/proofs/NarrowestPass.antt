@@ -98,7 +98,8 @@ module _ (low high : ℕ) where
   -- A case that begins after another, like those behind it, is narrower than that one,
   module _ (c d : CaseEdge ℕ) (ds : List (CaseEdge ℕ)) (a : CodesAscend (c ∷ d ∷ ds)) where
     behind : (Q : CaseEdge ℕ → Type 0) → ((x : CaseEdge ℕ) → Turn d x → Q x) → IfSome Q (bestOf ds)
-    behind Q f = best-holds taken before Q ds (all-map (Turn d) (λ (x : CaseEdge ℕ). T (taken x) → Q x) (λ x t k. f x t) ds (a .1 .0))
+    behind Q f =
+        best-holds taken before Q ds (all-map (Turn d) (λ (x : CaseEdge ℕ). T (taken x) → Q x) (λ x t k. f x t) ds (a .1 .0))
 
     better-next : first c < first d → better before true c (better before true d (bestOf ds)) ≡ better before true d (bestOf ds)
     better-next l =

@@ -6,7 +6,7 @@ use mathlib.Core.List.{List}
 use lib.Dec.{eqb}
 use borrow.Author.Tests.{ne-eqb}
 use Rattle.basics.specs.Lists.{All}
-use Rattle.terms.specs.Term.{Term, Terms, unknown, symbol, numbers, compound}
+use Rattle.terms.specs.Term.{Term, Terms, unknown, never, symbol, numbers, compound}
 use Rattle.terms.specs.Lookup.{Found, lacking, found, termAt}
 use Rattle.terms.specs.Outcome.{atPlaces}
 use Rattle.terms.specs.Filling.{WellFormed}
@@ -56,6 +56,7 @@ module _ (cs : List (CaseEdge ℕ)) (x y : ℕ) where
       → runStep cs x y (foundRun f) ≡ switchStep cs x y f
   switch-agrees lacking h ok = refl
   switch-agrees (found unknown) h ok = refl
+  switch-agrees (found never) h ok = known-leads never h ok refl
   switch-agrees (found (symbol a)) h ok = known-leads (symbol a) h ok refl
   switch-agrees (found (numbers a b)) h ok = known-leads (numbers a b) h ok refl
   switch-agrees (found (compound a ts)) h ok = known-leads (compound a ts) h ok refl

@@ -5,7 +5,7 @@ use mathlib.Core.Logic.{inl, inr}
 use lib.Dec.{eqb}
 use native.Mathlib.Decide.{ℕ-discrete}
 use native.Mathlib.Omega.{arith}
-use Rattle.terms.specs.Term.{Term, Terms, Wide, unknown, symbol, number, numbers, compound, nil, cons}
+use Rattle.terms.specs.Term.{Term, Terms, Wide, unknown, never, symbol, number, numbers, compound, nil, cons}
 use Rattle.terms.specs.Outcome.{Holds, NotKnown, known, compareSpans, compare, compares}
 use Rattle.terms.specs.Filling.{Ground, WellFormed, WellFormeds, Fills, Filling}
 use Rattle.terms.specs.Filling.{putUnknown, putNumbers, putCompound, putCons}
@@ -16,6 +16,7 @@ use Rattle.terms.proofs.ConstantFilling.{fillWith, fillAllWith, fill-wi
 -- A ground term that is not equal to the given one.
 abbrev other : Term → Term
 other unknown = symbol 0
+other never = symbol 0
 other (symbol a) = number 0
 other (numbers a b) = symbol 0
 other (compound a ts) = symbol 0
@@ -23,6 +24,7 @@ other (compound a ts) = symbol 0
 -- It is ground,
 other-ground : (t : Term) → Ground (other t)
 other-ground unknown = omega arith
+other-ground never = omega arith
 other-ground (symbol a) = (refl, omega arith)
 other-ground (numbers a b) = omega arith
 other-ground (compound a ts) = omega arith
@@ -30,6 +32,7 @@ other-ground (compound a ts) = omega arith
 -- it is not equal on the left,
 other-left : (t : Term) → Holds (compare (other t) t) → ⊥
 other-left unknown h = h
+other-left never h = h
 other-left (symbol a) h = h
 other-left (numbers a b) h = h
 other-left (compound a ts) h = h
@@ -37,6 +40,7 @@ other-left (compound a ts) h = h
 -- and not on the right.
 other-right : (t : Term) → Holds (compare t (other t)) → ⊥
 other-right unknown h = h
+other-right never h = h
 other-right (symbol a) h = h
 other-right (numbers a b) h = h
 other-right (compound a ts) h = h
@@ -109,14 +113,18 @@ mutual
   -- Well-formed terms that are not known to be equal or to differ have such fillings,
   pub apart : (t u : Term) → WellFormed t → WellFormed u → NotKnown (compare t u) → Apart t u
   apart unknown u okt oku h = left-unknown u oku
+  apart never u okt oku h = absurd h
+  apart (symbol a) never okt oku h = absurd h
   apart (symbol a) unknown okt oku h = right-unknown (symbol a) okt
   apart (symbol a) (symbol b) okt oku h = absurd (known-decided (eqb a b) h)
   apart (symbol a) (numbers b c) okt oku h = absurd h
   apart (symbol a) (compound b us) okt oku h = absurd h
+  apart (numbers a b) never okt oku h = absurd h
   apart (numbers a b) unknown okt oku h = right-unknown (numbers a b) okt
   apart (numbers a b) (symbol c) okt oku h = absurd h
   apart (numbers a b) (numbers c d) okt oku h = spans-apart a b c d okt oku h
   apart (numbers a b) (compound c us) okt oku h = absurd h
+  apart (compound a ts) never okt oku h = absurd h
   apart (compound a ts) unknown okt oku h = right-unknown (compound a ts) okt
   apart (compound a ts) (symbol b) okt oku h = absurd h
   apart (compound a ts) (numbers b c) okt oku h = absurd h

@@ -5,10 +5,10 @@ use mathlib.Core.Path.{_≡_, refl}
 use native.Mathlib.Omega.{arith}
 use lib.Dec.{ltb}
 use Rattle.places.specs.Numbering.{stride}
-use Rattle.terms.specs.Term.{Term, Terms, unknown, symbol, number, numbers, compound, nil, cons}
+use Rattle.terms.specs.Term.{Term, Terms, unknown, never, symbol, number, numbers, compound, nil, cons}
 use Rattle.terms.specs.Lookup.{Found, lacking, found, find, finds}
 use Rattle.terms.specs.Filling.{Ground, WellFormed, WellFormeds, Fills, Filling}
-use Rattle.terms.specs.Filling.{putUnknown, putSymbol, putNumbers, putCompound, putNil, putCons}
+use Rattle.terms.specs.Filling.{putUnknown, putNever, putSymbol, putNumbers, putCompound, putNil, putCons}
 use Rattle.terms.proofs.Unknown.{IsUnknown}
 use Rattle.basics.proofs.Booleans.{cond-related}
 
@@ -16,6 +16,7 @@ use Rattle.basics.proofs.Booleans.{cond-related}
 abbrev mutual
   pub fillBy : (ℕ → ℕ → ℕ) → Term → Term → Term
   fillBy end unknown c = c
+  fillBy end never c = never
   fillBy end (symbol a) c = symbol a
   fillBy end (numbers a b) c = number (end a b)
   fillBy end (compound a ts) c = compound a (fillAllBy end ts c)
@@ -33,6 +34,7 @@ module _ (end : ℕ → ℕ → ℕ) (of : OfSpan end) where
     -- With a ground term in every unknown, a well-formed term is filled,
     fill-by : (t c : Term) → WellFormed t → Ground c → Fills t (fillBy end t c)
     fill-by unknown c ok h = putUnknown h
+    fill-by never c ok h = putNever
     fill-by (symbol a) c ok h = putSymbol
     fill-by (numbers a b) c ok h =
         let s = of a b (ok .0) in
@@ -81,6 +83,7 @@ module _ (Q : Found → Type 0) (c : Term) (always : (r n : ℕ) → Q (find c r
     -- What holds of all that stands at the places of c holds, after filling, at every place that was unknown.
     pub unknown-with : (t : Term) (r n : ℕ) → IsUnknown (find t r n) → Q (find (fillWith t c) r n)
     unknown-with unknown r n h = always r n
+    unknown-with never r n h = absurd h
     unknown-with (symbol a) r zero h = absurd h
     unknown-with (symbol a) r (suc n) h = absurd h
     unknown-with (numbers a b) r zero h = absurd h
@@ -100,6 +103,7 @@ module _ (end : ℕ → ℕ → ℕ) (c : Term) where
   abbrev pub SpanFilled : Found → Found → Type 0
   SpanFilled lacking y = Unit
   SpanFilled (found unknown) y = Unit
+  SpanFilled (found never) y = Unit
   SpanFilled (found (symbol a)) y = Unit
   SpanFilled (found (numbers a b)) y = y ≡ found (number (end a b))
   SpanFilled (found (compound a ts)) y = Unit
@@ -108,6 +112,7 @@ module _ (end : ℕ → ℕ → ℕ) (c : Term) where
     -- It is so at every place of a term,
     span-by : (t : Term) (r n : ℕ) → SpanFilled (find t r n) (find (fillBy end t c) r n)
     span-by unknown r n = tt
+    span-by never r n = tt
     span-by (symbol a) r zero = tt
     span-by (symbol a) r (suc n) = tt
     span-by (numbers a b) r zero = refl

@@ -1,42 +1,16 @@
--- What document 01, and document 02's request 4, say of fillings and of pieces filled in further, sentence by sentence.
+-- What document 01, and document 02's requests 4 and 6, say of fillings and of pieces filled in further, sentence by sentence.
 use Prim.Native.Nat.{ℕ, _≤_}
 use mathlib.Core.Path.{_≡_, refl, sym, subst}
-use mathlib.Core.Logic.{_↔_}
+use mathlib.Core.Logic.{_↔_, _⊎_, inl, inr}
 use native.Mathlib.Omega.{arith}
-use Rattle.terms.specs.Term.{Term, Terms, Wide, unknown, symbol, number, numbers, compound, nil, cons}
-use Rattle.terms.specs.Filling.{Ground, Grounds, WellFormed, WellFormeds, Puts, Putss, Fills, Filling, FilledFurther}
-use Rattle.terms.specs.Filling.{putUnknown, putSymbol, putNumbers, putCompound, putNil, putCons}
-use Rattle.terms.proofs.CompareSentences.{Known, Knowns}
+use Rattle.terms.specs.Term.{Term, Terms, Wide, unknown, never, symbol, number, numbers, compound, nil, cons}
+use Rattle.terms.specs.Filling.{WellFormed, WellFormeds, Puts, Putss, Fills, Filling, FilledFurther, Known, Knowns}
+use Rattle.terms.specs.Filling.{putUnknown, putNever, putSymbol, putNumbers, putCompound, putNil, putCons}
+use Rattle.terms.proofs.Never.{Ordinary}
+use Rattle.terms.proofs.Known.{ground-known, known-ground}
 use Rattle.terms.proofs.Spans.{Within}
 use Rattle.terms.proofs.ConstantFilling.{fillAllWith, fill-all-with, zero-ground}
 use Rattle.terms.proofs.WellFormed.{fills-ground}
-
-mutual
-  -- What a filling puts in is well formed and "without unknowns",
-  pub ground-known : (t : Term) → Ground t → WellFormed t × Known t
-  ground-known unknown h = absurd h
-  ground-known (symbol a) h = (h, tt)
-  ground-known (numbers a b) h = ((omega (arith, h .0), h .1), h .0)
-  ground-known (compound a ts) h = let x = grounds-known ts (h .3) in ((h .0, h .1, h .2, x .0), x .1)
-
-  grounds-known : (ts : Terms) → Grounds ts → WellFormeds ts × Knowns ts
-  grounds-known nil h = (tt, tt)
-  grounds-known (cons t ts) h =
-      let x = ground-known t (h .0) in
-      let xs = grounds-known ts (h .1) in
-      ((x .0, xs .0), (x .1, xs .1))
-
-mutual
-  -- and each such term may be put there.
-  pub known-ground : (t : Term) → WellFormed t → Known t → Ground t
-  known-ground unknown ok h = absurd h
-  known-ground (symbol a) ok h = ok
-  known-ground (numbers a b) ok h = (h, ok .1)
-  known-ground (compound a ts) ok h = (ok .0, ok .1, ok .2, knowns-ground ts (ok .3) h)
-
-  knowns-ground : (ts : Terms) → WellFormeds ts → Knowns ts → Grounds ts
-  knowns-ground nil ok h = tt
-  knowns-ground (cons t ts) ok h = (known-ground t (ok .0) (h .0), knowns-ground ts (ok .1) (h .1))
 
 module _ {P : Term → Type 0} where
   -- A span may stay as it is.
@@ -47,6 +21,7 @@ module _ {P : Term → Type 0} where
     -- Where nothing is to be filled in, nothing changes,
     puts-same : {t g : Term} → Known t → Puts P t g → g ≡ t
     puts-same h (putUnknown x) = absurd h
+    puts-same h putNever = refl
     puts-same h putSymbol = refl
     puts-same h (putNumbers {a = a} {b = b} {c = c} {d = d} x y z p) =
         let low : c ≡ a = omega arith in
@@ -62,9 +37,10 @@ module _ {P : Term → Type 0} where
         λ i. cons (d i) (e i)
 
 mutual
-  -- and a term in which nothing is unknown is a filling of itself.
+  -- and such a term is a filling of itself.
   fills-itself : (t : Term) → WellFormed t → Known t → Fills t t
   fills-itself unknown ok h = absurd h
+  fills-itself never ok h = putNever
   fills-itself (symbol a) ok h = putSymbol
   fills-itself (numbers a b) ok h = narrower-itself a b (ok .0) (h, ok .1)
   fills-itself (compound a ts) ok h = putCompound (filling-itself ts (ok .3) h)
@@ -111,45 +87,65 @@ span-narrowed a b wide u = (forth, back)
     back (c, d, x, y, z, e) =
         subst (Puts WellFormed (numbers a b)) (sym e) (putNumbers {c = c} {d = d} x y z (y, omega arith))
 
+-- "An unknown may later become 35, and that is filling in more",
+pub unknown-never : Puts WellFormed unknown never
+unknown-never = putUnknown tt
+
+-- but not filling: "a filling itself still uses ordinary terms only".
+pub never-no-filling : Fills unknown never → ⊥
+never-no-filling (putUnknown h) = h
+
+-- Nothing else may become 35, and it stays what it is.
+pub never-from : {P : Term → Type 0} (t : Term) → Puts P t never → (t ≡ unknown) ⊎ (t ≡ never)
+never-from unknown p = inl refl
+never-from never p = inr refl
+
+pub never-itself : {P : Term → Type 0} {g : Term} → Puts P never g → g ≡ never
+never-itself putNever = refl
+
 -- Every well-formed piece has a filling.
 pub has-filling : (piece : Terms) → WellFormeds piece → (filled : Terms) × Filling piece filled
 has-filling piece ok = (fillAllWith piece (symbol 0), fill-all-with piece (symbol 0) ok zero-ground)
 
 mutual
-  -- Filling in more, with nothing left unknown, is filling,
-  further-fills : {t g : Term} → Known g → Puts WellFormed t g → Fills t g
-  further-fills h (putUnknown {g = g} ok) = putUnknown (known-ground g ok h)
-  further-fills h putSymbol = putSymbol
-  further-fills h (putNumbers x y z ok) = putNumbers x y z (h, ok .1)
-  further-fills h (putCompound fs) = putCompound (all-further-fill h fs)
+  -- Filling in more, with ordinary terms only and nothing left to fill in, is filling,
+  further-fills : {t g : Term} → Known g → Puts WellFormed t g → Puts Ordinary t g → Fills t g
+  further-fills h (putUnknown {g = g} ok) (putUnknown w) = putUnknown (known-ground g ok h w)
+  further-fills h putNever w = putNever
+  further-fills h putSymbol w = putSymbol
+  further-fills h (putNumbers x y z ok) w = putNumbers x y z (h, ok .1)
+  further-fills h (putCompound fs) (putCompound ws) = putCompound (all-further-fill h fs ws)
 
-  all-further-fill : {ts gs : Terms} → Knowns gs → Putss WellFormed ts gs → Filling ts gs
-  all-further-fill h putNil = putNil
-  all-further-fill h (putCons f fs) = putCons (further-fills (h .0) f) (all-further-fill (h .1) fs)
+  all-further-fill : {ts gs : Terms} → Knowns gs → Putss WellFormed ts gs → Putss Ordinary ts gs → Filling ts gs
+  all-further-fill h putNil w = putNil
+  all-further-fill h (putCons f fs) (putCons w ws) = putCons (further-fills (h .0) f w) (all-further-fill (h .1) fs ws)
 
 mutual
-  -- and a filling fills in more and leaves nothing unknown.
-  fills-further : {t g : Term} → Fills t g → Puts WellFormed t g × Known g
-  fills-further (putUnknown {g = g} h) = let x = ground-known g h in (putUnknown (x .0), x .1)
-  fills-further putSymbol = (putSymbol, tt)
-  fills-further (putNumbers x y z h) = (putNumbers x y z (y, h .1), h .0)
-  fills-further (putCompound fs) = let x = all-fill-further fs in (putCompound (x .0), x .1)
+  -- and a filling fills in more with ordinary terms only and leaves nothing to fill in.
+  fills-further : {t g : Term} → Fills t g → Puts WellFormed t g × Known g × Puts Ordinary t g
+  fills-further (putUnknown {g = g} h) = let x = ground-known g h in (putUnknown (x .0), x .1, putUnknown (x .2))
+  fills-further putNever = (putNever, tt, putNever)
+  fills-further putSymbol = (putSymbol, tt, putSymbol)
+  fills-further (putNumbers x y z h) = (putNumbers x y z (y, h .1), h .0, putNumbers x y z (λ n. n))
+  fills-further (putCompound fs) = let x = all-fill-further fs in (putCompound (x .0), x .1, putCompound (x .2))
 
-  all-fill-further : {ts gs : Terms} → Filling ts gs → FilledFurther ts gs × Knowns gs
-  all-fill-further putNil = (putNil, tt)
+  all-fill-further : {ts gs : Terms} → Filling ts gs → FilledFurther ts gs × Knowns gs × Putss Ordinary ts gs
+  all-fill-further putNil = (putNil, tt, putNil)
   all-fill-further (putCons f fs) =
       let x = fills-further f in
       let xs = all-fill-further fs in
-      (putCons (x .0) (xs .0), (x .1, xs .1))
+      (putCons (x .0) (xs .0), (x .1, xs .1), putCons (x .2) (xs .2))
 
--- The fillings of a piece are exactly the pieces filled in further in which nothing is unknown.
-pub filling-further : (piece filled : Terms) → Filling piece filled ↔ (FilledFurther piece filled × Knowns filled)
-filling-further piece filled = (λ f. all-fill-further f, λ x. all-further-fill (x .1) (x .0))
+-- The fillings of a piece are exactly the pieces filled in further with ordinary terms only in which nothing is left to fill in.
+pub filling-further
+    : (piece filled : Terms) → Filling piece filled ↔ (FilledFurther piece filled × Knowns filled × Putss Ordinary piece filled)
+filling-further piece filled = (λ f. all-fill-further f, λ x. all-further-fill (x .1) (x .0) (x .2))
 
 mutual
   -- A well-formed piece is filled in further by itself: no unknown need become a term, and no span need be narrowed,
-  further-itself : (t : Term) → WellFormed t → Puts WellFormed t t
+  pub further-itself : (t : Term) → WellFormed t → Puts WellFormed t t
   further-itself unknown ok = putUnknown tt
+  further-itself never ok = putNever
   further-itself (symbol a) ok = putSymbol
   further-itself (numbers a b) ok = narrower-itself a b (ok .0) ok
   further-itself (compound a ts) ok = putCompound (filled-itself ts (ok .3))
@@ -159,15 +155,17 @@ mutual
   filled-itself (cons t ts) ok = putCons (further-itself t (ok .0)) (filled-itself ts (ok .1))
 
 mutual
-  -- and a filling of a piece filled in further is a filling of the piece.
-  fills-through : {t u g : Term} → Puts WellFormed t u → Fills u g → Fills t g
-  fills-through (putUnknown ok) f = putUnknown (fills-ground ok f)
-  fills-through putSymbol f = f
-  fills-through (putNumbers {a = a} {b = b} x y z ok) (putNumbers {c = c} {d = d} u v w h) =
-      putNumbers {a = a} {b = b} {c = c} {d = d} (omega arith) v (omega arith) h
-  fills-through (putCompound fs) (putCompound gs) = putCompound (filling-through fs gs)
+  -- and a filling of a piece filled in further with ordinary terms only is a filling of the piece.
+  fills-through : {t u g : Term} → Puts WellFormed t u → Puts Ordinary t u → Fills u g → Fills t g
+  fills-through (putUnknown ok) (putUnknown w) f = putUnknown (fills-ground ok w f)
+  fills-through putNever w f = f
+  fills-through putSymbol w f = f
+  fills-through (putNumbers {a = a} {b = b} x y z ok) w (putNumbers {c = c} {d = d} k l m h) =
+      putNumbers {a = a} {b = b} {c = c} {d = d} (omega arith) l (omega arith) h
+  fills-through (putCompound fs) (putCompound ws) (putCompound gs) = putCompound (filling-through fs ws gs)
 
   pub filling-through
-      : {piece further filled : Terms} → FilledFurther piece further → Filling further filled → Filling piece filled
-  filling-through putNil putNil = putNil
-  filling-through (putCons f fs) (putCons g gs) = putCons (fills-through f g) (filling-through fs gs)
+      : {piece further filled : Terms} → FilledFurther piece further → Putss Ordinary piece further → Filling further filled
+      → Filling piece filled
+  filling-through putNil w putNil = putNil
+  filling-through (putCons f fs) (putCons w ws) (putCons g gs) = putCons (fills-through f w g) (filling-through fs ws gs)

@@ -10,7 +10,7 @@ use native.Mathlib.Omega.{arith}
 use lib.Dec.{leb, eqb, T, eqb→eq, eqb-refl}
 use Rattle.places.specs.Numbering.{stride}
 use Rattle.basics.specs.Lists.{All}
-use Rattle.terms.specs.Term.{Term, Terms, count, Wide, unknown, symbol, number, numbers, compound, nil, cons}
+use Rattle.terms.specs.Term.{Term, Terms, count, Wide, unknown, never, symbol, number, numbers, compound, nil, cons}
 use Rattle.terms.specs.Pattern.{Pattern, Patterns, countPatterns, anything, theSymbol, theSeries, theRange, theCompound, variable, rangedVariable, pnil, pcons}
 use Rattle.terms.specs.RuleTests.{Want, aSymbol, aNumber, aCompound, PlaceTest, at, Occurrence, Range, rangeTest, patternVariables, patternsVariables, patternTests, patternsTests}
 use Rattle.terms.specs.Lookup.{Found, found}
@@ -51,6 +51,7 @@ Fitting w t = (g : Term) × Fills t g × Holds (fits w g)
 fitting-symbol : (l h : ℕ) → l ≤ h → Wide h → (t : Term) → Open (fits (aSymbol l h) t) → Fitting (aSymbol l h) t
 fitting-symbol l h le wide unknown o =
     (symbol l, putUnknown {g = symbol l} (omega arith), series-holds-at l h l .1 (omega arith, le))
+fitting-symbol l h le wide never o = absurd o
 fitting-symbol l h le wide (symbol b) o = (symbol b, putSymbol, true-holds (leb l b && leb b h) (open-true (leb l b && leb b h) o))
 fitting-symbol l h le wide (numbers b c) o = absurd o
 fitting-symbol l h le wide (compound b ts) o = absurd o
@@ -60,6 +61,7 @@ pub fitting-number
     : (l h : ℕ) → l ≤ h → Wide h → (t : Term) → WellFormed t → Open (fits (aNumber l h) t) → Fitting (aNumber l h) t
 fitting-number l h le wide unknown ok o =
     (number l, putUnknown {g = number l} (refl, omega arith), range-holds-at l h l l .1 (omega arith, le))
+fitting-number l h le wide never ok o = absurd o
 fitting-number l h le wide (symbol b) ok o = absurd o
 fitting-number l h le wide (numbers a b) ok o =
     let s = range-open-at l h a b (ok .0) .0 o in
@@ -204,6 +206,8 @@ module _ (rangeOf : ℕ → Option Range) (chosen : Occurrence → Term) where
           compound-instance a a ps unknown (unknowns n) r b sound (eqb-refl a) (sym (count-unknowns n)) xs
           (putUnknown {g = compound a (xs .terms)}
           (sound .1, omega (arith, sound .2), omega (arith, sound .3), unknowns-ground n (xs .fills)))
+      instance-of (theCompound a ps) never r b sound ok shown opens suits =
+          absurd (open-root look (aCompound a (countPatterns ps)) never r b (sound .0) shown (opens .0))
       instance-of (theCompound a ps) (symbol c) r b sound ok shown opens suits =
           absurd (open-root look (aCompound a (countPatterns ps)) (symbol c) r b (sound .0) shown (opens .0))
       instance-of (theCompound a ps) (numbers c d) r b sound ok shown opens suits =

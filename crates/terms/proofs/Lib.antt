@@ -6,11 +6,14 @@ pub mod Arguments
 pub mod KnownTests
 pub mod Spans
 pub mod Series
+pub mod Never
+pub mod Known
 pub mod CompareSentences
 pub mod Stays
 pub mod TermPlaces
 pub mod Numbered
 pub mod WellFormed
+pub mod Decided
 pub mod ConstantFilling
 pub mod FillingSentences
 pub mod Instances

@@ -11,7 +11,7 @@ use Rattle.terms.specs.Term.{Term, Terms, count, symbol, number, numbers
 use Rattle.terms.specs.Pattern.{Pattern, Patterns, countPatterns, anything, theSymbol, theSeries, theRange, theCompound, variable, rangedVariable, pnil, pcons}
 use Rattle.terms.specs.RuleTests.{aSymbol, aNumber, Range, commonPart, patternRange, patternsRange}
 use Rattle.terms.specs.Outcome.{Holds, fits}
-use Rattle.terms.specs.Filling.{Ground}
+use Rattle.terms.specs.Filling.{Known}
 use Rattle.terms.proofs.PlaceSentences.{Wanted, inSeries, inRange, fits-wanted, wanted-fits}
 use Rattle.terms.proofs.Instances.{InRange}
 
@@ -47,9 +47,9 @@ span-in : (l h : ℕ) {t : Term} → Wanted (aNumber l h) t → (a b : ℕ) × (
 span-in l h (inRange {a = a} {b = b} p q) = (a, b, refl, p, q)
 
 -- and one without unknowns is a number.
-pub range-in : (l h : ℕ) {t : Term} → Ground t → Wanted (aNumber l h) t → (n : ℕ) × (t ≡ number n) × (l ≤ n) × (n ≤ h)
-range-in l h ground (inRange {a = a} {b = b} p q) =
-    (a, λ i. numbers a (sym (ground .0) i), p, omega (arith, ground .0))
+pub range-in : (l h : ℕ) {t : Term} → Known t → Wanted (aNumber l h) t → (n : ℕ) × (t ≡ number n) × (l ≤ n) × (n ≤ h)
+range-in l h known (inRange {a = a} {b = b} p q) =
+    (a, λ i. numbers a (sym known i), p, omega (arith, known))
 
 -- A term in two ranges is in their common part.
 in-common : (x y : Option Range) (t : Term) → InRange x t → InRange y t → InRange (commonPart x y) t

@@ -7,13 +7,14 @@ use mathlib.Core.List.{List, [], _∷_}
 use native.Mathlib.Omega.{arith}
 use lib.Dec.{eqb, eqb→eq}
 use Rattle.basics.specs.Lists.{All}
-use Rattle.terms.specs.Term.{Term, Terms, count, unknown, symbol, numbers, compound, nil, cons}
+use Rattle.terms.specs.Term.{Term, Terms, count, unknown, never, symbol, numbers, compound, nil, cons}
 use Rattle.terms.specs.RuleTests.{aNumber}
-use Rattle.terms.specs.Outcome.{known, fits, compare, compares}
+use Rattle.terms.specs.Outcome.{known, fits, holdsNever, holdNever, besideUnknown, compare, compares}
 use Rattle.terms.specs.Filling.{WellFormed, WellFormeds, Fills, Filling}
-use Rattle.terms.specs.Filling.{putUnknown, putSymbol, putNumbers, putCompound, putNil, putCons}
-use Rattle.terms.proofs.Outcomes.{Open, and-open, open-and, open-true}
+use Rattle.terms.specs.Filling.{putUnknown, putNever, putSymbol, putNumbers, putCompound, putNil, putCons}
+use Rattle.terms.proofs.Outcomes.{Open, not-known-open, and-open, open-and, open-true}
 use Rattle.terms.proofs.Spans.{range-open-at, spans-open}
+use Rattle.terms.proofs.Never.{Ordinary, Ordinaries, ordinary-first, ordinary-others, ordinary-cons, open-beside, beside-open}
 use Rattle.terms.proofs.WellFormed.{fills-ground}
 
 -- The meet of two terms: where one is unknown, the other; of two spans, their common part; of two compounds, the compound of
@@ -21,12 +22,15 @@ use Rattle.terms.proofs.WellFormed.{fills-ground}
 abbrev mutual
   pub meet : Term → Term → Term
   meet unknown u = u
+  meet never u = never
   meet (symbol a) u = symbol a
   meet (numbers a b) unknown = numbers a b
+  meet (numbers a b) never = numbers a b
   meet (numbers a b) (symbol c) = numbers a b
   meet (numbers a b) (numbers c d) = numbers (max a c) (min b d)
   meet (numbers a b) (compound c us) = numbers a b
   meet (compound a ts) unknown = compound a ts
+  meet (compound a ts) never = compound a ts
   meet (compound a ts) (symbol b) = compound a ts
   meet (compound a ts) (numbers b c) = compound a ts
   meet (compound a ts) (compound b us) = compound a (meets ts us)
@@ -37,25 +41,54 @@ abbrev mutual
   meets (cons t ts) (cons u us) = cons (meet t u) (meets ts us)
 
 mutual
+  -- The meet of terms without record 35 is without it,
+  meet-ordinary : (t u : Term) → Ordinary t → Ordinary u → Ordinary (meet t u)
+  meet-ordinary unknown u w v = v
+  meet-ordinary never u w v = w
+  meet-ordinary (symbol a) u w v = w
+  meet-ordinary (numbers a b) unknown w v = w
+  meet-ordinary (numbers a b) never w v = w
+  meet-ordinary (numbers a b) (symbol c) w v = w
+  meet-ordinary (numbers a b) (numbers c d) w v = λ n. n
+  meet-ordinary (numbers a b) (compound c us) w v = w
+  meet-ordinary (compound a ts) unknown w v = w
+  meet-ordinary (compound a ts) never w v = w
+  meet-ordinary (compound a ts) (symbol b) w v = w
+  meet-ordinary (compound a ts) (numbers b c) w v = w
+  meet-ordinary (compound a ts) (compound b us) w v = meets-ordinary ts us w v
+
+  -- and so for rows of terms.
+  meets-ordinary : (ts us : Terms) → Ordinaries ts → Ordinaries us → Ordinaries (meets ts us)
+  meets-ordinary nil us w v = λ n. n
+  meets-ordinary (cons t ts) nil w v = w
+  meets-ordinary (cons t ts) (cons u us) w v =
+      ordinary-cons (meet t u) (meets ts us) (meet-ordinary t u (ordinary-first t ts w) (ordinary-first u us v))
+      (meets-ordinary ts us (ordinary-others t ts w) (ordinary-others u us v))
+
+mutual
   -- A filling of the meet of two terms that do not differ fills both,
   pub meet-fills
       : (t u : Term) {g : Term} → WellFormed t → WellFormed u → Open (compare t u) → Fills (meet t u) g
       → Fills t g × Fills u g
-  meet-fills unknown u okt oku p f = (putUnknown (fills-ground oku f), f)
-  meet-fills (symbol a) unknown okt oku p f = (f, putUnknown (fills-ground okt f))
+  meet-fills unknown u okt oku p f = (putUnknown (fills-ground oku (open-beside (holdsNever u) p) f), f)
+  meet-fills never u okt oku p f = absurd p
+  meet-fills (symbol a) unknown okt oku p f = (f, putUnknown (fills-ground okt (λ n. n) f))
+  meet-fills (symbol a) never okt oku p f = absurd p
   meet-fills (symbol a) (symbol b) {g} okt oku p f =
       let e : a ≡ b = eqb→eq a b (open-true (eqb a b) p) in
       (f, subst (λ c. Fills (symbol c) g) e f)
   meet-fills (symbol a) (numbers b c) okt oku p f = absurd p
   meet-fills (symbol a) (compound b us) okt oku p f = absurd p
-  meet-fills (numbers a b) unknown okt oku p f = (f, putUnknown (fills-ground okt f))
+  meet-fills (numbers a b) unknown okt oku p f = (f, putUnknown (fills-ground okt (λ n. n) f))
+  meet-fills (numbers a b) never okt oku p f = absurd p
   meet-fills (numbers a b) (symbol c) okt oku p f = absurd p
   meet-fills (numbers a b) (numbers c d) okt oku p (putNumbers {c = x} {d = y} from ordered to ground) = (
     putNumbers {a = a} {b = b} {c = x} {d = y} (omega arith) ordered (omega arith) ground,
     putNumbers {a = c} {b = d} {c = x} {d = y} (omega arith) ordered (omega arith) ground,
   )
   meet-fills (numbers a b) (compound c us) okt oku p f = absurd p
-  meet-fills (compound a ts) unknown okt oku p f = (f, putUnknown (fills-ground okt f))
+  meet-fills (compound a ts) unknown okt oku p f = (f, putUnknown (fills-ground okt (open-beside (holdNever ts) p) f))
+  meet-fills (compound a ts) never okt oku p f = absurd p
   meet-fills (compound a ts) (symbol b) okt oku p f = absurd p
   meet-fills (compound a ts) (numbers b c) okt oku p f = absurd p
   meet-fills (compound a ts) (compound b us) okt oku p (putCompound {gs = gs} fs) =
@@ -81,6 +114,7 @@ mutual
   -- What fills both of two terms fills their meet: no common instance is more general,
   pub fills-meet : {t u g : Term} → Fills t g → Fills u g → Fills (meet t u) g
   fills-meet (putUnknown h) k = k
+  fills-meet putNever k = putNever
   fills-meet putSymbol k = putSymbol
   fills-meet (putNumbers x y z h) (putUnknown k) = putNumbers x y z h
   fills-meet (putNumbers {a = a} {b = b} {c = c} {d = d} x y z h) (putNumbers {a = e} {b = f} u v w k) =
@@ -98,10 +132,13 @@ mutual
   pub meet-open
       : (t u v : Term) → Open (compare t u) → Open (compare t v) → Open (compare u v) → Open (compare (meet t u) v)
   meet-open unknown u v tu tv uv = uv
+  meet-open never u v tu tv uv = tv
   meet-open (symbol a) u v tu tv uv = tv
   meet-open (numbers a b) unknown v tu tv uv = tv
+  meet-open (numbers a b) never v tu tv uv = tv
   meet-open (numbers a b) (symbol c) v tu tv uv = tv
   meet-open (numbers a b) (numbers c d) unknown tu tv uv = tt
+  meet-open (numbers a b) (numbers c d) never tu tv uv = tv
   meet-open (numbers a b) (numbers c d) (symbol e) tu tv uv = tv
   meet-open (numbers a b) (numbers c d) (numbers e f) tu tv uv =
       let x = spans-open a b e f .0 tv in
@@ -110,9 +147,13 @@ mutual
   meet-open (numbers a b) (numbers c d) (compound e vs) tu tv uv = tv
   meet-open (numbers a b) (compound c us) v tu tv uv = tv
   meet-open (compound a ts) unknown v tu tv uv = tv
+  meet-open (compound a ts) never v tu tv uv = tv
   meet-open (compound a ts) (symbol b) v tu tv uv = tv
   meet-open (compound a ts) (numbers b c) v tu tv uv = tv
-  meet-open (compound a ts) (compound b us) unknown tu tv uv = tt
+  meet-open (compound a ts) (compound b us) unknown tu tv uv =
+      let ordinary = meets-ordinary ts us (open-beside (holdNever ts) tv) (open-beside (holdNever us) uv) in
+      not-known-open (besideUnknown (holdNever (meets ts us))) (beside-open (holdNever (meets ts us)) ordinary)
+  meet-open (compound a ts) (compound b us) never tu tv uv = tv
   meet-open (compound a ts) (compound b us) (symbol c) tu tv uv = tv
   meet-open (compound a ts) (compound b us) (numbers c d) tu tv uv = tv
   meet-open (compound a ts) (compound b us) (compound c vs) tu tv uv =
@@ -145,13 +186,16 @@ mutual
   -- The meet of well-formed terms that do not differ is well-formed: two spans that do not differ have a number in common,
   pub meet-well-formed : (t u : Term) → WellFormed t → WellFormed u → Open (compare t u) → WellFormed (meet t u)
   meet-well-formed unknown u okt oku p = oku
+  meet-well-formed never u okt oku p = okt
   meet-well-formed (symbol a) u okt oku p = okt
   meet-well-formed (numbers a b) unknown okt oku p = okt
+  meet-well-formed (numbers a b) never okt oku p = okt
   meet-well-formed (numbers a b) (symbol c) okt oku p = okt
   meet-well-formed (numbers a b) (numbers c d) okt oku p =
       let x = spans-open a b c d .0 p in (omega (arith, x .0, x .1, okt .0, oku .0), omega (arith, okt .1))
   meet-well-formed (numbers a b) (compound c us) okt oku p = okt
   meet-well-formed (compound a ts) unknown okt oku p = okt
+  meet-well-formed (compound a ts) never okt oku p = okt
   meet-well-formed (compound a ts) (symbol b) okt oku p = okt
   meet-well-formed (compound a ts) (numbers b c) okt oku p = okt
   meet-well-formed (compound a ts) (compound b us) okt oku p =
@@ -173,8 +217,10 @@ meet-number
     : (l h : ℕ) (t u : Term) → WellFormed t → WellFormed u → Open (compare t u) → Open (fits (aNumber l h) t)
     → Open (fits (aNumber l h) u) → Open (fits (aNumber l h) (meet t u))
 meet-number l h unknown u okt oku p x y = y
+meet-number l h never u okt oku p x y = x
 meet-number l h (symbol a) u okt oku p x y = x
 meet-number l h (numbers a b) unknown okt oku p x y = x
+meet-number l h (numbers a b) never okt oku p x y = absurd y
 meet-number l h (numbers a b) (symbol c) okt oku p x y = absurd y
 meet-number l h (numbers a b) (numbers c d) okt oku p x y =
     let first = range-open-at l h a b (okt .0) .0 x in

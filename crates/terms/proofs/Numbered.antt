@@ -1,6 +1,7 @@
 -- A piece's terms stand at the places that document 01's numbering gives them: "argument a is at 85 × (a − 1)", "child j
--- of a place at depth d is that place's number + 1 + (j − 1) × s", and "a place below an unknown is unknown". What
--- `termAt` finds at a place is what stands there by that numbering, for any number of levels.
+-- of a place at depth d is that place's number + 1 + (j − 1) × s", "a place below an unknown is unknown" and one
+-- below record 35 "is treated as it is". What `termAt` finds at a place is what stands there by that numbering, for any number of
+-- levels.
 use Prim.Native.Nat.{ℕ, zero, suc, pred, _+_, _*_, _-_, _/_, _%_, _≤_, _<_}
 use mathlib.Core.Path.{_≡_, refl, ap, sym, subst, _∙_}
 use mathlib.Core.Logic.{_↔_}
@@ -12,30 +13,48 @@ use Rattle.places.proofs.Rows.{child-fit}
 use Rattle.places.proofs.Levels.{stride-of, levels-first-of}
 use Rattle.places.proofs.Parents.{levels-of-child-place}
 use Rattle.basics.proofs.Clash.{clash}
-use Rattle.terms.specs.Term.{Term, Terms, unknown, symbol, numbers, compound, nil, cons}
+use Rattle.terms.specs.Term.{Term, Terms, unknown, never, symbol, numbers, compound, nil, cons}
 use Rattle.terms.specs.Lookup.{Found, found, find, finds, termAt}
 use Rattle.terms.specs.Filling.{WellFormed, WellFormeds}
 use Rattle.terms.specs.Accepted.{Shallow, Shallows, AcceptedPiece}
+use Rattle.terms.proofs.Unknown.{Hides}
 use Rattle.terms.proofs.Arguments.{argumentOf, argument-number, argument-accepted}
 use Rattle.terms.proofs.TermPlaces.{find-zero, finds-here, finds-there, Shows, Showss, shows-row, shows-root, shows-arguments, shows-head, shows-tail}
 
 -- A term stands at a place of the piece, which has so many levels: as argument a of the piece, as argument j of a
--- compound that stands at a place, or below an unknown.
+-- compound that stands at a place, or below an unknown or record 35.
 pub data TermStands (piece : Terms) : ℕ → ℕ → Term → Type 0 where
   argument : (a : ℕ) {t : Term} → argumentOf piece a ≡ found t → TermStands piece 4 (argumentPlace a) t
   child
       : {r p c : ℕ} {ts : Terms} {t : Term} → TermStands piece r p (compound c ts) → (j : ℕ) → argumentOf ts j ≡ found t
       → TermStands piece (pred r) (childPlace r p j) t
-  belowUnknown
-      : {r p : ℕ} → TermStands piece r p unknown → 2 ≤ r → (j : ℕ) → 1 ≤ j → j ≤ 4
-      → TermStands piece (pred r) (childPlace r p j) unknown
+  below
+      : {r p : ℕ} {t : Term} → Hides t → TermStands piece r p t → 2 ≤ r → (j : ℕ) → 1 ≤ j → j ≤ 4
+      → TermStands piece (pred r) (childPlace r p j) t
 
 -- Every term of an accepted piece has a level.
 shallow-level : (t : Term) (r : ℕ) → Shallow t r → 1 ≤ r
 shallow-level unknown r h = h
+shallow-level never r h = h
 shallow-level (symbol a) r h = h
 shallow-level (numbers a b) r h = h
 shallow-level (compound a ts) r h = h .0
+
+-- What hides the places below it needs no level more.
+hidden-shallow : (t : Term) → Hides t → (r : ℕ) → 1 ≤ r → Shallow t r
+hidden-shallow unknown hides r h = h
+hidden-shallow never hides r h = h
+hidden-shallow (symbol a) hides r h = absurd hides
+hidden-shallow (numbers a b) hides r h = absurd hides
+hidden-shallow (compound a ts) hides r h = absurd hides
+
+-- It stands at each place of its own.
+find-hidden : (t : Term) → Hides t → (r l n m : ℕ) → find t r n ≡ find t l m
+find-hidden unknown hides r l n m = refl
+find-hidden never hides r l n m = refl
+find-hidden (symbol a) hides r l n m = absurd hides
+find-hidden (numbers a b) hides r l n m = absurd hides
+find-hidden (compound a ts) hides r l n m = absurd hides
 
 -- The arguments of a well-formed compound have a level of their own.
 compound-level : (a : ℕ) (ts : Terms) (r : ℕ) → WellFormed (compound a ts) → Shallow (compound a ts) r → 2 ≤ r
@@ -83,14 +102,14 @@ module _ (look : ℕ → Found) where
       subst (Shows look t r) (row-next b a (stride r))
       (row-shown ts r (b + stride r) (suc a) (shows-tail look u ts r b shown) e)
 
-  -- Where an unknown is shown, unknown is shown at each of its children.
-  unknown-shown
-      : (r p j : ℕ) → 1 ≤ r → 1 ≤ j → j ≤ 4 → Shows look unknown r p → Shows look unknown (pred r) (childPlace r p j)
-  unknown-shown r p j deep from to shown m l =
+  -- What hides the places below it is shown at each of its children where it is shown.
+  hidden-shown
+      : (t : Term) → Hides t → (r p j : ℕ) → 1 ≤ r → 1 ≤ j → j ≤ 4 → Shows look t r p → Shows look t (pred r) (childPlace r p j)
+  hidden-shown t hides r p j deep from to shown m l =
       let s = stride (pred r) in
       let place : childPlace r p j + m ≡ p + suc ((j - 1) * s + m) = omega arith in
       let inside : suc ((j - 1) * s + m) < stride r = omega (arith, stride-of r deep, child-fit j s from to) in
-      ap look place ∙ shown (suc ((j - 1) * s + m)) inside
+      ap look place ∙ shown (suc ((j - 1) * s + m)) inside ∙ find-hidden t hides r (pred r) (suc ((j - 1) * s + m)) m
 
   -- Where a compound is shown, its child j, of four that it may have, is its argument j, or it has none there.
   child-shown
@@ -124,9 +143,12 @@ module _ (piece : Terms) (ok : WellFormeds piece) (shallow : Shallows piece 4) w
         accepted .0,
         accepted .1,
       )
-  stands-shown (belowUnknown {r} {p} s deep j from to) =
-      let above = stands-shown s in
-      (unknown-shown (termAt piece) r p j (omega arith) from to (above .0), tt, omega arith)
+  stands-shown (below {r} {p} {t} hides s deep j from to) =
+      let above = stands-shown s in (
+        hidden-shown (termAt piece) t hides r p j (omega arith) from to (above .0),
+        above .1,
+        hidden-shallow t hides (pred r) (omega arith),
+      )
 
   -- What stands at a place is found there.
   stands-found : {r p : ℕ} {t : Term} → TermStands piece r p t → termAt piece p ≡ found t
@@ -137,22 +159,23 @@ module _ (piece : Terms) (ok : WellFormeds piece) (shallow : Shallows piece 4) w
   abbrev StandsAt : ℕ → Term → Type 0
   StandsAt p t = (r : ℕ) × TermStands piece r p t
 
-  -- Every place below an unknown is unknown.
-  unknown-stands : (r b n : ℕ) → TermStands piece r b unknown → n < stride r → StandsAt (b + n) unknown
-  unknown-stands zero b n s inside = absurd (omega arith)
-  unknown-stands (suc r) b zero s inside =
-      let first : b ≡ b + 0 = omega arith in (suc r, subst (λ (p : ℕ). TermStands piece (suc r) p unknown) first s)
-  unknown-stands (suc zero) b (suc n) s inside = absurd (omega arith)
-  unknown-stands (suc (suc r)) b (suc n) s inside =
+  -- What hides the places below it stands at every one of them.
+  hidden-stands
+      : (t : Term) → Hides t → (r b n : ℕ) → TermStands piece r b t → n < stride r → StandsAt (b + n) t
+  hidden-stands t hides zero b n s inside = absurd (omega arith)
+  hidden-stands t hides (suc r) b zero s inside =
+      let first : b ≡ b + 0 = omega arith in (suc r, subst (λ (p : ℕ). TermStands piece (suc r) p t) first s)
+  hidden-stands t hides (suc zero) b (suc n) s inside = absurd (omega arith)
+  hidden-stands t hides (suc (suc r)) b (suc n) s inside =
       let size = stride (suc r) in
       let split : n / size * size + n % size ≡ n = div-add-mod' n size in
       let few : n / size < 4 = lt-of-mul-lt-mul-right size (omega arith) in
       let j = suc (n / size) in
       let back : j - 1 ≡ n / size = omega arith in
       let place : childPlace (suc (suc r)) b j + n % size ≡ b + suc n = rw back (omega arith) in
-      let below = belowUnknown s (omega arith) j (omega arith) (omega arith) in
-      subst (λ (p : ℕ). StandsAt p unknown) place
-      (unknown-stands (suc r) (childPlace (suc (suc r)) b j) (n % size) below (mod-lt n (omega arith)))
+      let under = below hides s (omega arith) j (omega arith) (omega arith) in
+      subst (λ (p : ℕ). StandsAt p t) place
+      (hidden-stands t hides (suc r) (childPlace (suc (suc r)) b j) (n % size) under (mod-lt n (omega arith)))
 
   -- What stands at a place is found there, no place later.
   first-stands : (t : Term) (r b : ℕ) {u : Term} → TermStands piece r b t → found t ≡ found u → StandsAt (b + 0) u
@@ -175,7 +198,9 @@ module _ (piece : Terms) (ok : WellFormeds piece) (shallow : Shallows piece 4) w
     find-stands
         : (t : Term) (r b n : ℕ) {u : Term} → TermStands piece r b t → n < stride r → find t r n ≡ found u → StandsAt (b + n) u
     find-stands unknown r b n {u} s inside e =
-        let same : unknown ≡ u = cc in rw (← same) (unknown-stands r b n s inside)
+        let same : unknown ≡ u = cc in rw (← same) (hidden-stands unknown tt r b n s inside)
+    find-stands never r b n {u} s inside e =
+        let same : never ≡ u = cc in rw (← same) (hidden-stands never tt r b n s inside)
     find-stands (symbol a) r b zero {u} s inside e = first-stands (symbol a) r b s e
     find-stands (symbol a) r b (suc n) s inside e = clash (cc)
     find-stands (numbers a c) r b zero {u} s inside e = first-stands (numbers a c) r b s e
@@ -246,4 +271,4 @@ stands-levels {piece = piece} ok (child {r} {p} {c} {ts} s j e) =
     let deep = compound-level c ts r (x .1) (x .2) in
     let number = argument-number ts j e in
     child-levels r p j (stands-levels ok s) deep (number .0) (omega (arith, x .1 .2))
-stands-levels ok (belowUnknown {r} {p} s deep j from to) = child-levels r p j (stands-levels ok s) deep from to
+stands-levels ok (below {r} {p} hides s deep j from to) = child-levels r p j (stands-levels ok s) deep from to

@@ -1,14 +1,14 @@
 -- A rule of an accepted sheet of which no test is contradicted is met by some filling of the piece: one that has, for
 -- each variable, one term at all its places.
 use Prim.Native.Nat.{ℕ}
-use mathlib.Core.Path.{refl, sym, subst, _∙_}
+use mathlib.Core.Path.{refl, ap, sym, subst, _∙_}
 use mathlib.Core.List.{List}
 use mathlib.Core.Option.{Option}
 use Rattle.basics.specs.Lists.{Mem, All}
 use Rattle.terms.specs.Term.{Term, Terms}
 use Rattle.terms.specs.Pattern.{Patterns}
-use Rattle.terms.specs.RuleTests.{Occurrence, Range, patternsRange, rangeTest, placeTests, pairTests, ruleVariables}
-use Rattle.terms.specs.Lookup.{Found, termAt}
+use Rattle.terms.specs.RuleTests.{PairTest, Occurrence, Range, patternsRange, rangeTest, placeTests, pairTests, ruleVariables}
+use Rattle.terms.specs.Lookup.{Found, found, termAt}
 use Rattle.terms.specs.Outcome.{Meets}
 use Rattle.terms.specs.Filling.{WellFormed, Fills, Filling}
 use Rattle.terms.specs.Accepted.{AcceptedRule, AcceptedPiece}
@@ -20,7 +20,8 @@ use Rattle.terms.proofs.Instances.{OpenIn, Stands, Suits, Instances, in
 use Rattle.terms.proofs.PreorderTests.{Ranged, all-tests-split}
 use Rattle.terms.proofs.PairTests.{all-variables-ascend, pairs-each}
 use Rattle.terms.proofs.Ranges.{ranges-wide}
-use Rattle.terms.proofs.VariableTerms.{OpenRange, Common, common, termsOf, AtVariable, terms-from, terms-at, HoldsPair, terms-pairwise, range-open, pair-holds}
+use Rattle.terms.proofs.VariableTerms.{OpenRange, Common, common, termsOf, AtVariable, terms-from, terms-at}
+use Rattle.terms.proofs.VariableTerms.{OpenPair, HoldsPair, terms-pairwise, range-open, pair-holds}
 
 module _
     (arity : ℕ) (rule : Patterns) (piece : Terms) (a : AcceptedRule arity rule) (c : AcceptedPiece arity piece)
@@ -87,9 +88,17 @@ module _
     pairs-met : All (HoldsPair (termAt (filled .terms))) (pairTests rule)
     pairs-met =
         let after = termAt (filled .terms) in
-        pairs-each (Stands rangeOf chosen after) (HoldsPair after)
-        (λ o x before same e d. pair-holds after (λ v. pick v .term) (λ v. pick v .ground) o x same e d) 0 _ variables
-        (all-variables-ascend rule 4 0 (a .sound)) (filled .stand after (shows-row (filled .terms) 4))
+        let stand = filled .stand after (shows-row (filled .terms) 4) in
+        let Chosen : Occurrence → Type 0 = λ o. Suits rangeOf chosen look o × Stands rangeOf chosen after o in
+        let Met : PairTest → Type 0 = λ x. OpenPair look x → HoldsPair after x in
+        let met : All Met (pairTests rule) =
+        pairs-each Chosen Met
+        (λ o x before same e d opened.
+        pair-holds look after (o .place) (x .place) (chosen o) (finds-well-formed piece (c .wellFormed) 4 (o .place)) (e .0 .0) opened
+        (e .1) (d .1 ∙ ap (λ v. found (pick v .term)) (sym same))) 0 _ variables (all-variables-ascend rule 4 0 (a .sound))
+        (all-from Chosen variables (λ o m.
+        (all-at (Suits rangeOf chosen look) m suits, all-at (Stands rangeOf chosen after) m stand))) in
+        all-from (HoldsPair after) (pairTests rule) (λ x m. all-at Met m met (all-at (OpenPair look) m (opens .1)))
 
 -- Where no test is contradicted, some filling meets the rule.
 pub some-filling

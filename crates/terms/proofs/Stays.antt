@@ -3,17 +3,18 @@
 use Prim.Native.Nat.{ℕ, zero, suc, pred, _-_}
 use mathlib.Core.Path.{_≡_, refl, ap, subst}
 use mathlib.Core.Bool.{_&&_}
-use lib.Dec.{leb, ltb, eqb}
+use lib.Dec.{T, leb, ltb, eqb}
 use Rattle.places.specs.Numbering.{stride}
-use Rattle.terms.specs.Term.{Term, Terms, count, unknown, symbol, numbers, compound}
+use Rattle.terms.specs.Term.{Term, Terms, count, unknown, never, symbol, numbers, compound}
 use Rattle.terms.specs.Pattern.{Patterns}
 use Rattle.terms.specs.RuleTests.{Want, aSymbol, aNumber, aCompound, PlaceTest, PairTest, placeTests, pairTests}
 use Rattle.terms.specs.Lookup.{Found, lacking, found, find, finds}
-use Rattle.terms.specs.Outcome.{known, fits, compare, compares, atPlace, atPlaces, placeOutcome, pairOutcome, together, ruleOutcome}
+use Rattle.terms.specs.Outcome.{Contradicted, known, fits, holdsNever, holdNever, compare, compares, atPlace, atPlaces, placeOutcome, pairOutcome, together, ruleOutcome}
 use Rattle.terms.specs.Filling.{Puts, Putss, Filling, FilledFurther}
-use Rattle.terms.specs.Filling.{putUnknown, putSymbol, putNumbers, putCompound, putNil, putCons}
+use Rattle.terms.specs.Filling.{putUnknown, putNever, putSymbol, putNumbers, putCompound, putNil, putCons}
 use Rattle.basics.proofs.Booleans.{cond-related}
 use Rattle.terms.proofs.Spans.{inside-stays, spans-stay}
+use Rattle.terms.proofs.Never.{beside-stays, never-left, never-right, never-stays, nevers-stay}
 use Rattle.terms.proofs.Outcomes.{Stays, Kept, stays-kept, known-stays, and-stays, together-stays}
 
 -- Filling in keeps the number of terms.
@@ -27,11 +28,22 @@ pub data Becomes (P : Term → Type 0) : Found → Found → Type 0 where
   filledIn : {t g : Term} → Puts P t g → Becomes P (found t) (found g)
   wasUnknown : {y : Found} → Becomes P (found unknown) y
 
+-- A term that holds record 35 is never equal to what stands at another place,
+never-first : (t : Term) (y : Found) → T (holdsNever t) → Contradicted (atPlaces (found t) y)
+never-first t lacking n = tt
+never-first t (found u) n = never-left t u n
+
+-- nor is what stands there equal to it.
+never-second : (y : Found) (u : Term) → T (holdsNever u) → Contradicted (atPlaces y (found u))
+never-second lacking u n = tt
+never-second (found t) u n = never-right t u n
+
 module _ {P : Term → Type 0} where
   mutual
     -- What stands at a place of a term, and of the term filled in.
     pub find-becomes : {t g : Term} → Puts P t g → (r n : ℕ) → Becomes P (find t r n) (find g r n)
     find-becomes (putUnknown h) r n = wasUnknown
+    find-becomes putNever r n = filledIn putNever
     find-becomes putSymbol r zero = filledIn putSymbol
     find-becomes putSymbol r (suc n) = staysLacking
     find-becomes (putNumbers x y z h) r zero = filledIn (putNumbers x y z h)
@@ -48,6 +60,7 @@ module _ {P : Term → Type 0} where
   -- What a place test says of a term stays when the term is filled in.
   fits-stays : {t g : Term} (w : Want) → Puts P t g → Stays (fits w t) (fits w g)
   fits-stays w (putUnknown x) = tt
+  fits-stays w putNever = tt
   fits-stays (aSymbol l h) (putSymbol {a = b}) = known-stays (leb l b && leb b h)
   fits-stays (aNumber l h) putSymbol = tt
   fits-stays (aCompound a n) putSymbol = tt
@@ -63,17 +76,23 @@ module _ {P : Term → Type 0} where
   mutual
     -- What is said of two terms side by side stays when both are filled in.
     pub compare-stays : {t g u h : Term} → Puts P t g → Puts P u h → Stays (compare t u) (compare g h)
-    compare-stays (putUnknown x) e = tt
+    compare-stays {g = g} {u = u} {h = h} (putUnknown x) e =
+        beside-stays (holdsNever u) (compare g h) (λ n. never-right g h (never-stays e n))
+    compare-stays putNever e = tt
     compare-stays putSymbol (putUnknown y) = tt
+    compare-stays putSymbol putNever = tt
     compare-stays (putSymbol {a = a}) (putSymbol {a = b}) = known-stays (eqb a b)
     compare-stays putSymbol (putNumbers x y z p) = tt
     compare-stays putSymbol (putCompound ys) = tt
     compare-stays (putNumbers x y z p) (putUnknown q) = tt
+    compare-stays (putNumbers x y z p) putNever = tt
     compare-stays (putNumbers x y z p) putSymbol = tt
     compare-stays (putNumbers {a = a} {b = b} {c = e} {d = f} x y z p) (putNumbers {a = c} {b = d} {c = g} {d = h} u v w q) =
         spans-stay a b c d e f g h x y z u v w
     compare-stays (putNumbers x y z p) (putCompound ys) = tt
-    compare-stays (putCompound xs) (putUnknown y) = tt
+    compare-stays (putCompound {a = a} {ts = ts} {gs = gs} xs) (putUnknown {g = h} y) =
+        beside-stays (holdNever ts) (compare (compound a gs) h) (λ n. never-left (compound a gs) h (nevers-stay xs n))
+    compare-stays (putCompound xs) putNever = tt
     compare-stays (putCompound xs) putSymbol = tt
     compare-stays (putCompound xs) (putNumbers x y z p) = tt
     compare-stays (putCompound {a = a} {ts = ts} {gs = gs} xs) (putCompound {a = b} {ts = us} {gs = hs} ys) =
@@ -95,6 +114,15 @@ module _ {P : Term → Type 0} where
   at-place-stays w wasUnknown = tt
   at-place-stays w (filledIn f) = fits-stays w f
 
+  -- What is said of a term and an unknown stays when both are filled in, whatever then stands where the unknown stood.
+  beside-unknown : (t : Term) {g : Term} (y : Found) → Puts P t g → Stays (compare t unknown) (atPlaces (found g) y)
+  beside-unknown unknown y f = tt
+  beside-unknown never {g} y f = never-first g y (never-stays f tt)
+  beside-unknown (symbol a) y f = tt
+  beside-unknown (numbers a b) y f = tt
+  beside-unknown (compound a ts) {g} y f =
+      beside-stays (holdNever ts) (atPlaces (found g) y) (λ n. never-first g y (never-stays f n))
+
   -- What an equality test says of what stands at two places stays when both are filled in.
   at-places-stays : {x y u v : Found} → Becomes P x y → Becomes P u v → Stays (atPlaces x u) (atPlaces y v)
   at-places-stays staysLacking q = tt
@@ -102,12 +130,10 @@ module _ {P : Term → Type 0} where
   at-places-stays (wasUnknown {y = lacking}) staysLacking = tt
   at-places-stays (wasUnknown {y = found g}) staysLacking = tt
   at-places-stays (filledIn f) (filledIn g) = compare-stays f g
-  at-places-stays wasUnknown (filledIn g) = tt
+  at-places-stays (wasUnknown {y = y}) (filledIn {t = u} {g = h} g) =
+      beside-stays (holdsNever u) (atPlaces y (found h)) (λ n. never-second y h (never-stays g n))
   at-places-stays wasUnknown wasUnknown = tt
-  at-places-stays (filledIn {t = unknown} f) wasUnknown = tt
-  at-places-stays (filledIn {t = symbol a} f) wasUnknown = tt
-  at-places-stays (filledIn {t = numbers a b} f) wasUnknown = tt
-  at-places-stays (filledIn {t = compound a ts} f) wasUnknown = tt
+  at-places-stays (filledIn {t = t} f) (wasUnknown {y = y}) = beside-unknown t y f
 
   -- A place test stays when the piece is filled in,
   pub place-stays

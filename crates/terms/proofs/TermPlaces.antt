@@ -8,7 +8,7 @@ use native.Mathlib.Omega.{arith}
 use lib.Dec.{ltb, lt→ltb, ltb→lt}
 use Rattle.places.specs.Numbering.{stride}
 use Rattle.places.proofs.Levels.{stride-of}
-use Rattle.terms.specs.Term.{Term, Terms, count, unknown, symbol, numbers, compound, nil, cons}
+use Rattle.terms.specs.Term.{Term, Terms, count, unknown, never, symbol, numbers, compound, nil, cons}
 use Rattle.terms.specs.Lookup.{Found, lacking, found, find, finds}
 use Rattle.basics.proofs.Booleans.{cond-true, cond-false, cond-holds}
 
@@ -31,6 +31,7 @@ module _
       -- In a term,
       find-each : (t : Term) → Q t → (r n : ℕ) → IfFound Q (find t r n)
       find-each unknown ok r n = ok
+      find-each never ok r n = ok
       find-each (symbol a) ok r zero = ok
       find-each (symbol a) ok r (suc n) = tt
       find-each (numbers a b) ok r zero = ok
@@ -49,6 +50,7 @@ module _
 -- A term itself stands at its place.
 pub find-zero : (t : Term) (r : ℕ) → find t r 0 ≡ found t
 find-zero unknown r = refl
+find-zero never r = refl
 find-zero (symbol a) r = refl
 find-zero (numbers a b) r = refl
 find-zero (compound a ts) r = refl

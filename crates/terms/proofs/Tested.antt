@@ -1,4 +1,4 @@
--- A place that a rule tests is in the piece or below an unknown, unless a place test of the rule above it is
+-- A place that a rule tests is in the piece, or below an unknown or record 35, unless a place test of the rule above it is
 -- contradicted. For place tests and equality tests, and for patterns of any depth.
 use Prim.Native.Nat.{ℕ, suc, pred, _+_, _≤_, _<_}
 use mathlib.Core.Path.{_≡_, sym, _∙_}
@@ -28,7 +28,7 @@ use Rattle.terms.proofs.PairTests.{variablePlace, all-variables-ascend,
 use Rattle.terms.proofs.PreorderTests.{testPlace, all-tests-ascend}
 use Rattle.terms.proofs.Above.{Above, RowAt, row-arguments, row-head, row-tail, row-below, first-above}
 
--- Something stands there: a term of the piece, or an unknown below an unknown.
+-- Something stands there: a term of the piece, or what hides the place.
 abbrev pub IsFound : Found → Type 0
 IsFound lacking = ⊥
 IsFound (found t) = Unit
@@ -149,7 +149,7 @@ module _ (rangeOf : ℕ → Option Range) (look : ℕ → Found) (Listed : Place
         )
 
 module _ (rule : Patterns) (piece : Terms) where
-  -- Place n is in the piece or below an unknown, or the rule has a contradicted place test above it.
+  -- Place n is in the piece or below what hides it, or the rule has a contradicted place test above it.
   abbrev pub FoundOrContradicted : ℕ → Type 0
   FoundOrContradicted n =
       IsFound (termAt piece n)
@@ -168,7 +168,7 @@ module _ (arity : ℕ) (rule : Patterns) (piece : Terms) (a : AcceptedRule arity
       let own = all-from Own (placeTests rule) (λ x m. m) in
       patterns-reached (patternsRange rule) (termAt piece) Own rule piece 4 0 (a .sound) same (shows-row piece 4) row own
 
-  -- The place of each place test is in the piece or below an unknown, or a place test above it is contradicted.
+  -- The place of each place test is in the piece or below what hides it, or a place test above it is contradicted.
   pub tested-place : (x : PlaceTest) → Mem x (placeTests rule) → FoundOrContradicted rule piece (x .place)
   tested-place x m = all-at (λ (y : PlaceTest). FoundOrContradicted rule piece (y .place)) m (all-reached .0)
 

@@ -1,7 +1,7 @@
 -- The terms at the places of one variable: where no equality test is contradicted, no two of them differ, so some
 -- term fills them all, in the variable's range if it has one.
 use Prim.Native.Nat.{ℕ}
-use mathlib.Core.Path.{_≡_, refl, ap, sym, subst, _∙_}
+use mathlib.Core.Path.{_≡_, refl, sym, subst, _∙_}
 use mathlib.Core.Bool.{Bool, true, false, cond}
 use mathlib.Core.List.{List, [], _∷_, _++_}
 use mathlib.Core.Option.{Option, some, none}
@@ -11,14 +11,15 @@ use Rattle.terms.specs.Term.{Term, unknown, symbol}
 use Rattle.terms.specs.RuleTests.{aNumber, PairTest, both, Occurrence, Range, rangeTest, pairsWith, pairsOf}
 use Rattle.terms.specs.Lookup.{Found, lacking, found}
 use Rattle.terms.specs.Outcome.{Outcome, Holds, fits, compare, atPlace, atPlaces}
-use Rattle.terms.specs.Filling.{Ground, WellFormed, Fills}
+use Rattle.terms.specs.Filling.{WellFormed, Fills}
 use Rattle.terms.specs.Accepted.{InCommon}
-use Rattle.basics.proofs.ListLaws.{all-split, all-join, all-map, all-always}
+use Rattle.basics.proofs.ListLaws.{all-split, all-join, all-map}
 use Rattle.terms.proofs.Outcomes.{Open}
 use Rattle.terms.proofs.TermPlaces.{IfFound, found-always}
+use Rattle.terms.proofs.Never.{open-ordinary}
 use Rattle.terms.proofs.WellFormed.{fills-ground, equal-self}
 use Rattle.terms.proofs.ConstantFilling.{fillWith, fill-with, zero-ground}
-use Rattle.terms.proofs.Instances.{OpenIn, InRange, fitting-number}
+use Rattle.terms.proofs.Instances.{FillsFound, OpenIn, InRange, fitting-number}
 use Rattle.terms.proofs.Meet.{meetAll, OpenTo, Pairwise, meet-all-fills, meet-all-well-formed, meet-all-number}
 use Rattle.terms.proofs.PairTests.{pairs-with-at}
 use Rattle.terms.proofs.Ranges.{WideRange}
@@ -31,39 +32,42 @@ OpenRange (some x) t = Open (fits (aNumber (x .low) (x .high)) t)
 -- A term that fills all of the list and is in the range.
 pub record Common (x : Option Range) (ts : List Term) : Type 0 where
   pub term : Term
-  pub ground : Ground term
   pub fills : All (λ (t : Term). Fills t term) ts
   pub inside : InRange x term
+
+-- Some filling of a well-formed term that does not rule out the range is in it.
+in-range
+    : (x : Option Range) (t : Term) → InCommon x → WideRange x → WellFormed t → OpenRange x t
+    → (g : Term) × Fills t g × InRange x g
+in-range none t nonempty wide ok may = (fillWith t (symbol 0), fill-with t (symbol 0) ok zero-ground, tt)
+in-range (some y) t nonempty wide ok may = fitting-number (y .low) (y .high) nonempty wide t ok may
+
+-- An unknown rules out no range, nor does the meet of terms that do not.
+unknown-open : (x : Option Range) → OpenRange x unknown
+unknown-open none = tt
+unknown-open (some x) = tt
+
+meet-all-range
+    : (x : Option Range) (t : Term) (us : List Term) → WellFormed t → All WellFormed us → OpenTo t us → Pairwise us
+    → OpenRange x t → All (OpenRange x) us → OpenRange x (meetAll t us)
+meet-all-range none t us ok oks p pairs may mays = tt
+meet-all-range (some y) t us ok oks p pairs may mays = meet-all-number (y .low) (y .high) t us ok oks p pairs may mays
 
 -- Terms of which no two differ, and of which none rules out the range, have such a term.
 pub common
     : (x : Option Range) (ts : List Term) → InCommon x → WideRange x → All WellFormed ts → Pairwise ts
     → All (OpenRange x) ts → Common x ts
-common x ts nonempty wide ok pairs may = go x nonempty wide may
-  where
-    m : Term
-    m = meetAll unknown ts
-
-    beside : OpenTo unknown ts
-    beside = all-always (λ (t : Term). Open (compare unknown t)) (λ t. tt) ts
-
-    formed : WellFormed m
-    formed = meet-all-well-formed unknown ts tt ok beside pairs
-
-    from : (y : Option Range) (g : Term) → Fills m g → InRange y g → Common y ts
-    from y g fill inside = record {
-      term = g;
-      ground = fills-ground formed fill;
-      fills = meet-all-fills unknown ts tt ok beside pairs fill .1;
-      inside = inside;
+common x [] nonempty wide ok pairs may =
+    let z = in-range x unknown nonempty wide tt (unknown-open x) in record { term = z .0; fills = tt; inside = z .2 }
+common x (t ∷ us) nonempty wide ok pairs may =
+    let formed = meet-all-well-formed t us (ok .0) (ok .1) (pairs .0) (pairs .1) in
+    let opens = meet-all-range x t us (ok .0) (ok .1) (pairs .0) (pairs .1) (may .0) (may .1) in
+    let z = in-range x (meetAll t us) nonempty wide formed opens in
+    record {
+      term = z .0;
+      fills = meet-all-fills t us (ok .0) (ok .1) (pairs .0) (pairs .1) (z .1);
+      inside = z .2;
     }
-
-    go : (y : Option Range) → InCommon y → WideRange y → All (OpenRange y) ts → Common y ts
-    go none nonempty wide may = from none (fillWith m (symbol 0)) (fill-with m (symbol 0) formed zero-ground) tt
-    go (some y) nonempty wide may =
-        let may-be = meet-all-number (y .low) (y .high) unknown ts tt ok beside pairs tt may in
-        let z = fitting-number (y .low) (y .high) nonempty wide m formed may-be in
-        from (some y) (z .0) (z .1) (z .2)
 
 -- What stands there as a list: of one term or none.
 abbrev pub foundTerms : Found → List Term
@@ -141,14 +145,16 @@ module _ (look : ℕ → Found) where
       go true lacking e same k later = later
       go true (found t) e same k later = (to t e (same tt) k, later)
 
-  -- Where one ground term stands at all places of each variable, every equality test holds.
-  pub pair-holds
-      : (value : ℕ → Term) → ((v : ℕ) → Ground (value v)) → (o x : Occurrence) → o .name ≡ x .name
-      → look (o .place) ≡ found (value (o .name)) → look (x .place) ≡ found (value (x .name))
-      → HoldsPair (both (o .place) (x .place))
-  pair-holds value ground o x same e d =
-      let f : look (x .place) ≡ found (value (o .name)) = d ∙ ap (λ v. found (value v)) (sym same) in
-      rw (e, f) (equal-self (value (o .name)) (ground (o .name)))
+-- Where one term fills both of two that do not differ, it is equal to itself, since neither of them is or holds record 35.
+pub pair-holds
+    : (before after : ℕ → Found) (n m : ℕ) (g : Term) → IfFound WellFormed (before n) → FillsFound (before n) g
+    → Open (atPlaces (before n) (before m)) → after n ≡ found g → after m ≡ found g → HoldsPair after (both n m)
+pair-holds before after n m g ok fills opens e d = rw (e, d) (go (before n) (before m) ok fills opens)
+  where
+    go : (x y : Found) → IfFound WellFormed x → FillsFound x g → Open (atPlaces x y) → Holds (compare g g)
+    go lacking y ok fills opens = absurd opens
+    go (found t) lacking ok fills opens = absurd opens
+    go (found t) (found u) ok fills opens = equal-self g (fills-ground ok (open-ordinary t u opens .0) fills)
 
 -- Where a place test is open, it is open of what stands there, if anything does.
 open-found : (f : Term → Outcome) (x : Found) → Open (atPlace f x) → IfFound (λ (t : Term). Open (f t)) x

@@ -1,47 +1,59 @@
--- Well-formed terms, as an accepted piece has them, and ground ones, as its fillings have.
+-- Well-formed terms, as an accepted piece has them, and what their fillings are: known, and ground where record 35 is in none.
 use Prim.Native.Nat.{ℕ}
-use mathlib.Core.Path.{refl}
 use native.Mathlib.Omega.{arith}
-use lib.Dec.{eqb, eqb-refl}
-use Rattle.terms.specs.Term.{Term, Terms, unknown, symbol, numbers, compound, nil, cons}
+use Rattle.terms.specs.Term.{Term, Terms}
 use Rattle.terms.specs.Lookup.{finds}
-use Rattle.terms.specs.Outcome.{Holds, known, compare, compares}
-use Rattle.terms.specs.Filling.{Ground, Grounds, WellFormed, WellFormeds, Fills, Filling}
-use Rattle.terms.specs.Filling.{putUnknown, putSymbol, putNumbers, putCompound, putNil, putCons}
-use Rattle.terms.proofs.Outcomes.{true-holds, holds-and}
-use Rattle.terms.proofs.Spans.{spans-equal}
+use Rattle.terms.specs.Outcome.{Holds, compare}
+use Rattle.terms.specs.Filling.{Ground, WellFormed, WellFormeds, Fills, Filling, Known, Knowns}
+use Rattle.terms.specs.Filling.{putUnknown, putNever, putSymbol, putNumbers, putCompound, putNil, putCons}
+use Rattle.terms.proofs.Never.{Ordinary, Ordinaries, ordinary-first, ordinary-others, ordinary-cons}
+use Rattle.terms.proofs.Known.{ground-known, known-ground}
+use Rattle.terms.proofs.CompareSentences.{same-holds}
 use Rattle.terms.proofs.Stays.{puts-count}
 use Rattle.terms.proofs.TermPlaces.{IfFound, finds-each}
 
 mutual
-  -- A filling of a well-formed term is ground,
-  pub fills-ground : {t g : Term} → WellFormed t → Fills t g → Ground g
-  fills-ground ok (putUnknown h) = h
-  fills-ground ok putSymbol = ok
-  fills-ground ok (putNumbers x y z h) = h
-  fills-ground ok (putCompound fs) =
+  -- A filling of a well-formed term is well formed, and nothing in it is left to fill in,
+  pub fills-known : {t g : Term} → WellFormed t → Fills t g → WellFormed g × Known g
+  fills-known ok (putUnknown {g = g} h) = let x = ground-known g h in (x .0, x .1)
+  fills-known ok putNever = (tt, tt)
+  fills-known ok putSymbol = (ok, tt)
+  fills-known ok (putNumbers x y z h) = ((y, h .1), h .0)
+  fills-known ok (putCompound fs) =
       let e = puts-count fs in
-      (ok .0, omega (arith, ok .1), omega (arith, ok .2), filling-ground (ok .3) fs)
+      let x = filling-known (ok .3) fs in
+      ((ok .0, omega (arith, ok .1), omega (arith, ok .2), x .0), x .1)
 
   -- and so is a filling of a row of them.
-  pub filling-ground : {ts gs : Terms} → WellFormeds ts → Filling ts gs → Grounds gs
-  filling-ground ok putNil = tt
-  filling-ground ok (putCons f fs) = (fills-ground (ok .0) f, filling-ground (ok .1) fs)
+  pub filling-known : {ts gs : Terms} → WellFormeds ts → Filling ts gs → WellFormeds gs × Knowns gs
+  filling-known ok putNil = (tt, tt)
+  filling-known ok (putCons f fs) =
+      let x = fills-known (ok .0) f in
+      let xs = filling-known (ok .1) fs in
+      ((x .0, xs .0), (x .1, xs .1))
 
 mutual
-  -- A ground term is equal to itself,
-  pub equal-self : (g : Term) → Ground g → Holds (compare g g)
-  equal-self unknown ok = absurd ok
-  equal-self (symbol a) ok = true-holds (eqb a a) (eqb-refl a)
-  equal-self (numbers a b) ok = spans-equal a b a b .1 (ok .0, ok .0, refl)
-  equal-self (compound a gs) ok =
-      holds-and (known (eqb a a)) (compares gs gs) (true-holds (eqb a a) (eqb-refl a)) (equals-self gs (ok .3))
+  -- A filling puts in no record 35: where there was none, there is none,
+  pub fills-ordinary : {t g : Term} → Ordinary t → Fills t g → Ordinary g
+  fills-ordinary w (putUnknown {g = g} h) = ground-known g h .2
+  fills-ordinary w putNever = w
+  fills-ordinary w putSymbol = w
+  fills-ordinary w (putNumbers x y z h) = w
+  fills-ordinary w (putCompound fs) = filling-ordinary w fs
 
-  -- and so is a row of them.
-  pub equals-self : (gs : Terms) → Grounds gs → Holds (compares gs gs)
-  equals-self nil ok = tt
-  equals-self (cons g gs) ok =
-      holds-and (compare g g) (compares gs gs) (equal-self g (ok .0)) (equals-self gs (ok .1))
+  -- and so in a row of terms.
+  pub filling-ordinary : {ts gs : Terms} → Ordinaries ts → Filling ts gs → Ordinaries gs
+  filling-ordinary w putNil = w
+  filling-ordinary w (putCons {t = t} {g = g} {ts = ts} {gs = gs} f fs) =
+      ordinary-cons g gs (fills-ordinary (ordinary-first t ts w) f) (filling-ordinary (ordinary-others t ts w) fs)
+
+-- So a filling of a well-formed term without record 35 is ground.
+pub fills-ground : {t g : Term} → WellFormed t → Ordinary t → Fills t g → Ground g
+fills-ground {g = g} ok w f = let x = fills-known ok f in known-ground g (x .0) (x .1) (fills-ordinary w f)
+
+-- A ground term is equal to itself.
+pub equal-self : (g : Term) → Ground g → Holds (compare g g)
+equal-self g ok = let x = ground-known g ok in same-holds g (x .1) (x .2)
 
 -- At each place of well-formed terms stands a well-formed one, if any.
 pub finds-well-formed : (ts : Terms) → WellFormeds ts → (r n : ℕ) → IfFound WellFormed (finds ts r n)

@@ -2,7 +2,7 @@
 use Prim.Native.Nat.{ℕ, pred, _≤_, _<_}
 use mathlib.Core.Path.{_≡_}
 use mathlib.Core.Option.{Option, some, none}
-use Rattle.terms.specs.Term.{Term, Terms, count, Wide, unknown, symbol, numbers, compound, nil, cons}
+use Rattle.terms.specs.Term.{Term, Terms, count, Wide, unknown, never, symbol, numbers, compound, nil, cons}
 use Rattle.terms.specs.Pattern.{Pattern, Patterns, countPatterns, pnil, pcons}
 use Rattle.terms.specs.Pattern.{anything, theSymbol, theSeries, theRange, theCompound, variable, rangedVariable}
 use Rattle.terms.specs.RuleTests.{Range, patternsRange}
@@ -39,6 +39,7 @@ pub record AcceptedRule (arity : ℕ) (rule : Patterns) : Type 0 where
 abbrev mutual
   pub Shallow : Term → ℕ → Type 0
   Shallow unknown r = 1 ≤ r
+  Shallow never r = 1 ≤ r
   Shallow (symbol a) r = 1 ≤ r
   Shallow (numbers a b) r = 1 ≤ r
   Shallow (compound a ts) r = (1 ≤ r) × Shallows ts (pred r)

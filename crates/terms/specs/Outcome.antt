@@ -1,10 +1,10 @@
--- The three values of a test in a piece, and of all tests of a rule (document 01, "Places and tests"; document 02, request 4).
+-- The three values of a test in a piece, and of a rule's tests (document 01, "Places and tests"; document 02, requests 4 to 6).
 use Prim.Native.Nat.{ℕ}
 use mathlib.Core.Bool.{Bool, true, false, _&&_, _||_, cond}
 use mathlib.Core.List.{List, [], _∷_}
 use lib.Dec.{leb, ltb, eqb}
 use Rattle.basics.specs.Lists.{All}
-use Rattle.terms.specs.Term.{Term, Terms, count, unknown, symbol, numbers, compound, nil, cons}
+use Rattle.terms.specs.Term.{Term, Terms, count, unknown, never, symbol, numbers, compound, nil, cons}
 use Rattle.terms.specs.Pattern.{Patterns}
 use Rattle.terms.specs.RuleTests.{Want, aSymbol, aNumber, aCompound, PlaceTest, PairTest, placeTests, pairTests}
 use Rattle.terms.specs.Lookup.{Found, lacking, found, termAt}
@@ -46,9 +46,10 @@ inside l h a b = cond (leb l a && leb b h) holds (cond (ltb b l || ltb h a) cont
 
 -- "A place test holds at that symbol, at a compound of that id and arity, or at a number in that range; it is not known at an
 -- unknown and contradicted at anything else." "Pattern 26 .. accepts every symbol with an id from low to high." "Any other place
--- test is contradicted at a span."
+-- test is contradicted at a span." Record 35 "contradicts every place test".
 abbrev pub fits : Want → Term → Outcome
 fits w unknown = notKnown
+fits w never = contradicted
 fits (aSymbol l h) (symbol a) = known (leb l a && leb a h)
 fits (aSymbol l h) (numbers a b) = contradicted
 fits (aSymbol l h) (compound b ts) = contradicted
@@ -63,22 +64,44 @@ fits (aCompound a n) (compound b ts) = known (eqb a b && eqb n (count ts))
 abbrev pub compareSpans : ℕ → ℕ → ℕ → ℕ → Outcome
 compareSpans a b c d = cond (ltb b c || ltb d a) contradicted (cond (eqb a b && eqb c d) holds notKnown)
 
+-- "A term that is or holds it", record 35.
+abbrev mutual
+  pub holdsNever : Term → Bool
+  holdsNever unknown = false
+  holdsNever never = true
+  holdsNever (symbol a) = false
+  holdsNever (numbers a b) = false
+  holdsNever (compound a ts) = holdNever ts
+
+  pub holdNever : Terms → Bool
+  holdNever nil = false
+  holdNever (cons t ts) = holdsNever t || holdNever ts
+
+-- An unknown beside a term: "a term that is or holds it differs from every term, itself and unknowns included".
+abbrev pub besideUnknown : Bool → Outcome
+besideUnknown true = contradicted
+besideUnknown false = notKnown
+
 -- "Two terms are equal when they are the same and hold no unknown; compounds differ when id or arity differ or when some pair
 -- of their arguments in turn differs; two symbols or two numbers differ when they are not the same; a symbol, a number and a
 -- compound differ from one another. Anything else is not known." "A span differs from every symbol and compound as a number
--- does." Equal terms hold, terms that differ are contradicted.
+-- does." Nothing is equal to record 35. Equal terms hold, terms that differ are contradicted.
 abbrev mutual
   pub compare : Term → Term → Outcome
-  compare unknown u = notKnown
+  compare unknown u = besideUnknown (holdsNever u)
+  compare never u = contradicted
   compare (symbol a) unknown = notKnown
+  compare (symbol a) never = contradicted
   compare (symbol a) (symbol b) = known (eqb a b)
   compare (symbol a) (numbers b c) = contradicted
   compare (symbol a) (compound b us) = contradicted
   compare (numbers a b) unknown = notKnown
+  compare (numbers a b) never = contradicted
   compare (numbers a b) (symbol c) = contradicted
   compare (numbers a b) (numbers c d) = compareSpans a b c d
   compare (numbers a b) (compound c us) = contradicted
-  compare (compound a ts) unknown = notKnown
+  compare (compound a ts) unknown = besideUnknown (holdNever ts)
+  compare (compound a ts) never = contradicted
   compare (compound a ts) (symbol b) = contradicted
   compare (compound a ts) (numbers b c) = contradicted
   compare (compound a ts) (compound b us) = _and_ (known (eqb a b)) (compares ts us)

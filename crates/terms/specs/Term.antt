@@ -1,12 +1,14 @@
--- Terms (document 01, "Records", "Piece"; document 02, request 4).
+-- Terms (document 01, "Records", "Piece"; document 02, requests 4 and 6).
 use Prim.Native.Nat.{ℕ, suc, _<_}
 
 -- "Terms: 30 unknown; 31 symbol (wide id); 32 number (wide); 33 compound (wide id, arity), then its arguments." The arity is
 -- the number of arguments. A piece is the list of its argument terms. A number may be known as a span only, by its low and its
--- high: "a number known to lie between them".
+-- high: "a number known to lie between them". "Record 35 stands for a reading that will never come", and "a lacking sensor is no
+-- longer written as unknown".
 mutual
   pub data Term : Type 0 where
     unknown : Term
+    never : Term
     symbol : ℕ → Term
     numbers : ℕ → ℕ → Term
     compound : ℕ → Terms → Term

@@ -8,9 +8,10 @@ use lib.Dec.{leb}
 use lib.ListN.{length, getD, take, drop, length-drop}
 use lib.Seq.{length-take-le, getD-take, getD-drop, ext-getD}
 use Rattle.masks.specs.Mask.{maskOf}
+use Rattle.places.specs.Numbering.{atOrBelow}
 use Rattle.masks.proofs.Extensionality.{maskOf-same}
 use Rattle.tables.specs.views.Planes.{testsIn, placeTestsIn}
-use Rattle.test_list.specs.views.Tests.{Counted, pairsListed, under, isSettled, settledBelow}
+use Rattle.test_list.specs.views.Tests.{Counted, pairsListed, isSettled, settledBelow}
 
 module _ (s₀ s : List ℕ) (size : length s ≡ length s₀) (same : (k : ℕ) → k < 68 → getD s k 0 ≡ getD s₀ k 0) (c : Counted s₀) where
   -- They say how many there are,
@@ -45,8 +46,8 @@ module _ (s₀ s : List ℕ) (size : length s ≡ length s₀) (same : (k : ℕ)
   pub same-settled : (t : ℕ) → t < 64 → settledBelow s t ≡ settledBelow s₀ t
   unfolding settledBelow
   same-settled t h =
-      ap (λ (n : ℕ). maskOf n (isSettled s t)) (same 1 (omega arith))
-      ∙ maskOf-same (testsIn s₀) (isSettled s t) (isSettled s₀ t)
+      ap (λ (n : ℕ). maskOf n (isSettled s t)) (same 2 (omega arith))
+      ∙ maskOf-same (placeTestsIn s₀) (isSettled s t) (isSettled s₀ t)
       (λ u l.
-      let near : u < 64 = omega (arith, c .few) in
-      λ j. leb t u && under (same (4 + t) (omega arith) j % 0x1_0000) (same (4 + u) (omega arith) j))
+      let near : u < 64 = omega (arith, c .few, c .places) in
+      λ j. leb t u && atOrBelow (same (4 + t) (omega arith) j % 0x1_0000) (same (4 + u) (omega arith) j % 0x1_0000))

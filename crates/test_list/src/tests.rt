@@ -4,13 +4,12 @@ use crate::list_places;
 use crate::numbers::number_places;
 use tables::Tables;
 ghost use mathlib.Core.Path.{_≡_};
-ghost use mathlib.Core.Bool.{_||_};
 ghost use mathlib.Core.List.{map};
-ghost use Prim.Native.Nat.{_+_, _/_, _%_, _≤_, _<_};
+ghost use Prim.Native.Nat.{_+_, _≤_, _<_};
 ghost use lib.ListN.{length, take};
 ghost use Rattle.places.specs.Numbering.{stride, levelsAt};
 ghost use Rattle.sheet_tests.specs.views.TestedPlaces.{placesIn};
-ghost use Rattle.tables.specs.views.Planes.{testsIn};
+ghost use Rattle.tables.specs.views.Planes.{placeTestsIn};
 ghost use Rattle.test_list.specs.views.Numbers.{numberAll};
 ghost use Rattle.test_list.specs.views.Tests.{Counted, putAll, spotCode, testsPut, isWithin, settledBelow, underPut};
 
@@ -79,28 +78,19 @@ fn is_inside(p: usize, end: usize, x: usize) -> bool
     p <= x && x < end
 }
 
-// Does a place of the test with this code stand there?
-fn is_under(p: usize, end: usize, code: u64) -> bool
-    ensures { λ r. ⌜ r ≡ (isWithin p end (code / 0x1_0000) || isWithin p end (code % 0x1_0000)) ⌝ }
-{
-    if is_inside(p, end, (code / 0x1_0000) as usize) {
-        return true;
-    }
-    is_inside(p, end, (code % 0x1_0000) as usize)
-}
-
-// The tests that an unknown at place test t settles. Not a test at a place above it, nor the place itself left out.
+// The tests that an unknown at place test t settles: those of its place and of places below it. Not one at a place above it, nor
+// the place itself left out, nor a pair.
 fn settled(s: &Tables, t: usize) -> u64
-    requires { ⌜ Counted (now s) × (t < testsIn (now s)) ⌝ }
+    requires { ⌜ Counted (now s) × (t < placeTestsIn (now s)) ⌝ }
     ensures { λ r. ⌜ r ≡ settledBelow (now (s .entry)) t ⌝ }
 {
     let p = (tables::test(s, t) % 0x1_0000) as usize;
     let end = below_end(p);
-    let tests = tables::tests(s);
+    let count = tables::place_tests(s);
     let mut all: u64 = 0;
     let mut u = t;
-    while u < tests {
-        if is_under(p, end, tables::test(s, u)) {
+    while u < count {
+        if is_inside(p, end, (tables::test(s, u) % 0x1_0000) as usize) {
             all |= 1 << u;
         }
         u += 1;

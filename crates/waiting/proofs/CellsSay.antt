@@ -1,8 +1,8 @@
 -- What the cells of a piece say: which tests are not known, what each rule's tests come to, and where spans of several numbers
 -- stand. Those of an accepted piece say so; no law here asks that its numbers are known exactly.
 use Prim.Native.Nat.{ℕ, suc, _≤_, _<_}
-use mathlib.Core.Path.{_≡_, sym, ap, subst, _∙_}
-use mathlib.Core.Bool.{Bool, true, false, cond}
+use mathlib.Core.Path.{_≡_, refl, sym, ap, subst, _∙_}
+use mathlib.Core.Bool.{Bool, true, false, _||_, cond}
 use mathlib.Core.List.{List}
 use native.Mathlib.Omega.{arith}
 use borrow.Author.Tests.{le-leb}
@@ -10,7 +10,7 @@ use lib.Dec.{eqb, leb}
 use lib.ListN.{length, getD}
 use Rattle.places.specs.Numbering.{parentAt}
 use Rattle.basics.specs.Lists.{All, Mem}
-use Rattle.basics.proofs.Booleans.{is-true}
+use Rattle.basics.proofs.Booleans.{cond-true, cond-by}
 use Rattle.terms.specs.Term.{Terms, numbers, Wide}
 use Rattle.terms.specs.Pattern.{Patterns}
 use Rattle.terms.specs.Lookup.{found, termAt}
@@ -21,12 +21,12 @@ use Rattle.terms.proofs.TermPlaces.{IfFound}
 use Rattle.terms.proofs.WellFormed.{finds-well-formed}
 use Rattle.sheet.specs.views.Noted.{ruleNotes}
 use Rattle.sheet_tests.specs.SheetTests.{Test, place, sheetTests}
-use Rattle.codes.specs.views.Codes.{termRun, unknownRun}
+use Rattle.codes.specs.views.Codes.{termRun, unknownRun, neverCode}
 use Rattle.codes.proofs.TermRuns.{run-some}
 use Rattle.piece.specs.views.Cells.{foundRun}
 use Rattle.piece.specs.views.LaidOut.{pieceCells}
-use Rattle.outcomes.specs.views.Look.{nearestCell, look}
-use Rattle.outcomes.proofs.FoundRuns.{run-unknown}
+use Rattle.outcomes.specs.views.Look.{nearestCell, hiddenBelow, look}
+use Rattle.outcomes.proofs.FoundRuns.{run-unknown, run-hidden}
 use Rattle.outcomes.proofs.LookFinds.{look-finds}
 use Rattle.decision.specs.Walk.{isNotKnown, isContradicted, testNotKnown, ruleTestsWhere}
 use Rattle.rule_masks.specs.declared.Masks.{Masks}
@@ -51,16 +51,23 @@ module _ (rules : List Patterns) (piece : Terms) where
     pub spans : (n low high : ℕ) → Mem (place n) (sheetTests rules) → termAt piece n ≡ found (numbers low high)
         → (low ≡ high → ⊥) → isSpan (getD cells n 0) ≡ true
 
--- What stands at a place and is neither nothing nor an unknown is in its own cell.
+-- What is hidden hides the same below it.
+hidden-again : (run : ℕ) → hiddenBelow (hiddenBelow run) ≡ hiddenBelow run
+hidden-again run =
+    let hides = eqb run unknownRun || eqb run neverCode in
+    cond-by (λ x. hiddenBelow x ≡ x) hides (λ h. cond-true hides run 0 h) (λ h. refl)
+
+-- What stands at a place and hides nothing is in its own cell.
 own-cell
-    : (cells : List ℕ) (n : ℕ) {run : ℕ} → look cells n ≡ run → (run ≡ 0 → ⊥) → (run ≡ unknownRun → ⊥) → getD cells n 0 ≡ run
-own-cell cells n {run} e some known =
-    go (eqb (getD cells n 0) 0) (eqb (nearestCell 3 cells (parentAt n)) unknownRun) e
+    : (cells : List ℕ) (n : ℕ) {run : ℕ} → look cells n ≡ run → (run ≡ 0 → ⊥) → hiddenBelow run ≡ 0 → getD cells n 0 ≡ run
+own-cell cells n {run} e some shows = go (eqb (getD cells n 0) 0) e
   where
-    go : (b c : Bool) → cond b (cond c unknownRun 0) (getD cells n 0) ≡ run → getD cells n 0 ≡ run
-    go true true k = absurd (known (sym k))
-    go true false k = absurd (some (sym k))
-    go false c k = k
+    above : ℕ
+    above = nearestCell 3 cells (parentAt n)
+
+    go : (b : Bool) → cond b (hiddenBelow above) (getD cells n 0) ≡ run → getD cells n 0 ≡ run
+    go true k = absurd (some (sym k ∙ sym (hidden-again above) ∙ ap hiddenBelow k ∙ shows))
+    go false k = k
 
 -- The run of several numbers is a span.
 several : (a b : ℕ) → a ≤ b → Wide b → (a ≡ b → ⊥) → isSpan (termRun (numbers a b)) ≡ true
@@ -82,10 +89,9 @@ module _ (arity : ℕ) (rules : List Patterns) (few : arity ≤ 8) (accepted : A
       let formed : WellFormed (numbers low high) =
       subst (IfFound WellFormed) stands (finds-well-formed piece (ok .wellFormed) 4 n) in
       let span = several low high (formed .0) (formed .1) apart in
-      let known : termRun (numbers low high) ≡ unknownRun → ⊥ =
-      λ e. is-true (sym (ap isSpan e) ∙ span) in
       ap isSpan
-      (own-cell cells n (look-finds arity piece ok few n inside ∙ ap foundRun stands) (run-some (numbers low high)) known)
+      (own-cell cells n (look-finds arity piece ok few n inside ∙ ap foundRun stands) (run-some (numbers low high))
+      (run-hidden (found (numbers low high)) formed))
       ∙ span
 
   pub cells-say : CellsSay rules piece cells

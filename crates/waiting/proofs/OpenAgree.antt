@@ -2,7 +2,7 @@
 use Prim.Native.Nat.{ℕ, _≤_}
 use mathlib.Core.Path.{_≡_, refl, ap, _∙_}
 use lib.Dec.{eqb}
-use Rattle.terms.specs.Term.{Terms, unknown, symbol, numbers, compound}
+use Rattle.terms.specs.Term.{Terms, unknown, never, symbol, numbers, compound}
 use Rattle.terms.specs.Lookup.{Found, lacking, found, termAt}
 use Rattle.terms.specs.Accepted.{AcceptedPiece}
 use Rattle.terms.proofs.WellFormed.{finds-well-formed}
@@ -21,6 +21,7 @@ use Rattle.rule_masks.specs.views.TestNumbers.{NearTest}
 same-unknown : (f : Found) → hidden.isUnknown f ≡ isUnknown f
 same-unknown lacking = refl
 same-unknown (found unknown) = refl
+same-unknown (found never) = refl
 same-unknown (found (symbol a)) = refl
 same-unknown (found (numbers a b)) = refl
 same-unknown (found (compound a ts)) = refl

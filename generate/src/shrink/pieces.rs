@@ -97,6 +97,7 @@ fn simpler(term: &Term) -> Vec<Term> {
             new.extend([Term::Symbol(0), Term::Number(*low), Term::Number(*high)]);
             new.extend(sheets::ranges(*low, *high).map(|(low, high)| Term::Span(low, high)));
         }
+        Term::Never => {}
     }
     new
 }
@@ -152,7 +153,7 @@ pub fn following(terms: &[Term], old: &SheetTree, step: &sheets::Step) -> Option
             let count = sheets::liftable(old, *at)?;
             let parts = match terms.remove(*at) {
                 Term::Compound(_, parts) if parts.len() == count => parts,
-                Term::Unknown => vec![Term::Unknown; count],
+                missing @ (Term::Unknown | Term::Never) => vec![missing; count],
                 _ => return None,
             };
             terms.splice(*at..*at, parts);

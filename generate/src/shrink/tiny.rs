@@ -29,7 +29,7 @@ fn sheets() -> Vec<SheetTree> {
 
 /// Pieces of one or two arguments.
 fn pieces() -> Vec<Vec<Term>> {
-    use Term::{Compound, Number, Span, Symbol, Unknown};
+    use Term::{Compound, Never, Number, Span, Symbol, Unknown};
     vec![
         vec![Unknown],
         vec![Symbol(0)],
@@ -37,11 +37,14 @@ fn pieces() -> Vec<Vec<Term>> {
         vec![Number(0)],
         vec![Span(0, 0)],
         vec![Span(0, 1)],
+        vec![Never],
         vec![Compound(0, vec![Unknown])],
         vec![Unknown, Unknown],
         vec![Symbol(0), Unknown],
         vec![Symbol(0), Symbol(0)],
         vec![Symbol(0), Symbol(1)],
+        vec![Unknown, Never],
+        vec![Never, Never],
     ]
 }
 

@@ -2,7 +2,7 @@
 
 use super::piece::{Piece, LACKING, NOT_KNOWN};
 use super::places::step_of_children;
-use super::records::{ends, COMPOUND, NUMBER, SPAN, UNKNOWN};
+use super::records::{ends, COMPOUND, NEVER, NUMBER, SPAN, UNKNOWN};
 
 /// What a piece says about a test.
 #[derive(Clone, Copy, PartialEq, Eq)]
@@ -12,8 +12,11 @@ pub enum Truth {
     Contradicted,
 }
 
-/// The equality test of two places.
+/// The equality test of two places. A term that is or holds a reading that will never come differs from every term.
 pub fn equal(piece: &Piece, p: usize, q: usize) -> Truth {
+    if piece.nevers && (is_never(piece, p) || is_never(piece, q)) {
+        return Truth::Contradicted;
+    }
     let a = piece.find(p);
     let b = piece.find(q);
     if a == LACKING || b == LACKING {
@@ -26,6 +29,30 @@ pub fn equal(piece: &Piece, p: usize, q: usize) -> Truth {
         return leaves(piece.bytes, a, b);
     }
     same(piece, p, q, step_of_children(p), step_of_children(q), 3)
+}
+
+/// Whether what is found at a place is or holds a reading that will never come. `LACKING` and `NOT_KNOWN` are offsets
+/// of the header, whose bytes are no kinds of terms.
+#[inline(never)]
+fn is_never(piece: &Piece, place: usize) -> bool {
+    match piece.bytes[piece.find(place)] {
+        NEVER => true,
+        COMPOUND => holds_never(piece, place, step_of_children(place)),
+        _ => false,
+    }
+}
+
+/// Whether the term that stands at a place is or holds one. The step is that between its children.
+fn holds_never(piece: &Piece, place: usize, step: usize) -> bool {
+    let at = usize::from(piece.offsets[place]);
+    match piece.bytes[at] {
+        NEVER => true,
+        COMPOUND => {
+            let arity = usize::from(piece.bytes[at + 3]);
+            (0..arity).any(|j| holds_never(piece, place + 1 + j * step, step / 4))
+        }
+        _ => false,
+    }
 }
 
 /// Whether the records at two offsets have the same kind and the same wide field.

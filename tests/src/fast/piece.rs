@@ -1,13 +1,15 @@
 //! A piece's questions, 12 to 17 and 32, and where its terms stand.
 
 use super::places::{PARENT, PLACES, STEP};
-use super::records::{self, Term, UNKNOWN};
+use super::records::{self, Term, NEVER, UNKNOWN};
 use crate::results::Refusal;
 
-/// A piece: its bytes, and for each place the offset of the term there, 0 where there is none.
+/// A piece: its bytes, for each place the offset of the term there, 0 where there is none, and whether one of its
+/// readings will never come.
 pub struct Piece<'a> {
     pub bytes: &'a [u8],
     pub offsets: [u16; PLACES],
+    pub nevers: bool,
 }
 
 /// What `find` gives for a place that the piece lacks.
@@ -41,7 +43,7 @@ pub fn check(bytes: &[u8]) -> Result<u8, Refusal> {
 fn length(bytes: &[u8], depth: usize) -> Result<usize, Refusal> {
     match records::term(bytes) {
         None => Err(14),
-        Some(Term::Unknown) => Ok(1),
+        Some(Term::Unknown | Term::Never) => Ok(1),
         Some(Term::SymbolOrNumber) => Ok(3),
         Some(Term::Compound(arity)) => {
             if depth > 3 {
@@ -73,7 +75,7 @@ fn lengths(bytes: &[u8], count: usize, depth: usize) -> Result<usize, Refusal> {
 impl<'a> Piece<'a> {
     #[inline(always)]
     pub fn unread(bytes: &'a [u8]) -> Self {
-        Piece { bytes, offsets: [0; PLACES] }
+        Piece { bytes, offsets: [0; PLACES], nevers: false }
     }
 
     /// Asks the questions and notes where each term stands; gives the arity.
@@ -90,11 +92,12 @@ impl<'a> Piece<'a> {
     pub fn read_first(&mut self) -> Result<(u8, usize), Refusal> {
         let bytes = self.bytes;
         let arity = header(bytes)?;
-        let used = terms(&bytes[2..], 2, usize::from(arity), 0, 1, &mut self.offsets)?;
+        let used = self.terms(&bytes[2..], 2, usize::from(arity), 0, 1)?;
         Ok((arity, used + 2))
     }
 
-    /// The offset of the known term at a place, else `LACKING` or `NOT_KNOWN`.
+    /// The offset of the known term at a place, or of the reading there or above it that will never come, else
+    /// `LACKING` or `NOT_KNOWN`.
     #[inline(always)]
     pub fn find(&self, place: usize) -> usize {
         let offset = usize::from(self.offsets[place]);
@@ -114,66 +117,69 @@ impl<'a> Piece<'a> {
         while above < PLACES {
             let offset = usize::from(self.offsets[above]);
             if offset != 0 {
-                return if self.bytes[offset] == UNKNOWN { NOT_KNOWN } else { LACKING };
+                return match self.bytes[offset] {
+                    UNKNOWN => NOT_KNOWN,
+                    NEVER => offset,
+                    _ => LACKING,
+                };
             }
             above = usize::from(PARENT[above]);
         }
         LACKING
     }
-}
 
-/// Notes a term, whose first byte is at offset `from` of the piece; gives how many bytes it has.
-fn term(
-    bytes: &[u8],
-    from: usize,
-    place: usize,
-    depth: usize,
-    offsets: &mut [u16; PLACES],
-) -> Result<usize, Refusal> {
-    match records::term(bytes) {
-        None => Err(14),
-        Some(Term::Unknown) => {
-            offsets[place] = from as u16;
-            Ok(1)
-        }
-        Some(Term::SymbolOrNumber) => {
-            offsets[place] = from as u16;
-            Ok(3)
-        }
-        Some(Term::Compound(arity)) => {
-            if depth > 3 {
-                return Err(15);
+    /// Notes a term, whose first byte is at offset `from` of the piece; gives how many bytes it has.
+    fn term(&mut self, bytes: &[u8], from: usize, place: usize, depth: usize) -> Result<usize, Refusal> {
+        match records::term(bytes) {
+            None => Err(14),
+            Some(Term::Unknown) => {
+                self.offsets[place] = from as u16;
+                Ok(1)
             }
-            if !(1..=4).contains(&arity) {
-                return Err(16);
+            Some(Term::SymbolOrNumber) => {
+                self.offsets[place] = from as u16;
+                Ok(3)
             }
-            offsets[place] = from as u16;
-            Ok(terms(&bytes[4..], from + 4, usize::from(arity), place + 1, depth + 1, offsets)? + 4)
-        }
-        Some(Term::Span(low, high)) => {
-            if low > high {
-                return Err(32);
+            Some(Term::Compound(arity)) => {
+                if depth > 3 {
+                    return Err(15);
+                }
+                if !(1..=4).contains(&arity) {
+                    return Err(16);
+                }
+                self.offsets[place] = from as u16;
+                Ok(self.terms(&bytes[4..], from + 4, usize::from(arity), place + 1, depth + 1)? + 4)
             }
-            offsets[place] = from as u16;
-            Ok(5)
+            Some(Term::Span(low, high)) => {
+                if low > high {
+                    return Err(32);
+                }
+                self.offsets[place] = from as u16;
+                Ok(5)
+            }
+            Some(Term::Never) => {
+                self.offsets[place] = from as u16;
+                self.nevers = true;
+                Ok(1)
+            }
         }
     }
-}
 
-/// Notes so many terms side by side, the first at this place; gives how many bytes they have.
-fn terms(
-    bytes: &[u8],
-    from: usize,
-    count: usize,
-    first: usize,
-    depth: usize,
-    offsets: &mut [u16; PLACES],
-) -> Result<usize, Refusal> {
-    let mut at = 0;
-    let mut place = first;
-    for _ in 0..count {
-        at += term(&bytes[at..], from + at, place, depth, offsets)?;
-        place += STEP[depth - 1];
+    /// Notes so many terms side by side, the first at this place; gives how many bytes they have.
+    fn terms(
+        &mut self,
+        bytes: &[u8],
+        from: usize,
+        count: usize,
+        first: usize,
+        depth: usize,
+    ) -> Result<usize, Refusal> {
+        let mut at = 0;
+        let mut place = first;
+        for _ in 0..count {
+            at += self.term(&bytes[at..], from + at, place, depth)?;
+            place += STEP[depth - 1];
+        }
+        Ok(at)
     }
-    Ok(at)
 }

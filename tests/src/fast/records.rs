@@ -49,14 +49,16 @@ pub const SYMBOL: u8 = 0x31;
 pub const NUMBER: u8 = 0x32;
 pub const COMPOUND: u8 = 0x33;
 pub const SPAN: u8 = 0x34;
+pub const NEVER: u8 = 0x35;
 
-/// A term of kinds 30 to 34, as far as reading on depends on it.
+/// A term of kinds 30 to 35, as far as reading on depends on it.
 #[derive(Clone, Copy)]
 pub enum Term {
     Unknown,
     SymbolOrNumber,
     Compound(u8),
     Span(u16, u16),
+    Never,
 }
 
 #[inline(always)]
@@ -70,6 +72,7 @@ pub fn term(bytes: &[u8]) -> Option<Term> {
         SYMBOL | NUMBER if len >= 3 => Some(Term::SymbolOrNumber),
         COMPOUND if len >= 4 => Some(Term::Compound(bytes[3])),
         SPAN if len >= 5 => Some(Term::Span(wide(bytes, 1), wide(bytes, 3))),
+        NEVER => Some(Term::Never),
         _ => None,
     }
 }

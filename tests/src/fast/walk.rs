@@ -4,7 +4,7 @@ use super::compare::{equal, Truth};
 use super::graph::NodeStarts;
 use super::piece::{Piece, LACKING, NOT_KNOWN};
 use super::records::{self, ends, wide, Node, COMPOUND, COMPOUND_BYTES, COMPOUND_CASE, RUN_BYTES};
-use super::records::{SPAN, SWITCH, SYMBOL, SYMBOLS_CASE};
+use super::records::{NEVER, SPAN, SWITCH, SYMBOL, SYMBOLS_CASE};
 use super::rule::make;
 use super::sheet::{RuleStarts, Sheet};
 use super::variables::Variables;
@@ -23,7 +23,7 @@ struct Path {
 }
 
 impl Path {
-    /// Meets a place; gives the offset of the term there, none if it is unknown. Question 27 is asked first.
+    /// Meets a place; gives what `find` does, none if that is unknown. Question 27 is asked first.
     #[inline(always)]
     fn place(&mut self, sheet: &Sheet, piece: &Piece, place: usize) -> Result<Option<usize>, Refusal> {
         let offset = piece.find(place);
@@ -122,12 +122,15 @@ fn execute(
     }
 }
 
-/// The node of the case that takes the known term at an offset of the piece, else neither's. Symbols come
-/// before compounds, compounds before numbers.
+/// The node of the case that takes the term at an offset of the piece, which is not unknown, else neither's. Symbols
+/// come before compounds, compounds before numbers.
 #[inline(always)]
 fn take(cases: &[u8], count: usize, piece: &[u8], offset: usize, neither: u16) -> u16 {
-    let field = wide(piece, offset + 1);
     let kind = piece[offset];
+    if kind == NEVER {
+        return neither;
+    }
+    let field = wide(piece, offset + 1);
     let mut at = 0;
     let mut i = 0;
     while i < count && cases[at] == SYMBOLS_CASE {

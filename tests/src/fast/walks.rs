@@ -2,7 +2,6 @@
 
 use super::graph::NodeStarts;
 use super::piece::Piece;
-use super::places::PLACES;
 use super::sheet::{RuleStarts, Sheet};
 use super::variables::Variables;
 use super::walk::walk;
@@ -36,7 +35,7 @@ pub fn walk_all(
     results: &mut [u8],
 ) -> Run {
     let mut run = Run { results: 0, bytes: 0 };
-    let mut piece = Piece { bytes: pieces, offsets: [0; PLACES] };
+    let mut piece = Piece::unread(pieces);
     let mut variables = Variables::none();
     for room in results.chunks_exact_mut(RESULT) {
         if piece.bytes.is_empty() || run.results == MOST_RESULTS {
@@ -58,6 +57,7 @@ pub fn walk_all(
         };
         write(room, answered);
         piece.offsets[..usize::from(arity) * ARGUMENT].fill(0);
+        piece.nevers = false;
         piece.bytes = &piece.bytes[used..];
     }
     run

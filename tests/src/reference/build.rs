@@ -137,18 +137,22 @@ pub fn nodes_up_to(sheet: &Sheet, most: u16) -> Result<Vec<Node>, Refusal> {
 
 /// The nodes of a sheet's graph whose tests are asked in this order, if there are at most so many.
 pub fn nodes_in(sheet: &Sheet, order: Vec<usize>, most: u16) -> Result<Vec<Node>, Refusal> {
-    let asking = Asking::new(sheet, order);
+    nodes_asking(&Asking::new(sheet, order), sheet.rules.len(), most)
+}
+
+/// The nodes of the graph of so many rules that have these tests, if there are at most so many.
+pub fn nodes_asking(asking: &Asking, rules: usize, most: u16) -> Result<Vec<Node>, Refusal> {
     let (kinds, keys) = (Vec::with_capacity(FEW), Vec::with_capacity(FEW));
-    let execute = vec![None; sheet.rules.len()];
+    let execute = vec![None; rules];
     let mut known = Known { most, kinds, execute, keys, ..Known::default() };
-    known.number(asking.root(sheet.rules.len()))?;
+    known.number(asking.root(rules))?;
     let mut nodes = Vec::with_capacity(FEW);
     while let Some(kind) = known.kinds.get(nodes.len()) {
         nodes.push(match *kind {
             Kind::Fail => Node::Fail,
             Kind::Execute(rule) => Node::Execute(rule),
             Kind::Suspend => Node::Suspend,
-            Kind::Ask(key) => known.node(&asking, key)?,
+            Kind::Ask(key) => known.node(asking, key)?,
         });
     }
     Ok(nodes)

@@ -65,13 +65,11 @@ impl Tests {
         self.pairs.binary_search(&pair).ok().map(|at| self.places.len() + at)
     }
 
-    /// The tests that an unknown at this place settles: those of places at or below it, and those
-    /// of pairs with such a place.
+    /// The tests that an unknown at this place settles: those of places at or below it, and no pair.
     fn settled_by_unknown(&self, place: u16) -> u64 {
         let below = place..=last_below(place, depth(place));
-        let places = self.places.iter().map(|p| below.contains(p));
-        let pairs = self.pairs.iter().map(|(p, q)| below.contains(p) || below.contains(q));
-        places.chain(pairs).enumerate().fold(0, |set, (test, settled)| set | u64::from(settled) << test)
+        let settled = self.places.iter().map(|p| below.contains(p));
+        settled.enumerate().fold(0, |set, (test, settled)| set | u64::from(settled) << test)
     }
 }
 
@@ -100,6 +98,19 @@ impl<'a> Asking<'a> {
             }
         }
         Asking { having, places, pairs: &tests.pairs, order }
+    }
+
+    /// The same with unknowns that settle the pairs with a place at or below theirs, too, as before request 6.
+    pub fn settling_pairs(mut self) -> Self {
+        let first = self.places.len();
+        for test in &mut self.places {
+            let below = test.place..=last_below(test.place, depth(test.place));
+            for (pair, (p, q)) in self.pairs.iter().enumerate() {
+                let settled = below.contains(p) || below.contains(q);
+                test.settled |= u64::from(settled) << (first + pair);
+            }
+        }
+        self
     }
 
     /// The pending test that is asked first.

@@ -26,10 +26,8 @@ pub struct Piece {
 
 /// What a piece has at a place.
 pub enum Found<'a> {
-    /// The term there, its cell first.
+    /// The term there, its cell first. A place below an unknown, or below a reading that will never come, has that.
     Term(&'a [Cell]),
-    /// The place is below an unknown.
-    Unknown,
     /// The piece lacks it.
     Lacking,
 }
@@ -84,13 +82,13 @@ impl Piece {
     /// What the piece has at a place.
     pub fn find(&self, place: u16) -> Found<'_> {
         let after = self.cells.partition_point(|cell| cell.place <= place);
-        let Some(cell) = after.checked_sub(1).map(|at| &self.cells[at]) else {
+        let Some(at) = after.checked_sub(1) else {
             return Found::Lacking;
         };
-        if cell.place == place {
-            Found::Term(&self.cells[after - 1..])
-        } else if cell.term == TermRecord::Unknown && place <= cell.last {
-            Found::Unknown
+        let cell = &self.cells[at];
+        let missing = matches!(cell.term, TermRecord::Unknown | TermRecord::Never);
+        if cell.place == place || missing && place <= cell.last {
+            Found::Term(&self.cells[at..])
         } else {
             Found::Lacking
         }

@@ -34,12 +34,10 @@ impl Truth {
 
 /// Whether a place test holds.
 pub fn wanted(piece: &Piece, place: u16, want: Want) -> Truth {
-    let cell = match piece.find(place) {
-        Found::Term(cells) => &cells[0],
-        Found::Unknown => return NotKnown,
-        Found::Lacking => return Contradicted,
+    let Found::Term(cells) = piece.find(place) else {
+        return Contradicted;
     };
-    match (cell.term, want) {
+    match (cells[0].term, want) {
         (TermRecord::Unknown, _) => NotKnown,
         (TermRecord::Symbol(id), Want::Symbols { low, high }) => Truth::of(low <= id && id <= high),
         (TermRecord::Number(n), Want::Range { low, high }) => inside((n, n), low, high),
@@ -85,17 +83,22 @@ fn same_numbers(a: (u16, u16), b: (u16, u16)) -> Truth {
     }
 }
 
-/// Whether the equality test of two places holds.
+/// Whether the equality test of two places holds. A term that is or holds a reading that will never come differs
+/// from every term.
 pub fn equal(piece: &Piece, p: u16, q: u16) -> Truth {
     match (piece.find(p), piece.find(q)) {
-        (Found::Lacking, _) | (_, Found::Lacking) => Contradicted,
-        (Found::Term(a), Found::Term(b)) => same(a, b),
-        _ => NotKnown,
+        (Found::Term(a), Found::Term(b)) if !holds_never(a) && !holds_never(b) => same(a, b),
+        _ => Contradicted,
     }
 }
 
-/// Compares two terms, each the first of its cells.
-pub fn same(a: &[Cell], b: &[Cell]) -> Truth {
+/// Whether a term, the first of its cells, is or holds a reading that will never come.
+fn holds_never(term: &[Cell]) -> bool {
+    term[..usize::from(term[0].cells)].iter().any(|cell| cell.term == TermRecord::Never)
+}
+
+/// Compares two terms, each the first of its cells, all of whose readings are taken or may still come.
+fn same(a: &[Cell], b: &[Cell]) -> Truth {
     use TermRecord::{Compound, Symbol, Unknown};
     let (first, second) = (a[0].term, b[0].term);
     if let (Some(m), Some(n)) = (ends(first), ends(second)) {

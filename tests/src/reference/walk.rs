@@ -28,11 +28,10 @@ pub fn walk(sheet: &Sheet, nodes: &[Node], piece: &Piece) -> Result<Answer, Refu
             }
             _ if edges == MOST_EDGES => return Err(26),
             Node::Switch { place, neither, unknown, cases } => {
-                let term = match piece.find(*place) {
-                    Found::Lacking => return Err(27),
-                    Found::Unknown => TermRecord::Unknown,
-                    Found::Term(cells) => cells[0].term,
+                let Found::Term(cells) = piece.find(*place) else {
+                    return Err(27);
                 };
+                let term = cells[0].term;
                 let is_unknown = term == TermRecord::Unknown;
                 node = if is_unknown { *unknown } else { taken(cases, term).map_or(*neither, Case::node) };
                 met.push(Met::Place(*place, is_unknown));
@@ -49,8 +48,8 @@ pub fn walk(sheet: &Sheet, nodes: &[Node], piece: &Piece) -> Result<Answer, Refu
     }
 }
 
-/// The case that a known term follows. Of the cases that contain it, a number or span follows the one with the
-/// highest low, then the lowest high.
+/// The case that a term follows which is not unknown. Of the cases that contain it, a number or span follows the one
+/// with the highest low, then the lowest high. A reading that will never come follows none.
 fn taken(cases: &[Case], term: TermRecord) -> Option<&Case> {
     if let Some((first, last)) = ends(term) {
         let contain = |case: &&Case| match case {

@@ -8,6 +8,10 @@
 //! - `single` takes a series for its first symbol.
 //! - `gaps` gives a case to ids that no rule accepts, too.
 //! - `kept` leaves a series of one symbol a series in a tidy sheet.
+//! - `patient` takes a reading that will never come for an unknown.
+//! - `alike` holds two readings that will never come equal.
+//! - `shallow` overlooks what will never come inside a compound, where it compares terms.
+//! - `settled` asks for no pair after an unknown at one of its places.
 //! - `lowest` asks the lowest test under every reading order.
 //! - `hurried` refuses by question 30 before it has asked 29 over the whole table.
 //! - `drift` puts places down by their positions alone, whether or not their parent is down.
@@ -21,7 +25,7 @@
 //! - `stale` gives each accepted piece the arity of the first.
 //! - `mute` says nothing at all, `chatter` says each reply twice, `half` knows no graphs.
 
-use super::{call as right, orders, series, Said};
+use super::{call as right, nevers, orders, series, Said};
 use std::collections::BTreeSet;
 use std::sync::OnceLock;
 use voltunnis_tests::generate::trees::{piece_bytes, read_piece, SheetTree, Term};
@@ -202,6 +206,7 @@ pub fn call(trap: &str, name: &str, arguments: &mut [Vec<u8>]) -> Option<Said> {
         ("coarse", "plain" | "walk", _) => coarse(name, arguments),
         ("first", "walk", [sheet, graph, piece]) => Some(first_case(sheet, graph, piece)),
         ("single" | "gaps" | "kept", ..) => series::call(trap, name, arguments),
+        ("patient" | "alike" | "shallow" | "settled", ..) => nevers::call(trap, name, arguments),
         ("lowest" | "hurried" | "drift" | "higher", ..) => orders::call(trap, name, arguments),
         ("late", "walk_all", _) => late(name, arguments),
         ("eager", "walk_all", _) => eager(name, arguments),

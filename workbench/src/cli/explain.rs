@@ -3,6 +3,7 @@
 use super::answers::{listed, word, Bench};
 use super::args::{Args, BYTES, JSON, OUTPUT};
 use super::draw::GRAPH;
+use super::nevers::Nevers;
 use super::order::ORDER;
 use super::out::Out;
 use super::picture;
@@ -25,8 +26,9 @@ pub const COMMAND: Command = Command {
     summary: "retrace a piece's walk step by step, as a table or a picture",
     about: "Shows for each node what it asks, what the piece has there, the edge taken and the rules left; then\n\
             the tests of the rule that is left, and what the piece waits for; of a span such as `231..239?` also\n\
-            why this case was taken and whose range it lies partly inside. The way is read from the graph's bytes\n\
-            and must come to the library's answer. With -o the picture has the way marked.",
+            why this case was taken and whose range it lies partly inside, and which tests a reading that never\n\
+            comes, `!`, contradicts. The way is read from the graph's bytes and must come to the library's answer.\n\
+            With -o the picture has the way marked.",
     options: &[OUTPUT, GRAPH, ORDER, BYTES, JSON],
     examples: &[
         ("vt explain coins.sheet '(silver, ?, 25)'", "why this piece waits"),
@@ -131,9 +133,9 @@ impl Explained<'_> {
         let mut text =
             format!("{}\n\n{}\n", self.out.bold(self.shown), table.print(|head| self.out.dim(head)));
         let spans = self.spans();
-        let chosen = spans.chosen();
-        if !chosen.is_empty() {
-            text += &format!("{chosen}\n");
+        let said = spans.chosen() + &self.nevers().met(self.way);
+        if !said.is_empty() {
+            text += &format!("{said}\n");
         }
         text +=
             &format!("{} {}\n", self.out.answer(self.answer.walk.word, &word(&self.answer)), self.because());
@@ -149,6 +151,10 @@ impl Explained<'_> {
 
     fn spans(&self) -> Spans<'_> {
         Spans { bench: self.bench, piece: &self.piece.piece, way: self.way }
+    }
+
+    fn nevers(&self) -> Nevers<'_> {
+        Nevers { piece: &self.piece.piece }
     }
 
     /// The node at which the walk ended.
@@ -194,7 +200,8 @@ impl Explained<'_> {
         let mut text = written.map(|rule| format!("  rule {rule}\n")).unwrap_or_default();
         let mut table = Table::new(&[], &[]);
         for made in &self.way.made {
-            table.row(vec![self.made_words(made), self.made_found(made), made.truth.words().into()]);
+            let truth = format!("{}{}", made.truth.words(), self.nevers().beside(made.test));
+            table.row(vec![self.made_words(made), self.made_found(made), truth]);
         }
         for line in table.print(|head| head.into()).lines() {
             text += &format!("    {line}\n");
@@ -241,6 +248,7 @@ impl Explained<'_> {
                 ("to", Json::number(step.to)),
                 ("left", Json::List(rules(step.left).into_iter().map(Json::Number).collect())),
                 ("partly", Json::List(rules(step.partly).into_iter().map(Json::Number).collect())),
+                ("never", self.nevers().json(step.asks)),
             ])
         };
         let made = |made: &Made| {
@@ -248,6 +256,7 @@ impl Explained<'_> {
                 ("test", Json::text(self.made_words(made))),
                 ("finds", Json::text(self.made_found(made))),
                 ("truth", Json::text(made.truth.words())),
+                ("never", self.nevers().json(made.test)),
             ])
         };
         let mut fields = self.bench.json(self.shown, &self.answer);

@@ -11,6 +11,7 @@ mod explain;
 mod help;
 pub mod input;
 mod listing;
+mod nevers;
 mod order;
 pub mod out;
 mod picture;

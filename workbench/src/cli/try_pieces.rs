@@ -16,8 +16,9 @@ pub const COMMAND: Command = Command {
     usage: "SHEET PIECE..",
     summary: "walk pieces over a sheet's graph and say the answers",
     about:
-        "A piece is written as `(silver, 231, ?)`, in quotes for the shell; `?` is a reading not taken yet,\n\
-            `231..239?` a number known to lie between these two.\n\
+        "A piece is written as `(silver, 231, ?)`, in single quotes for the shell; `?` is a reading not taken yet,\n\
+            `231..239?` a number known to lie between these two, `!` a reading that will never come, as of a sensor\n\
+            that the machine lacks.\n\
             Said are the answer, the rule as it was written, the edges walked, and what the piece waits for.",
     options: &[PIECES, GRAPH, ORDER, BYTES, JSON],
     examples: &[

@@ -2,13 +2,12 @@
 //! graph.
 
 use super::replies::Reply;
-use crate::notation::{count, Form, Pattern, Sheet};
+use crate::notation::{count, Form, Pattern, Piece, Sheet, Term, What};
 use std::collections::BTreeMap;
 use std::fmt;
 use voltunnis::{Refusal, Word};
 use voltunnis_generate::calls::{Call, Name, Role};
 use voltunnis_generate::nodes::{Case, GraphNodes, Node};
-use voltunnis_generate::trees::{read_piece, Term};
 
 /// How often each thing was met.
 #[derive(Default)]
@@ -30,7 +29,7 @@ const PATTERNS: [&str; 7] =
     ["anything", "symbol", "range", "compound", "variable", "ranged variable", "series"];
 
 /// The kinds of terms, in the order of their records.
-const TERMS: [&str; 5] = ["unknown", "symbol", "number", "compound", "span"];
+const TERMS: [&str; 6] = ["unknown", "symbol", "number", "compound", "span", "never"];
 
 /// The kinds of nodes, in the order of their records.
 const NODES: [&str; 5] = ["fail", "suspend", "execute", "switch", "pair"];
@@ -61,8 +60,8 @@ impl Coverage {
         if let Some(sheet) = call.argument(Role::Sheet).and_then(|bytes| Sheet::read(bytes).ok()) {
             sheet.rules.iter().for_each(|rule| self.add_patterns(&rule.patterns));
         }
-        if let Some((terms, _)) = call.argument(Role::Piece).and_then(read_piece) {
-            self.add_terms(&terms);
+        if let Some(piece) = call.argument(Role::Piece).and_then(|bytes| Piece::read(bytes).ok()) {
+            self.add_terms(&piece.terms);
         }
         let graph = match call.name() {
             Name::Build | Name::BuildOrdered => reply.buffer.as_deref(),
@@ -97,16 +96,15 @@ impl Coverage {
 
     fn add_terms(&mut self, terms: &[Term]) {
         for term in terms {
-            self.terms[match term {
-                Term::Unknown => 0,
-                Term::Symbol(_) => 1,
-                Term::Number(_) => 2,
-                Term::Compound(_, arguments) => {
-                    self.add_terms(arguments);
-                    3
-                }
-                Term::Span(..) => 4,
+            self.terms[match term.what {
+                What::Unknown => 0,
+                What::Symbol(_) => 1,
+                What::Number(_) => 2,
+                What::Compound(..) => 3,
+                What::Between(..) => 4,
+                What::Never => 5,
             }] += 1;
+            self.add_terms(term.arguments());
         }
     }
 

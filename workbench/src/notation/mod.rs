@@ -55,7 +55,7 @@ pub fn print_sheet(bytes: &[u8]) -> Result<String, Unread> {
 /// use voltunnis_workbench::notation::print_piece;
 ///
 /// assert_eq!(print_piece(&[0x11, 2, 0x30, 0x33, 0, 7, 1, 0x32, 0, 180]).unwrap(), "(?, #7(180))");
-/// assert_eq!(print_piece(&[0x11, 1, 0x34, 0, 231, 0, 239]).unwrap(), "(231..239?)");
+/// assert_eq!(print_piece(&[0x11, 2, 0x34, 0, 231, 0, 239, 0x35]).unwrap(), "(231..239?, !)");
 /// ```
 pub fn print_piece(bytes: &[u8]) -> Result<String, Unread> {
     Piece::read(bytes).map(|piece| piece.print(&Names::default()))

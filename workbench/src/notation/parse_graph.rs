@@ -28,7 +28,7 @@ pub fn parse_graph(text: &str, names: &Names) -> Result<Graph, Fault> {
     if !parser.accept_word("graph") {
         let fault = parser.expected("a graph's head");
         return Err(
-            fault.help("begin with the numbers of arguments, rules and nodes: `graph 2, 2 rules, 7 nodes`")
+            fault.help("begin with the numbers of arguments, rules and nodes: `graph 2, 2 rules, 6 nodes`")
         );
     }
     let arity = parser.byte("the number of arguments")?;

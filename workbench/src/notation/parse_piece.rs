@@ -6,13 +6,19 @@ use super::span::Fault;
 use super::token::Token;
 use super::tree::{Piece, Term, What};
 
+/// What a term may be.
+const TERM: &str = "a term: `?`, `!`, a name, a number or a span";
+
+/// That a reading which will never come has no other mark beside it.
+const ALONE: &str = "a reading that never comes is `!` alone";
+
 /// The piece that a text spells, by these names.
 ///
 /// ```
 /// use voltunnis_workbench::notation::{parse_piece, Names};
 ///
-/// let piece = parse_piece("(#17, ?, 180, 231..239?)", &Names::default()).unwrap();
-/// assert_eq!(piece.bytes(), [0x11, 4, 0x31, 0, 17, 0x30, 0x32, 0, 180, 0x34, 0, 231, 0, 239]);
+/// let piece = parse_piece("(#17, ?, 180, 231..239?, !)", &Names::default()).unwrap();
+/// assert_eq!(piece.bytes(), [0x11, 5, 0x31, 0, 17, 0x30, 0x32, 0, 180, 0x34, 0, 231, 0, 239, 0x35]);
 /// ```
 pub fn parse_piece(text: &str, names: &Names) -> Result<Piece, Fault> {
     let mut parser = Parser::new(text, names)?;
@@ -72,6 +78,7 @@ fn number(parser: &mut Parser) -> Result<What, Fault> {
     let high = parser.number("the end of the span")?;
     match parser.accept("?") {
         true => Ok(What::Between(low, high)),
+        false if *parser.peek() == Token::Mark("!") => Err(parser.expected("`?`").help(ALONE)),
         false => {
             let help = format!(
                 "a number between the two, not known yet, is `{low}..{high}?`; ranges stand in sheets"
@@ -105,13 +112,24 @@ fn term(parser: &mut Parser, depth: usize) -> Result<Term, Fault> {
             parser.advance();
             What::Unknown
         }
+        Token::Mark("!") => {
+            parser.advance();
+            What::Never
+        }
         Token::Number(_) => number(parser)?,
         Token::Id(_) | Token::Word(_) => by_id(parser, depth)?,
         Token::Mark("_") | Token::Variable(_) => {
-            let fault = parser.expected("a term: `?`, a name, a number or a span");
-            return Err(fault.help("`_` and variables stand in sheets; in a piece `?` is an unknown reading"));
+            let help =
+                "`_` and variables stand in sheets; in a piece `?` is a reading not taken yet, `!` one that \
+                        never comes";
+            return Err(parser.expected(TERM).help(help));
         }
-        _ => return Err(parser.expected("a term: `?`, a name, a number or a span")),
+        _ => return Err(parser.expected(TERM)),
     };
-    Ok(Term { at: start.to(parser.last()), what })
+    match (&what, parser.peek()) {
+        (_, Token::Mark("!")) | (What::Never, Token::Mark("?" | "(" | "..")) => {
+            Err(parser.expected("`,` or `)`").help(ALONE))
+        }
+        _ => Ok(Term { at: start.to(parser.last()), what }),
+    }
 }

@@ -148,6 +148,10 @@ fn pattern(parser: &mut Parser, variables: &Variables, depth: usize) -> Result<P
             let fault = parser.expected("a pattern");
             return Err(fault.help("`?` is an unknown reading of a piece; in a sheet `_` is anything"));
         }
+        Token::Mark("!") => {
+            let help = "`!` is a reading of a piece, one that never comes; in a sheet `_` is anything";
+            return Err(parser.expected("a pattern").help(help));
+        }
         _ => return Err(parser.expected("a pattern: `_`, a name, a series, a number, a range or a variable")),
     };
     Ok(Pattern { at: start.to(parser.last()), form })

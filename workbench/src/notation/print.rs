@@ -108,6 +108,7 @@ impl Term {
     pub fn print(&self, names: &Names) -> String {
         match &self.what {
             What::Unknown => "?".into(),
+            What::Never => "!".into(),
             What::Symbol(id) => names.show(*id),
             What::Number(value) => value.to_string(),
             What::Between(low, high) => format!("{low}..{high}?"),

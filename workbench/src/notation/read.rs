@@ -111,13 +111,14 @@ impl<'a> Reader<'a> {
             0x32 => What::Number(self.wide()?),
             0x33 => return Some((What::Compound(self.wide()?, Vec::new()), self.byte()?)),
             0x34 => What::Between(self.wide()?, self.wide()?),
+            0x35 => What::Never,
             _ => return None,
         };
         Some((what, 0))
     }
 
     fn term(&mut self, depth: usize) -> Result<Term, Unread> {
-        let ((mut what, arity), at) = self.record("a whole record of kinds 30 to 34", Reader::what)?;
+        let ((mut what, arity), at) = self.record("a whole record of kinds 30 to 35", Reader::what)?;
         if let What::Compound(_, arguments) = &mut what {
             self.shallow(depth, at)?;
             for _ in 0..arity {

@@ -56,6 +56,8 @@ pub struct Term {
 #[derive(Clone, Debug)]
 pub enum What {
     Unknown,
+    /// A reading that will never come.
+    Never,
     Symbol(u16),
     Number(u16),
     /// A number known to lie between two, low and high.
@@ -70,6 +72,15 @@ impl What {
             What::Number(value) => Some((*value, *value)),
             What::Between(low, high) => Some((*low, *high)),
             _ => None,
+        }
+    }
+
+    /// Whether it is a reading that will never come, or holds one: then it differs from every term.
+    pub fn holds_never(&self) -> bool {
+        match self {
+            What::Never => true,
+            What::Compound(_, arguments) => arguments.iter().any(|argument| argument.what.holds_never()),
+            _ => false,
         }
     }
 }

@@ -76,6 +76,7 @@ impl Term {
     pub fn write_record(&self, to: &mut Vec<u8>) {
         match &self.what {
             What::Unknown => to.push(0x30),
+            What::Never => to.push(0x35),
             What::Symbol(id) => {
                 to.push(0x31);
                 wide(to, *id);

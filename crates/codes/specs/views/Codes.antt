@@ -1,7 +1,7 @@
 -- A number for each term, but for its arguments. What stands at a place and what a place test wants are runs of such numbers, each
 -- with a lowest and a highest code. The codes of symbols, compounds and numbers ascend in this order, as the cases of a switch do.
 use Prim.Native.Nat.{ℕ, _+_, _-_, _*_, _/_, _%_, _≤_}
-use Rattle.terms.specs.Term.{Term, count, unknown, symbol, numbers, compound, Wide}
+use Rattle.terms.specs.Term.{Term, count, unknown, never, symbol, numbers, compound, Wide}
 use Rattle.terms.specs.RuleTests.{Want, aSymbol, aNumber, aCompound}
 
 -- The sort of a term in the highest byte, below it its id or number, or a compound's id and arity. The sorts are in the order of a
@@ -15,20 +15,26 @@ compoundCode a n = 0x2000000 + a * 256 + n
 abbrev pub numberCode : ℕ → ℕ
 numberCode a = 0x3000000 + a
 
--- 24 bits are kept for a number.
+-- The highest code that a test can want: 24 bits are kept for a number.
 abbrev pub highestCode : ℕ
 highestCode = 0x3ffffff
 
+-- "A reading that will never come" has a code that no test wants and nothing else has.
+abbrev pub neverCode : ℕ
+neverCode = 0x4000000
+
 -- The codes that what is known of a term allows, but for its arguments: a symbol, a compound and a number have one, "a number known
--- to lie between them" has those from its low to its high, and an unknown all, since anything can stand there.
+-- to lie between them" has those from its low to its high, and an unknown all that a test can want, since anything can stand there.
 abbrev pub termLow : Term → ℕ
 termLow unknown = symbolCode 0
+termLow never = neverCode
 termLow (symbol a) = symbolCode a
 termLow (numbers a b) = numberCode a
 termLow (compound a ts) = compoundCode a (count ts)
 
 abbrev pub termHigh : Term → ℕ
 termHigh unknown = highestCode
+termHigh never = neverCode
 termHigh (symbol a) = symbolCode a
 termHigh (numbers a b) = numberCode b
 termHigh (compound a ts) = compoundCode a (count ts)

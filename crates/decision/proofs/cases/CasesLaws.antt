@@ -13,7 +13,7 @@ use Rattle.basics.proofs.ListLaws.{all-at, all-from, mem-none}
 use Rattle.basics.proofs.Booleans.{both-true, same-truth}
 use Rattle.basics.proofs.Filters.{mem-right, mem-map}
 use Rattle.basics.proofs.Numbers.{eqb-swap, both-le}
-use Rattle.terms.specs.Term.{Term, Terms, count, unknown, symbol, numbers, compound}
+use Rattle.terms.specs.Term.{Term, Terms, count, unknown, never, symbol, numbers, compound}
 use Rattle.terms.specs.RuleTests.{Want, aSymbol, aNumber, aCompound, Range}
 use Rattle.terms.specs.Lookup.{found}
 use Rattle.terms.specs.Outcome.{contradicted, inside, fits}
@@ -34,6 +34,7 @@ use Rattle.decision.proofs.cases.RangeRuns.{meets, meets-contains, run-
 use Rattle.decision.proofs.cases.FramedRuns.{InFrame}
 use Rattle.decision.proofs.cases.WantedRanges.{wanted-series, range-wanted, wanted-range}
 use Rattle.decision.proofs.cases.CaseList.{nameCases, names-all, symbols-listed, compound-listed, listed}
+use Rattle.decision.proofs.cases.Narrowest.{never-neither}
 use Rattle.decision.proofs.cases.SwitchEdges.{edgesTo, follow-case, follow-past, KeepsOpen, TakesOpen, takes-keeps}
 use Rattle.decision.proofs.cases.NumberPairs.{Followed, span-followed, numbers-follow}
 
@@ -166,6 +167,7 @@ module _ (ws : List Want) where
         : All SoundWant ws → (t : Term) → WellFormed t → (IsUnknown (found t) → ⊥)
         → TakesOpen isWanted (casesOf ws) f neither ws t
     edge-taken sound unknown ok k = absurd (k tt)
+    edge-taken sound never ok k = inr (never-neither (edgesTo f (casesOf ws)) neither, λ w m. refl)
     edge-taken sound (symbol b) ok k =
         elim (follow-case f neither (symbol b) (casesOf ws)) [
           | inl r ↦ inl (r .0, r .1, r .3, symbol-open (r .0) b (r .1) (r .2))

@@ -13,7 +13,7 @@ use Rattle.basics.specs.Order.{pairBefore}
 use Rattle.basics.proofs.ListLaws.{all-map}
 use Rattle.basics.proofs.Numbers.{le-or-lt, both-le}
 use Rattle.basics.proofs.Sorted.{pair-before, before-pair, pair-irreflexive, pair-transitive, pair-total}
-use Rattle.terms.specs.Term.{Term, unknown, symbol, numbers, compound}
+use Rattle.terms.specs.Term.{Term, unknown, never, symbol, numbers, compound}
 use Rattle.terms.specs.RuleTests.{Range}
 use Rattle.decision.specs.Runs.{covers, framed, fromTo, runPairs}
 use Rattle.decision.specs.Cases.{Case, symbolsCase, compoundCase, numbersCase, numbersIn, takes}
@@ -65,18 +65,21 @@ case-apart (numbersCase a b) (numbersCase x y) h k = narrower-apart a b x y h k
 -- What a case of one kind takes no case of another takes.
 no-symbols : (t : Term) (a b x y : ℕ) → T (takes (numbersCase a b) t) → T (takes (symbolsCase x y) t) → ⊥
 no-symbols unknown a b x y h k = absurd h
+no-symbols never a b x y h k = absurd h
 no-symbols (symbol z) a b x y h k = absurd h
 no-symbols (numbers z u) a b x y h k = absurd k
 no-symbols (compound z ts) a b x y h k = absurd h
 
 no-compound : (t : Term) (a b x n : ℕ) → T (takes (numbersCase a b) t) → T (takes (compoundCase x n) t) → ⊥
 no-compound unknown a b x n h k = absurd h
+no-compound never a b x n h k = absurd h
 no-compound (symbol y) a b x n h k = absurd h
 no-compound (numbers y z) a b x n h k = absurd k
 no-compound (compound y ts) a b x n h k = absurd h
 
 no-id : (t : Term) (a b x n : ℕ) → T (takes (symbolsCase a b) t) → T (takes (compoundCase x n) t) → ⊥
 no-id unknown a b x n h k = absurd h
+no-id never a b x n h k = absurd h
 no-id (symbol y) a b x n h k = absurd k
 no-id (numbers y z) a b x n h k = absurd h
 no-id (compound y ts) a b x n h k = absurd h
@@ -122,6 +125,14 @@ module _ {A : Type 0} (t : Term) where
       go : (o : Option (CaseEdge A)) → IsBest takesEdge narrowerEdge cs o → FollowsTo cs neither (leadsOr neither o)
       go none none-takes = inr (none-takes, refl)
       go (some c) h = inl (c, h, refl)
+
+-- "At a switch 35 takes the neither edge", since no case takes it.
+pub never-neither : {A : Type 0} (cs : List (CaseEdge A)) (neither : A) → follow cs neither never ≡ neither
+never-neither cs neither =
+    elim (follow-narrowest never cs neither) [
+      | inl r ↦ absurd (r .1 .isTaken)
+      | inr r ↦ r .1
+    ]
 
 -- What holds of each target and of neither holds where the best of the cases, or neither, leads.
 pub leads-holds

@@ -2,13 +2,12 @@
 -- pair, when both its terms are there: then the rule is dead. A dead rule has a firm test, a test whose place is
 -- missing has a firm one that must be asked before it, and what an unknown settles is not firm.
 use Prim.Native.Nat.{ℕ}
-use mathlib.Core.Path.{_≡_, subst}
+use mathlib.Core.Path.{_≡_}
 use mathlib.Core.Logic.{_⊎_, inl, inr}
 use mathlib.Core.Option.{some}
 use lib.Dec.{T}
-use Rattle.places.specs.Numbering.{atOrBelow}
 use Rattle.basics.specs.Lists.{Mem}
-use Rattle.terms.specs.Term.{Term, Terms, unknown, symbol, numbers, compound}
+use Rattle.terms.specs.Term.{Terms, unknown, never, symbol, numbers, compound}
 use Rattle.terms.specs.Pattern.{Patterns}
 use Rattle.terms.specs.RuleTests.{Want, PlaceTest, at, both, placeTests}
 use Rattle.terms.specs.Lookup.{Found, lacking, found, termAt}
@@ -24,8 +23,6 @@ use Rattle.decision.specs.Edges.{settledByUnknown}
 use Rattle.decision.specs.AskingOrder.{MustPrecede}
 use Rattle.decision.proofs.rules.TestsOfRules.{HasTest, want-test, want-has, has-want}
 use Rattle.decision.proofs.rules.TestsOfRules.{place-wanted, pair-has, has-pair}
-use Rattle.basics.proofs.Booleans.{either-true}
-use Rattle.terms.proofs.CompareSentences.{compare-unknown}
 
 -- The piece lacks the place.
 abbrev pub Lacks : Found → Type 0
@@ -55,35 +52,14 @@ contradicted-differ lacking y f g c = absurd f
 contradicted-differ (found t) lacking f g c = absurd g
 contradicted-differ (found t) (found u) f g c = c
 
--- An unknown contradicts no want,
+-- An unknown contradicts no want.
 unknown-fits : (w : Want) (x : Found) → IsUnknown x → Contradicted (atPlace (fits w) x) → ⊥
 unknown-fits w lacking u c = u
 unknown-fits w (found unknown) u c = c
+unknown-fits w (found never) u c = u
 unknown-fits w (found (symbol a)) u c = u
 unknown-fits w (found (numbers a b)) u c = u
 unknown-fits w (found (compound a ts)) u c = u
-
--- an unknown differs from nothing,
-unknown-left : (x y : Found) → IsUnknown x → Differ x y → ⊥
-unknown-left lacking y u d = u
-unknown-left (found unknown) lacking u d = d
-unknown-left (found unknown) (found t) u d = d
-unknown-left (found (symbol a)) y u d = u
-unknown-left (found (numbers a b)) y u d = u
-unknown-left (found (compound a ts)) y u d = u
-
--- and nothing differs from it.
-not-contradicted : (t : Term) → Contradicted (compare t unknown) → ⊥
-not-contradicted t c = subst Contradicted (compare-unknown t) c
-
--- So nothing differs from what is unknown at a place.
-unknown-right : (x y : Found) → IsUnknown y → Differ x y → ⊥
-unknown-right lacking y u d = d
-unknown-right (found t) lacking u d = d
-unknown-right (found t) (found unknown) u d = not-contradicted t d
-unknown-right (found t) (found (symbol a)) u d = u
-unknown-right (found t) (found (numbers a b)) u d = u
-unknown-right (found t) (found (compound a ts)) u d = u
 
 -- The walk would be refused at the test.
 abbrev pub Missing : Terms → Test → Type 0
@@ -114,14 +90,10 @@ module _ (rule : Patterns) (piece : Terms) where
       let differ = differ-contradicted (termAt piece p) (termAt piece q) (f .1) in
       outcome-contradicted rule piece .1 (inr (both p q, has-pair rule p q (f .0), differ))
 
-  -- What the unknown edge of place n settles is not firm.
+  -- What the unknown edge of place n settles is not firm. A pair may be, as record 35 differs from an unknown, so it settles none.
   pub settled-not-firm : (n : ℕ) (t : Test) → IsUnknown (termAt piece n) → T (settledByUnknown n t) → Firm t → ⊥
   settled-not-firm n (place m) u h f = unknown-fits (f .0) (termAt piece m) (below-unknown piece n m h u) (f .2)
-  settled-not-firm n (pair p q) u h f =
-      elim (either-true (atOrBelow n p) (atOrBelow n q) h) [
-        | inl k ↦ unknown-left (termAt piece p) (termAt piece q) (below-unknown piece n p k u) (f .1)
-        | inr k ↦ unknown-right (termAt piece p) (termAt piece q) (below-unknown piece n q k u) (f .1)
-      ]
+  settled-not-firm n (pair p q) u h f = h
 
 -- A rule of an accepted sheet and an accepted piece of its arity.
 module _ (arity : ℕ) (rule : Patterns) (piece : Terms)

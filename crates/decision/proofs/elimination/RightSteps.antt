@@ -8,7 +8,7 @@ use mathlib.Core.Option.{Option, some}
 use lib.Dec.{T}
 use lib.ListN.{length}
 use Rattle.basics.specs.Lists.{All}
-use Rattle.terms.specs.Term.{Term, Terms, unknown, symbol, numbers, compound}
+use Rattle.terms.specs.Term.{Term, Terms, unknown, never, symbol, numbers, compound}
 use Rattle.terms.specs.Pattern.{Patterns}
 use Rattle.terms.specs.Lookup.{Found, lacking, found, termAt}
 use Rattle.terms.specs.Outcome.{Outcome, holds, notKnown, contradicted, Contradicted, compare}
@@ -64,6 +64,8 @@ module _ (arity : ℕ) (rules : List Patterns) (piece : Terms)
         go lacking e = absurd (asked-present (rw (at, e) tt))
         go (found unknown) e =
             (_, refl, unknown-right rules piece key right t n at seen (rw e tt))
+        go (found never) e =
+            (_, refl, known-right rules piece key right t n at seen never e owes (λ k. k))
         go (found (symbol a)) e =
             (_, refl, known-right rules piece key right t n at seen (symbol a) e owes (λ k. k))
         go (found (numbers a b)) e =

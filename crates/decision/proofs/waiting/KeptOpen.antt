@@ -12,7 +12,7 @@ use lib.Dec.{T}
 use lib.ListN.{length}
 use Rattle.basics.specs.Lists.{All}
 use Rattle.basics.proofs.ListLaws.{all-at}
-use Rattle.terms.specs.Term.{Terms, unknown, symbol, numbers, compound}
+use Rattle.terms.specs.Term.{Terms, unknown, never, symbol, numbers, compound}
 use Rattle.terms.specs.Pattern.{Patterns}
 use Rattle.terms.specs.RuleTests.{Want, PlaceTest, PairTest, at, both, placeTests}
 use Rattle.terms.specs.Lookup.{Found, lacking, found, termAt}
@@ -46,6 +46,7 @@ use Rattle.decision.proofs.elimination.RightLeaves.{settled-open}
 pub is-unknown : (x : Found) → IsUnknown x → T (isUnknown x)
 is-unknown lacking h = h
 is-unknown (found unknown) h = h
+is-unknown (found never) h = h
 is-unknown (found (symbol a)) h = h
 is-unknown (found (numbers a b)) h = h
 is-unknown (found (compound a ts)) h = h

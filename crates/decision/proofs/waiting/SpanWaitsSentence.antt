@@ -12,7 +12,7 @@ use lib.ListN.{length}
 use Rattle.masks.specs.Mask.{has}
 use Rattle.basics.specs.Lists.{anyBelow}
 use Rattle.basics.proofs.Booleans.{both-true, true-both, either-true, true-left, true-right}
-use Rattle.terms.specs.Term.{Terms, count, unknown, symbol, numbers, compound}
+use Rattle.terms.specs.Term.{Terms, count, unknown, never, symbol, numbers, compound}
 use Rattle.terms.specs.Pattern.{Patterns}
 use Rattle.terms.specs.RuleTests.{Want, aSymbol, aNumber, aCompound}
 use Rattle.terms.specs.Lookup.{Found, lacking, found, termAt}
@@ -37,6 +37,7 @@ Partly x w = (l h a b : ℕ) × (w ≡ aNumber l h) × (x ≡ found (numbers a b
 partly : (w : Want) (x : Found) → NotKnown (atPlace (fits w) x) → T (isUnknown x) ⊎ Partly x w
 partly w lacking u = absurd u
 partly w (found unknown) u = inl tt
+partly w (found never) u = absurd u
 partly (aSymbol l h) (found (symbol a)) u = absurd (known-decided (leb l a && leb a h) u)
 partly (aSymbol l h) (found (numbers a b)) u = absurd u
 partly (aSymbol l h) (found (compound b ts)) u = absurd u

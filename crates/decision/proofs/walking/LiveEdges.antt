@@ -12,7 +12,7 @@ use Rattle.masks.specs.Mask.{has}
 use Rattle.basics.specs.Lists.{All}
 use Rattle.basics.proofs.Booleans.{both-true, true-both}
 use Rattle.basics.proofs.Clash.{clash}
-use Rattle.terms.specs.Term.{Term, Terms, unknown, symbol, numbers, compound}
+use Rattle.terms.specs.Term.{Term, Terms, unknown, never, symbol, numbers, compound}
 use Rattle.terms.specs.Pattern.{Patterns}
 use Rattle.terms.specs.RuleTests.{Want}
 use Rattle.terms.specs.Lookup.{Found, lacking, found, termAt}
@@ -152,6 +152,7 @@ module _ (arity : ℕ) (rules : List Patterns) (accepted : All (AcceptedRule ari
                 let same : byUnknown rules key n ≡ w = cc in
                 let isLeft : ℕ → Bool = λ u. has (key .pending) u && not (settledByUnknown n (testAt rules u)) in
                 subst (KeptRules key t) same (drops-none (place n) at isLeft (λ i l. unknown-free e i))
+            go (found never) e s = subst (KeptRules key t) (cc) (known-kept owes never e (λ k. k))
             go (found (symbol a)) e s = subst (KeptRules key t) (cc) (known-kept owes (symbol a) e (λ k. k))
             go (found (numbers a b)) e s = subst (KeptRules key t) (cc) (known-kept owes (numbers a b) e (λ k. k))
             go (found (compound a ts)) e s = subst (KeptRules key t) (cc) (known-kept owes (compound a ts) e (λ k. k))

@@ -3,7 +3,7 @@ use mathlib.Core.Path.{_≡_, refl, ap, subst, _∙_}
 use mathlib.Core.List.{List, [], _∷_, _++_, map}
 use mathlib.Core.Option.{Option, some, none}
 use Rattle.basics.specs.Lists.{Mem, here, there}
-use Rattle.terms.specs.Term.{Term, Terms, unknown, symbol, numbers, compound}
+use Rattle.terms.specs.Term.{Term, Terms, unknown, never, symbol, numbers, compound}
 use Rattle.terms.specs.Lookup.{Found, lacking, found, termAt}
 use Rattle.terms.specs.Outcome.{Outcome, holds, notKnown, contradicted, compare}
 use Rattle.decision.specs.Narrowest.{best}
@@ -37,6 +37,7 @@ module _ {A B : Type 0} (f : A → B) where
       → switchStep (map (mapCase f) cs) (f x) (f y) z ≡ mapStep f (switchStep cs x y z)
   switch-map cs x y lacking = refl
   switch-map cs x y (found unknown) = refl
+  switch-map cs x y (found never) = ap goTo (follow-map cs x never)
   switch-map cs x y (found (symbol a)) = ap goTo (follow-map cs x (symbol a))
   switch-map cs x y (found (numbers a b)) = ap goTo (follow-map cs x (numbers a b))
   switch-map cs x y (found (compound a ts)) = ap goTo (follow-map cs x (compound a ts))
@@ -83,6 +84,7 @@ module _ {A : Type 0} where
   switch-edge : (cs : List (CaseEdge A)) (x y : A) (z : Found) → GoesIn (targets cs x y) (switchStep cs x y z)
   switch-edge cs x y lacking = tt
   switch-edge cs x y (found unknown) = mem-right (map (λ (c : CaseEdge A). c .target) cs) (there here)
+  switch-edge cs x y (found never) = follow-edge cs x y never
   switch-edge cs x y (found (symbol a)) = follow-edge cs x y (symbol a)
   switch-edge cs x y (found (numbers a b)) = follow-edge cs x y (numbers a b)
   switch-edge cs x y (found (compound a ts)) = follow-edge cs x y (compound a ts)

@@ -26,7 +26,8 @@ returns-2 c =
     let cells = now (m .before .args .cells) in
     sym
     (m .loop .inv .1
-    ∙ has-cell (m .loop .left) cells (m .loop .place) (c .before .before .before .loop-test .taken) (c .before .before .if1 .left) (c .if2 .taken))
+    ∙ has-cell (m .loop .left) cells (m .loop .place) (c .before .before .before .loop-test .taken) (c .before .before .if1 .left)
+    (c .if2 .taken))
 
 loop-again : tie.Need-loop-again Inv-loop μ-loop
 loop-again c =
@@ -35,7 +36,8 @@ loop-again c =
     let up = c .parent .ensures in (
       rw up (parent-most (m .loop .place) (m .loop .inv .0)),
       m .loop .inv .1
-          ∙ has-none (m .loop .left) cells (m .loop .place) (c .before .before .before .before .loop-test .taken) (c .before .before .before .if1 .left) (c .before .if2 .left)
+          ∙ has-none (m .loop .left) cells (m .loop .place) (c .before .before .before .before .loop-test .taken)
+          (c .before .before .before .if1 .left) (c .before .if2 .left)
           ∙ (rw up),
     )
 

@@ -31,14 +31,19 @@ module _ (c : tie.After-look2) where
 returns : tie.Need-returns
 returns c =
     let m = c .before in
-    one-lacking (m .before .look .result) (m .look2 .result) _ (⊎-elim (λ w. inl (w .taken)) (λ w. inr (w .1 .taken)) (c .if1 .came))
+    one-lacking (m .before .look .result) (m .look2 .result) _
+    (⊎-elim (λ w. inl (w .taken)) (λ w. inr (w .1 .taken)) (c .if1 .came))
     ∙ runs-decide m
 
 sub-compare : tie.Need-sub-compare
-sub-compare c = let levels = levels-below (start (c .before .before .before) .args .p) (c .depth .result) (c .depth .ensures) in omega arith
+sub-compare c =
+    let levels = levels-below (start (c .before .before .before) .args .p) (c .depth .result) (c .depth .ensures) in
+    omega arith
 
 sub-compare-2 : tie.Need-sub-compare-2
-sub-compare-2 c = let levels = levels-below (start (c .before .before .before .before) .args .q) (c .depth2 .result) (c .depth2 .ensures) in omega arith
+sub-compare-2 c =
+    let levels = levels-below (start (c .before .before .before .before) .args .q) (c .depth2 .result) (c .depth2 .ensures) in
+    omega arith
 
 compare-requires : tie.Need-compare-requires
 compare-requires c κs =
@@ -50,6 +55,7 @@ compare-requires c κs =
       place-inside (m .args .q) (depth-other .result) (depth-other .ensures) (search needs),
       m .pre .2,
       subst NarrowRun (sym (looked .before .look .ensures)) (look-narrow (now (m .args .cells)) (m .args .p) (m .pre .2)),
+      subst NarrowRun (sym (looked .look2 .ensures)) (look-narrow (now (m .args .cells)) (m .args .q) (m .pre .2)),
     )
 
 returns-2 : tie.Need-returns-2
@@ -60,7 +66,8 @@ returns-2 c =
     let levels = levels-below (a .p) (c .before .before .depth .result) (c .before .before .depth .ensures) in
     let levels-other = levels-below (a .q) (c .before .depth2 .result) (c .before .depth2 .ensures) in
     c .compare .ensures
-    ∙ ap₂ (λ k l. compareAt (now (a .cells)) k l (a .p) (a .q) (m .before .look .result) (m .look2 .result)) (levels .2) (levels-other .2)
+    ∙ ap₂ (λ k l. compareAt (now (a .cells)) k l (a .p) (a .q) (m .before .look .result) (m .look2 .result)) (levels .2)
+    (levels-other .2)
     ∙ sym (both-there (m .before .look .result) (m .look2 .result) _ (e .before .if1 .left) (e .if2 .left)) ∙ runs-decide m
 
 pub pair-outcome-spec : {M : Type 1} → statement M

@@ -22,7 +22,11 @@ use Rattle.piece.proofs.+term+terms.Lts-term as term-lts
 use Rattle.piece.proofs.+term+terms.Lts-terms as terms-lts
 use Rattle.piece.proofs.+term+terms.Tie.{close}
 use Rattle.piece.proofs.+term+terms.{statement}
-use Rattle.piece.proofs.+term+terms.Proof.Places.{μ-term, μ-terms, Inv-loop, μ-loop, term-at, terms-at, term-calls, terms-calls, head-start, whole-head, compound-start, id, arity, compound-head, compound-there, span-start, low, high, span-head, arguments-start, compound-read, arguments-fit, row-fits, row-step, turn, row-refuses, row-continues, bytes-there}
+use Rattle.piece.proofs.+term+terms.Proof.Places.{μ-term, μ-terms, Inv-loop, μ-loop, term-at, terms-at, term-calls}
+use Rattle.piece.proofs.+term+terms.Proof.Places.{terms-calls, head-start, whole-head, compound-start, id, arity}
+use Rattle.piece.proofs.+term+terms.Proof.Places.{compound-head, compound-there, span-start, low, high, span-head}
+use Rattle.piece.proofs.+term+terms.Proof.Places.{arguments-start, compound-read, arguments-fit, row-fits, row-step, turn}
+use Rattle.piece.proofs.+term+terms.Proof.Places.{row-refuses, row-continues, bytes-there}
 
 term-returns : (t : ℕ) → term-lts.Need-returns (term-calls t) (term-at t) term.Post
 term-returns t c =
@@ -104,6 +108,11 @@ term-returns-10 t c =
     ∙ span-stored (a .below) (now (a .s)) (a .p) (now (a .cells)) (low k) (high k) (span-head k) most
     (c .before .before .number-code2 .ensures) (c .before .number-code3 .ensures)
 
+term-returns-11 : (t : ℕ) → term-lts.Need-returns-11 (term-calls t) (term-at t) term.Post
+term-returns-11 t c =
+    let a = head-start (c .before .before) .args in
+    by-record (a .below) (now (a .s)) (a .p) (now (a .cells)) (whole-head (c .before .before) (c .enum-told4 .given .1))
+
 terms-loop-holds : (t : ℕ) → terms-lts.Need-loop-holds (terms-calls t) (terms-at t) terms.Post Inv-loop μ-loop
 terms-loop-holds t c =
     let a = c .before .before .args in
@@ -183,11 +192,15 @@ pub +term+terms-spec : {M : Type 1} → statement M
     (λ c κs. search needs)
     (λ c. search needs)
     (λ c. search needs)
+    (λ c. search needs)
+    (λ c. search needs)
+    (λ c. search needs)
     (term-returns-6 t)
     (term-returns-7 t)
     (term-returns-8 t)
     (term-returns-9 t)
-    (term-returns-10 t))
+    (term-returns-10 t)
+    (term-returns-11 t))
     λ t. terms-lts.spec (terms-calls t)
     (terms-at t)
     terms.Post

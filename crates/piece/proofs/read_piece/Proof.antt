@@ -10,20 +10,20 @@ use Rattle.piece.proofs.read_piece.Tie as tie
 returns : tie.Need-returns
 returns c =
     let m = c .before .before .before .before in
-    bytes-left (now (m .before .before .before .args .s)) (m .read-prefix .result) (m .read-prefix .last .1 .0) (m .read-prefix .ensures .0)
-    (c .before .before .prefix .given .1) (c .if1 .taken)
+    bytes-left (now (m .before .before .before .args .s)) (m .read-prefix .result) (m .read-prefix .last .1 .0)
+    (m .read-prefix .ensures .0) (c .before .before .prefix .given .1) (c .if1 .taken)
 
 returns-2 : tie.Need-returns-2
 returns-2 c =
     let m = c .before .before .before .before in
-    piece-took (now (m .before .before .before .args .s)) (m .read-prefix .result) (m .read-prefix .last .1 .0) (m .read-prefix .ensures .0)
-    (c .before .before .prefix .given .1) (c .if1 .left)
+    piece-took (now (m .before .before .before .args .s)) (m .read-prefix .result) (m .read-prefix .last .1 .0)
+    (m .read-prefix .ensures .0) (c .before .before .prefix .given .1) (c .if1 .left)
 
 returns-3 : tie.Need-returns-3
 returns-3 c =
     let m = c .before .before .before in
-    piece-refused (now (m .before .before .before .args .s)) (m .read-prefix .result) (m .read-prefix .last .1 .0) (m .read-prefix .ensures .0)
-    (c .before .prefix2 .given .1)
+    piece-refused (now (m .before .before .before .args .s)) (m .read-prefix .result) (m .read-prefix .last .1 .0)
+    (m .read-prefix .ensures .0) (c .before .prefix2 .given .1)
 
 pub read-piece-spec : {M : Type 1} → statement M
 read-piece-spec =

@@ -69,7 +69,8 @@ terms-requires c κs = omega (arith, known (c .before .before .before .before) .
 
 add-t18 : tie.Need-add-t18
 add-t18 c =
-    let m = c .before .before .before in omega (arith, within m (c .before .taken .given .1), start m .before .before .before .before .before .good .0 .0)
+    let m = c .before .before .before in
+    omega (arith, within m (c .before .taken .given .1), start m .before .before .before .before .before .good .0 .0)
 
 returns-2 : tie.Need-returns-2
 returns-2 c =

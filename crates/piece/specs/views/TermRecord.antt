@@ -6,9 +6,9 @@ use lib.ListN.{length, getD}
 use lib.Dec.{leb, eqb}
 use Rattle.records.specs.Fields.{wideAt}
 use Rattle.records.specs.Reading.{Reading, took, refused, ask}
-use Rattle.terms.specs.Term.{Term, unknown, symbol, number, numbers}
+use Rattle.terms.specs.Term.{Term, unknown, never, symbol, number, numbers}
 use Rattle.piece.specs.declared.TermRecord.{TermRecord}
-use Rattle.piece.specs.declared.TermRecord.the-variants.{Unknown, Symbol, Number, Compound, Span}
+use Rattle.piece.specs.declared.TermRecord.the-variants.{Unknown, Symbol, Number, Compound, Span, Never}
 use Rattle.piece.specs.declared.TermHead.{TermHead}
 use Rattle.piece.specs.declared.TermHead.the-variants.{Whole, Refused}
 
@@ -17,7 +17,7 @@ abbrev pub wholeIf : Bool → TermRecord → TermHead
 wholeIf true r = Whole r
 wholeIf false r = Refused 14
 
--- "14 Is each term a whole record of kinds 30 to 33?" Of record 34: "Question 14 admits it".
+-- "14 Is each term a whole record of kinds 30 to 33?" Of records 34 and 35: "Question 14 admits it".
 abbrev pub termHead : List ℕ → TermHead
 termHead s =
     cond (eqb (length s) 0) (Refused 14)
@@ -26,7 +26,8 @@ termHead s =
     (cond (eqb (getD s 0 0) 0x32) (wholeIf (leb 3 (length s)) (Number (wideAt s 1)))
     (cond (eqb (getD s 0 0) 0x33) (wholeIf (leb 4 (length s)) (Compound (wideAt s 1) (getD s 3 0)))
     (cond (eqb (getD s 0 0) 0x34) (wholeIf (leb 5 (length s)) (Span (wideAt s 1) (wideAt s 3)))
-    (Refused 14))))))
+    (cond (eqb (getD s 0 0) 0x35) (Whole Never)
+    (Refused 14)))))))
 
 -- The number of the question that a head got a no from, 0 for a whole record.
 abbrev pub headRefusal : TermHead → ℕ
@@ -40,6 +41,7 @@ onRecord compoundOf (Symbol a) = took 3 (symbol a)
 onRecord compoundOf (Number a) = took 3 (number a)
 onRecord compoundOf (Compound a n) = compoundOf a n
 onRecord compoundOf (Span l h) = ask 32 (leb l h) (took 5 (numbers l h))
+onRecord compoundOf Never = took 1 never
 
 abbrev pub onHead : (ℕ → ℕ → Reading Term) → TermHead → Reading Term
 onHead compoundOf (Whole r) = onRecord compoundOf r

@@ -19,7 +19,8 @@ use Rattle.number_search.specs.views.CodeCases.{followCode, CasesInOrder}
 use Rattle.steps.specs.declared.Step as step
 
 -- The step at a switch where its place has this run, 0 where the piece lacks it: "27 Is each place it tests in the piece, or
--- below an unknown?" An unknown leads by the "node for unknown".
+-- below an unknown?" An unknown leads by the "node for unknown". A place below record 35 "is treated as it is, by question 27 too";
+-- no case takes its code, so it leads by neither (document 02, request 6).
 abbrev pub runStep : List (CaseEdge ℕ) → ℕ → ℕ → ℕ → Step ℕ
 runStep cs neither unknownEdge run =
     cond (eqb run 0) noWay (goTo (cond (eqb run unknownRun) unknownEdge (followCode cs neither (lowOf run) (highOf run))))

@@ -1,14 +1,14 @@
 -- The tests of a sheet in its tables (document 01, "Places and tests"): "The sheet's tests are its distinct tested places
 -- ascending, then its distinct pairs ascending by p, then q, numbered from 0."
-use Prim.Native.Nat.{ℕ, suc, _+_, _-_, _/_, _%_, _≤_}
+use Prim.Native.Nat.{ℕ, suc, _+_, _-_, _%_, _≤_}
 use mathlib.Core.Path.{_≡_}
-use mathlib.Core.Bool.{Bool, _&&_, _||_}
+use mathlib.Core.Bool.{Bool, _&&_}
 use mathlib.Core.List.{List, [], _∷_, map}
 use lib.Dec.{leb, ltb}
 use lib.ListN.{length, take, drop, set}
 use Rattle.masks.specs.Mask.{maskOf}
 use Rattle.basics.specs.Lists.{countFrom}
-use Rattle.places.specs.Numbering.{stride, levelsAt}
+use Rattle.places.specs.Numbering.{atOrBelow}
 use Rattle.pairs.specs.views.KeptPairs.{pairCode}
 use Rattle.tables.specs.views.Planes.{testsIn, placeTestsIn, testIn}
 
@@ -38,22 +38,18 @@ pub record Counted (s : List ℕ) : Type 0 where
 abbrev pub pairsListed : List ℕ → List ℕ
 pairsListed s = take (testsIn s - placeTestsIn s) (drop (4 + placeTestsIn s) s)
 
--- The places at and below place p stand in a row that begins with p.
+-- The number stands from p on before an end. The places at and below place p stand in a row that begins with p.
 abbrev pub isWithin : ℕ → ℕ → ℕ → Bool
 isWithin p end x = leb p x && ltb x end
 
-abbrev pub under : ℕ → ℕ → Bool
-under p code =
-    let end = p + stride (levelsAt p) in
-    isWithin p end (code / 0x1_0000) || isWithin p end (code % 0x1_0000)
-
--- Of the tests from t on those that an unknown at the place of test t settles; a test before t is at no place below it.
+-- Of the place tests from t on those at or below the place of test t, which an unknown there settles; a test before t is at no such
+-- place.
 module _ (s : List ℕ) (t : ℕ) where
   abbrev pub isSettled : ℕ → Bool
-  isSettled u = leb t u && under (testIn s t % 0x1_0000) (testIn s u)
+  isSettled u = leb t u && atOrBelow (testIn s t % 0x1_0000) (testIn s u % 0x1_0000)
 
   unfoldable pub settledBelow : ℕ
-  settledBelow = maskOf (testsIn s) isSettled
+  settledBelow = maskOf (placeTestsIn s) isSettled
 
 unfoldable pub underPut : List ℕ → List ℕ
 underPut s = putAll 196 (map (settledBelow s) (countFrom 0 (placeTestsIn s))) s

@@ -120,18 +120,34 @@ fn series(name: &'static str, rules: u16) -> Case {
     case(name, known::series_4(rules), piece_bytes(&symbols))
 }
 
+/// Four readings that the rule in the middle would take, one of a sensor that the machine lacks.
+fn without(count: u16) -> Vec<u8> {
+    let at = count / 2;
+    piece_bytes(&[Term::Symbol(at % 4), Term::Number(at * 40 + 20), Term::Never, Term::Number(at * 25 + 15)])
+}
+
+/// Eight places that have to be alike or 1, the last of them this one, the others unknown.
+fn alike(name: &'static str, last: Term) -> Case {
+    let mut terms = vec![Term::Unknown; 7];
+    terms.push(last);
+    case(name, known::eight_alike(), piece_bytes(&terms))
+}
+
 /// Nested ranges at one place, and one reading.
 fn one(name: &'static str, rules: u16, term: Term) -> Case {
     case(name, known::nested_1(rules), piece_bytes(&[term]))
 }
 
-/// What is timed of walks alone: pieces with spans, for graphs that are timed otherwise.
+/// What is timed of walks alone: pieces with spans and of a machine that lacks a sensor, for graphs that are timed
+/// otherwise.
 pub fn for_walks() -> Vec<Case> {
     vec![
         case("8 rules of 4 readings, spans", coins(8), spans(8)),
         case("16 rules of 4 readings, spans", coins(16), spans(16)),
         one("nested ranges, a span", 32, Term::Span(20, 990)),
         one("64 nested ranges, a span", 64, Term::Span(20, 990)),
+        case("8 rules of 4 readings, one never", coins(8), without(8)),
+        alike("28 pairs of unknowns, one never", Term::Never),
     ]
 }
 
@@ -155,8 +171,9 @@ pub fn for_graphs() -> Vec<Case> {
         open("nested ranges at 8 places", known::nested_8(32)),
         open("nested ranges at 16 places", known::nested_16(32)),
         series("32 series at 4 places", 32),
+        alike("28 pairs of unknowns", Term::Unknown),
         open("most nodes", known::nodes_1024()),
-        open("too many nodes", known::nodes_1027()),
+        open("too many nodes", known::nodes_1025()),
     ]
 }
 
@@ -183,6 +200,8 @@ pub fn all() -> Vec<Case> {
     let four = Term::Compound(1, vec![Term::Number(7); 4]);
     let mut paired = vec![four.clone(), four.clone(), four.clone(), four, Term::Unknown];
     paired.resize(8, Term::Number(7));
+    let mut spoiled = paired.clone();
+    spoiled[7] = Term::Never;
     let mut open = vec![full_term(1, &Term::Unknown); 3];
     open.resize(8, Term::Unknown);
     let hostile = |leaf| SheetTree { arity: 8, rules: vec![vec![full_pattern(1, &leaf); 8]; 32] }.bytes();
@@ -196,6 +215,7 @@ pub fn all() -> Vec<Case> {
         case("32 equal rules of 64 places", places_64(32).bytes(), piece_bytes(&open)),
         case("64 equal rules of 64 places", places_64(64).bytes(), piece_bytes(&open)),
         case("32 equal rules of 55 pairs", pairs_64(32).bytes(), piece_bytes(&paired)),
+        case("32 equal rules of 55 pairs, one never", pairs_64(32).bytes(), piece_bytes(&spoiled)),
         case("full depth piece", places_64(32).bytes(), full_piece()),
         case("512 variables a rule", hostile(Pattern::Variable(0)), full_piece()),
     ]

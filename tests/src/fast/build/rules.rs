@@ -64,7 +64,7 @@ impl<'a, R: Rules> Tests<'a, R> {
         }
     }
 
-    /// Notes what an unknown settles: the place, those below it, and pairs with one of these.
+    /// Notes what an unknown settles: the place and those below it.
     fn settle(&mut self) {
         let count = usize::from(self.sheet.places);
         for test in 0..count {
@@ -75,12 +75,6 @@ impl<'a, R: Rules> Tests<'a, R> {
             while below < count && u32::from(self.places[below]) < end {
                 settled |= 1 << below;
                 below += 1;
-            }
-            for i in 0..usize::from(self.sheet.pair_count) {
-                let (p, q) = (self.sheet.pairs[i] >> 16, self.sheet.pairs[i] & 0xffff);
-                if p >= place && p < end || q >= place && q < end {
-                    settled |= 1 << (count + i);
-                }
             }
             self.settled[test] = settled;
         }

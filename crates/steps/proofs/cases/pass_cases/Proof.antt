@@ -7,7 +7,8 @@ use denote.Ref.{now}
 use Rattle.records.proofs.Parts.{rest}
 use Rattle.graph.specs.views.NodeRecord.{caseHead}
 use Rattle.steps.specs.declared.Led.the-variants.{To}
-use Rattle.steps.proofs.CasesLeft.{Passed, passed-starts, passed-ends, passed-whole, passed-inside, passed-above, passed-better, passed-still}
+use Rattle.steps.proofs.CasesLeft.{Passed, passed-starts, passed-ends, passed-whole}
+use Rattle.steps.proofs.CasesLeft.{passed-inside, passed-above, passed-better, passed-still}
 use borrow.Author.Needs.{needs}
 use Rattle.steps.proofs.cases.pass_cases.Statement.{statement}
 use Rattle.steps.proofs.cases.pass_cases.Tie as tie
@@ -22,7 +23,8 @@ abbrev μ-loop : tie.MeasureT-loop
 loop-holds : tie.Need-loop-holds Inv-loop μ-loop
 loop-holds c =
     let a = c .before .args in
-    passed-starts (now (a .graph)) (a .neither) (a .low) (a .high) (a .start) (a .count) (c .before .pre .begins) (c .before .pre .whole)
+    passed-starts (now (a .graph)) (a .neither) (a .low) (a .high) (a .start) (a .count) (c .before .pre .begins)
+    (c .before .pre .whole)
 
 sub-case-head : tie.Need-sub-case-head Inv-loop μ-loop
 sub-case-head c = c .before .loop .inv .there
@@ -53,7 +55,8 @@ returns c =
     let a = start .args in
     let s = now (a .graph) in
     absurd
-    (passed-whole s (a .neither) (a .low) (a .high) (around .loop .inv) (start .pre .ordered .ascend) (read .before .before .loop-test .taken)
+    (passed-whole s (a .neither) (a .low) (a .high) (around .loop .inv) (start .pre .ordered .ascend)
+    (read .before .before .loop-test .taken)
     (ap caseHead (sym (rest s (around .loop .at))) ∙ sym (read .case-head .ensures) ∙ c .before .enum-told .given .1))
 
 case-range-requires : tie.Need-case-range-requires Inv-loop μ-loop
@@ -70,7 +73,8 @@ returns-2 c =
     let s = now (a .graph) in
     let whole = ap caseHead (sym (rest s (around .loop .at))) ∙ sym (read .case-head .ensures) ∙ told .head .given .1 in
     ap To
-    (passed-above s (a .neither) (a .low) (a .high) (around .loop .inv) (start .pre .ordered .ascend) (read .before .before .loop-test .taken)
+    (passed-above s (a .neither) (a .low) (a .high) (around .loop .inv) (start .pre .ordered .ascend)
+    (read .before .before .loop-test .taken)
     (told .head .given .0 .0) whole (ranged .case-range .ensures) (c .if1 .taken))
 
 both-requires : tie.Need-both-requires Inv-loop μ-loop
@@ -88,7 +92,8 @@ add-at c =
     let whole = ap caseHead (sym (rest s (around .loop .at))) ∙ sym (read .case-head .ensures) ∙ told .head .given .1 in
     omega (
       arith,
-      passed-inside s (a .neither) (a .low) (a .high) (around .loop .inv) (start .pre .ordered .ascend) (read .before .before .loop-test .taken)
+      passed-inside s (a .neither) (a .low) (a .high) (around .loop .inv) (start .pre .ordered .ascend)
+          (read .before .before .loop-test .taken)
           (told .head .given .0 .0) whole (ranged .case-range .ensures),
     )
 
@@ -114,10 +119,12 @@ loop-again c =
     let low-enough = tried .before .before .before .if1 .left in
     ⊎-elim
     (λ w.
-    passed-better s (a .neither) (a .low) (a .high) (around .loop .inv) (start .pre .ordered .ascend) next first whole (ranged .case-range .ensures)
+    passed-better s (a .neither) (a .low) (a .high) (around .loop .inv) (start .pre .ordered .ascend) next first whole
+    (ranged .case-range .ensures)
     low-enough (sym (tried .both .ensures) ∙ w .0 .taken) (w .1) (w .2))
     (λ w.
-    passed-still s (a .neither) (a .low) (a .high) (around .loop .inv) (start .pre .ordered .ascend) next first whole (ranged .case-range .ensures)
+    passed-still s (a .neither) (a .low) (a .high) (around .loop .inv) (start .pre .ordered .ascend) next first whole
+    (ranged .case-range .ensures)
     low-enough (sym (tried .both .ensures) ∙ w .0 .left) (w .1) (w .2))
     (c .before .if2 .came)
 
@@ -125,7 +132,9 @@ returns-3 : tie.Need-returns-3 Inv-loop μ-loop
 returns-3 c =
     let start = c .before .before .before in
     let a = start .args in
-    ap To (passed-ends (now (a .graph)) (a .neither) (a .low) (a .high) (c .before .loop .inv) (start .pre .ordered .ascend) (c .loop-test .left))
+    ap To
+    (passed-ends (now (a .graph)) (a .neither) (a .low) (a .high) (c .before .loop .inv) (start .pre .ordered .ascend)
+    (c .loop-test .left))
 
 pub pass-cases-spec : {M : Type 1} → statement M
 pass-cases-spec =

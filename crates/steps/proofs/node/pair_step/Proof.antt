@@ -19,7 +19,8 @@ returns : tie.Need-returns
 returns c =
     let a = c .before .before .args in
     let cells = now (a .cells) in
-    pair-lacking (look cells (a .p)) (look cells (a .q)) (a .differ) (a .other) (pairCode (a .p) (a .q)) (pairCells cells (a .p) (a .q)) (inl (sym (c .before .look .ensures) ∙ c .if1 .taken))
+    pair-lacking (look cells (a .p)) (look cells (a .q)) (a .differ) (a .other) (pairCode (a .p) (a .q))
+    (pairCells cells (a .p) (a .q)) (inl (sym (c .before .look .ensures) ∙ c .if1 .taken))
 
 look-requires-2 : tie.Need-look-requires-2
 look-requires-2 c κs = search needs
@@ -29,7 +30,8 @@ returns-2 c =
     let a = c .before .before .before .before .args in
     let cells = now (a .cells) in
     let right = look cells (a .q) in
-    pair-lacking (look cells (a .p)) right (a .differ) (a .other) (pairCode (a .p) (a .q)) (pairCells cells (a .p) (a .q)) (inr (eq-eqb right 0 (sym (c .before .look2 .ensures) ∙ c .if2 .taken)))
+    pair-lacking (look cells (a .p)) right (a .differ) (a .other) (pairCode (a .p) (a .q)) (pairCells cells (a .p) (a .q))
+    (inr (eq-eqb right 0 (sym (c .before .look2 .ensures) ∙ c .if2 .taken)))
 
 test-code-requires : tie.Need-test-code-requires
 test-code-requires c κs = search needs
@@ -48,32 +50,41 @@ enum-told-3 c = search needs
 
 returns-3 : tie.Need-returns-3
 returns-3 c =
-    let a = c .before .before .before .before .before .before .before .before .args in
+    let m = c .before .before .before .before in
+    let a = m .before .before .before .before .args in
     let cells = now (a .cells) in
     let left = look cells (a .p) in
     let right = look cells (a .q) in
     ap (GoTo (a .other)) (c .before .before .before .test-code .ensures)
-    ∙ pair-there left right (a .differ) (a .other) (pairCode (a .p) (a .q)) (pairCells cells (a .p) (a .q)) (λ e. c .before .before .before .before .before .before .if1 .left (c .before .before .before .before .before .before .before .look .ensures ∙ e)) (ne-eqb right 0 (λ e. c .before .before .before .before .if2 .left (c .before .before .before .before .before .look2 .ensures ∙ e)))
+    ∙ pair-there left right (a .differ) (a .other) (pairCode (a .p) (a .q)) (pairCells cells (a .p) (a .q))
+    (λ e. m .before .before .if1 .left (m .before .before .before .look .ensures ∙ e))
+    (ne-eqb right 0 (λ e. m .if2 .left (m .before .look2 .ensures ∙ e)))
     (sym (ap outcomeOf (c .enum-told .given .1)) ∙ c .before .before .pair-outcome .ensures)
 
 returns-4 : tie.Need-returns-4
 returns-4 c =
-    let a = c .before .before .before .before .before .before .before .before .args in
+    let m = c .before .before .before .before in
+    let a = m .before .before .before .before .args in
     let cells = now (a .cells) in
     let left = look cells (a .p) in
     let right = look cells (a .q) in
     ap (GoTo (a .other)) (c .before .before .before .test-code .ensures)
-    ∙ pair-there left right (a .differ) (a .other) (pairCode (a .p) (a .q)) (pairCells cells (a .p) (a .q)) (λ e. c .before .before .before .before .before .before .if1 .left (c .before .before .before .before .before .before .before .look .ensures ∙ e)) (ne-eqb right 0 (λ e. c .before .before .before .before .if2 .left (c .before .before .before .before .before .look2 .ensures ∙ e)))
+    ∙ pair-there left right (a .differ) (a .other) (pairCode (a .p) (a .q)) (pairCells cells (a .p) (a .q))
+    (λ e. m .before .before .if1 .left (m .before .before .before .look .ensures ∙ e))
+    (ne-eqb right 0 (λ e. m .if2 .left (m .before .look2 .ensures ∙ e)))
     (sym (ap outcomeOf (c .enum-told2 .given .1)) ∙ c .before .before .pair-outcome .ensures)
 
 returns-5 : tie.Need-returns-5
 returns-5 c =
-    let a = c .before .before .before .before .before .before .before .before .args in
+    let m = c .before .before .before .before in
+    let a = m .before .before .before .before .args in
     let cells = now (a .cells) in
     let left = look cells (a .p) in
     let right = look cells (a .q) in
     ap (GoTo (a .differ)) (c .before .before .before .test-code .ensures)
-    ∙ pair-there left right (a .differ) (a .other) (pairCode (a .p) (a .q)) (pairCells cells (a .p) (a .q)) (λ e. c .before .before .before .before .before .before .if1 .left (c .before .before .before .before .before .before .before .look .ensures ∙ e)) (ne-eqb right 0 (λ e. c .before .before .before .before .if2 .left (c .before .before .before .before .before .look2 .ensures ∙ e)))
+    ∙ pair-there left right (a .differ) (a .other) (pairCode (a .p) (a .q)) (pairCells cells (a .p) (a .q))
+    (λ e. m .before .before .if1 .left (m .before .before .before .look .ensures ∙ e))
+    (ne-eqb right 0 (λ e. m .if2 .left (m .before .look2 .ensures ∙ e)))
     (sym (ap outcomeOf (c .enum-told3 .given .1)) ∙ c .before .before .pair-outcome .ensures)
 
 pub pair-step-spec : {M : Type 1} → statement M

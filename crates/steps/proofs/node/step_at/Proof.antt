@@ -49,7 +49,9 @@ returns c =
     let s = now (a .graph) in
     let cells = now (a .cells) in
     let read = ap nodeHead (sym (rest s (a .at))) ∙ sym (c .before .before .before .node-head .ensures) in
-    absurd (node-there (drop (a .at) s) (c .before .before .before .before .before .before .pre .0 .whole) (read ∙ c .before .enum-told .given .1))
+    absurd
+    (node-there (drop (a .at) s) (c .before .before .before .before .before .before .pre .0 .whole)
+    (read ∙ c .before .enum-told .given .1))
 
 enum-known-node : tie.Need-enum-known-node
 enum-known-node c = search needs
@@ -67,7 +69,9 @@ switch-step-requires c κs =
     let stands = start .pre .0 in
     let s = now (a .graph) in
     let read = ap nodeHead (sym (rest s (a .at))) ∙ sym (c .before .before .before .before .before .before .node-head .ensures) in
-    let switching : nodeHead (drop (a .at) s) ≡ Whole (Switch (c .before .node2 .given .0 .0) (c .before .node2 .given .0 .1 .0) (c .before .node2 .given .0 .1 .1 .0) (c .before .node2 .given .0 .1 .1 .1 .0)) = read ∙ c .before .before .before .before .head .given .1 ∙ ap Whole (c .before .node2 .given .1) in
+    let f = c .before .node2 .given .0 in
+    let switching : nodeHead (drop (a .at) s) ≡ Whole (Switch (f .0) (f .1 .0) (f .1 .1 .0) (f .1 .1 .1 .0)) =
+    read ∙ c .before .before .before .before .head .given .1 ∙ ap Whole (c .before .node2 .given .1) in
     let node = sym (switch-node (drop (a .at) s) switching (stands .whole)) in (
       record {
         begins = cases-inside s (a .at) (stands .begins) switching;
@@ -83,13 +87,15 @@ enum-known-node-3 c = search needs
 
 pair-step-requires : tie.Need-pair-step-requires
 pair-step-requires c κs =
-    let a = c .before .before .before .before .before .before .before .before .before .args in
+    let start = c .before .before .before .before .before .before .before .before .before in
+    let a = start .args in
     let s = now (a .graph) in
     let cells = now (a .cells) in
     let read = ap nodeHead (sym (rest s (a .at))) ∙ sym (c .before .before .before .before .before .before .node-head .ensures) in
-    let pairing : nodeHead (drop (a .at) s) ≡ Whole (Pair (c .before .node3 .given .0 .0) (c .before .node3 .given .0 .1 .0) (c .before .node3 .given .0 .1 .1 .0) (c .before .node3 .given .0 .1 .1 .1 .0)) = read ∙ c .before .before .before .before .head .given .1 ∙ ap Whole (c .before .node3 .given .1) in
-    let near = subst NearNode (sym (pair-node (drop (a .at) s) pairing)) (c .before .before .before .before .before .before .before .before .before .pre .0 .near) in
-    (near .0, near .1, c .before .before .before .before .before .before .before .before .before .pre .1)
+    let f = c .before .node3 .given .0 in
+    let pairing : nodeHead (drop (a .at) s) ≡ Whole (Pair (f .0) (f .1 .0) (f .1 .1 .0) (f .1 .1 .1 .0)) =
+    read ∙ c .before .before .before .before .head .given .1 ∙ ap Whole (c .before .node3 .given .1) in
+    let near = subst NearNode (sym (pair-node (drop (a .at) s) pairing)) (start .pre .0 .near) in (near .0, near .1, start .pre .1)
 
 returns-2 : tie.Need-returns-2
 returns-2 c =
@@ -97,27 +103,38 @@ returns-2 c =
     let s = now (a .graph) in
     let cells = now (a .cells) in
     let read = ap nodeHead (sym (rest s (a .at))) ∙ sym (c .before .before .before .before .before .before .node-head .ensures) in
-    let leaf = leaf-node (drop (a .at) s) (c .before .node .given .0 .0) (read ∙ c .before .before .before .before .head .given .1 ∙ ap Whole (c .before .node .given .1)) in
+    let ending = read ∙ c .before .before .before .before .head .given .1 ∙ ap Whole (c .before .node .given .1) in
+    let leaf = leaf-node (drop (a .at) s) (c .before .node .given .0 .0) ending in
     ap Stop (leaf-back (c .before .node .given .0 .0)) ∙ ap (nodeStep cells) leaf
 
 returns-3 : tie.Need-returns-3
 returns-3 c =
-    let a = c .before .before .before .before .before .before .before .before .before .before .args in
+    let m = c .before .before in
+    let start = m .before .before .before .before .before .before .before .before in
+    let a = start .args in
+    let stands = start .pre .0 in
     let s = now (a .graph) in
     let cells = now (a .cells) in
-    let read = ap nodeHead (sym (rest s (a .at))) ∙ sym (c .before .before .before .before .before .before .before .node-head .ensures) in
-    let switching : nodeHead (drop (a .at) s) ≡ Whole (Switch (c .before .before .node2 .given .0 .0) (c .before .before .node2 .given .0 .1 .0) (c .before .before .node2 .given .0 .1 .1 .0) (c .before .before .node2 .given .0 .1 .1 .1 .0)) = read ∙ c .before .before .before .before .before .head .given .1 ∙ ap Whole (c .before .before .node2 .given .1) in
-    let node = switch-node (drop (a .at) s) switching (c .before .before .before .before .before .before .before .before .before .before .pre .0 .whole) in
-    let same = ap (λ (l : List ℕ). runStep (readOr [] (readCases (c .before .before .node2 .given .0 .1 .0) l)) (c .before .before .node2 .given .0 .1 .1 .0) (c .before .before .node2 .given .0 .1 .1 .1 .0) (look cells (c .before .before .node2 .given .0 .0))) (sym (cases-begin s (a .at) (c .before .before .before .before .before .before .before .before .before .before .pre .0 .begins) switching)) in
-    c .switch-step .ensures ∙ ap (stepMade (pairCode (c .before .before .node2 .given .0 .0) (c .before .before .node2 .given .0 .0))) same ∙ ap (nodeStep cells) node
+    let read = ap nodeHead (sym (rest s (a .at))) ∙ sym (m .before .before .before .before .before .node-head .ensures) in
+    let f = m .node2 .given .0 in
+    let switching : nodeHead (drop (a .at) s) ≡ Whole (Switch (f .0) (f .1 .0) (f .1 .1 .0) (f .1 .1 .1 .0)) =
+    read ∙ m .before .before .before .head .given .1 ∙ ap Whole (m .node2 .given .1) in
+    let node = switch-node (drop (a .at) s) switching (stands .whole) in
+    let same =
+    ap (λ (l : List ℕ). runStep (readOr [] (readCases (f .1 .0) l)) (f .1 .1 .0) (f .1 .1 .1 .0) (look cells (f .0)))
+    (sym (cases-begin s (a .at) (stands .begins) switching)) in
+    c .switch-step .ensures ∙ ap (stepMade (pairCode (f .0) (f .0))) same ∙ ap (nodeStep cells) node
 
 returns-4 : tie.Need-returns-4
 returns-4 c =
-    let a = c .before .before .before .before .before .before .before .before .before .before .args in
+    let m = c .before .before in
+    let a = m .before .before .before .before .before .before .before .before .args in
     let s = now (a .graph) in
     let cells = now (a .cells) in
-    let read = ap nodeHead (sym (rest s (a .at))) ∙ sym (c .before .before .before .before .before .before .before .node-head .ensures) in
-    let pairing : nodeHead (drop (a .at) s) ≡ Whole (Pair (c .before .before .node3 .given .0 .0) (c .before .before .node3 .given .0 .1 .0) (c .before .before .node3 .given .0 .1 .1 .0) (c .before .before .node3 .given .0 .1 .1 .1 .0)) = read ∙ c .before .before .before .before .before .head .given .1 ∙ ap Whole (c .before .before .node3 .given .1) in
+    let read = ap nodeHead (sym (rest s (a .at))) ∙ sym (m .before .before .before .before .before .node-head .ensures) in
+    let f = m .node3 .given .0 in
+    let pairing : nodeHead (drop (a .at) s) ≡ Whole (Pair (f .0) (f .1 .0) (f .1 .1 .0) (f .1 .1 .1 .0)) =
+    read ∙ m .before .before .before .head .given .1 ∙ ap Whole (m .node3 .given .1) in
     let node = pair-node (drop (a .at) s) pairing in
     c .pair-step .ensures ∙ ap (nodeStep cells) node
 

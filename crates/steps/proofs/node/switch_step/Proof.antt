@@ -37,7 +37,8 @@ returns-2 c =
     let run = c .before .before .before .look .result in
     rw (sym (c .before .before .before .look .ensures))
     (ap (GoTo (a .unknown)) (c .before .test-code .ensures)
-    ∙ switch-on cs (a .neither) (a .unknown) run (pairCode (a .tested) (a .tested)) true (ne-eqb run 0 (c .before .before .if1 .left)) (eq-eqb run unknownRun (c .if2 .taken)))
+    ∙ switch-on cs (a .neither) (a .unknown) run (pairCode (a .tested) (a .tested)) true
+    (ne-eqb run 0 (c .before .before .if1 .left)) (eq-eqb run unknownRun (c .if2 .taken)))
 
 find-case-requires : tie.Need-find-case-requires
 find-case-requires c κs = search needs
@@ -57,11 +58,13 @@ returns-3 c =
     let cs = readOr [] (readCases (a .count) (drop (a .start) (now (a .graph)))) in
     let run = m .look .result in
     let test = pairCode (a .tested) (a .tested) in
-    let right = switch-on cs (a .neither) (a .unknown) run test false (ne-eqb run 0 (known .before .before .if1 .left)) (ne-eqb run unknownRun (known .if2 .left)) in
+    let some = ne-eqb run 0 (known .before .before .if1 .left) in
+    let right = switch-on cs (a .neither) (a .unknown) run test false some (ne-eqb run unknownRun (known .if2 .left)) in
     rw (sym (m .look .ensures))
     (ap (GoTo (c .before .led .given .0 .0)) (known .before .test-code .ensures)
     ∙ ap (λ l. GoTo (ledTo l) test) (sym (c .before .led .given .1) ∙ led .find-case .ensures)
-    ∙ ap₂ (λ low high. GoTo (followCode cs (a .neither) low high) test) (led .before .before .low-of .ensures) (led .before .high-of .ensures)
+    ∙ ap₂ (λ low high. GoTo (followCode cs (a .neither) low high) test) (led .before .before .low-of .ensures)
+    (led .before .high-of .ensures)
     ∙ right)
 
 returns-4 : tie.Need-returns-4
@@ -69,4 +72,16 @@ returns-4 c = search needs
 
 pub switch-step-spec : {M : Type 1} → statement M
 switch-step-spec =
-    tie.close (tie.spec look-requires returns test-code-requires returns-2 (λ c κs. search needs) (λ c κs. search needs) find-case-requires enum-known-led enum-known-led-2 returns-3 returns-4)
+    tie.close
+    (tie.spec
+    look-requires
+    returns
+    test-code-requires
+    returns-2
+    (λ c κs. search needs)
+    (λ c κs. search needs)
+    find-case-requires
+    enum-known-led
+    enum-known-led-2
+    returns-3
+    returns-4)

@@ -38,7 +38,7 @@ settled-requires c κs =
     let turn = c .before .before .loop in
     let s = start .args .s .now in
     let counted = same-counted s (turn .s) (turn .inv .entries) (λ k h. turn .inv .below k (omega arith)) (start .pre) in
-    (counted, omega (arith, c .before .before .before .place-tests .ensures, turn .inv .below 1 (omega arith), start .pre .places))
+    (counted, omega (arith, c .before .before .before .place-tests .ensures, turn .inv .below 2 (omega arith)))
 
 add-s : tie.Need-add-s Inv-loop μ-loop
 add-s c =
