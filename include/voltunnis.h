@@ -14,17 +14,17 @@
  *   sheet        1  begins with a whole 10 record
  *                2  arity 1 to 8
  *                3  at most 64 rules
- *   each         4  whole record of kinds 20 to 26
+ *   each         4  whole record of kinds 20 to 27
  *   pattern      5  a compound's depth is at most 3
  *                6  a compound's arity is 1 to 4
- *                7  low is at most high, of a range and of a series
+ *                7  low is at most high, of a range, on whichever gauge, and of a series
  *                8  variable 0 to 15
  *   each rule    9  each variable's ranges have a number in common
  *   sheet's end 10  no bytes are left
  *               11  at most 64 tests
  *   piece       12  begins with a whole 11 record
  *               13  arity 1 to 8
- *               14  each term is a whole record of kinds 30 to 35
+ *               14  each term is a whole record of kinds 30 to 36
  *               15  a compound's depth is at most 3
  *               16  a compound's arity is 1 to 4
  *               32  a span's low is at most its high; asked after 16 at that term, before the next term's 14
@@ -35,7 +35,7 @@
  *   graph       21  begins with a whole 12 record: the sheet's arity and rule count, 1 to 1,024 nodes
  *   each node   22  whole record of kinds 40 to 43 or 47, a switch with 1 case or more of kinds 44 to 46
  *               23  nodes and rule in range, place or pair among the sheet's tests
- *               24  cases strictly ascending, numbers by low, then high, low at most high, no id in two
+ *               24  cases strictly ascending, numbers by gauge, low, then high, low at most high, no id in two
  *   graph's end 25  no bytes are left
  *   each switch 26  fewer than 64 edges have been walked
  *   or pair     27  each place it tests is in the piece, or below an unknown or record 35
@@ -59,6 +59,12 @@
  * that number. A switch of a graph is 43 (wide place, wide number of cases, wide node for neither, wide node for
  * unknown), then its cases. Number cases, 46, may overlap: of those that contain it, a number or span follows the one
  * with the highest low, then the lowest high.
+ *
+ * A piece may hold record 36 (gauge, wide value), a number on one of the gauges 0 to 255; record 32 is a number on gauge 0, and
+ * spans and the ranges of variables are on it. Numbers are equal only on the same gauge. A rule may hold record 27 (gauge, wide
+ * low, wide high), a range of that gauge; record 22 is one of gauge 0, and a tidy sheet has 22 for it. A case of numbers, 46
+ * (gauge, wide low, wide high, wide node), takes those of its gauge only. Graphs from before gauges lack that byte: build them
+ * again, or put a 0 into each number case.
  *
  * A piece may hold record 35, which has no body: a reading that will never come, as of a sensor that the machine lacks. It
  * contradicts every test of its place and of the places below it, and at a switch it takes the edge for neither. A term that
@@ -102,12 +108,12 @@ uint64_t vt_plain(const uint8_t *sheet, size_t sheet_len, const uint8_t *piece, 
  * Fields: nodes (bits 8 to 23). */
 uint64_t vt_check_graph(const uint8_t *sheet, size_t sheet_len, const uint8_t *graph, size_t graph_len);
 
-/* The most bytes that an accepted graph has: 5, and for each of 1,024 nodes 9 and 65,535 cases of 7. */
-#define VT_MOST_BYTES 469764101
+/* The most bytes that an accepted graph has: 5, and for each of 1,024 nodes 9 and 65,535 cases of 8. */
+#define VT_MOST_BYTES 536871941
 
-/* No built graph has more bytes: 5, and for each of 1,024 nodes 9 and 8,385 cases of 7. Most have far fewer: lend what there is,
+/* No built graph has more bytes: 5, and for each of 1,024 nodes 9 and 8,385 cases of 8. Most have far fewer: lend what there is,
  * and more where question 19 gets a no, as a refusal changes no byte. */
-#define VT_MOST_BUILT_BYTES 60112901
+#define VT_MOST_BUILT_BYTES 68699141
 
 /* Writes the nodes of a graph again, at the start of the buffer: questions 1 to 11, 21 to 25, then 19.
  * The bytes after them stay as they are, and all do on a refusal. As many bytes are written as the graph has, at most

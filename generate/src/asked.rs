@@ -34,7 +34,9 @@ fn collect(
             Pattern::Anything => {}
             Pattern::Variable(number) => found.push((*number, place, false)),
             Pattern::Ranged(number, ..) => found.push((*number, place, true)),
-            Pattern::Symbol(_) | Pattern::Series(..) | Pattern::Range(..) => drop(places.insert(place)),
+            Pattern::Symbol(_) | Pattern::Series(..) | Pattern::Range(..) | Pattern::Gauged(..) => {
+                places.insert(place);
+            }
             Pattern::Compound(_, arguments) => {
                 places.insert(place);
                 collect(arguments, place + 1, depth + 1, places, found);

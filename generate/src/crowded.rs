@@ -3,7 +3,7 @@
 use crate::asked::Asked;
 use crate::random::Random;
 use crate::sheets::MOST_RULES;
-use crate::stock::{IDS, NUMBERS, SERIES};
+use crate::stock::{GAUGES, IDS, NUMBERS, SERIES};
 use crate::trees::{Pattern, SheetTree};
 
 /// A full tree of compounds down to a depth, with nothing asked at its leaves.
@@ -28,24 +28,33 @@ fn open_leaves<'a>(patterns: &'a mut [Pattern], to: &mut Vec<&'a mut Pattern>) {
 
 /// A pattern that adds tests where nothing was asked.
 fn asking(random: &mut Random) -> Pattern {
-    match random.below(8) {
+    match random.below(9) {
         0 => Pattern::Variable(0),
         1 => Pattern::Variable(random.below(16) as u8),
         2 => Pattern::Ranged(15, 0, 0xffff),
         3 | 4 => Pattern::Range(random.pick(&NUMBERS[..3]), random.pick(&NUMBERS[3..])),
         5 => Pattern::Series(random.pick(&SERIES[..3]), random.pick(&SERIES[3..])),
+        6 => {
+            let (low, high) = (random.pick(&NUMBERS[..3]), random.pick(&NUMBERS[3..]));
+            Pattern::Gauged(random.pick(&GAUGES), low, high)
+        }
         _ => Pattern::Symbol(random.pick(&IDS)),
     }
 }
 
-/// The rule with other symbols and ends of ranges and series at the same places, and some tests taken out.
+/// The rule with other symbols, gauges and ends of ranges and series at the same places, and some tests taken out.
 fn variant(random: &mut Random, rule: &[Pattern]) -> Vec<Pattern> {
     rule.iter()
         .map(|pattern| match pattern {
             Pattern::Symbol(_) if random.percent(50) => Pattern::Symbol(random.pick(&IDS)),
             Pattern::Range(low, _) if random.percent(30) => Pattern::Range(*low, *low),
             Pattern::Series(low, _) if random.percent(30) => Pattern::Series(*low, random.pick(&SERIES[3..])),
-            Pattern::Symbol(_) | Pattern::Series(..) | Pattern::Range(..) if random.percent(10) => {
+            Pattern::Gauged(_, low, high) if random.percent(50) => {
+                Pattern::Gauged(random.pick(&GAUGES), *low, *high)
+            }
+            Pattern::Symbol(_) | Pattern::Series(..) | Pattern::Range(..) | Pattern::Gauged(..)
+                if random.percent(10) =>
+            {
                 Pattern::Anything
             }
             Pattern::Compound(id, arguments) if random.percent(80) => {

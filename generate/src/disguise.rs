@@ -1,9 +1,9 @@
-//! Sheets in disguise: other bytes with the same tests, rule for rule. And near misses: one thing changed, by
-//! which the tests may differ.
+//! Sheets in disguise: other bytes with the same tests, rule for rule; and pieces: other bytes of the same terms. And near
+//! misses: one thing changed, by which the tests may differ.
 
 use crate::random::Random;
-use crate::stock::IDS;
-use crate::trees::{all, replace, visit, Pattern, SheetTree};
+use crate::stock::{GAUGES, IDS};
+use crate::trees::{all, replace, visit, Pattern, SheetTree, Term};
 use crate::variables::{variables, Variable};
 use std::collections::BTreeMap;
 
@@ -96,6 +96,8 @@ fn disguised(random: &mut Random, rule: &[Pattern]) -> Vec<Pattern> {
             let range = Some((*low, *high));
             *pattern = free.next().map_or(nameless(range), |number| variable(number, range));
         }
+        Pattern::Range(low, high) if random.percent(40) => *pattern = Pattern::Gauged(0, *low, *high),
+        Pattern::Gauged(0, low, high) if random.percent(40) => *pattern = Pattern::Range(*low, *high),
         Pattern::Symbol(id) if random.percent(40) => *pattern = Pattern::Series(*id, *id),
         Pattern::Series(low, high) if low == high && random.percent(40) => *pattern = Pattern::Symbol(*low),
         _ => {}
@@ -105,13 +107,25 @@ fn disguised(random: &mut Random, rule: &[Pattern]) -> Vec<Pattern> {
 
 /// The sheet as another office may write it: its variables with other numbers; where one stands once, anything
 /// or its range instead, or the other way round; the range of a repeated one at some of its places only, and
-/// wider at some, with the same common part; a symbol as the series of that one, or the other way round.
+/// wider at some, with the same common part; a symbol as the series of that one, and a range on gauge 0 by its name, or
+/// the other way round.
 ///
 /// # Panics
 /// If a rule has more than 16 variables.
 pub fn disguise(random: &mut Random, sheet: &SheetTree) -> SheetTree {
     let rules = sheet.rules.iter().map(|rule| disguised(random, rule)).collect();
     SheetTree { arity: sheet.arity, rules }
+}
+
+/// The piece as another machine may write it: a number on gauge 0 by its name, or the other way round.
+pub fn disguise_piece(random: &mut Random, terms: &[Term]) -> Vec<Term> {
+    let mut other = |term: &Term| match term {
+        Term::Number(value) if random.percent(50) => Term::Gauged(0, *value),
+        Term::Gauged(0, value) if random.percent(50) => Term::Number(*value),
+        Term::Compound(id, arguments) => Term::Compound(*id, disguise_piece(random, arguments)),
+        other => other.clone(),
+    };
+    terms.iter().map(&mut other).collect()
 }
 
 /// What a near miss changes.
@@ -125,10 +139,13 @@ pub enum Change {
     VariableEnd,
     /// Which variable stands at a place.
     Pair,
+    /// The gauge of a range, which may be 0 by its name before or after.
+    Gauge,
 }
 
 impl Change {
-    pub const ALL: [Change; 4] = [Change::Want, Change::End, Change::VariableEnd, Change::Pair];
+    pub const ALL: [Change; 5] =
+        [Change::Want, Change::End, Change::VariableEnd, Change::Pair, Change::Gauge];
 
     /// A pattern with this change; none if this one has nothing to change.
     fn of(self, random: &mut Random, pattern: &Pattern) -> Option<Pattern> {
@@ -139,13 +156,17 @@ impl Change {
         Some(match (self, pattern) {
             (Change::Want, Pattern::Symbol(id)) if random.percent(20) => Pattern::Range(*id, *id),
             (Change::Want, Pattern::Symbol(id)) => Pattern::Symbol(other(random, *id)),
-            (Change::Want, Pattern::Range(low, _)) => Pattern::Symbol(*low),
+            (Change::Want, Pattern::Range(low, _) | Pattern::Gauged(_, low, _)) => Pattern::Symbol(*low),
             (Change::Want, Pattern::Series(low, high)) if random.percent(50) => Pattern::Range(*low, *high),
             (Change::Want, Pattern::Series(low, _)) => Pattern::Symbol(*low),
             (Change::Want, Pattern::Compound(id, arguments)) => {
                 Pattern::Compound(other(random, *id), arguments.clone())
             }
             (Change::End, Pattern::Range(low, high)) => nameless(Some(moved(random, *low, *high))),
+            (Change::End, Pattern::Gauged(gauge, low, high)) => {
+                let (low, high) = moved(random, *low, *high);
+                Pattern::Gauged(*gauge, low, high)
+            }
             (Change::End, Pattern::Symbol(id)) => series(moved(random, *id, *id)),
             (Change::End, Pattern::Series(low, high)) => series(moved(random, *low, *high)),
             (Change::VariableEnd, Pattern::Ranged(number, low, high)) => {
@@ -156,6 +177,9 @@ impl Change {
             }
             (Change::Pair, Pattern::Ranged(number, low, high)) => {
                 Pattern::Ranged(*number ^ random.between(1, 15) as u8, *low, *high)
+            }
+            (Change::Gauge, Pattern::Range(low, high) | Pattern::Gauged(_, low, high)) => {
+                Pattern::Gauged(random.pick(&GAUGES), *low, *high)
             }
             _ => return None,
         })

@@ -1,17 +1,17 @@
 //! Random graphs for a sheet: those of another maker, and mangled ones.
 //!
 //! Another maker's graph asks the sheet's tests in any order, comes back to nodes, and cuts ids into
-//! runs and numbers as it likes: apart, or into cases that overlap. A mangled graph has faults in single
+//! runs and the numbers of any gauges as it likes: apart, or into cases that overlap. A mangled graph has faults in single
 //! fields, a damaged one in its bytes.
 
 use crate::asked::Asked;
 use crate::damage::damaged;
 use crate::nodes::{graph_bytes, Case, Node};
 use crate::random::Random;
-use crate::stock::{IDS, NUMBERS, SERIES};
+use crate::stock::{GAUGES, IDS, NUMBERS, SERIES};
 use std::collections::BTreeSet;
 
-/// Ends of number cases, ascending by low, then high: apart, overlapping, or now and then very many.
+/// Ends of the number cases of a gauge, ascending by low, then high: apart, overlapping, or now and then very many.
 fn numbers(random: &mut Random) -> BTreeSet<(u16, u16)> {
     match random.below(100) {
         0..=39 => apart(random, &NUMBERS),
@@ -63,8 +63,14 @@ fn cases(random: &mut Random, bound: usize) -> Vec<Case> {
             }
         }
     }
-    for (low, high) in numbers(random) {
-        cases.push(Case::Numbers { low, high, node: node(random) });
+    let others = if random.percent(50) { 0 } else { 40 };
+    for gauge in GAUGES {
+        if !random.percent(if gauge == 0 { 80 } else { others }) {
+            continue;
+        }
+        for (low, high) in numbers(random) {
+            cases.push(Case::Numbers { gauge, low, high, node: node(random) });
+        }
     }
     if cases.is_empty() {
         let id = random.pick(&IDS);
@@ -134,10 +140,11 @@ fn mangle_cases(random: &mut Random, cases: &mut Vec<Case>, bound: usize) {
             Case::Compound { id, arity, .. } if random.percent(70) => {
                 (*id, *arity) = (random.pick(&IDS), random.pick(&[0, 1, 2, 4, 5, 255]));
             }
-            Case::Numbers { low, high, .. } if random.percent(80) => {
-                let end = if random.percent(50) { low } else { high };
-                *end = random.pick(&NUMBERS);
-            }
+            Case::Numbers { gauge, low, high, .. } if random.percent(80) => match random.below(3) {
+                0 => *gauge = random.pick(&GAUGES),
+                1 => *low = random.pick(&NUMBERS),
+                _ => *high = random.pick(&NUMBERS),
+            },
             Case::Symbols { node, .. } | Case::Compound { node, .. } | Case::Numbers { node, .. } => {
                 *node = any_node(random, bound);
             }

@@ -2,6 +2,7 @@
 
 use crate::random::Random;
 use crate::sheets::MOST_RULES;
+use crate::stock::GAUGES;
 use crate::trees::{piece_bytes, Pattern, SheetTree, Term};
 
 /// Puts a pattern at some place of a rule.
@@ -27,19 +28,21 @@ fn nested_pattern(random: &mut Random, levels: usize) -> Pattern {
     }
 }
 
+/// Ends at or over a limit: from one to another below it, to itself, or over all.
+const ENDS: [(u16, u16); 5] = [(2, 1), (0x0100, 0x00ff), (0xffff, 0), (5, 5), (0, 0xffff)];
+
 /// A pattern at or over a limit.
 fn hostile_pattern(random: &mut Random) -> Pattern {
     let (arity, levels) = (random.pick(&[0, 4, 5, 255]), random.between(3, 5));
-    match random.below(9) {
+    let (low, high) = random.pick(&ENDS);
+    match random.below(10) {
         0 | 1 => Pattern::Compound(1, vec![Pattern::Anything; arity]),
         2..=4 => nested_pattern(random, levels),
         5 => Pattern::Range(2, 1),
         6 => Pattern::Ranged(0, 0x0100, 0x00ff),
-        7 => {
-            let (low, high) = random.pick(&[(2, 1), (0x0100, 0x00ff), (0xffff, 0), (5, 5), (0, 0xffff)]);
-            Pattern::Series(low, high)
-        }
-        8 if random.percent(50) => Pattern::Variable(random.pick(&[15, 16, 255])),
+        7 => Pattern::Series(low, high),
+        8 => Pattern::Gauged(random.pick(&GAUGES), low, high),
+        9 if random.percent(50) => Pattern::Variable(random.pick(&[15, 16, 255])),
         _ => Pattern::Ranged(random.pick(&[15, 16, 255]), 0, 0xffff),
     }
 }
@@ -91,12 +94,16 @@ fn nested_term(random: &mut Random, levels: usize) -> Term {
     }
 }
 
-/// A span at or over a limit: from a number to one below it, to itself, or over all numbers.
-fn hostile_span(random: &mut Random) -> Term {
-    let (low, high) = random.pick(&[(2, 1), (0x0100, 0x00ff), (0xffff, 0), (5, 5), (0, 0xffff)]);
+/// A span at or over a limit, or a number at the limit of a gauge.
+fn hostile_number(random: &mut Random) -> Term {
+    let (low, high) = random.pick(&ENDS);
+    let number = match random.percent(80) {
+        true => Term::Span(low, high),
+        false => Term::Gauged(random.pick(&[0, 255]), high),
+    };
     match random.percent(30) {
-        true => Term::Compound(3, vec![Term::Unknown, Term::Span(low, high)]),
-        false => Term::Span(low, high),
+        true => Term::Compound(3, vec![Term::Unknown, number]),
+        false => number,
     }
 }
 
@@ -110,7 +117,7 @@ pub fn hostile_piece(random: &mut Random, terms: &[Term]) -> Vec<u8> {
             *term = Term::Compound(2, vec![part.clone(); random.pick(&[0, 4, 5, 255])]);
         }
         (2, Some(term)) => *term = nested_term(random, levels),
-        (3, Some(term)) => *term = hostile_span(random),
+        (3, Some(term)) => *term = hostile_number(random),
         _ => terms.resize(random.pick(&[0, 9, 255]), random.pick(&MISSING).clone()),
     }
     piece_bytes(&terms)

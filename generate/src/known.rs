@@ -30,8 +30,17 @@ pub fn marked_pieces() -> Vec<Vec<u8>> {
     pieces.iter().map(|numbers| piece_bytes(&numbers.iter().map(term).collect::<Vec<_>>())).collect()
 }
 
+/// A sheet with its pieces.
+pub type WithPieces = (Vec<u8>, Vec<Vec<u8>>);
+
+/// The bytes of sheets, each with its pieces.
+fn with_pieces(cases: &[(&str, &[&str])]) -> Vec<WithPieces> {
+    let spelled = |pieces: &[&str]| pieces.iter().map(|piece| from_hex(piece)).collect();
+    cases.iter().map(|(sheet, pieces)| (from_hex(sheet), spelled(pieces))).collect()
+}
+
 /// Sheets, each with pieces in which readings will never come (document 02, request 6).
-pub fn nevers() -> Vec<(Vec<u8>, Vec<Vec<u8>>)> {
+pub fn nevers() -> Vec<WithPieces> {
     let cases: [(&str, &[&str]); 4] = [
         // (X, X): two of them differ, and one inside a compound shows beside an unknown and beside its like.
         ("10020124002400", &["11023535", "1102303300010135", "110233000101353300010135"]),
@@ -42,8 +51,7 @@ pub fn nevers() -> Vec<(Vec<u8>, Vec<Vec<u8>>)> {
         // (V1, V1), (V0:2..2, V1), (_, #1(V1)): so it is where argument 1 was asked and led to neither.
         ("10020324012401250000020002240120230001012401", &["11023530"]),
     ];
-    let spelled = |pieces: &[&str]| pieces.iter().map(|piece| from_hex(piece)).collect();
-    cases.iter().map(|(sheet, pieces)| (from_hex(sheet), spelled(pieces))).collect()
+    with_pieces(&cases)
 }
 
 /// Sheet, graph and piece, where the graph asks below an argument that will never come: for the part of #1(#5), and
@@ -54,13 +62,31 @@ pub fn below_nevers() -> [[Vec<u8>; 3]; 2] {
     [part, pair].map(|case| case.map(from_hex))
 }
 
+/// Sheets, each with pieces that have numbers on gauges (document 02, request 7).
+pub fn gauges() -> Vec<WithPieces> {
+    let cases: [(&str, &[&str]); 4] = [
+        // (X, X): 5 and 5 on gauge 0 by its name, on gauge 1, a span that has 5 and 5 on gauge 1, twice gauge 1.
+        (
+            "10020124002400",
+            &["110232000536000005", "110232000536010005", "1102340001000936010005", "11023601000536010005"],
+        ),
+        // 2..9 on gauge 1 alone: 5 on gauge 1, 5, a span, 5 on gauge 2.
+        ("100101270100020009", &["110136010005", "1101320005", "11013400020009", "110136020005"]),
+        // 2..9 on gauge 0 by its name, 3..4 on gauge 1: the same value on each.
+        ("100102270000020009270100030004", &["1101320003", "110136000003", "110136010003", "11013400030004"]),
+        // Anything, 2..3 on gauge 1: cases for pairs of runs, and none that a span takes.
+        ("10010220270100020003", &["110136010002", "110136010004", "11013400020003", "110130"]),
+    ];
+    with_pieces(&cases)
+}
+
 /// A variable at each of 3 places, for which every two have to be compared.
 pub fn three_alike() -> Vec<u8> {
     SheetTree { arity: 3, rules: vec![vec![Pattern::Variable(0); 3]] }.bytes()
 }
 
 /// Rules of 4 readings, alloy, diameter, thickness and weight, each a little above the last, so that
-/// it overlaps with the next two: 80 nodes in 14,205 bytes for 8 rules, 312 in 144,449 for 16. As a span may take
+/// it overlaps with the next two: 80 nodes in 16,137 bytes for 8 rules, 312 in 164,697 for 16. As a span may take
 /// any rules that stand together, 28 rules have 960 nodes, and 32 too many.
 pub fn coins(count: u16) -> Vec<u8> {
     let range = |at: u16, step: u16, width: u16| Pattern::Range(at * step, at * step + width);
@@ -106,12 +132,28 @@ pub fn nested_1(count: u16) -> Vec<u8> {
     nested(count, |low, high| vec![Pattern::Range(low + 1, high)])
 }
 
-/// Nested ranges from 0 on at 8 places: 221 nodes in 1,163,376 bytes for 32 rules, 445 in 8,928,672 for 64.
+/// Nested ranges from 0 on at 8 places: 221 nodes in 1,329,291 bytes for 32 rules, 445 in 10,203,627 for 64.
 pub fn nested_8(count: u16) -> Vec<u8> {
     nested(count, |low, high| vec![Pattern::Range(low, high); 8])
 }
 
-/// Nested ranges at 16 places inside compounds: 335 nodes in 335,454 bytes for 16 rules, 687 in 2,479,558 for 32.
+/// Nested ranges on the gauges 0 to 3 in turn, the first by its name.
+fn on_4_gauges(count: u16, places: usize) -> Vec<u8> {
+    nested(count, |low, high| vec![Pattern::Gauged((low % 4) as u8, low + 1, high); places])
+}
+
+/// Nested ranges on 4 gauges at 1 place: 7 nodes in 4,920 bytes for 32 rules, 17,976 for 64. Each gauge is cut by itself,
+/// into 17 runs for 8 rules on it, 33 for 16.
+pub fn gauges_1(count: u16) -> Vec<u8> {
+    on_4_gauges(count, 1)
+}
+
+/// Nested ranges on 4 gauges at 8 places: 210 nodes in 157,051 bytes for 32 rules, 434 in 911,323 for 64.
+pub fn gauges_8(count: u16) -> Vec<u8> {
+    on_4_gauges(count, 8)
+}
+
+/// Nested ranges at 16 places inside compounds: 335 nodes in 382,857 bytes for 16 rules, 687 in 2,832,713 for 32.
 pub fn nested_16(count: u16) -> Vec<u8> {
     nested(count, |low, high| vec![Pattern::Compound(1, vec![Pattern::Range(low, high); 2]); 8])
 }
@@ -131,17 +173,17 @@ fn longest(rules: u16, wide: usize) -> Vec<u8> {
     })
 }
 
-/// 32 rules with a long graph: 999 nodes in 4,824,790 bytes.
+/// 32 rules with a long graph: 999 nodes in 5,512,655 bytes.
 pub fn longest_32() -> Vec<u8> {
     longest(32, 4)
 }
 
-/// 64 rules with a long graph: 1,015 nodes in 20,807,766 bytes.
+/// 64 rules with a long graph: 1,015 nodes in 23,778,999 bytes.
 pub fn longest_64() -> Vec<u8> {
     longest(64, 0)
 }
 
-/// A sheet with exactly 1,024 nodes, in 31,038 bytes.
+/// A sheet with exactly 1,024 nodes, in 32,730 bytes.
 pub fn nodes_1024() -> Vec<u8> {
     from_hex(
         "10080b2021000221000220210001202100012400202021000221000221000220202024002020220001000220\

@@ -7,7 +7,7 @@ use crate::records::{wide, Reader};
 pub enum Case {
     Symbols { low: u16, high: u16, node: u16 },
     Compound { id: u16, arity: u8, node: u16 },
-    Numbers { low: u16, high: u16, node: u16 },
+    Numbers { gauge: u8, low: u16, high: u16, node: u16 },
 }
 
 /// A node.
@@ -40,8 +40,8 @@ impl Case {
                 Case::Compound { id: wide(a, b), arity, node: wide(c, d) }
             }
             0x46 => {
-                let [a, b, c, d, e, f] = from.take()?;
-                Case::Numbers { low: wide(a, b), high: wide(c, d), node: wide(e, f) }
+                let [gauge, a, b, c, d, e, f] = from.take()?;
+                Case::Numbers { gauge, low: wide(a, b), high: wide(c, d), node: wide(e, f) }
             }
             _ => return None,
         })
@@ -58,16 +58,17 @@ impl Case {
                 let ([a, b], [c, d]) = (two(id), two(node));
                 to.extend([0x45, a, b, arity, c, d]);
             }
-            Case::Numbers { low, high, node } => {
+            Case::Numbers { gauge, low, high, node } => {
                 let ([a, b], [c, d], [e, f]) = (two(low), two(high), two(node));
-                to.extend([0x46, a, b, c, d, e, f]);
+                to.extend([0x46, gauge, a, b, c, d, e, f]);
             }
         }
     }
 }
 
-/// No case has fewer bytes.
+/// No case has fewer bytes, or more.
 const LEAST_CASE: usize = 6;
+const MOST_CASE: usize = 8;
 
 /// A wide field's two bytes.
 fn two(field: u16) -> [u8; 2] {
@@ -130,7 +131,7 @@ impl Node {
 /// The bytes of a graph: its header, then its nodes.
 pub fn graph_bytes(arity: u8, rules: u8, nodes: &[Node]) -> Vec<u8> {
     let cases = |node: &Node| if let Node::Switch { cases, .. } = node { cases.len() } else { 0 };
-    let mut to = Vec::with_capacity(5 + nodes.iter().map(|node| 9 + 7 * cases(node)).sum::<usize>());
+    let mut to = Vec::with_capacity(5 + nodes.iter().map(|node| 9 + MOST_CASE * cases(node)).sum::<usize>());
     let [a, b] = two(nodes.len() as u16);
     to.extend([0x12, arity, rules, a, b]);
     nodes.iter().for_each(|node| node.write(&mut to));

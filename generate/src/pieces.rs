@@ -1,5 +1,5 @@
-//! Random pieces, most of them close to a rule of a sheet, with unknowns, spans and readings that will never come at
-//! random places.
+//! Random pieces, most of them close to a rule of a sheet, with unknowns, spans, numbers on gauges and readings that will
+//! never come at random places.
 
 use crate::random::Random;
 use crate::stock::Stock;
@@ -31,7 +31,10 @@ pub fn term(random: &mut Random, stock: &Stock, depth: usize) -> Term {
             let (one, other) = (random.pick(stock.numbers), random.pick(stock.numbers));
             Term::Span(one.min(other), one.max(other))
         }
-        5..=7 => Term::Number(random.pick(stock.numbers)),
+        5..=7 => {
+            let value = random.pick(stock.numbers);
+            on_a_gauge(random, stock, value)
+        }
         _ if depth > stock.deepest_compound => Term::Symbol(id),
         _ => {
             let arity = random.between(1, stock.most_arguments);
@@ -58,11 +61,33 @@ fn symbol(random: &mut Random, low: u16, high: u16) -> Term {
     })
 }
 
+/// This value on gauge 0, which may be named, or now and then on another one.
+fn on_a_gauge(random: &mut Random, stock: &Stock, value: u16) -> Term {
+    match random.percent(stock.gauged) {
+        true if random.percent(40) => Term::Gauged(0, value),
+        true => Term::Gauged(random.pick(stock.gauges), value),
+        false => Term::Number(value),
+    }
+}
+
+/// A number on a gauge from low to high, or now and then one just outside, on another gauge, or a span.
+fn gauged(random: &mut Random, stock: &Stock, gauge: u8, (low, high): (u16, u16)) -> Term {
+    match random.below(12) {
+        0 => Term::Gauged(gauge, low.saturating_sub(1)),
+        1 => Term::Gauged(gauge, high.saturating_add(1)),
+        2 => number(random, stock, low, high),
+        3 => Term::Gauged(random.pick(stock.gauges), between(random, low, high)),
+        4..=7 if gauge == 0 => number(random, stock, low, high),
+        _ if stock.gauged == 0 => number(random, stock, low, high),
+        _ => Term::Gauged(gauge, between(random, low, high)),
+    }
+}
+
 /// A number from low to high, or a span that is mostly inside, partly inside or just outside.
 fn number(random: &mut Random, stock: &Stock, low: u16, high: u16) -> Term {
     let inside = between(random, low, high);
     if !random.percent(stock.spans) {
-        return Term::Number(inside);
+        return on_a_gauge(random, stock, inside);
     }
     let other = match random.below(8) {
         0 => low.saturating_sub(1),
@@ -77,6 +102,11 @@ fn number(random: &mut Random, stock: &Stock, low: u16, high: u16) -> Term {
 impl Mood {
     fn random(random: &mut Random, stock: Stock) -> Mood {
         let stock = if random.percent(30) { stock.without_spans() } else { stock };
+        let stock = match random.below(6) {
+            0..=2 => stock.without_gauges(),
+            3 if stock.gauged > 0 => stock.mostly_gauges(),
+            _ => stock,
+        };
         let stock = if random.percent(50) { stock.without_nevers() } else { stock };
         Mood { missing: random.pick(&[0, 5, 15, 40]), stray: random.pick(&[0, 0, 3, 10]), stock }
     }
@@ -103,6 +133,9 @@ impl Mood {
             Term::Number(value) if random.percent(self.stock.spans) => {
                 number(random, &self.stock, value.saturating_sub(2), value.saturating_add(2))
             }
+            Term::Number(value) | Term::Gauged(_, value) if random.percent(30) => {
+                on_a_gauge(random, &self.stock, *value)
+            }
             Term::Span(low, high) if random.percent(50) => number(random, &self.stock, *low, *high),
             other => other.clone(),
         }
@@ -125,6 +158,7 @@ impl Mood {
             Pattern::Symbol(id) => Term::Symbol(*id),
             Pattern::Series(low, high) => symbol(random, *low, *high),
             Pattern::Range(low, high) => number(random, &self.stock, *low, *high),
+            Pattern::Gauged(gauge, low, high) => gauged(random, &self.stock, *gauge, (*low, *high)),
             Pattern::Compound(id, arguments) => {
                 let parts = arguments.iter().map(|part| self.instance(random, part, depth + 1, bound));
                 Term::Compound(*id, parts.collect())
@@ -149,8 +183,8 @@ impl Mood {
 }
 
 /// The terms of a piece for this sheet: most are made from one of its rules. Now and then the
-/// arity is another than the sheet's. With the full stock about half of all pieces have no span, and most no reading
-/// that will never come.
+/// arity is another than the sheet's. With the full stock about half of all pieces have no span, and most no number that
+/// names its gauge and no reading that will never come.
 pub fn piece(random: &mut Random, sheet: &SheetTree, stock: Stock) -> Vec<Term> {
     let mood = Mood::random(random, stock);
     let mut terms: Vec<Term> = if sheet.rules.is_empty() || random.percent(10) {
@@ -182,8 +216,9 @@ pub fn further(random: &mut Random, terms: &[Term], depth: usize, chance: usize)
 /// A number of a span, or a part of it.
 fn narrower(random: &mut Random, low: u16, high: u16) -> Term {
     let (one, other) = (between(random, low, high), between(random, low, high));
-    match random.percent(30) {
-        true => Term::Number(one),
-        false => Term::Span(one.min(other), one.max(other)),
+    match random.below(20) {
+        0 | 1 => Term::Gauged(0, one),
+        2..=6 => Term::Number(one),
+        _ => Term::Span(one.min(other), one.max(other)),
     }
 }

@@ -6,7 +6,8 @@ pub struct Reader<'a> {
     rest: &'a [u8],
 }
 
-/// A pattern's record. A series takes the symbols with an id from low to high.
+/// A pattern's record. A series takes the symbols with an id from low to high, a range the numbers on gauge 0, a gauged one
+/// those on the gauge that it names.
 #[derive(Clone, Copy)]
 pub enum PatternRecord {
     Anything,
@@ -16,6 +17,7 @@ pub enum PatternRecord {
     Variable(u8),
     RangedVariable { number: u8, low: u16, high: u16 },
     Series { low: u16, high: u16 },
+    Gauged { gauge: u8, low: u16, high: u16 },
 }
 
 /// A term's record; a compound's arguments follow as records of their own.
@@ -34,6 +36,11 @@ pub enum TermRecord {
     },
     /// A reading that will never come.
     Never,
+    /// A number on a named gauge; one of gauge 0 is the number.
+    Gauged {
+        gauge: u8,
+        value: u16,
+    },
 }
 
 /// A wide field.
@@ -71,7 +78,7 @@ impl<'a> Reader<'a> {
         self.take()
     }
 
-    /// The pattern's record that comes next, if it is whole and of kinds 20 to 26.
+    /// The pattern's record that comes next, if it is whole and of kinds 20 to 27.
     #[inline]
     pub fn pattern(&mut self) -> Option<PatternRecord> {
         let [kind] = self.take()?;
@@ -101,11 +108,15 @@ impl<'a> Reader<'a> {
                 let [a, b, c, d] = self.take()?;
                 PatternRecord::Series { low: wide(a, b), high: wide(c, d) }
             }
+            0x27 => {
+                let [gauge, a, b, c, d] = self.take()?;
+                PatternRecord::Gauged { gauge, low: wide(a, b), high: wide(c, d) }
+            }
             _ => return None,
         })
     }
 
-    /// The term's record that comes next, if it is whole and of kinds 30 to 35.
+    /// The term's record that comes next, if it is whole and of kinds 30 to 36.
     #[inline]
     pub fn term(&mut self) -> Option<TermRecord> {
         let [kind] = self.take()?;
@@ -128,6 +139,10 @@ impl<'a> Reader<'a> {
                 TermRecord::Span { low: wide(a, b), high: wide(c, d) }
             }
             0x35 => TermRecord::Never,
+            0x36 => {
+                let [gauge, a, b] = self.take()?;
+                TermRecord::Gauged { gauge, value: wide(a, b) }
+            }
             _ => return None,
         })
     }

@@ -10,9 +10,9 @@ pub const MOST_RULES: u8 = 64;
 /// Numbers of variables, the lowest and the highest among them.
 const VARIABLES: [u8; 4] = [0, 1, 7, 15];
 
-/// How a sheet's patterns are chosen: the weights of the kinds 20 to 26, and what they are made of.
+/// How a sheet's patterns are chosen: the weights of the kinds 20 to 27, and what they are made of.
 pub struct Style {
-    weights: [usize; 7],
+    weights: [usize; 8],
     variables: usize,
     stock: Stock,
 }
@@ -22,13 +22,14 @@ impl Style {
     pub fn random(random: &mut Random, stock: Stock) -> Style {
         Style {
             weights: random.pick(&[
-                [3, 3, 4, 0, 0, 0, 2],
-                [3, 3, 4, 2, 2, 1, 2],
-                [2, 1, 1, 1, 4, 2, 1],
-                [2, 2, 2, 4, 2, 1, 1],
-                [4, 1, 3, 2, 1, 3, 0],
-                [8, 2, 1, 3, 3, 0, 1],
-                [2, 1, 0, 0, 1, 0, 8],
+                [3, 3, 4, 0, 0, 0, 2, 0],
+                [3, 3, 4, 2, 2, 1, 2, 2],
+                [2, 1, 1, 1, 4, 2, 1, 1],
+                [2, 2, 2, 4, 2, 1, 1, 0],
+                [4, 1, 3, 2, 1, 3, 0, 0],
+                [8, 2, 1, 3, 3, 0, 1, 0],
+                [2, 1, 0, 0, 1, 0, 8, 0],
+                [3, 0, 2, 1, 1, 1, 0, 8],
             ]),
             variables: random.between(1, VARIABLES.len()),
             stock,
@@ -63,6 +64,10 @@ impl Style {
             Some(6) => {
                 let (low, high) = ends(random, self.stock.series);
                 Pattern::Series(low, high)
+            }
+            Some(7) => {
+                let (low, high) = ends(random, self.stock.numbers);
+                Pattern::Gauged(random.pick(self.stock.gauges), low, high)
             }
             _ => Pattern::Anything,
         }

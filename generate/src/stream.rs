@@ -19,8 +19,8 @@ use crate::trees::{piece_bytes, SheetTree};
 use crate::variables::tidy_length;
 use std::collections::VecDeque;
 
-/// The calls, without end. It begins with document 01's example and its marked cases and with readings that will never
-/// come, whatever the seed.
+/// The calls, without end. It begins with document 01's example and its marked cases, with readings that will never come
+/// and with numbers on gauges, whatever the seed.
 ///
 /// `build` says the bytes of the graph that an accepted sheet has, in a reading order if one is given, none
 /// if it has none. The stream asks it for graphs to walk and for the lengths of buffers.
@@ -74,13 +74,15 @@ pub const RESULT: usize = 16;
 pub const ORDER: usize = 2 * PLACES as usize;
 
 /// Sheets whose graphs have a known size.
-const KNOWN: [fn() -> Vec<u8>; 9] = [
+const KNOWN: [fn() -> Vec<u8>; 11] = [
     known::three_alike,
     || known::coins(8),
     || known::coins(MOST_RULES.into()),
     || known::nested_1(MOST_RULES.into()),
     || known::nested_8(8),
     || known::series_4(32),
+    || known::gauges_1(32),
+    || known::gauges_8(8),
     known::nodes_1024,
     known::nodes_1025,
     known::eight_alike,
@@ -112,8 +114,9 @@ impl<B: Fn(&[u8], Option<&[u8]>) -> Option<Vec<u8>>> Stream<B> {
             stream.opening(&sheet, &pieces);
             stream.backwards(&sheet, &pieces);
         }
-        // Two such readings under one variable, or one deep beside an unknown, are rare among random pieces.
-        for (sheet, pieces) in known::nevers() {
+        // Two such readings under one variable, one deep beside an unknown, or one value on two gauges under one variable
+        // are rare among random pieces.
+        for (sheet, pieces) in known::nevers().into_iter().chain(known::gauges()) {
             stream.opening(&sheet, &pieces);
         }
         for [sheet, graph, piece] in &known::below_nevers() {

@@ -16,6 +16,8 @@ pub enum Pattern {
     Ranged(u8, u16, u16),
     /// The symbols with an id from the first to the last.
     Series(u16, u16),
+    /// The numbers on a gauge from the first to the last.
+    Gauged(u8, u16, u16),
 }
 
 /// A term of a piece.
@@ -29,6 +31,8 @@ pub enum Term {
     Span(u16, u16),
     /// A reading that will never come.
     Never,
+    /// A number on a gauge.
+    Gauged(u8, u16),
 }
 
 /// A sheet: its rules, each one pattern for an argument.
@@ -72,6 +76,11 @@ impl Pattern {
                 wide(to, *low);
                 wide(to, *high);
             }
+            Pattern::Gauged(gauge, low, high) => {
+                to.extend([0x27, *gauge]);
+                wide(to, *low);
+                wide(to, *high);
+            }
         }
     }
 }
@@ -91,6 +100,7 @@ impl Pattern {
             PatternRecord::Variable(number) => Pattern::Variable(number),
             PatternRecord::RangedVariable { number, low, high } => Pattern::Ranged(number, low, high),
             PatternRecord::Series { low, high } => Pattern::Series(low, high),
+            PatternRecord::Gauged { gauge, low, high } => Pattern::Gauged(gauge, low, high),
         })
     }
 }
@@ -109,6 +119,7 @@ impl Term {
             }
             TermRecord::Span { low, high } => Term::Span(low, high),
             TermRecord::Never => Term::Never,
+            TermRecord::Gauged { gauge, value } => Term::Gauged(gauge, value),
         })
     }
 
@@ -135,6 +146,10 @@ impl Term {
                 wide(to, *high);
             }
             Term::Never => to.push(0x35),
+            Term::Gauged(gauge, value) => {
+                to.extend([0x36, *gauge]);
+                wide(to, *value);
+            }
         }
     }
 }

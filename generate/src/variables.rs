@@ -29,8 +29,8 @@ pub fn variables(rule: &[Pattern]) -> BTreeMap<u8, Variable> {
     variables
 }
 
-/// How many bytes the tidy form of a sheet has: other records than the sheet's for variables, and for series of one
-/// symbol, which have 2 bytes less.
+/// How many bytes the tidy form of a sheet has: other records than the sheet's for variables, for series of one symbol,
+/// which have 2 bytes less, and for ranges that name gauge 0, which have 1 byte less.
 pub fn tidy_length(sheet: &SheetTree) -> usize {
     let records = |variable: Variable| match (variable.places, variable.range) {
         (1, None) => 1,
@@ -42,6 +42,7 @@ pub fn tidy_length(sheet: &SheetTree) -> usize {
         Pattern::Variable(_) => 2,
         Pattern::Ranged(..) => 6,
         Pattern::Series(low, high) if low == high => 2,
+        Pattern::Gauged(0, ..) => 1,
         _ => 0,
     };
     let tidy: usize = sheet.rules.iter().flat_map(|rule| variables(rule).into_values()).map(records).sum();

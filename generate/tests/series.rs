@@ -72,7 +72,7 @@ fn hostile_series_are_reversed_equal_or_wide() {
     let mut random = Random::new(0x686f_7374);
     let tree = SheetTree { arity: 2, rules: vec![vec![Pattern::Anything; 2]] };
     let mut sorts = Sorts::new();
-    for _ in 0..2_000 {
+    for _ in 0..4_000 {
         let Some((tree, _)) = SheetTree::read(&hostile_sheet(&mut random, &tree)) else { continue };
         for pattern in tree.rules.iter().flat_map(|rule| all(rule)) {
             let Pattern::Series(low, high) = *pattern else { continue };

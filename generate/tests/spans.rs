@@ -74,7 +74,7 @@ fn what_is_filled_in_further_is_narrower() {
     fn is_further(before: &Term, after: &Term) -> bool {
         match (before, after) {
             (Term::Unknown, _) => true,
-            (Term::Span(low, high), Term::Number(n)) => low <= n && n <= high,
+            (Term::Span(low, high), Term::Number(n) | Term::Gauged(0, n)) => low <= n && n <= high,
             (Term::Span(low, high), Term::Span(first, last)) => low <= first && first <= last && last <= high,
             (Term::Compound(id, parts), Term::Compound(other, more)) => {
                 id == other
@@ -108,7 +108,7 @@ fn cases_of_other_makers_ascend_overlap_and_are_many() {
         for node in foreign(&mut random, &asked) {
             let Node::Switch { cases, .. } = node else { continue };
             let ends = |case: &Case| match case {
-                Case::Numbers { low, high, .. } => Some((*low, *high)),
+                Case::Numbers { gauge: 0, low, high, .. } => Some((*low, *high)),
                 _ => None,
             };
             let ends: Vec<(u16, u16)> = cases.iter().filter_map(ends).collect();

@@ -119,17 +119,17 @@ pub enum Ended {
 }
 
 impl Ended {
-    /// The ends of a case of this sort.
-    fn ends(self, case: &Case) -> Option<(u16, u16)> {
+    /// The gauge of a case of this sort, 0 for symbols, and its ends.
+    fn ends(self, case: &Case) -> Option<(u8, (u16, u16))> {
         match (self, case) {
-            (Ended::Symbols, Case::Symbols { low, high, .. }) => Some((*low, *high)),
-            (Ended::Numbers, Case::Numbers { low, high, .. }) => Some((*low, *high)),
+            (Ended::Symbols, Case::Symbols { low, high, .. }) => Some((0, (*low, *high))),
+            (Ended::Numbers, Case::Numbers { gauge, low, high, .. }) => Some((*gauge, (*low, *high))),
             _ => None,
         }
     }
 
-    /// The cases with the ends of each of this sort changed on its own, from its ends and those of the case after it,
-    /// in each of these ways.
+    /// The cases with the ends of each of this sort changed on its own, from its ends and those of the case after it, if
+    /// that is on the same gauge, in each of these ways.
     pub fn changed(
         self,
         cases: &[Case],
@@ -137,13 +137,13 @@ impl Ended {
     ) -> Vec<Vec<Case>> {
         let mut all = Vec::new();
         for (at, case) in cases.iter().enumerate() {
-            let Some(ends) = self.ends(case) else { continue };
-            let after = cases.get(at + 1).and_then(|case| self.ends(case));
-            for (low, high) in ways(ends, after) {
+            let Some((gauge, ends)) = self.ends(case) else { continue };
+            let after = cases.get(at + 1).and_then(|case| self.ends(case)).filter(|(on, _)| *on == gauge);
+            for (low, high) in ways(ends, after.map(|(_, ends)| ends)) {
                 let mut cases = cases.to_vec();
                 cases[at] = match self {
                     Ended::Symbols => Case::Symbols { low, high, node: case.node() },
-                    Ended::Numbers => Case::Numbers { low, high, node: case.node() },
+                    Ended::Numbers => Case::Numbers { gauge, low, high, node: case.node() },
                 };
                 all.push(cases);
             }

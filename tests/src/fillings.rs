@@ -4,9 +4,10 @@
 //! A filling puts a number of a span in its place: each is tried, and no span has many here. A reading that will never
 //! come stays as it is: no pattern but anything and a variable that stands once takes it. Document 01 fills
 //! unknowns with any terms without unknowns. Here they come from a finite set: every symbol and number that
-//! sheet or piece mention, all numbers of spans, the numbers beside those of ranges, the symbols beside those of
-//! series and, as a series may take all symbols, a number, two symbols that neither mentions, and every compound
-//! that they mention over these, up to a height. That is enough. If some filling meets a rule, so does one that puts
+//! sheet or piece mention, each number on its gauge, all numbers of spans, the numbers beside those of ranges, the symbols
+//! beside those of series and, as a series may take all symbols, a number, two symbols that neither mentions, and every
+//! compound that they mention over these, up to a height. All numbers name their gauge here, so that those on gauge 0 are
+//! spelled in one way. That is enough. If some filling meets a rule, so does one that puts
 //! at each unknown no more than what the rule and the other places of its variables ask there: a pattern with terms
 //! of the piece laid over each other where its variables stand. And if some filling misses it, so does one that puts
 //! a new symbol or a number at an unknown, or the two new symbols at two of them.
@@ -15,10 +16,19 @@ use crate::generate::trees::{Pattern, SheetTree, Term};
 use crate::results::{Plain, Word};
 use std::collections::BTreeSet;
 
+/// The terms with each number's gauge written.
+fn named(terms: &[Term]) -> Vec<Term> {
+    let name = |term: &Term| match term {
+        Term::Number(value) => Term::Gauged(0, *value),
+        Term::Compound(id, arguments) => Term::Compound(*id, named(arguments)),
+        other => other.clone(),
+    };
+    terms.iter().map(name).collect()
+}
+
 /// Whether terms without unknowns meet a rule.
-pub fn meets(rule: &[Pattern], terms: &[Term]) -> bool {
-    let mut bound = [None; 16];
-    takes_all(rule, terms, &mut bound)
+fn meets(rule: &[Pattern], terms: &[Term]) -> bool {
+    takes_all(rule, terms, &mut [None; 16])
 }
 
 fn takes_all<'a>(patterns: &[Pattern], terms: &'a [Term], bound: &mut [Option<&'a Term>; 16]) -> bool {
@@ -32,12 +42,13 @@ fn takes<'a>(pattern: &Pattern, term: &'a Term, bound: &mut [Option<&'a Term>; 1
         (Pattern::Anything, _) => true,
         (Pattern::Symbol(id), Term::Symbol(other)) => id == other,
         (Pattern::Series(low, high), Term::Symbol(id)) => (low..=high).contains(&id),
-        (Pattern::Range(low, high), Term::Number(n)) => (low..=high).contains(&n),
+        (Pattern::Range(low, high), Term::Gauged(0, n)) => (low..=high).contains(&n),
+        (Pattern::Gauged(gauge, low, high), Term::Gauged(on, n)) => on == gauge && (low..=high).contains(&n),
         (Pattern::Compound(id, patterns), Term::Compound(other, terms)) => {
             id == other && takes_all(patterns, terms, bound)
         }
         (Pattern::Variable(number), _) => binds(&mut bound[usize::from(*number)], term),
-        (Pattern::Ranged(number, low, high), Term::Number(n)) => {
+        (Pattern::Ranged(number, low, high), Term::Gauged(0, n)) => {
             (low..=high).contains(&n) && binds(&mut bound[usize::from(*number)], term)
         }
         _ => false,
@@ -70,7 +81,8 @@ fn around(low: u16, high: u16) -> [u16; 4] {
 #[derive(Default)]
 struct Mentioned {
     symbols: BTreeSet<u16>,
-    numbers: BTreeSet<u16>,
+    /// Gauge and value of each.
+    numbers: BTreeSet<(u8, u16)>,
     compounds: BTreeSet<(u16, usize)>,
     /// The height of the highest pattern.
     patterns: usize,
@@ -91,10 +103,13 @@ impl Mentioned {
             Pattern::Symbol(id) => self.symbols.extend([*id]),
             Pattern::Series(low, high) => {
                 self.symbols.extend(around(*low, *high));
-                self.numbers.extend([0]);
+                self.numbers.extend([(0, 0)]);
             }
             Pattern::Range(low, high) | Pattern::Ranged(_, low, high) => {
-                self.numbers.extend(around(*low, *high));
+                self.numbers.extend(around(*low, *high).map(|value| (0, value)));
+            }
+            Pattern::Gauged(gauge, low, high) => {
+                self.numbers.extend(around(*low, *high).map(|value| (*gauge, value)));
             }
             Pattern::Compound(id, arguments) => {
                 self.compounds.insert((*id, arguments.len()));
@@ -108,12 +123,13 @@ impl Mentioned {
         match term {
             Term::Unknown | Term::Never => {}
             Term::Symbol(id) => self.symbols.extend([*id]),
-            Term::Number(n) => self.numbers.extend([*n]),
+            Term::Number(n) => self.numbers.extend([(0, *n)]),
+            Term::Gauged(gauge, n) => self.numbers.extend([(*gauge, *n)]),
             Term::Compound(id, arguments) => {
                 self.compounds.insert((*id, arguments.len()));
                 arguments.iter().for_each(|argument| self.term(argument, level + 1));
             }
-            Term::Span(low, high) => self.numbers.extend(*low..=*high),
+            Term::Span(low, high) => self.numbers.extend((*low..=*high).map(|value| (0, value))),
         }
     }
 
@@ -127,7 +143,7 @@ impl Mentioned {
     fn terms(&self, most: usize) -> Option<Vec<Term>> {
         let new = (0..=u16::MAX).filter(|id| !self.symbols.contains(id)).take(2);
         let mut atoms: Vec<Term> = self.symbols.iter().copied().chain(new).map(Term::Symbol).collect();
-        atoms.extend(self.numbers.iter().map(|n| Term::Number(*n)));
+        atoms.extend(self.numbers.iter().map(|(gauge, n)| Term::Gauged(*gauge, *n)));
         let mut all = atoms.clone();
         for _ in 1..self.height() {
             let mut higher = atoms.clone();
@@ -158,7 +174,7 @@ fn choices(terms: &[Term], from: &[Term]) -> Vec<Vec<Term>> {
         .iter()
         .flat_map(|term| match term {
             Term::Unknown => vec![from.to_vec()],
-            Term::Span(low, high) => vec![(*low..=*high).map(Term::Number).collect()],
+            Term::Span(low, high) => vec![(*low..=*high).map(|value| Term::Gauged(0, value)).collect()],
             Term::Compound(_, arguments) => choices(arguments, from),
             _ => Vec::new(),
         })
@@ -240,5 +256,5 @@ pub fn answer(sheet: &SheetTree, piece: &[Term], most: usize) -> Option<Plain> {
     let from = mentioned.terms(most)?;
     let choices = choices(piece, &from);
     let count = choices.iter().try_fold(1, |count: usize, from| count.checked_mul(from.len()))?;
-    (count <= most).then(|| Tried::all(sheet, piece, &choices, count).answer())
+    (count <= most).then(|| Tried::all(sheet, &named(piece), &choices, count).answer())
 }

@@ -20,7 +20,7 @@ const PAINT: u8 = 0xa5;
 const DEEPEST: usize = 256 * 1024;
 const NEAREST: usize = 512;
 /// No graph of the inputs has more bytes.
-const LARGEST: usize = 9_000_000;
+const LARGEST: usize = 11_000_000;
 
 fn repository() -> PathBuf {
     Path::new(env!("CARGO_MANIFEST_DIR")).join("..")
@@ -119,8 +119,8 @@ fn words_of_cuts(sheet: &[u8]) -> usize {
     (1 + 4 * read.rules.len()) * read.tests.places.len()
 }
 
-/// Sheets, their graphs and pieces: of document 01, large ones, with spans, and ones of full depth, also with readings
-/// that will never come deepest, beside an unknown.
+/// Sheets, their graphs and pieces: of document 01, large ones, with spans, on gauges, and ones of full depth, also with
+/// readings that will never come deepest, beside an unknown.
 fn inputs() -> Vec<Input> {
     let mut deep_sheet = vec![0x10, 2, 2, 0x24, 0, 0x24, 0];
     (0..2).for_each(|_| full(0x23, &[0x20], 1, &mut deep_sheet));
@@ -146,6 +146,7 @@ fn inputs() -> Vec<Input> {
     }
     inputs.push((known::nested_1(64), piece_bytes(&[Term::Span(20, 990)])));
     inputs.push((known::nested_8(64), piece_bytes(&vec![Term::Span(20, 990); 8])));
+    inputs.push((known::gauges_8(64), piece_bytes(&vec![Term::Gauged(2, 500); 8])));
     let with_graph = |(sheet, piece): (Vec<u8>, Vec<u8>)| {
         let graph = own_graph(&sheet).unwrap_or_default();
         (sheet, graph, piece)

@@ -78,7 +78,7 @@ fn each_pair_of_runs_of_the_same_live_rules_is_a_case() {
     let mut cases = String::new();
     for (first, row) in nodes.iter().enumerate() {
         for (last, node) in row.iter().enumerate() {
-            cases += &format!("46 {} {} 00 0{node}", ends[first].0, ends[first + last].1);
+            cases += &format!("46 00 {} {} 00 0{node}", ends[first].0, ends[first + last].1);
         }
     }
     assert_eq!(graph, from_hex(&format!("12 01 02 00 04 43 00 00 00 0f 00 01 00 03 {cases} 40 42 01 41")));
@@ -88,7 +88,7 @@ fn each_pair_of_runs_of_the_same_live_rules_is_a_case() {
 fn runs_begin_at_0_and_end_at_65535() {
     // Ranges that begin at 0 and end at 65,535 leave no run before or after them.
     let (_, graph) = graph(&from_hex("10 01 02 22 00 00 00 04 22 00 05 ff ff"));
-    let cases = "46 00 00 00 04 00 01 46 00 00 ff ff 00 02 46 00 05 ff ff 00 03";
+    let cases = "46 00 00 00 00 04 00 01 46 00 00 00 ff ff 00 02 46 00 00 05 ff ff 00 03";
     assert_eq!(
         graph,
         from_hex(&format!("12 01 02 00 05 43 00 00 00 03 00 04 00 02 {cases} 42 01 41 42 02 40"))
@@ -124,7 +124,7 @@ fn a_rule_that_is_dropped_cuts_no_numbers() {
 
 #[test]
 fn question_18_asks_for_at_most_1024_nodes() {
-    has_size(&known::nodes_1024(), 1024, 31_038);
+    has_size(&known::nodes_1024(), 1024, 32_730);
     let sheet = known::nodes_1025();
     let read = Sheet::read(&sheet).expect("an accepted sheet");
     assert_eq!(nodes_up_to(&read, 2000).map(|nodes| nodes.len()), Ok(1025));
@@ -145,7 +145,7 @@ fn question_18_comes_after_the_sheets() {
 #[test]
 fn a_switch_of_a_built_graph_has_up_to_8385_cases() {
     for (rules, count) in [(32, 2_145), (64, 8_385)] {
-        let graph = has_size(&known::nested_1(rules), 4, 5 + 9 + count * 7 + 2 + 1 + 1);
+        let graph = has_size(&known::nested_1(rules), 4, 5 + 9 + count * 8 + 2 + 1 + 1);
         assert_eq!(u32::from(u16::from_be_bytes([graph[8], graph[9]])), count);
     }
     // Of 8 places each is asked with all rules live once, here with ranges from 0 on.
@@ -158,16 +158,17 @@ fn a_switch_of_a_built_graph_has_up_to_8385_cases() {
 
 #[test]
 fn graphs_may_have_many_bytes() {
-    has_size(&known::nested_8(16), 109, 157_784);
-    has_size(&known::nested_16(16), 335, 335_454);
-    has_size(&known::nested_8(32), 221, 1_163_376);
-    has_size(&known::nested_16(32), 687, 2_479_558);
+    has_size(&known::nested_8(16), 109, 180_187);
+    has_size(&known::nested_16(16), 335, 382_857);
+    has_size(&known::nested_8(32), 221, 1_329_291);
+    has_size(&known::nested_16(32), 687, 2_832_713);
+    has_size(&known::gauges_8(32), 210, 157_051);
 }
 
 #[test]
 fn the_longest_known_graphs_are_built() {
     for (sheet, nodes, bytes) in
-        [(known::longest_32(), 999, 4_824_790), (known::longest_64(), 1015, 20_807_766)]
+        [(known::longest_32(), 999, 5_512_655), (known::longest_64(), 1015, 23_778_999)]
     {
         let (result, graph) = build(&sheet, bytes as usize);
         assert_eq!(result, Ok(Built { nodes, bytes }));
@@ -189,7 +190,7 @@ fn defined(name: &str) -> usize {
 
 #[test]
 fn the_most_bytes_of_graphs_are_said_by_header_and_crate() {
-    let most = |cases: usize| 5 + 1024 * (9 + 7 * cases);
+    let most = |cases: usize| 5 + 1024 * (9 + 8 * cases);
     for said in [defined("VT_MOST_BUILT_BYTES"), voltunnis::MOST_BUILT_BYTES, MOST_BUILT] {
         assert_eq!(said, most(8_385));
     }
@@ -202,12 +203,14 @@ fn the_most_bytes_of_graphs_are_said_by_header_and_crate() {
 fn sheets_have_graphs_of_the_known_size() {
     has_size(&known::example(), 6, 51);
     has_size(&known::eight_alike(), 39, 390);
-    has_size(&known::marked(), 13, 540);
-    has_size(&known::coins(8), 80, 14_205);
-    has_size(&known::coins(16), 312, 144_449);
-    has_size(&known::coins(28), 960, 1_079_230);
-    has_size(&known::zeros_and_ones(32), 907, 43_250);
+    has_size(&known::marked(), 13, 606);
+    has_size(&known::coins(8), 80, 16_137);
+    has_size(&known::coins(16), 312, 164_697);
+    has_size(&known::coins(28), 960, 1_232_197);
+    has_size(&known::zeros_and_ones(32), 907, 48_290);
     has_size(&known::series_4(32), 191, 7_301);
+    has_size(&known::gauges_1(32), 7, 4_920);
+    has_size(&known::gauges_1(64), 7, 17_976);
 }
 
 #[test]

@@ -69,7 +69,7 @@ fn question_22_asks_for_whole_records_of_the_right_kinds() {
     for whole in [
         "42 01",
         "43 00 00 00 01 00 00 00 00 44 00 01 00 01 00 00",
-        "43 00 00 00 02 00 00 00 00 45 00 01 02 00 00 46 00 01 00 02 00 00",
+        "43 00 00 00 02 00 00 00 00 45 00 01 02 00 00 46 00 00 01 00 02 00 00",
         "47 00 00 00 55 00 00 00 00",
     ] {
         let graph = from_hex(&format!("12 02 02 00 01 {whole}"));
@@ -94,7 +94,7 @@ fn question_23_asks_for_nodes_and_rules_in_range() {
     node("43 00 00 00 01 00 01 00 02 44 00 01 00 01 00 01", Err(23));
     node("43 00 00 00 01 00 01 00 01 44 00 01 00 01 00 02", Err(23));
     node("43 00 00 00 01 00 01 00 01 45 00 01 01 ff ff", Err(23));
-    node("43 00 00 00 01 00 01 00 01 46 00 01 00 02 01 00", Err(23));
+    node("43 00 00 00 01 00 01 00 01 46 00 00 01 00 02 01 00", Err(23));
     node("47 00 00 00 55 00 01 00 01", Ok(2));
     node("47 00 00 00 55 00 02 00 01", Err(23));
     node("47 00 00 00 55 00 01 00 02", Err(23));
@@ -117,7 +117,7 @@ fn question_23_asks_for_a_test_of_the_sheet() {
 #[test]
 fn question_24_asks_for_cases_in_order() {
     let (symbol, compound) = ("44 00 05 00 05 00 01", "45 00 05 02 00 01");
-    let numbers = "46 00 05 00 09 00 01";
+    let numbers = "46 00 00 05 00 09 00 01";
     cases(&[symbol, compound, numbers], Ok(2));
     for wrong in [[compound, symbol], [numbers, symbol], [numbers, compound], [symbol, symbol]] {
         cases(&wrong, Err(24));
@@ -133,27 +133,51 @@ fn question_24_asks_for_cases_in_order() {
 
 #[test]
 fn question_24_asks_for_numbers_that_ascend_by_low_then_high() {
-    let numbers = "46 00 05 00 09 00 01";
+    let numbers = "46 00 00 05 00 09 00 01";
     for after in ["00 05 00 0a", "00 05 ff ff", "00 06 00 07", "00 09 00 0a", "00 0a 00 0a", "ff ff ff ff"] {
-        cases(&[numbers, &format!("46 {after} 00 00")], Ok(2));
+        cases(&[numbers, &format!("46 00 {after} 00 00")], Ok(2));
     }
     for before in ["00 05 00 09", "00 05 00 08", "00 05 00 05", "00 04 00 0a", "00 04 ff ff", "00 00 00 04"] {
-        cases(&[numbers, &format!("46 {before} 00 00")], Err(24));
+        cases(&[numbers, &format!("46 00 {before} 00 00")], Err(24));
         cases(
-            &[&format!("46 {before} 00 00"), numbers],
+            &[&format!("46 00 {before} 00 00"), numbers],
             if before == "00 05 00 09" { Err(24) } else { Ok(2) },
         );
     }
-    cases(&["46 00 05 00 04 00 01"], Err(24));
-    cases(&[numbers, "46 00 07 00 06 00 01"], Err(24));
-    cases(&["46 00 05 00 05 00 01"], Ok(2));
-    cases(&["46 00 00 ff ff 00 01"], Ok(2));
-    cases(&["46 00 00 00 00 00 01", "46 00 00 ff ff 00 01", "46 ff ff ff ff 00 01"], Ok(2));
+    cases(&["46 00 00 05 00 04 00 01"], Err(24));
+    cases(&[numbers, "46 00 00 07 00 06 00 01"], Err(24));
+    cases(&["46 00 00 05 00 05 00 01"], Ok(2));
+    cases(&["46 00 00 00 ff ff 00 01"], Ok(2));
+    cases(&["46 00 00 00 00 00 00 01", "46 00 00 00 ff ff 00 01", "46 00 ff ff ff ff 00 01"], Ok(2));
     // High bytes count: 256 comes after 255, in low and in high.
-    cases(&["46 00 ff 01 00 00 01", "46 01 00 01 00 00 01"], Ok(2));
-    cases(&["46 01 00 01 00 00 01", "46 00 ff 01 00 00 01"], Err(24));
-    cases(&["46 00 00 00 ff 00 01", "46 00 00 01 00 00 01"], Ok(2));
-    cases(&["46 00 00 01 00 00 01", "46 00 00 00 ff 00 01"], Err(24));
+    cases(&["46 00 00 ff 01 00 00 01", "46 00 01 00 01 00 00 01"], Ok(2));
+    cases(&["46 00 01 00 01 00 00 01", "46 00 00 ff 01 00 00 01"], Err(24));
+    cases(&["46 00 00 00 00 ff 00 01", "46 00 00 00 01 00 00 01"], Ok(2));
+    cases(&["46 00 00 00 01 00 00 01", "46 00 00 00 00 ff 00 01"], Err(24));
+}
+
+#[test]
+fn question_24_asks_for_numbers_by_gauge_first() {
+    let on = |gauge: &str, ends: &str| format!("46 {gauge} {ends} 00 01");
+    let (low, high) = ("00 00 00 04", "00 05 00 09");
+    for (first, second) in [("00", "01"), ("01", "02"), ("7f", "80"), ("00", "ff"), ("fe", "ff")] {
+        // The same ends, a lower low, and overlapping ones: whatever they are, the lower gauge comes first.
+        for (one, other) in [(low, low), (high, low), (low, high), ("00 00 ff ff", "00 00 00 00")] {
+            cases(&[&on(first, one), &on(second, other)], Ok(2));
+            cases(&[&on(second, other), &on(first, one)], Err(24));
+        }
+        cases(&[&on(first, low), &on(first, high), &on(second, low), &on(second, high)], Ok(2));
+        cases(&[&on(first, low), &on(second, low), &on(first, high), &on(second, high)], Err(24));
+    }
+    for gauge in ["00", "01", "80", "ff"] {
+        cases(&[&on(gauge, low), &on(gauge, low)], Err(24));
+        cases(&[&on(gauge, high), &on(gauge, low)], Err(24));
+        cases(&[&on(gauge, "00 05 00 04")], Err(24));
+        cases(&[&on(gauge, "00 00 ff ff"), &on(gauge, "ff ff ff ff")], Ok(2));
+        cases(&["45 ff ff ff 00 01", &on(gauge, low)], Ok(2));
+        cases(&[&on(gauge, low), "45 00 00 01 00 01"], Err(24));
+        cases(&[&format!("46 {gauge} {low} 00 02")], Err(23));
+    }
 }
 
 #[test]
@@ -188,7 +212,7 @@ fn questions_come_node_by_node_in_number_order() {
 fn switch_of(count: usize) -> Node {
     let pairs = (0..363).flat_map(|low| (low..363).map(move |high| (low, high)));
     let cases: Vec<Case> =
-        pairs.take(count).map(|(low, high)| Case::Numbers { low, high, node: 0 }).collect();
+        pairs.take(count).map(|(low, high)| Case::Numbers { gauge: 0, low, high, node: 0 }).collect();
     assert_eq!(cases.len(), count);
     Node::Switch { place: 0, neither: 0, unknown: 0, cases }
 }
@@ -209,13 +233,13 @@ fn a_switch_may_have_65535_cases() {
             assert_eq!(check_graph(&sheet, &wrong), Err(refusal), "{other} counted, {count} there");
         }
         // The last case counts too: twice, or to a node that is not there.
-        let end = graph.len() - 7;
+        let end = graph.len() - 8;
         let mut far = graph.clone();
-        far[end + 6] = 1;
+        far[end + 7] = 1;
         assert_eq!(check_graph(&sheet, &far), Err(23), "{count} cases");
         if count > 1 {
             let mut twice = graph.clone();
-            twice.copy_within(end - 7..end, end);
+            twice.copy_within(end - 8..end, end);
             assert_eq!(check_graph(&sheet, &twice), Err(24), "{count} cases");
         }
     }

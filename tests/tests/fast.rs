@@ -176,17 +176,21 @@ fn the_fast_code_gives_the_same_on_the_stream_of_calls() {
     }
 }
 
-/// A sheet whose rules want a range or a series at random at each place: narrow, so that graphs are of all sizes.
+/// A sheet whose rules want a range, on a gauge or not, or a series at random at each place: narrow, so that graphs are of
+/// all sizes.
 fn ranges(random: &mut Random) -> SheetTree {
     let (arity, rules) = (random.between(1, 8), random.between(1, MOST_RULES.into()));
     let width = random.pick(&[1, 2, 10, 100, 400]);
     let most = random.pick(&[2, 100, 1000, 0x10000 - width]);
     let series = random.pick(&[0, 50, 100]);
+    let (gauged, gauges) = (random.pick(&[0, 0, 50, 100]), random.pick(&[2, 4, 256]));
     let mut range = || {
         let low = random.below(most);
         let (low, high) = (low as u16, (low + random.below(width)) as u16);
         if random.percent(series) {
             Pattern::Series(low, high)
+        } else if random.percent(gauged) {
+            Pattern::Gauged(random.below(gauges) as u8, low, high)
         } else {
             Pattern::Range(low, high)
         }

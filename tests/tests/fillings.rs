@@ -14,7 +14,7 @@ use voltunnis_tests::results::{Plain, Word};
 /// The most fillings to try for one piece.
 const MOST: usize = 20_000;
 
-/// A stock of these, with compounds of so many arguments down to a depth, and spans so often.
+/// A stock of these and of two gauges, with compounds of so many arguments down to a depth, and spans so often.
 const fn stock(
     ids: &'static [u16],
     series: &'static [u16],
@@ -22,7 +22,8 @@ const fn stock(
     (most_arguments, deepest_compound): (usize, usize),
     spans: usize,
 ) -> Stock {
-    Stock { ids, series, numbers, most_arguments, deepest_compound, spans, nevers: 30 }
+    let (gauges, gauged, nevers) = (&[0, 1], 30, 30);
+    Stock { ids, series, numbers, gauges, most_arguments, deepest_compound, spans, gauged, nevers }
 }
 
 /// Few ids and numbers with wide compounds, or fewer still with deep ones.

@@ -2,8 +2,9 @@
 //! rules before requests 9, 4, 5 and 6, in document 01's order and with the arguments backwards. Request 9 kept these
 //! graphs; request 4 adds cases for spans and for runs of numbers that no rule accepts, and counts cases in two bytes;
 //! request 5 writes a symbol's case with two ends, which in these sheets are one id; since request 6 an unknown settles
-//! no pair. With unknowns that settle pairs again, and without the cases of request 4, numbered anew, counted in one
-//! byte and with symbols as one id, the graphs are still the same; those of sheets without pairs are so as they are
+//! no pair; request 7 puts a gauge in each number case, which in these sheets is 0. With unknowns that settle pairs again,
+//! and without the cases of request 4 and the gauges, numbered anew, counted in one byte and with symbols as one id, the
+//! graphs are still the same; those of sheets without pairs are so as they are
 //! built. Sheets that were refused are refused by the same numbers, but for graphs that were too large: all of these
 //! have pairs, and are built since request 6.
 
@@ -99,10 +100,14 @@ fn takers(case: &Case, wants: &[(u64, Want)]) -> Option<u64> {
             {
                 *rule
             }
-            (Case::Numbers { low, high, .. }, Want::Range { low: l, high: h }) if l <= low && high <= h => {
+            (Case::Numbers { low, high, .. }, Want::Range { low: l, high: h, .. })
+                if l <= low && high <= h =>
+            {
                 *rule
             }
-            (Case::Numbers { low, high, .. }, Want::Range { low: l, high: h }) if l <= high && low <= h => {
+            (Case::Numbers { low, high, .. }, Want::Range { low: l, high: h, .. })
+                if l <= high && low <= h =>
+            {
                 return None
             }
             _ => 0,
@@ -111,7 +116,7 @@ fn takers(case: &Case, wants: &[(u64, Want)]) -> Option<u64> {
     (rules != 0).then_some(rules)
 }
 
-/// The bytes of a case but for its node.
+/// The bytes of a case but for its node, and without its gauge.
 fn case_bytes(case: &Case, to: &mut Vec<u8>) {
     match case {
         Case::Symbols { low, high, .. } => {
@@ -119,7 +124,8 @@ fn case_bytes(case: &Case, to: &mut Vec<u8>) {
             to.extend([&[0x44][..], &low.to_be_bytes()].concat());
         }
         Case::Compound { id, arity, .. } => to.extend([&[0x45][..], &id.to_be_bytes(), &[*arity]].concat()),
-        Case::Numbers { low, high, .. } => {
+        Case::Numbers { gauge, low, high, .. } => {
+            assert_eq!(*gauge, 0, "a gauge of a sheet that names none");
             to.extend([&[0x46][..], &low.to_be_bytes(), &high.to_be_bytes()].concat());
         }
     }

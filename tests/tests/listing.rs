@@ -150,7 +150,32 @@ fn pieces_of_machines_without_a_coil_are_listed() {
     // (X, X) and (_, 2..3): the pair is asked beside the unknown.
     let sheet = from_hex("10 02 02 24 00 24 00 20 22 00 02 00 03");
     let said = "sheet 2 2 2 5\n1 execute 2 2 0000000000000001\nrefused 14\n";
-    assert_eq!(lines(&folder, &sheet, &from_hex("11 02 35 30 11 02 35 36")), said);
+    assert_eq!(lines(&folder, &sheet, &from_hex("11 02 35 30 11 02 35 37")), said);
+}
+
+#[test]
+fn numbers_on_gauges_are_listed() {
+    let folder = folder("gauges");
+    // (X, X) and (_, 2..3 on gauge 1): 180 on two gauges is two numbers, and a span is on gauge 0.
+    let sheet = from_hex("10 02 02 24 00 24 00 20 27 01 00 02 00 03");
+    let pieces = [
+        "11 02 36 01 00 02 36 01 00 02",
+        "11 02 36 02 00 b4 36 03 00 b4",
+        "11 02 32 00 b4 36 00 00 b4",
+        "11 02 30 36 01 00 03",
+        "11 02 30 34 00 02 00 03",
+        "11 02 32 00 02 36 01 00 02",
+        "11 02 36 01 00",
+    ];
+    let said = "sheet 2 2 2 5\n\
+                1 suspend 0 2 0000000000000000\n\
+                2 fail 0 1 0000000000000000\n\
+                3 commit 1 1 0000000000000000\n\
+                4 suspend 0 2 0000000000000002\n\
+                5 execute 1 1 0000000000000002\n\
+                6 commit 2 2 0000000000000000\n\
+                refused 14\n";
+    assert_eq!(lines(&folder, &sheet, &from_hex(&pieces.concat())), said);
 }
 
 #[test]
@@ -158,13 +183,24 @@ fn sheets_of_64_rules_are_listed() {
     let folder = folder("many");
     let pieces = "11 01 30 11 01 32 00 01 11 01 34 00 00 00 01 11 01 34 00 02 00 03";
     assert_eq!(
-        lines(&folder, &known::nested_1(64), &from_hex(pieces)),
-        "sheet 1 64 1 4\n\
+        lines(&folder, &known::nested_1(63), &from_hex(pieces)),
+        "sheet 1 63 1 4\n\
          1 suspend 0 1 0000000000000001\n\
          2 commit 1 1 0000000000000000\n\
          3 execute 1 1 0000000000000001\n\
          4 suspend 0 1 0000000000000001\n"
     );
+    let on_gauges = "11 01 36 03 00 04 11 01 36 03 00 08 11 01 32 00 01 11 01 36 04 00 04";
+    assert_eq!(
+        lines(&folder, &known::gauges_1(64), &from_hex(on_gauges)),
+        "sheet 1 64 1 7\n\
+         1 commit 4 1 0000000000000000\n\
+         2 suspend 0 1 0000000000000000\n\
+         3 commit 1 1 0000000000000000\n\
+         4 fail 0 1 0000000000000000\n"
+    );
+    // Of 64 nested ranges a switch has 8,385 cases of 8 bytes, more than the listing's buffer.
+    assert_eq!(lines(&folder, &known::nested_1(64), &[]), "refused 19\n");
     assert_eq!(lines(&folder, &known::nested_8(64), &[]), "refused 19\n");
     assert_eq!(lines(&folder, &known::coins(64), &[]), "refused 18\n");
     assert_eq!(lines(&folder, &from_hex(&format!("10 01 40 {}", "20".repeat(64))), &[]), "sheet 1 64 0 1\n");

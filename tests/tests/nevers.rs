@@ -98,8 +98,9 @@ fn unknown_settles_no_pair() {
     assert_eq!(said(sheet, "11 02 35 30"), "execute 2 2 0000000000000001");
     assert_eq!(said(sheet, "11 02 30 30"), "suspend 0 2 0000000000000003");
     let graph = own_graph(&from_hex(sheet)).expect("a graph");
-    let cases = "46 00 00 00 01 00 01 46 00 00 00 03 00 02 46 00 00 ff ff 00 02 46 00 02 00 03 00 02 \
-                 46 00 02 ff ff 00 02 46 00 04 ff ff 00 01";
+    let cases =
+        "46 00 00 00 00 01 00 01 46 00 00 00 00 03 00 02 46 00 00 00 ff ff 00 02 46 00 00 02 00 03 00 02 \
+                 46 00 00 02 ff ff 00 02 46 00 00 04 ff ff 00 01";
     let nodes = format!("43 00 55 00 06 00 01 00 02 {cases} 42 01 47 00 00 00 55 00 03 00 04 42 02 41");
     assert_eq!(to_hex(&graph), to_hex(&from_hex(&format!("12 02 02 00 05 {nodes}"))));
     // (Y, Y), (X in 2..2, Y) and (_, f(Y)): neither at argument 1, unknown at argument 2, then the pair says no.
@@ -117,7 +118,7 @@ fn unknown_settles_no_pair() {
 fn at_a_switch_it_takes_the_neither_edge() {
     // Cases for all symbols, a compound and all numbers: fail; neither: execute 2; unknown: suspend.
     let sheet = "10 01 02 22 00 00 ff ff 20";
-    let cases = "44 00 00 ff ff 00 01 45 00 01 01 00 01 46 00 00 ff ff 00 01";
+    let cases = "44 00 00 ff ff 00 01 45 00 01 01 00 01 46 00 00 00 ff ff 00 01";
     let graph = format!("12 01 02 00 04 43 00 00 00 03 00 02 00 03 {cases} 40 42 02 41");
     let (sheet, graph) = (from_hex(sheet), from_hex(&graph));
     assert_eq!(check_graph(&sheet, &graph), Ok(GraphSize { nodes: 4 }));

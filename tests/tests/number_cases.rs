@@ -1,5 +1,6 @@
-//! Cases of a switch, one fault at a time: numbers that overlap are accepted, reversed and later ones are not; runs of
-//! ids that have an id in common are not either; and of more than 255 cases the last counts too.
+//! Cases of a switch, one fault at a time: numbers that overlap are accepted, reversed and later ones are not, nor those of
+//! a gauge before a lower one; runs of ids that have an id in common are not either; and of more than 255 cases the last
+//! counts too.
 
 use voltunnis_tests::faults::{graphs, with_cases, Ended, Met};
 use voltunnis_tests::reference::nodes::Case;
@@ -46,6 +47,47 @@ fn overlapping_numbers_are_accepted() {
         changed.into_iter().map(whole).collect()
     };
     graphs().iter().for_each(|made| met.every_node(made, |_, node| with_cases(node, first), Ok(())));
+    met.at_least(200, &[0, 19]);
+}
+
+/// The cases with the gauge of each number case changed on its own, from its gauge and that of the number case after it,
+/// if there is one.
+fn on_gauges(cases: &[Case], change: impl Fn(u8, Option<u8>) -> Option<u8>) -> Vec<Vec<Case>> {
+    let gauge = |case: &Case| match case {
+        Case::Numbers { gauge, .. } => Some(*gauge),
+        _ => None,
+    };
+    let changed = |at: usize| {
+        let mut cases = cases.to_vec();
+        let new = change(gauge(&cases[at])?, cases.get(at + 1).and_then(gauge))?;
+        if let Case::Numbers { gauge, .. } = &mut cases[at] {
+            *gauge = new;
+        }
+        Some(cases)
+    };
+    (0..cases.len()).filter_map(changed).collect()
+}
+
+#[test]
+fn a_gauge_above_the_next_case_s_is_refused_by_24() {
+    let mut met = Met::default();
+    let above = |_: u8, after: Option<u8>| after?.checked_add(1);
+    for made in graphs() {
+        met.every_node(&made, |_, node| with_cases(node, |cases| on_gauges(cases, above)), Err(24));
+    }
+    met.at_least(500, &[24]);
+}
+
+#[test]
+fn the_last_number_case_may_be_on_any_higher_gauge() {
+    let mut met = Met::default();
+    // Its ends may be those of a case of a lower gauge, and its low may be lower.
+    let last = |gauge: u8, after: Option<u8>| if after.is_none() { gauge.checked_add(1) } else { None };
+    let highest = |gauge: u8, after: Option<u8>| (after.is_none() && gauge < 255).then_some(255);
+    for made in graphs() {
+        met.every_node(&made, |_, node| with_cases(node, |cases| on_gauges(cases, last)), Ok(()));
+        met.every_node(&made, |_, node| with_cases(node, |cases| on_gauges(cases, highest)), Ok(()));
+    }
     met.at_least(200, &[0, 19]);
 }
 

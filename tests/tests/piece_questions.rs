@@ -44,8 +44,8 @@ fn question_13_asks_for_an_arity_of_1_to_8() {
 }
 
 #[test]
-fn question_14_asks_for_whole_records_of_kinds_30_to_35() {
-    for kind in (0..=0xff).filter(|kind| !(0x30..=0x35).contains(kind)) {
+fn question_14_asks_for_whole_records_of_kinds_30_to_36() {
+    for kind in (0..=0xff).filter(|kind| !(0x30..=0x36).contains(kind)) {
         refused(&one(&format!("{kind:02x} 00 00 00 00 00")), 14);
     }
     let span = "33 00 01 02 30 34 00 01 00 02";
@@ -59,6 +59,9 @@ fn question_14_asks_for_whole_records_of_kinds_30_to_35() {
         span,
         never,
         "35",
+        "36 00 00 01",
+        "36 ff ff ff",
+        "33 00 01 02 36 01 00 05 30",
     ] {
         let bytes = from_hex(&one(term));
         assert_eq!(check_piece(&bytes), Ok(PieceSize { arity: 1 }));
@@ -89,6 +92,25 @@ fn record_35_has_no_body() {
     // A compound of 35s has 1 to 4 of them.
     refused(&one("33 00 01 00 35"), 16);
     refused(&one(&compound(&["35"; 5])), 16);
+}
+
+#[test]
+fn record_36_has_a_gauge_and_a_wide_value() {
+    for gauge in ["00", "01", "30", "80", "ff"] {
+        for value in ["00 00", "00 ff", "01 00", "36 36", "ff ff"] {
+            accepted(&format!("11 01 36 {gauge} {value}"), 1);
+            accepted(&format!("11 03 30 36 {gauge} {value} 35"), 3);
+            refused(&format!("11 01 36 {gauge} {value} 00"), 17);
+            refused(&format!("11 02 36 {gauge} {value}"), 14);
+        }
+    }
+    // At every depth, the deepest too.
+    let mut term = "36 01 00 05".to_string();
+    for _ in 0..3 {
+        term = compound(&[&term[..]; 4]);
+        accepted(&one(&term), 1);
+    }
+    refused(&one(&compound(&[&term])), 15);
 }
 
 #[test]
@@ -143,10 +165,11 @@ fn questions_come_term_by_term_in_number_order() {
     let three = |inside: &str| compound(&[&compound(&[&compound(&[inside])])]);
     refused(&one(&three("33 00 01 00")), 15);
     refused(&one(&three("33 00 01")), 14);
-    refused("11 02 33 00 01 00 36", 16);
-    refused("11 02 36 33 00 01 00", 14);
+    refused("11 02 33 00 01 00 37", 16);
+    refused("11 02 37 33 00 01 00", 14);
     refused("11 02 35 33 00 01 00", 16);
-    refused("11 00 36", 13);
+    refused("11 02 36 01 00 05 33 00 01 00", 16);
+    refused("11 00 37", 13);
 }
 
 #[test]

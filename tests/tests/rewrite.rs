@@ -45,7 +45,8 @@ fn the_vectors_graphs_are_written_again() {
 /// A switch at place 0 with so many number cases, which overlap, each to the node before.
 fn switch_of(count: usize) -> Node {
     let pairs = (0..363).flat_map(|low| (low..363).map(move |high| (low, high)));
-    let cases = pairs.take(count).map(|(low, high)| Case::Numbers { low, high, node: 1023 }).collect();
+    let cases =
+        pairs.take(count).map(|(low, high)| Case::Numbers { gauge: 0, low, high, node: 1023 }).collect();
     Node::Switch { place: 0, neither: 1022, unknown: 1021, cases }
 }
 
@@ -54,14 +55,14 @@ fn graphs_of_many_cases_are_written_again() {
     let sheet = from_hex("10 01 01 21 00 01");
     let mut nodes = vec![switch_of(300); 1024];
     let graph = graph_bytes(1, 1, &nodes);
-    assert_eq!(graph.len(), 5 + 1024 * (9 + 300 * 7));
+    assert_eq!(graph.len(), 5 + 1024 * (9 + 300 * 8));
     fits(&sheet, &graph, 0);
     fits(&sheet, &graph, 9);
     refused(&sheet, &graph, graph.len() - 1, 19);
     // The first and the last switch with as many cases as there may be.
     (nodes[0], nodes[1023]) = (switch_of(65_535), switch_of(65_535));
     let graph = graph_bytes(1, 1, &nodes);
-    assert_eq!(graph.len(), 5 + 1022 * (9 + 300 * 7) + 2 * (9 + 65_535 * 7));
+    assert_eq!(graph.len(), 5 + 1022 * (9 + 300 * 8) + 2 * (9 + 65_535 * 8));
     fits(&sheet, &graph, 3);
     refused(&sheet, &graph, graph.len() - 1, 19);
 }

@@ -10,13 +10,13 @@ use voltunnis_tests::generate::trees::{piece_bytes, Pattern, SheetTree, Term};
 use voltunnis_tests::request;
 use voltunnis_tests::results::{GraphSize, Plain};
 
-/// The vectors of request 5, the example's graph and answers as request 6 makes them. One that is shared twice is here
-/// with 26 and with 21.
+/// The vectors of request 5, the example's graph and answers as request 6 makes them, number cases as request 7 does. One
+/// that is shared twice is here with 26 and with 21.
 const VECTORS: &str = include_str!("../vectors/series.txt");
 
 #[test]
 fn the_shared_vectors_are_met() {
-    let calls: Vec<&str> = VECTORS.lines().map(|line| request::met(line, &["5", "6"])).collect();
+    let calls: Vec<&str> = VECTORS.lines().map(|line| request::met(line, &["5", "6", "7"])).collect();
     let of = |name: &str| calls.iter().filter(|call| **call == name).count();
     assert_eq!((of("build"), of("tidy"), of("listing"), calls.len()), (5, 2, 2, 9));
 }
@@ -168,7 +168,7 @@ fn on_any_accepted_graph_the_run_that_has_the_id_is_followed() {
         let runs = cases.clone();
         cases.extend([
             Case::Compound { id: 1, arity: 1, node: 1 },
-            Case::Numbers { low: 0, high: 9, node: 1 },
+            Case::Numbers { gauge: 0, low: 0, high: 9, node: 1 },
         ]);
         let mut nodes = vec![Node::Switch { place: 0, neither: 1, unknown: 1, cases }];
         nodes.extend((1..=64).map(Node::Execute));

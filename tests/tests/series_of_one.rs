@@ -161,10 +161,10 @@ fn series_are_asked_questions_4_and_7() {
     for cut in ["26", "26 00", "26 00 01", "26 00 01 00", "26 00 02 00"] {
         assert_eq!(said(&format!("10 01 01 {cut}")), Err(4), "{cut}");
     }
-    assert_eq!(said("10 01 01 27 00 01 00 02"), Err(4));
+    assert_eq!(said("10 01 01 28 00 01 00 02"), Err(4));
     // One pattern after another: the first no is said.
-    assert_eq!(said("10 02 01 26 00 02 00 01 27"), Err(7));
-    assert_eq!(said("10 02 01 26 00 01 00 02 27"), Err(4));
+    assert_eq!(said("10 02 01 26 00 02 00 01 28"), Err(7));
+    assert_eq!(said("10 02 01 26 00 01 00 02 28"), Err(4));
     assert_eq!(said("10 01 01 26 00 01 00 02 20"), Err(10));
     // At depth 4 too, and the place is one test for all rules.
     let deep = "23 00 01 01 23 00 01 01 23 00 01 01 26 00 01 00 02";
@@ -195,7 +195,7 @@ fn question_24_asks_for_runs_of_ids_that_ascend_apart() {
     assert_eq!(cases(&["44 00 05 00 04 00 01"]), Err(24));
     assert_eq!(cases(&["44 01 00 00 ff 00 01"]), Err(24));
     // Compounds and numbers come after, with any ids.
-    assert_eq!(cases(&[run, "45 00 05 01 00 01", "46 00 05 00 09 00 01"]), Ok(GraphSize { nodes: 2 }));
+    assert_eq!(cases(&[run, "45 00 05 01 00 01", "46 00 00 05 00 09 00 01"]), Ok(GraphSize { nodes: 2 }));
     assert_eq!(cases(&["45 00 05 01 00 01", run]), Err(24));
     assert_eq!(cases(&[run, "44 00 0a 00 0a 00 02"]), Err(23));
 }
@@ -218,7 +218,7 @@ fn older(graph: &GraphNodes) -> Option<Vec<u8>> {
                     at += 5;
                 }
                 Case::Compound { .. } => at += 6,
-                Case::Numbers { .. } => at += 7,
+                Case::Numbers { .. } => at += 8,
             }
         }
     }

@@ -58,8 +58,8 @@ fn question_3_asks_for_at_most_64_rules() {
 }
 
 #[test]
-fn question_4_asks_for_whole_records_of_kinds_20_to_26() {
-    for kind in (0..=0xff).filter(|kind| !(0x20..=0x26).contains(kind)) {
+fn question_4_asks_for_whole_records_of_kinds_20_to_27() {
+    for kind in (0..=0xff).filter(|kind| !(0x20..=0x27).contains(kind)) {
         refused(&one(&format!("{kind:02x} 00 00 00 00 00 00")), 4);
     }
     for pattern in [
@@ -70,6 +70,8 @@ fn question_4_asks_for_whole_records_of_kinds_20_to_26() {
         "24 00",
         "25 00 00 01 00 02",
         "26 00 01 00 02",
+        "27 00 00 01 00 02",
+        "27 ff 00 01 00 02",
     ] {
         let bytes = from_hex(&one(pattern));
         for cut in 3..bytes.len() {
@@ -109,6 +111,12 @@ fn question_7_asks_that_low_is_at_most_high() {
     refused(&one("26 00 06 00 05"), 7);
     refused(&one("26 01 00 00 ff"), 7);
     accepted(&one("26 00 00 ff ff"), 1, 1, 1);
+    for gauge in ["00", "01", "ff"] {
+        accepted(&one(&format!("27 {gauge} 00 05 00 05")), 1, 1, 1);
+        accepted(&one(&format!("27 {gauge} 00 00 ff ff")), 1, 1, 1);
+        refused(&one(&format!("27 {gauge} 00 06 00 05")), 7);
+        refused(&one(&format!("27 {gauge} 01 00 00 ff")), 7);
+    }
 }
 
 #[test]
@@ -149,15 +157,17 @@ fn questions_come_record_by_record_in_number_order() {
     refused(&one("25 10 00 02 00 01"), 7);
     refused("10 02 01 24 10 22 00 02 00 01", 8);
     refused("10 02 01 22 00 02 00 01 24 10", 7);
-    refused("10 02 01 23 00 01 00 27", 6);
-    refused("10 00 ff 27", 2);
+    refused("10 02 01 23 00 01 00 28", 6);
+    refused("10 00 ff 28", 2);
+    refused("10 02 01 27 01 00 02 00 01 28", 7);
+    refused("10 02 01 27 01 00 01 00 02 28", 4);
 }
 
 #[test]
 fn question_9_comes_before_the_next_rule() {
     let disjoint = "25 00 00 01 00 01 25 00 00 02 00 02";
-    refused(&format!("10 02 02 {disjoint} 27"), 9);
+    refused(&format!("10 02 02 {disjoint} 28"), 9);
     refused(&format!("10 02 02 {disjoint}"), 9);
     refused(&format!("10 02 01 {disjoint} 00"), 9);
-    refused("10 03 01 25 00 00 01 00 01 25 00 00 02 00 02 27", 4);
+    refused("10 03 01 25 00 00 01 00 01 25 00 00 02 00 02 28", 4);
 }

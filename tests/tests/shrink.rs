@@ -54,7 +54,7 @@ const SMALLEST: [(u8, &[&str]); 28] = [
         24,
         &[
             "check_graph 100101210000 120101000143000000010000000044000100000000",
-            "check_graph 100101210000 120101000143000000010000000046000100000000",
+            "check_graph 100101210000 12010100014300000001000000004600000100000000",
             "check_graph 100101210000 1201010001430000000200000000450000000000450000000000",
         ],
     ),
@@ -98,7 +98,7 @@ fn every_refusal_comes_down_to_its_smallest_call() {
 
 #[test]
 fn sheets_that_must_be_large_come_down_too() {
-    for (number, most) in [(11, 250), (18, 300)] {
+    for (number, most) in [(11, 250), (18, 600)] {
         for call in refused(number).filter(|call| call.argument(Role::Order).is_none()).take(6) {
             let small = smallest(&call, &graph_in, &mut |call| refusal(call) == number, 20_000);
             let length = small.argument(Role::Sheet).map_or(0, <[u8]>::len);

@@ -11,12 +11,12 @@ use voltunnis_tests::reference::own_graph;
 use voltunnis_tests::request;
 use voltunnis_tests::results::GraphSize;
 
-/// The vectors of request 4, the example's graph and answers as request 6 makes them.
+/// The vectors of request 4, the example's graph and answers as request 6 makes them, number cases as request 7 does.
 const VECTORS: &str = include_str!("../vectors/spans.txt");
 
 #[test]
 fn the_shared_vectors_are_met() {
-    let calls: Vec<&str> = VECTORS.lines().map(|line| request::met(line, &["4", "6"])).collect();
+    let calls: Vec<&str> = VECTORS.lines().map(|line| request::met(line, &["4", "6", "7"])).collect();
     assert_eq!(calls.len(), 20);
 }
 
@@ -93,7 +93,8 @@ fn a_number_or_span_follows_the_narrowest_case() {
     assert_eq!(said("100102220002000220", "11013400020003"), "suspend 0 1 0000000000000001");
     // Nodes 1 to 4 execute rules 1 to 4; the cases overlap.
     let sheet = from_hex("10 01 04 22 00 00 00 09 20 20 20");
-    let cases = "46 00 00 00 09 00 01 46 00 02 00 05 00 02 46 00 02 00 08 00 03 46 00 04 00 04 00 04";
+    let cases =
+        "46 00 00 00 00 09 00 01 46 00 00 02 00 05 00 02 46 00 00 02 00 08 00 03 46 00 00 04 00 04 00 04";
     let graph = format!("12 01 04 00 06 43 00 00 00 04 00 05 00 05 {cases} 42 01 42 02 42 03 42 04 41");
     for (ends, rule) in [
         ("00 00 00 09", 1),
@@ -144,9 +145,10 @@ fn on_any_accepted_graph_the_narrowest_case_is_followed() {
     for round in 0..3_000 {
         let ends = some_ends(&mut random, if round % 50 == 0 { 600 } else { 40 });
         let rule = |at: usize| at % 63 + 2;
-        let numbers = |(at, (low, high)): (usize, &(u16, u16))| Case::Numbers {
-            low: *low,
-            high: *high,
+        let numbers = |(at, &(low, high)): (usize, &(u16, u16))| Case::Numbers {
+            gauge: 0,
+            low,
+            high,
             node: rule(at) as u16,
         };
         let symbols = (0..round % 3).map(|id| Case::Symbols { low: id, high: id, node: 1 });
@@ -189,7 +191,7 @@ fn a_place_met_is_listed_if_its_span_is_partly_inside_the_range_of_a_rule_live_t
     assert_eq!(said(sheet, "11 02 31 00 01 34 00 04 00 09"), "suspend 0 2 0000000000000002");
     assert_eq!(said(sheet, "11 02 31 00 02 34 00 04 00 09"), "suspend 0 2 0000000000000000");
     // On another maker's graph that asks argument 2 first, it is live there.
-    let graph = "12 02 03 00 03 43 00 55 00 01 00 01 00 01 46 00 00 ff ff 00 01 \
+    let graph = "12 02 03 00 03 43 00 55 00 01 00 01 00 01 46 00 00 00 ff ff 00 01 \
                  43 00 00 00 01 00 02 00 02 44 00 01 00 01 00 02 41";
     let piece = from_hex("11 02 31 00 02 34 00 04 00 09");
     let answer = walk(&from_hex(sheet), &from_hex(graph), &piece).expect("an answer");

@@ -10,9 +10,31 @@ use voltunnis_tests::generate::crowded::crowded;
 use voltunnis_tests::generate::random::Random;
 use voltunnis_tests::generate::sheets::sheet;
 use voltunnis_tests::generate::stream::{lent, Stream};
-use voltunnis_tests::generate::trees::read_piece;
+use voltunnis_tests::generate::trees::{all, read_piece, Pattern, SheetTree, Term};
 use voltunnis_tests::generate::variables::tidy_length;
 use voltunnis_tests::reference::{graph_in, sheet::Sheet, tidy};
+
+/// A sheet in words, by whether it names a gauge.
+fn sort_of_sheet(sheet: &[u8]) -> &'static str {
+    let (tree, _) = SheetTree::read(sheet).expect("a sheet");
+    let mut patterns = tree.rules.iter().flat_map(|rule| all(rule));
+    match patterns.any(|pattern| matches!(pattern, Pattern::Gauged(..))) {
+        true => "sheet with 27",
+        false => "sheet",
+    }
+}
+
+/// A piece in words, by whether it holds a reading that will never come, or has an argument that names its gauge.
+fn sort_of_piece(piece: &[u8]) -> &'static str {
+    let (terms, _) = read_piece(piece).expect("a piece");
+    if terms.iter().any(holds_never) {
+        "piece with 35"
+    } else if terms.iter().any(|term| matches!(term, Term::Gauged(..))) {
+        "piece with 36"
+    } else {
+        "piece"
+    }
+}
 
 /// What a call of both gives, in a word.
 fn outcome(call: &Call) -> String {
@@ -21,11 +43,8 @@ fn outcome(call: &Call) -> String {
     let (order, buffer) = (of(Role::Order), of(Role::Buffer));
     assert!(buffer == lent(buffer.len()), "a buffer as it is lent");
     let said = match call.name() {
-        Name::CheckSheet => both::check_sheet(sheet).map(|_| "sheet".to_string()),
-        Name::CheckPiece => both::check_piece(piece).map(|_| match read_piece(piece) {
-            Some((terms, _)) if terms.iter().any(holds_never) => "piece with 35".to_string(),
-            _ => "piece".to_string(),
-        }),
+        Name::CheckSheet => both::check_sheet(sheet).map(|_| sort_of_sheet(sheet).to_string()),
+        Name::CheckPiece => both::check_piece(piece).map(|_| sort_of_piece(piece).to_string()),
         Name::CheckOrder => both::check_order(order).map(|_| "order".to_string()),
         Name::Plain => both::plain(sheet, piece).map(|plain| format!("plain {}", plain.word.name())),
         Name::CheckGraph => both::check_graph(sheet, graph).map(|_| "graph".to_string()),
@@ -56,10 +75,8 @@ fn every_refusal_and_every_word_is_met_whatever_the_seed() {
         let plain = words.map(|word| format!("plain {word}"));
         let refusals = (1..=32).chain([37, 38]).map(|number| format!("refused {number}"));
         let written = ["tidy", "ordered", "built", "built in order", "rewritten", "walked all"];
-        let accepted = ["sheet", "piece", "piece with 35", "graph", "order"]
-            .into_iter()
-            .chain(written)
-            .map(String::from);
+        let read = ["sheet", "sheet with 27", "piece", "piece with 35", "piece with 36", "graph", "order"];
+        let accepted = read.into_iter().chain(written).map(String::from);
         for wanted in refusals.chain(words.map(String::from)).chain(plain).chain(accepted) {
             assert!(counts.contains_key(&wanted), "seed {seed}: {wanted} never");
         }

@@ -46,6 +46,8 @@ fn becomes(rule: &[Pattern], before: &Pattern, after: &Pattern) -> &'static str 
         (Pattern::Range(..), Pattern::Ranged(..)) => "range named",
         (Pattern::Symbol(_), Pattern::Series(..)) => "symbol as a series",
         (Pattern::Series(..), Pattern::Symbol(_)) => "series as a symbol",
+        (Pattern::Range(..), Pattern::Gauged(0, ..)) => "gauge named",
+        (Pattern::Gauged(0, ..), Pattern::Range(..)) => "gauge dropped",
         (Pattern::Variable(_), Pattern::Anything) | (Pattern::Ranged(..), Pattern::Range(..)) => {
             "name dropped"
         }
@@ -86,7 +88,8 @@ fn sheets_in_disguise_have_one_form() {
     count.often(20_000, ["other bytes"]);
     let kinds = ["anything named", "range named", "name dropped", "range added", "range dropped"];
     count.often(2_000, kinds.into_iter().chain(["range moved", "other number", "symbol as a series"]));
-    count.often(500, ["series as a symbol"]);
+    count.often(2_000, ["gauge named"]);
+    count.often(500, ["series as a symbol", "gauge dropped"]);
 }
 
 #[test]
@@ -109,7 +112,7 @@ fn near_misses_differ_exactly_when_their_tests_do() {
         }
     }
     count.print();
-    count.often(1_000, ["Want apart", "End apart", "Pair apart", "Pair alike"]);
+    count.often(1_000, ["Want apart", "End apart", "Pair apart", "Pair alike", "Gauge apart", "Gauge alike"]);
     count.often(300, ["VariableEnd apart", "VariableEnd alike"]);
 }
 

@@ -146,7 +146,7 @@ fn a_piece_filled_in_further_keeps_the_promise() {
 fn a_suspended_piece_waits_for_a_listed_test() {
     let mut random = Random::new(0x7761_6974);
     let (mut waiting, mut moved) = ([[0; 2]; 3], 0);
-    for _ in 0..18_000 {
+    for _ in 0..24_000 {
         let Some(made) = made(&mut random) else { continue };
         let Some(graph) = made.built(&mut random) else { continue };
         let Some(piece) = made.piece(&mut random) else { continue };
@@ -205,17 +205,19 @@ fn foreign(sheet: &str, graph: &str, piece: &str) -> Result<String, Refusal> {
 fn on_another_makers_graph_a_piece_may_wait_for_what_is_not_listed() {
     let waits = Ok("suspend 0 1 0000000000000000".to_string());
     // Two rules from 1 to 9, and a graph that cuts inside their range: the span holds for both, no place is listed.
-    let (sheet, graph) = ("100102220001000922 00010009", "1201020003430000000100020002460001000400014201 41");
+    let (sheet, graph) =
+        ("100102220001000922 00010009", "120102000343000000010002000246000001000400014201 41");
     assert_eq!(foreign(sheet, graph, "11013400010009"), waits);
     let narrowed = foreign(sheet, graph, "11013400010004");
     assert_eq!(narrowed, Ok("commit 1 1 0000000000000000".into()));
     // One rule from 1 to 9, and a graph whose case from 1 to 4 leads back to its own node.
-    let (sheet, graph) = ("1001012200010009", "12010100024300000001000100014600010004000041");
+    let (sheet, graph) = ("1001012200010009", "1201010002430000000100010001460000010004000041");
     assert_eq!(foreign(sheet, graph, "11013400010009"), waits);
     assert_eq!(foreign(sheet, graph, "11013400010004"), Err(26));
     // Here the span of argument 2 is outside of all ranges, and its first number leads to a pair without end.
     let sheet = "100403240024002400210001240a240a240a240a25000002000424002500000400052400";
-    let graph = "120403000343005500030002000245000101000146000100020001460002000400024700aa00ff0002000141";
+    let graph =
+        "1204030003430055000300020002450001010001460000010002000146000002000400024700aa00ff0002000141";
     assert_eq!(foreign(sheet, graph, "110434000400053400010003310001310001"), waits);
     assert_eq!(foreign(sheet, graph, "110434000400053400010001310001310001"), Err(26));
     // (X, f(X)), and a graph that asks the pair at once: the 35 differs from what is below the unknown, which then lacks.

@@ -48,7 +48,7 @@ fn the_vectors_pieces_are_walked_as_is_said() {
 fn questions_come_in_order() {
     let graph = "12 02 02 00 01 41";
     assert_eq!(said("10 02 02", "12", "11"), Err(4));
-    assert_eq!(said(EXAMPLE, "12", "11 01 36"), Err(14));
+    assert_eq!(said(EXAMPLE, "12", "11 01 37"), Err(14));
     assert_eq!(said(EXAMPLE, "12", "11 01 34 00 01 00 00"), Err(32));
     assert_eq!(said(EXAMPLE, "12", "11 01 30"), Err(20));
     assert_eq!(said(EXAMPLE, "12", "11 01 35"), Err(20));
@@ -124,7 +124,7 @@ fn question_26_asks_for_fewer_than_64_edges() {
 #[test]
 fn cases_take_what_they_say() {
     let sheet = "10 01 02 21 00 01 22 00 05 00 09";
-    let cases = "44 00 05 00 05 00 01 45 00 05 02 00 02 46 00 05 00 06 00 03 46 00 07 00 ff 00 01";
+    let cases = "44 00 05 00 05 00 01 45 00 05 02 00 02 46 00 00 05 00 06 00 03 46 00 00 07 00 ff 00 01";
     let graph = format!("12 01 02 00 05 43 00 00 00 04 00 04 00 04 {cases} 40 42 01 42 02 41");
     for (term, line) in [
         ("31 00 05", "fail 0 1 0000000000000000"),

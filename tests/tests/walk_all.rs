@@ -16,7 +16,7 @@ use voltunnis_tests::generate::sheets::sheet;
 use voltunnis_tests::generate::stock::Stock;
 use voltunnis_tests::generate::trees::{piece_bytes, SheetTree};
 use voltunnis_tests::reference::{own_graph, piece::Piece};
-use voltunnis_tests::results::{Answer, Refusal, Run};
+use voltunnis_tests::results::{in_hex, Answer, Refusal, Run};
 
 /// A switch at which every edge leads back, for the sheet `f(1)`.
 const ROUND: &str = "12 01 01 00 01 43 00 00 00 01 00 00 00 00 44 00 01 00 01 00 00";
@@ -137,7 +137,7 @@ fn a_piece_that_cannot_be_read_gets_the_last_result() {
         ("11 00", 13),
         ("11 09 30", 13),
         ("11 02 30", 14),
-        ("11 02 36 30", 14),
+        ("11 02 37 30", 14),
         ("11 02 34 00 01 30", 14),
         ("11 02 34 00 02 00 01 30", 32),
         ("11 02 33 00 01 01 33 00 01 01 33 00 01 01 33 00 01 01 30 30", 15),
@@ -179,16 +179,6 @@ fn alone(sheet: &[u8], graph: &[u8], mut pieces: &[u8]) -> Vec<Result<Answer, Re
         pieces = rest;
     }
     results
-}
-
-/// A result's bytes.
-fn in_hex(result: Result<Answer, Refusal>) -> String {
-    match result {
-        Ok(Answer { walk, wait }) => {
-            format!("00{:02x}{:02x}{:02x}00000000{wait:016x}", walk.word as u8, walk.rule, walk.edges)
-        }
-        Err(refusal) => format!("{refusal:02x}{:030}", 0),
-    }
 }
 
 /// The results by runs with room for so many each, going on where the last stopped; and the bytes taken.

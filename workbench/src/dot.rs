@@ -1,8 +1,9 @@
 //! A graph as a picture, in the language of Graphviz.
 
-use crate::dot_edges::{edges, has_spans, Edge, Sort};
+use crate::dot_edges::{edges, Edge, Sort};
 use crate::notation::{Graph, Kind, Names};
 use crate::retrace::Step;
+use crate::takers::{has_spans, has_unused};
 use std::fmt::Write;
 
 /// What a picture shows.
@@ -174,6 +175,9 @@ impl Picture<'_> {
         plain("dashed: unknown", "#333333");
         if has(has_spans) {
             plain("span: a number between two", "#333333");
+        }
+        if has(has_unused) {
+            plain("unused: cases that no reading takes", "#333333");
         }
         if self.walk.is_some() {
             plain("thick: the way that was walked", MARK);

@@ -26,9 +26,9 @@ fn record(bytes: &[u8]) -> Option<(usize, usize)> {
         0x20 | 0x30 | 0x35 => 1,
         0x24 => 2,
         0x21 | 0x31 | 0x32 => 3,
-        0x23 | 0x33 => 4,
+        0x23 | 0x33 | 0x36 => 4,
         0x22 | 0x26 | 0x34 => 5,
-        0x25 => 6,
+        0x25 | 0x27 => 6,
         _ => return None,
     };
     let body = bytes.get(..length)?;
@@ -45,7 +45,8 @@ fn node(bytes: &[u8]) -> Option<usize> {
             let mut length = 9;
             for _ in 0..u16::from_be_bytes(*bytes.get(3..)?.first_chunk()?) {
                 length += match bytes.get(length)? {
-                    0x44 | 0x46 => 7,
+                    0x46 => 8,
+                    0x44 => 7,
                     0x45 => 6,
                     _ => return None,
                 };
@@ -254,11 +255,11 @@ mod tests {
         // A number from 0 to 9; a graph with 300 cases, then a rule that the sheet lacks.
         let sheet = [0x10, 1, 1, 0x22, 0, 0, 0, 9];
         let mut graph = vec![0x12, 1, 1, 0, 2, 0x43, 0, 0, 1, 44, 0, 0, 0, 0];
-        (0..300u16).for_each(|high| graph.extend([0x46, 0, 0, (high >> 8) as u8, high as u8, 0, 0]));
+        (0..300u16).for_each(|high| graph.extend([0x46, 0, 0, 0, (high >> 8) as u8, high as u8, 0, 0]));
         graph.extend([0x42, 2]);
         let refusal = check_graph(&sheet, &graph).expect_err("a refusal");
         assert_eq!(refusal.number(), 23);
-        let node = Where::Record { index: 1, rule: 0, at: Span::new(2114, 2116) };
+        let node = Where::Record { index: 1, rule: 0, at: Span::new(2414, 2416) };
         assert_eq!(in_graph(&sheet, &graph, refusal), node);
     }
 

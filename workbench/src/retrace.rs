@@ -105,7 +105,9 @@ fn contains(case: &Case, what: &What) -> bool {
         (Case::Compound(id, arity), What::Compound(other, arguments)) => {
             id == other && usize::from(*arity) == arguments.len()
         }
-        (Case::Numbers(low, high), what) => what.numbers().is_some_and(|(a, b)| *low <= a && b <= *high),
+        (Case::Numbers(gauge, low, high), what) => {
+            what.numbers().is_some_and(|(on, a, b)| on == *gauge && *low <= a && b <= *high)
+        }
         _ => false,
     }
 }
@@ -114,7 +116,7 @@ fn contains(case: &Case, what: &What) -> bool {
 /// taken.
 fn narrowness(case: &Case) -> (u16, Reverse<u16>) {
     match case {
-        Case::Numbers(low, high) => (*low, Reverse(*high)),
+        Case::Numbers(_, low, high) => (*low, Reverse(*high)),
         Case::Symbols(..) | Case::Compound(..) => (0, Reverse(0)),
     }
 }

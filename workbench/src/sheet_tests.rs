@@ -1,7 +1,7 @@
 //! The tests of an accepted sheet: what each rule wants where, which of its places are equal, and the
 //! sheet's tests by number.
 
-use crate::notation::{places, Form, Names, Pattern, Rule, Sheet};
+use crate::notation::{numbers, places, Form, Names, Pattern, Rule, Sheet};
 
 /// A numbered test of a sheet.
 #[derive(Clone, Copy, Debug, PartialEq, Eq, PartialOrd, Ord)]
@@ -18,7 +18,8 @@ pub enum Want {
     /// A symbol with an id from low to high.
     Symbols(u16, u16),
     Compound(u16, u8),
-    Numbers(u16, u16),
+    /// A number of a gauge, from low to high.
+    Numbers(u8, u16, u16),
 }
 
 /// The tests of a rule.
@@ -49,14 +50,16 @@ impl Test {
 }
 
 impl Want {
-    /// What is wanted, in words: "is silver", "in #10..#99", "in 180..190".
+    /// What is wanted, in words: "is silver", "in #10..#99", "in 180..190", "in 180..190@roller".
     pub fn words(&self, names: &Names) -> String {
         match self {
             Want::Symbols(low, high) if low == high => format!("is {}", names.show(*low)),
             Want::Symbols(low, high) => format!("in {}", names.series(*low, *high)),
             Want::Compound(id, arity) => format!("is {}/{arity}", names.show(*id)),
-            Want::Numbers(low, high) if low == high => format!("is {low}"),
-            Want::Numbers(low, high) => format!("in {low}..{high}"),
+            Want::Numbers(gauge, low, high) => {
+                let word = if low == high { "is" } else { "in" };
+                format!("{word} {}", numbers(*gauge, *low, *high, names))
+            }
         }
     }
 }
@@ -77,7 +80,10 @@ fn note(patterns: &[Pattern], path: &mut Vec<u8>, tests: &mut RuleTests, variabl
                 Form::Anything => {}
                 Form::Symbol(id) => tests.wants.push((place, Want::Symbols(*id, *id))),
                 Form::Series(low, high) => tests.wants.push((place, Want::Symbols(*low, *high))),
-                Form::Range(low, high) => tests.wants.push((place, Want::Numbers(*low, *high))),
+                Form::Range(low, high) => tests.wants.push((place, Want::Numbers(0, *low, *high))),
+                Form::Gauged(gauge, low, high) => {
+                    tests.wants.push((place, Want::Numbers(*gauge, *low, *high)));
+                }
                 Form::Compound(id, arguments) => {
                     tests.wants.push((place, Want::Compound(*id, arguments.len() as u8)));
                     note(arguments, path, tests, variables);
@@ -105,7 +111,7 @@ impl RuleTests {
             let ranges = places.iter().filter_map(|occurrence| occurrence.range);
             let common = ranges.reduce(|(low, high), (l, h)| (low.max(l), high.min(h)));
             for (at, first) in places.iter().enumerate() {
-                tests.wants.extend(common.map(|(low, high)| (first.place, Want::Numbers(low, high))));
+                tests.wants.extend(common.map(|(low, high)| (first.place, Want::Numbers(0, low, high))));
                 tests.pairs.extend(places[at + 1..].iter().map(|second| (first.place, second.place)));
             }
         }

@@ -88,14 +88,15 @@ pub fn wanted(piece: &Piece, place: u16, want: Want) -> Truth {
         (What::Compound(id, arguments), Want::Compound(other, arity)) => {
             Truth::of(*id == other && arguments.len() == usize::from(arity))
         }
-        (what, Want::Numbers(low, high)) => {
-            what.numbers().map_or(Truth::Contradicted, |numbers| within(numbers, (low, high)))
-        }
+        (what, Want::Numbers(gauge, low, high)) => match what.numbers() {
+            Some((on, a, b)) if on == gauge => within((a, b), (low, high)),
+            _ => Truth::Contradicted,
+        },
         _ => Truth::Contradicted,
     }
 }
 
-/// Whether a number between two lies in a range: it does, it does not, or only the exact number tells.
+/// Whether a number between two lies in a range of its gauge: it does, it does not, or only the exact number tells.
 fn within((a, b): (u16, u16), (low, high): (u16, u16)) -> Truth {
     match (low <= a && b <= high, b < low || high < a) {
         (true, _) => Truth::Holds,
@@ -113,6 +114,22 @@ pub fn equal(piece: &Piece, p: u16, q: u16) -> Truth {
         (Found::Term(a), Found::Term(b)) => same(a, b),
         _ => Truth::NotKnown,
     }
+}
+
+/// A piece with all its numbers on gauge 0.
+pub fn without_gauges(piece: &Piece) -> Piece {
+    fn on_zero(terms: &mut [Term]) {
+        for term in terms {
+            match &mut term.what {
+                What::Gauged(_, value) => term.what = What::Number(*value),
+                What::Compound(_, arguments) => on_zero(arguments),
+                _ => {}
+            }
+        }
+    }
+    let mut piece = piece.clone();
+    on_zero(&mut piece.terms);
+    piece
 }
 
 /// Whether two terms are the same, in which all readings may still come.
@@ -135,10 +152,10 @@ fn same(a: &Term, b: &Term) -> Truth {
     }
 }
 
-/// Whether two numbers are the same, each known to lie between two: not known unless there is one each, or none in
-/// common.
-fn same_number((a, b): (u16, u16), (c, d): (u16, u16)) -> Truth {
-    match (b < c || d < a, a == b && c == d) {
+/// Whether two numbers are the same, each on a gauge and known to lie between two: they differ on two gauges, and are not
+/// known on one unless there is one each, or none in common.
+fn same_number((gauge, a, b): (u8, u16, u16), (other, c, d): (u8, u16, u16)) -> Truth {
+    match (gauge != other || b < c || d < a, a == b && c == d) {
         (true, _) => Truth::Contradicted,
         (_, true) => Truth::Holds,
         _ => Truth::NotKnown,
@@ -173,7 +190,7 @@ mod tests {
         for ((a, b), (low, high)) in spans(6).flat_map(|span| spans(6).map(move |range| (span, range))) {
             let piece = read(format!("({a}..{b}?)"));
             let all = known((a..=b).map(|number| (low..=high).contains(&number)));
-            assert_eq!(wanted(&piece, 0, Want::Numbers(low, high)), all, "{a}..{b}? in {low}..{high}");
+            assert_eq!(wanted(&piece, 0, Want::Numbers(0, low, high)), all, "{a}..{b}? in {low}..{high}");
         }
     }
 
@@ -214,7 +231,7 @@ mod tests {
         assert_eq!(wanted(&piece, 0, Want::Symbols(5, 9)), contradicted);
         assert_eq!(wanted(&piece, 0, Want::Compound(5, 1)), contradicted);
         // Nothing is below a span.
-        assert_eq!(wanted(&piece, 1, Want::Numbers(0, 9)), contradicted);
+        assert_eq!(wanted(&piece, 1, Want::Numbers(0, 0, 9)), contradicted);
         assert!(matches!(find(&piece, 1), Found::Lacking));
     }
 
@@ -242,7 +259,7 @@ mod tests {
     #[test]
     fn what_will_never_come_contradicts_every_place_test() {
         let piece = read("(!, #5(!))".into());
-        for want in [Want::Symbols(0, 65535), Want::Compound(5, 1), Want::Numbers(0, 65535)] {
+        for want in [Want::Symbols(0, 65535), Want::Compound(5, 1), Want::Numbers(0, 0, 65535)] {
             // At the reading, and at places below it, whether or not it is inside a compound.
             for place in [0, 1, 2, 84, 86, 87] {
                 assert_eq!(wanted(&piece, place, want), Truth::Contradicted, "{want:?} at {place}");

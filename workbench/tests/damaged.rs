@@ -30,6 +30,28 @@ fn survives(folder: &Folder, words: &[&str]) -> i32 {
     status
 }
 
+/// The commands that read sheets, pieces, graphs, orders and tracks.
+const READING: [&[&str]; 18] = [
+    &["check", "sheet.bin", "pieces.bin"],
+    &["text", "sheet.bin"],
+    &["tidy", "sheet.bin"],
+    &["text", "graph.bin"],
+    &["lift", "--sheet", "whole.bin", "graph.bin"],
+    &["draw", "sheet.bin"],
+    &["check", "--sheet", "whole.bin", "graph.bin", "pieces.bin"],
+    &["try", "--pieces", "pieces.bin", "whole.bin"],
+    &["try", "--graph", "graph.bin", "--pieces", "pieces.bin", "whole.bin"],
+    &["explain", "--graph", "graph.bin", "whole.bin", "(?, !, #1(?, !))"],
+    &["listing", "sheet.bin", "pieces.bin"],
+    &["check", "--sheet", "whole.bin", "order.bin"],
+    &["text", "order.bin"],
+    &["try", "--order", "order.bin", "--pieces", "pieces.bin", "whole.bin"],
+    &["check", "--positions", "track.bin"],
+    &["text", "--positions", "track.bin"],
+    &["text", "track.bin"],
+    &["order", "track.bin"],
+];
+
 #[test]
 fn damaged_files_are_refused_or_read() {
     let folder = Folder::new("damaged");
@@ -48,25 +70,7 @@ fn damaged_files_are_refused_or_read() {
         folder.write("order.bin", if round % 3 == 0 { damaged(&mut random, &order) } else { order });
         let track = some_list(&mut random);
         folder.write("track.bin", if round % 3 == 0 { damaged(&mut random, &track) } else { track });
-        for words in [
-            &["check", "sheet.bin", "pieces.bin"][..],
-            &["text", "sheet.bin"],
-            &["tidy", "sheet.bin"],
-            &["text", "graph.bin"],
-            &["draw", "sheet.bin"],
-            &["check", "--sheet", "whole.bin", "graph.bin", "pieces.bin"],
-            &["try", "--pieces", "pieces.bin", "whole.bin"],
-            &["try", "--graph", "graph.bin", "--pieces", "pieces.bin", "whole.bin"],
-            &["explain", "--graph", "graph.bin", "whole.bin", "(?, !, #1(?, !))"],
-            &["listing", "sheet.bin", "pieces.bin"],
-            &["check", "--sheet", "whole.bin", "order.bin"],
-            &["text", "order.bin"],
-            &["try", "--order", "order.bin", "--pieces", "pieces.bin", "whole.bin"],
-            &["check", "--positions", "track.bin"],
-            &["text", "--positions", "track.bin"],
-            &["text", "track.bin"],
-            &["order", "track.bin"],
-        ] {
+        for words in READING {
             met[survives(&folder, words) as usize] += 1;
         }
     }

@@ -60,6 +60,7 @@ fn the_tutorial_can_be_followed() {
     assert!(count >= 15, "{count} commands");
     assert_eq!(folder.read("coins.sheet"), include_bytes!("../examples/coins.sheet"));
     assert_eq!(folder.read("arcade.sheet"), include_bytes!("../examples/arcade.sheet"));
+    assert_eq!(folder.read("thickness.sheet"), include_bytes!("../examples/thickness.sheet"));
     assert!(folder.read("coins.svg").starts_with(b"<?xml") && folder.read("walk.svg").starts_with(b"<?xml"));
 }
 
@@ -99,6 +100,7 @@ fn the_notations_examples_are_accepted() {
             }
             "text example.graph" => is_graph_of(text, "sheet 2\n1: (X, X)\n2: (#1, #2)\n"),
             "text series.graph" => is_graph_of(text, "sheet 1\n1: (#10..#19)\n2: (#15..#29)\n"),
+            "text gauges.graph" => is_graph_of(text, "sheet 1\n1: (_)\n2: (2..3@1)\n"),
             "text runs.graph" => is_graph_of(text, "sheet 1\n1: (10..19)\n2: (20..29)\n"),
             "text track.order" => {
                 let order = parse_order(text).expect("an order");

@@ -36,8 +36,8 @@ fn refusals_of_bytes_name_the_byte() {
     );
     refused(
         "c.bin",
-        &[0x10, 1, 1, 0x27],
-        ": refused 4: Is it a whole record of kinds 20 to 26?\n  byte 3: 27\n",
+        &[0x10, 1, 1, 0x28],
+        ": refused 4: Is it a whole record of kinds 20 to 27?\n  byte 3: 28\n",
     );
     refused("d.bin", &[0x10, 1, 0, 0x20, 0x20], ": refused 10: Are no bytes left?\n  byte 3: 20 20\n");
     refused(
@@ -47,8 +47,8 @@ fn refusals_of_bytes_name_the_byte() {
     );
     refused(
         "f.bin",
-        &[0x11, 2, 0x30, 0x36],
-        ", piece 1: refused 14: Is each term a whole record of kinds 30 to 35?\n  byte 3: 36\n",
+        &[0x11, 2, 0x30, 0x37],
+        ", piece 1: refused 14: Is each term a whole record of kinds 30 to 36?\n  byte 3: 37\n",
     );
     refused("g.bin", &[0x11, 1, 0x30], ", piece 1: refused 20: Are the two arities equal?\n");
     folder.write("i.bin", [0x12, 1, 1, 0, 1, 0x44]);
@@ -71,7 +71,7 @@ fn refusals_of_spans_name_the_byte() {
     refused(
         "l.bin",
         &[0x11, 2, 0x30, 0x34, 0, 239, 0],
-        ", piece 1: refused 14: Is each term a whole record of kinds 30 to 35?\n  byte 3: 34 00 ef 00\n",
+        ", piece 1: refused 14: Is each term a whole record of kinds 30 to 36?\n  byte 3: 34 00 ef 00\n",
     );
 }
 
@@ -90,8 +90,32 @@ fn refusals_of_series_name_the_byte() {
     refused(
         "n.bin",
         &[0x10, 1, 1, 0x26, 0, 9, 0],
-        ": refused 4: Is it a whole record of kinds 20 to 26?\n  byte 3: 26 00 09 00\n",
+        ": refused 4: Is it a whole record of kinds 20 to 27?\n  byte 3: 26 00 09 00\n",
     );
+}
+
+#[test]
+fn refusals_of_gauges_name_the_byte() {
+    let folder = Folder::new("gauge-byte");
+    let refused = |name: &str, bytes: &[u8], said: &str| {
+        folder.write(name, bytes);
+        folder.complains(&["check", "--sheet", "example.sheet", name], 1, &format!("{name}{said}"));
+    };
+    refused(
+        "o.bin",
+        &[0x10, 1, 2, 0x27, 3, 0, 5, 0, 5, 0x27, 3, 0, 9, 0, 5],
+        ": refused 7: Is low at most high?\n  byte 9, rule 2: 27 03 00 09 00 05\n",
+    );
+    refused(
+        "p.bin",
+        &[0x10, 1, 1, 0x27, 3, 0, 9, 0],
+        ": refused 4: Is it a whole record of kinds 20 to 27?\n  byte 3: 27 03 00 09 00\n",
+    );
+    // A number on a gauge that is whole, then a span the wrong way round, then a number that is not whole.
+    let low = ", piece 1: refused 32: If a span, is its low at most its high?\n  byte 6: 34 00 ef 00 e7\n";
+    refused("q.bin", &[0x11, 3, 0x36, 255, 0, 9, 0x34, 0, 239, 0, 231, 0x36, 3, 0], low);
+    let whole = ", piece 1: refused 14: Is each term a whole record of kinds 30 to 36?\n  byte 6: 36 03 00\n";
+    refused("r.bin", &[0x11, 2, 0x36, 255, 0, 9, 0x36, 3, 0], whole);
 }
 
 /// As many cases as two bytes count can be written, one more cannot.
@@ -103,7 +127,7 @@ fn a_switch_has_as_many_cases_as_two_bytes_count() {
         format!("graph 2, 2 rules, 1 node\n0: argument 1\n{cases} neither -> 0\n unknown -> 0\n")
     };
     folder.write("most.graph", graph(65_535));
-    let said = "most.graph: graph, 1 node, 458759 bytes\n";
+    let said = "most.graph: graph, 1 node, 524294 bytes\n";
     assert_eq!(folder.says(&["check", "--sheet", "example.sheet", "most.graph"]), said);
     folder.write("more.graph", graph(65_536));
     let more =
@@ -193,7 +217,9 @@ fn help_is_given() {
     let all = folder.says(&["--help"]);
     assert_eq!(folder.says(&["help"]), all);
     assert_eq!((folder.run(&[]).status, folder.run(&[]).stderr), (2, all.clone()));
-    for name in ["check", "bytes", "text", "tidy", "order", "build", "draw", "try", "explain", "listing"] {
+    for name in
+        ["check", "bytes", "text", "tidy", "order", "build", "lift", "draw", "try", "explain", "listing"]
+    {
         assert!(all.contains(&format!("\n  {name} ")), "{name}");
         let help = folder.says(&[name, "--help"]);
         assert!(help.starts_with(&format!("vt {name}: ")) && help.contains("\nExamples:\n  vt "), "{help}");

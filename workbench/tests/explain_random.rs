@@ -17,8 +17,9 @@ use voltunnis_workbench::sheet_tests::{SheetTests, Test};
 use voltunnis_workbench::truth::{find, nevers, Found};
 
 /// How often each answer's word was met, and the refusals 26 and 27; steps at which several cases contain what stands
-/// there, steps of suspended pieces at which a span lies partly inside a range, and steps by a run of several ids; and
-/// walks that wait although a reading of theirs will never come, and pairs that differ by one beside an unknown.
+/// there, steps of suspended pieces at which a span lies partly inside a range, and steps by a run of several ids; walks
+/// that wait although a reading of theirs will never come, and pairs that differ by one beside an unknown; steps by a case
+/// of a named gauge, and numbers that go to neither although another gauge has cases.
 #[derive(Debug, Default)]
 struct Met {
     words: [usize; 5],
@@ -28,12 +29,32 @@ struct Met {
     runs: usize,
     waits: usize,
     beside: usize,
+    gauged: usize,
+    elsewhere: usize,
 }
 
 /// Whether a step goes by a case of several ids.
 fn takes_run(graph: &Graph, step: &Step) -> bool {
     let Kind::Switch { cases, .. } = &graph.nodes[usize::from(step.node)].kind else { return false };
     matches!(cases.get(step.edge), Some((Case::Symbols(low, high), _)) if low < high)
+}
+
+/// The gauge of the case by which a step goes, if it is one of numbers.
+fn gauge(graph: &Graph, step: &Step) -> Option<u8> {
+    let Kind::Switch { cases, .. } = &graph.nodes[usize::from(step.node)].kind else { return None };
+    match cases.get(step.edge)?.0 {
+        Case::Numbers(gauge, ..) => Some(gauge),
+        Case::Symbols(..) | Case::Compound(..) => None,
+    }
+}
+
+/// Whether a step asks for a number whose gauge has no case, though another has.
+fn is_elsewhere(graph: &Graph, piece: &Piece, step: &Step) -> bool {
+    let Kind::Switch { place, cases, .. } = &graph.nodes[usize::from(step.node)].kind else { return false };
+    let Found::Term(Term { what, .. }) = find(piece, *place) else { return false };
+    let numbers = || cases.iter().filter(|(case, _)| matches!(case, Case::Numbers(..)));
+    let is_on = |on: u8| numbers().any(|(case, _)| matches!(case, Case::Numbers(gauge, ..) if *gauge == on));
+    what.numbers().is_some_and(|(on, ..)| numbers().next().is_some() && !is_on(on))
 }
 
 /// Whether a step asks for two places, one of which has what will never come, and the other an unknown.
@@ -78,6 +99,8 @@ fn retraced(random: &mut Random, tree: &SheetTree, graph: &[u8], met: &mut Met) 
         met.chosen += way.steps.iter().filter(|step| step.contain > 1).count();
         met.runs += way.steps.iter().filter(|step| takes_run(&nodes, step)).count();
         met.beside += way.steps.iter().filter(|step| is_beside(&piece, step)).count();
+        met.gauged += way.steps.iter().filter(|step| gauge(&nodes, step).is_some_and(|on| on > 0)).count();
+        met.elsewhere += way.steps.iter().filter(|step| is_elsewhere(&nodes, &piece, step)).count();
     }
 }
 
@@ -104,4 +127,5 @@ fn retraced_walks_come_to_the_librarys_answer() {
     assert!(met.refusals[26] > 20 && met.refusals[27] > 20, "{met:?}");
     assert!(met.chosen > 500 && met.partly > 100 && met.runs > 500, "{met:?}");
     assert!(met.waits > 500 && met.beside > 50, "{met:?}");
+    assert!(met.gauged > 500 && met.elsewhere > 500, "{met:?}");
 }

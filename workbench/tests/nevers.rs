@@ -192,7 +192,8 @@ fn an_unknown_settles_no_pair() {
 fn an_older_graph_must_be_built_again() {
     // (X, X), (_, 2..3): argument 2 is asked, and the edge for unknown leads to suspend, node 3, or to the pair, node 2.
     let sheet = "10020224002400202200020003";
-    let cases = "4600000001000146000000030002460000ffff000246000200030002460002ffff0002460004ffff0001";
+    let cases =
+        "4600000000010001460000000003000246000000ffff0002460000020003000246000002ffff000246000004ffff0001";
     let older =
         format!("1202020005 43005500060001 0003 {cases} 4201 470000005500040003 41 4202").replace(' ', "");
     assert_eq!(walked(sheet, Some(&older), "11023530").0, "suspend 0 1 0000000000000001");

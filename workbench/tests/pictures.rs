@@ -145,6 +145,31 @@ fn runs_of_ids_stand_at_the_edges() {
     assert!(walk.contains("label=\" 1: #1778..#1999 \""), "{walk}");
 }
 
+/// Cases of a gauge stand with its name; those for several runs of it, which nothing takes, are counted.
+#[test]
+fn gauges_stand_at_the_edges() {
+    let folder = Folder::new("gauges-picture");
+    folder.write("thickness.sheet", include_str!("../examples/thickness.sheet"));
+    let dot = folder.says(&["draw", "thickness.sheet"]);
+    let edges: Vec<&str> = dot.lines().filter(|line| line.starts_with("  n1 -> ")).collect();
+    let label =
+        |text: &str| edges.iter().filter(|edge| edge.contains(&format!("label=\" {text} \""))).count();
+    let others = "0..177 \\n 185..65535 \\n 0..99@roller \\n 107..65535@roller \\n neither";
+    for text in [others, "178..184 \\n 3 spans", "100..106@roller \\n 3 unused", "unknown"] {
+        assert_eq!(label(text), 1, "{text}: {edges:#?}");
+    }
+    assert_eq!(edges.len(), 4, "{edges:#?}");
+    let shown = texts(&drawn(dot.as_bytes()));
+    for text in ["100..106@roller", "unused: cases that no reading takes", "2: (nickel, 100..106@roller, _)"]
+    {
+        assert!(shown.contains(&text.to_string()), "{text}: {shown:?}");
+    }
+    assert!(!folder.says(&["draw", "example.sheet"]).contains("unused"));
+    folder.says(&["explain", "thickness.sheet", "(nickel, 104@roller, ?)", "-o", "walk.dot"]);
+    let walk = String::from_utf8(folder.read("walk.dot")).expect("text");
+    assert!(walk.contains("label=\" 2: 100..106@roller \""), "{walk}");
+}
+
 #[test]
 fn the_way_of_a_span_is_marked() {
     let folder = Folder::new("span-marked");

@@ -22,19 +22,23 @@ use voltunnis_workbench::notation::{
 
 const ROUNDS: usize = 100_000;
 
+/// The text of a sheet, which parsed again is the same bytes.
 #[track_caller]
-fn sheet_again(bytes: &[u8]) {
+fn sheet_again(bytes: &[u8]) -> String {
     let text = print_sheet(bytes).expect("a sheet that can be read");
     let written = parse_sheet(&text).unwrap_or_else(|fault| panic!("{}", fault.show("printed", &text)));
     assert_eq!(to_hex(&written.sheet.bytes()), to_hex(bytes), "{text}");
+    text
 }
 
+/// The text of a piece, which parsed again is the same bytes.
 #[track_caller]
-fn piece_again(bytes: &[u8]) {
+fn piece_again(bytes: &[u8]) -> String {
     let text = print_piece(bytes).expect("a piece that can be read");
     let parsed = parse_piece(&text, &Names::default());
     let piece = parsed.unwrap_or_else(|fault| panic!("{}", fault.show("printed", &text)));
     assert_eq!(to_hex(&piece.bytes()), to_hex(bytes), "{text}");
+    text
 }
 
 #[track_caller]
@@ -48,15 +52,17 @@ fn graph_again(bytes: &[u8]) {
 #[test]
 fn accepted_sheets_come_back_as_they_were() {
     let mut random = Random::new(0x7368_6565);
-    let (mut accepted, mut series) = (0, 0);
+    let (mut accepted, mut series, mut gauges) = (0, 0, 0);
     while accepted < ROUNDS {
         let tree = if random.percent(5) { crowded(&mut random) } else { sheet(&mut random) };
         let bytes = tree.bytes();
         accepted += usize::from(voltunnis::check_sheet(&bytes).is_ok());
-        sheet_again(&bytes);
-        series += usize::from(print_sheet(&bytes).is_ok_and(|text| text.contains("..#")));
+        let text = sheet_again(&bytes);
+        series += usize::from(text.contains("..#"));
+        gauges += usize::from(text.contains('@'));
     }
-    assert!(series > ROUNDS / 10, "{series} sheets with series");
+    let least = series.min(gauges);
+    assert!(least > ROUNDS / 10, "{series} sheets with series, {gauges} with gauges");
 }
 
 /// The variables of a tidy sheet are numbered by first appearance, so all are printed by letters.
@@ -67,8 +73,7 @@ fn tidy_sheets_are_printed_by_letters_and_come_back() {
     for _ in 0..20_000 {
         let bytes = sheet(&mut random).bytes();
         let Ok(tidy) = voltunnis::tidy_sheet(&bytes) else { continue };
-        sheet_again(&tidy);
-        let [before, after] = [&bytes, &tidy].map(|bytes| print_sheet(bytes).expect("a sheet"));
+        let [before, after] = [&bytes, &tidy].map(|bytes| sheet_again(bytes));
         assert!(!after.contains('V'), "{after}");
         lettered += usize::from(after.contains('X'));
         numbered += usize::from(before.contains('V'));
@@ -79,18 +84,20 @@ fn tidy_sheets_are_printed_by_letters_and_come_back() {
 #[test]
 fn accepted_pieces_come_back_as_they_were() {
     let mut random = Random::new(0x7069_6563);
-    let (mut accepted, mut spans, mut nevers) = (0, 0, 0);
+    let (mut accepted, mut spans, mut nevers, mut gauges) = (0, 0, 0, 0);
     while accepted < ROUNDS {
         let tree = sheet(&mut random);
         for _ in 0..10 {
             let bytes = piece_bytes(&piece(&mut random, &tree, Stock::FULL));
             accepted += usize::from(voltunnis::check_piece(&bytes).is_ok());
-            piece_again(&bytes);
-            spans += usize::from(print_piece(&bytes).is_ok_and(|text| text.contains("..")));
-            nevers += usize::from(print_piece(&bytes).is_ok_and(|text| text.contains('!')));
+            let text = piece_again(&bytes);
+            spans += usize::from(text.contains(".."));
+            nevers += usize::from(text.contains('!'));
+            gauges += usize::from(text.contains('@'));
         }
     }
-    assert!(spans > ROUNDS / 10 && nevers > ROUNDS / 10, "{spans} pieces with spans, {nevers} with nevers");
+    let met = format!("{spans} pieces with spans, {nevers} with nevers, {gauges} with gauges");
+    assert!([spans, nevers, gauges].iter().all(|count| *count > ROUNDS / 10), "{met}");
 }
 
 /// Spans of all sorts: of one number, which stays a span, and with low above high, which is refused.
@@ -100,9 +107,7 @@ fn spans_come_back_as_they_were() {
     for (low, high) in ends.into_iter().flat_map(|low| ends.map(|high| (low, high))) {
         let span = [&[0x34][..], &u16::to_be_bytes(low), &u16::to_be_bytes(high)].concat();
         let bytes = [&[0x11, 3][..], &span, &[0x32, 0, 7, 0x33, 0, 1, 2, 0x30], &span].concat();
-        let text = format!("({low}..{high}?, 7, #1(?, {low}..{high}?))");
-        assert_eq!(print_piece(&bytes), Ok(text));
-        piece_again(&bytes);
+        assert_eq!(piece_again(&bytes), format!("({low}..{high}?, 7, #1(?, {low}..{high}?))"));
     }
     let spaced = parse_piece("( 231 .. 239 ? )", &Names::default()).expect("a piece");
     assert_eq!(spaced.bytes(), [0x11, 1, 0x34, 0, 231, 0, 239]);
@@ -116,8 +121,7 @@ fn series_come_back_as_they_were() {
         let series = [&[0x26][..], &u16::to_be_bytes(low), &u16::to_be_bytes(high)].concat();
         let bytes = [&[0x10, 2, 1][..], &series, &[0x23, 0, 1, 2, 0x21, 0, 7], &series].concat();
         let text = format!("sheet 2\n1: (#{low}..#{high}, #1(#7, #{low}..#{high}))\n");
-        assert_eq!(print_sheet(&bytes), Ok(text));
-        sheet_again(&bytes);
+        assert_eq!(sheet_again(&bytes), text);
         let case = [&[0x44][..], &series[1..], &[0, 0]].concat();
         graph_again(&[&[0x12, 1, 1, 0, 1, 0x43, 0, 0, 0, 1, 0, 0, 0, 0][..], &case].concat());
     }

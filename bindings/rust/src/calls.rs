@@ -60,9 +60,10 @@ pub fn check_sheet(sheet: &[u8]) -> Result<SheetSize, Refusal> {
 /// ```
 /// // (?, 180)
 /// assert_eq!(voltunnis::check_piece(&[0x11, 2, 0x30, 0x32, 0, 180])?.arity, 2);
-/// // A reading that will never come, and the next kind, which is no term.
+/// // A reading that will never come, 180 on gauge 3, and the next kind, which is no term.
 /// assert_eq!(voltunnis::check_piece(&[0x11, 1, 0x35])?.arity, 1);
-/// assert_eq!(voltunnis::check_piece(&[0x11, 1, 0x36]).unwrap_err().number(), 14);
+/// assert_eq!(voltunnis::check_piece(&[0x11, 1, 0x36, 3, 0, 180])?.arity, 1);
+/// assert_eq!(voltunnis::check_piece(&[0x11, 1, 0x37]).unwrap_err().number(), 14);
 /// // A number between 231 and 239, and the same the wrong way round.
 /// assert_eq!(voltunnis::check_piece(&[0x11, 1, 0x34, 0, 231, 0, 239])?.arity, 1);
 /// let refusal = voltunnis::check_piece(&[0x11, 1, 0x34, 0, 239, 0, 231]).unwrap_err();
@@ -245,6 +246,9 @@ pub fn graph(sheet: &[u8]) -> Result<Vec<u8>, Refusal> {
 /// assert_eq!(voltunnis::tidy_sheet(&one)?, voltunnis::tidy_sheet(&other)?);
 /// // The series of the symbols 7 to 7 is the symbol 7.
 /// assert_eq!(voltunnis::tidy_sheet(&[0x10, 1, 1, 0x26, 0, 7, 0, 7])?, [0x10, 1, 1, 0x21, 0, 7]);
+/// // A range on gauge 0 is a range without a gauge.
+/// let named = [0x10, 1, 1, 0x27, 0, 0, 5, 0, 9];
+/// assert_eq!(voltunnis::tidy_sheet(&named)?, [0x10, 1, 1, 0x22, 0, 5, 0, 9]);
 /// # Ok::<(), voltunnis::Refusal>(())
 /// ```
 #[inline]

@@ -54,17 +54,17 @@ mod tests {
 
     #[test]
     fn the_most_bytes_are_those_of_1024_switches() {
-        assert_eq!(MOST_BUILT_BYTES, 5 + 1_024 * (9 + 7 * 8_385));
-        assert_eq!(crate::MOST_BYTES, 5 + 1_024 * (9 + 7 * 65_535));
+        assert_eq!(MOST_BUILT_BYTES, 5 + 1_024 * (9 + 8 * 8_385));
+        assert_eq!(crate::MOST_BYTES, 5 + 1_024 * (9 + 8 * 65_535));
     }
 
     #[test]
     fn it_ends_at_the_most_that_a_built_graph_has() {
         let (buffers, graph) = lent(MOST_BUILT_BYTES as u32);
-        assert_eq!((buffers.len(), buffers.last()), (11, Some(&MOST_BUILT_BYTES)));
+        assert_eq!((buffers.len(), buffers.last()), (12, Some(&MOST_BUILT_BYTES)));
         assert_eq!(graph.map(|graph| graph.len()), Ok(MOST_BUILT_BYTES));
         let (buffers, graph) = lent(MOST_BUILT_BYTES as u32 + 1);
-        assert_eq!((buffers.len(), graph.map_err(Refusal::number)), (11, Err(TOO_SHORT)));
+        assert_eq!((buffers.len(), graph.map_err(Refusal::number)), (12, Err(TOO_SHORT)));
     }
 
     #[test]

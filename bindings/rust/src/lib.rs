@@ -64,6 +64,22 @@
 //! assert_eq!(plain(&pair, &[0x11, 2, 0x30, 0x33, 0, 1, 1, 0x35])?.word, Word::Fail);
 //! # Ok::<(), voltunnis::Refusal>(())
 //! ```
+//!
+//! A number may be on a gauge of its own, record 36; record 32 is on gauge 0. Numbers are equal only on the same
+//! gauge, and a range takes those of the gauge that it names, record 27, or of gauge 0.
+//!
+//! ```
+//! use voltunnis::{plain, Word};
+//!
+//! // A thickness from 100 to 180 by the roller, gauge 1, or from 170 to 190 by the coil, gauge 0.
+//! let sheet = [0x10, 1, 2, 0x27, 1, 0, 100, 0, 180, 0x22, 0, 170, 0, 190];
+//! let (roller, coil) = ([0x11, 1, 0x36, 1, 0, 180], [0x11, 1, 0x32, 0, 180]);
+//! assert_eq!((plain(&sheet, &roller)?.rule, plain(&sheet, &coil)?.rule), (1, 2));
+//! // f(X, X) on 180 by the coil and 180 by the roller.
+//! let pair = [0x10, 2, 1, 0x24, 0, 0x24, 0];
+//! assert_eq!(plain(&pair, &[0x11, 2, 0x32, 0, 180, 0x36, 1, 0, 180])?.word, Word::Fail);
+//! # Ok::<(), voltunnis::Refusal>(())
+//! ```
 
 mod calls;
 mod grown;
@@ -84,13 +100,14 @@ pub use results::{Answer, Built, GraphSize, PieceSize, Plain, Run, SheetSize, Wa
 pub use track::{order, track_order};
 pub use walks::{answers, results, walk_all, Answers, RESULT_BYTES};
 
-/// The most bytes that an accepted graph has: 5, and for each of 1,024 nodes 9 and 65,535 cases of 7. One that is
+/// The most bytes that an accepted graph has: 5, and for each of 1,024 nodes 9 and 65,535 cases of 8. One that is
 /// written again has as many as it had.
-pub const MOST_BYTES: usize = 469_764_101;
+pub const MOST_BYTES: usize = 536_871_941;
 
-/// No built graph has more bytes: 5, and for each of 1,024 nodes 9 and 8,385 cases of 7. The ranges of 64 rules cut
-/// all numbers into 129 runs at most, of which there are 8,385 pairs of first and last.
-pub const MOST_BUILT_BYTES: usize = 60_112_901;
+/// No built graph has more bytes: 5, and for each of 1,024 nodes 9 and 8,385 cases of 8. The ranges of 64 rules cut
+/// the numbers of a gauge into 129 runs at most, of which there are 8,385 pairs of first and last; on several gauges
+/// they have fewer.
+pub const MOST_BUILT_BYTES: usize = 68_699_141;
 
 /// The bytes of a reading order, 680 wide places, and those of as many track positions.
 pub const ORDER_BYTES: usize = 1_360;

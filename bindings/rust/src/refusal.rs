@@ -1,7 +1,8 @@
 //! Refusals: the questions of document 01, each in its words, and of requests of document 02. Question 3
 //! reads 64 by request 9; by request 4 question 14 admits record 34, 24 number cases that overlap, and 32 comes
 //! after 16 at each term; by request 5 question 4 admits record 26, 7 applies to it, and 24 asks that no id is in
-//! two cases; by request 6 question 14 admits record 35, and a place below one is in 27 as it is.
+//! two cases; by request 6 question 14 admits record 35, and a place below one is in 27 as it is; by request 7 question
+//! 4 admits record 27, 7 applies to it, 14 admits record 36, and 24 asks that number cases ascend by gauge first.
 
 use std::error::Error;
 use std::fmt;
@@ -22,7 +23,7 @@ const QUESTIONS: [(u8, &str, &str); 35] = [
     (1, SHEET, "Does it begin with a whole 10 record?"),
     (2, SHEET, "Is its arity 1 to 8?"),
     (3, SHEET, "Has it at most 64 rules (0 is allowed)?"),
-    (4, PATTERN, "Is it a whole record of kinds 20 to 26?"),
+    (4, PATTERN, "Is it a whole record of kinds 20 to 27?"),
     (5, PATTERN, "If compound, is its depth at most 3?"),
     (6, PATTERN, "Is its arity 1 to 4?"),
     (7, PATTERN, "Is low at most high?"),
@@ -32,7 +33,7 @@ const QUESTIONS: [(u8, &str, &str); 35] = [
     (11, SHEET_END, "Are there at most 64 tests?"),
     (12, PIECE, "Does it begin with a whole 11 record?"),
     (13, PIECE, "Is its arity 1 to 8?"),
-    (14, PIECE, "Is each term a whole record of kinds 30 to 35?"),
+    (14, PIECE, "Is each term a whole record of kinds 30 to 36?"),
     (15, PIECE, "If compound, is its depth at most 3?"),
     (16, PIECE, "Is its arity 1 to 4?"),
     (17, PIECE, "Are no bytes left?"),
@@ -49,7 +50,7 @@ const QUESTIONS: [(u8, &str, &str); 35] = [
          a switch with 1 case or more?",
     ),
     (23, NODE, "Are its nodes and rule in range, its place or pair among the sheet's tests?"),
-    (24, NODE, "Are cases strictly ascending, numbers by low, then high, low at most high, no id in two?"),
+    (24, NODE, "Are cases strictly ascending, numbers by gauge, low, then high, low at most high, no id in two?"),
     (25, "Then", "Are no bytes left?"),
     (26, WALKED, "Have fewer than 64 edges been walked?"),
     (27, WALKED, "Is each place it tests in the piece, or below an unknown or record 35?"),

@@ -8,7 +8,7 @@ use lib.ListN.{length, drop}
 use Rattle.records.specs.Kinds.{kindOf, beginsWith, isWhole}
 use Rattle.records.specs.Fields.{byteAt, wideAt}
 use Rattle.records.specs.Reading.{Reading, took, refused, ask, after}
-use Rattle.terms.specs.Pattern.{Pattern, Patterns, theRange, theSeries, theCompound, variable, rangedVariable, pnil, pcons}
+use Rattle.terms.specs.Pattern.{Pattern, Patterns, theRange, theGauged, theSeries, theCompound, variable, rangedVariable, pnil, pcons}
 use Rattle.sheet.specs.Sheet.{SheetHead, mostRules}
 use Rattle.sheet.specs.ReadSheet.{patternOf, readPattern, readPatterns, rangesMeet, readRule, endSheet, readHeader, readRules, readSheet}
 use Rattle.sheet_tests.specs.SheetTests.{sheetTests}
@@ -23,14 +23,15 @@ kind-named false x y h k = k
 
 record-named
     : (compound : Reading Pattern) → Named SheetQuestion compound → (s : List ℕ)
-    → Named SheetQuestion (ask 4 (isWhole 0x20 0x26 s) (patternOf compound s))
+    → Named SheetQuestion (ask 4 (isWhole 0x20 0x27 s) (patternOf compound s))
 record-named compound named s =
     let range = took 5 (theRange (wideAt s 1) (wideAt s 3)) in
     let name = took 2 (variable (byteAt s 1)) in
     let ranged = took 6 (rangedVariable (byteAt s 1) (wideAt s 2) (wideAt s 4)) in
     let series = took 5 (theSeries (wideAt s 1) (wideAt s 3)) in
+    let gauged = took 6 (theGauged (byteAt s 1) (wideAt s 2) (wideAt s 4)) in
     let small = leb (byteAt s 1) 15 in
-    ask-named SheetQuestion 4 (isWhole 0x20 0x26 s) (patternOf compound s) (omega arith, omega arith)
+    ask-named SheetQuestion 4 (isWhole 0x20 0x27 s) (patternOf compound s) (omega arith, omega arith)
     (kind-named (eqb (kindOf s) 0x20) _ _ tt
     (kind-named (eqb (kindOf s) 0x21) _ _ tt
     (kind-named (eqb (kindOf s) 0x22) _ _
@@ -42,7 +43,9 @@ record-named compound named s =
     (ask-named SheetQuestion 8 small ranged (omega arith, omega arith) tt))
     (kind-named (eqb (kindOf s) 0x26) _ _
     (ask-named SheetQuestion 7 (leb (wideAt s 1) (wideAt s 3)) series (omega arith, omega arith) tt)
-    (omega arith, omega arith))))))))
+    (kind-named (eqb (kindOf s) 0x27) _ _
+    (ask-named SheetQuestion 7 (leb (wideAt s 2) (wideAt s 4)) gauged (omega arith, omega arith) tt)
+    (omega arith, omega arith)))))))))
 
 -- with a pattern,
 pattern-named : (below : ℕ) (s : List ℕ) → Named SheetQuestion (readPattern below s)

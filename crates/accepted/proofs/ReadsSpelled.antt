@@ -14,7 +14,7 @@ use Rattle.sheet.specs.WriteSheet.{patternBytes, patternsBytes, rulesBytes}
 use Rattle.patterns.proofs.HeadBytes.{head-spelled}
 use Rattle.patterns.specs.views.PatternRecord.{recordSpelling}
 use Rattle.sheet.proofs.Compounds.{row-count}
-use Rattle.sheet.proofs.PatternReads.{PatternIs, isAnything, isSymbol, isRange, isCompound, isVariable, isRanged, isSeries, pattern-is}
+use Rattle.sheet.proofs.PatternReads.{PatternIs, isAnything, isSymbol, isRange, isCompound, isVariable, isRanged, isSeries, isGauged, pattern-is}
 use Rattle.sheet.proofs.SheetReads.{rule-is}
 use Rattle.records.proofs.ByteLists.{bytes-drop}
 
@@ -35,6 +35,7 @@ spelled-from below s bytes rows (isCompound {a = a} {n = n} {b = b} {ps = ps} he
 spelled-from below s bytes rows (isVariable head small) = record { begins = head-spelled s bytes head; many = refl }
 spelled-from below s bytes rows (isRanged head range small) = record { begins = head-spelled s bytes head; many = refl }
 spelled-from below s bytes rows (isSeries head range) = record { begins = head-spelled s bytes head; many = refl }
+spelled-from below s bytes rows (isGauged head range) = record { begins = head-spelled s bytes head; many = refl }
 
 -- A row of patterns is spelled where each is.
 row-bytes

@@ -4,7 +4,7 @@ use mathlib.Core.List.{List, [], _∷_}
 use native.Mathlib.Omega.{arith}
 use Rattle.records.specs.Fields.{wideThen, AreBytes}
 use Rattle.basics.specs.Lists.{All}
-use Rattle.terms.specs.Pattern.{Pattern, Patterns, countPatterns, anything, theSymbol, theSeries, theRange, theCompound, variable, rangedVariable, pnil, pcons}
+use Rattle.terms.specs.Pattern.{Pattern, Patterns, countPatterns, anything, theSymbol, theSeries, theRange, theGauged, theCompound, variable, rangedVariable, pnil, pcons}
 use Rattle.terms.specs.Accepted.{Sound, Sounds, AcceptedRule}
 use Rattle.sheet.specs.Sheet.{Sheet, SoundSheet}
 use Rattle.sheet.specs.WriteSheet.{patternBytes, patternsBytes, rulesBytes, sheetBytes}
@@ -16,6 +16,7 @@ mutual
   pattern-bytes (theSymbol a) r h = (omega arith, wide-bytes a [] tt)
   pattern-bytes (theSeries l u) r h = (omega arith, wide-bytes l (wideThen u []) (wide-bytes u [] tt))
   pattern-bytes (theRange l u) r h = (omega arith, wide-bytes l (wideThen u []) (wide-bytes u [] tt))
+  pattern-bytes (theGauged g l u) r h = (omega arith, (h .3, wide-bytes l (wideThen u []) (wide-bytes u [] tt)))
   pattern-bytes (theCompound a ps) r h = (
     omega arith,
     wide-bytes a (countPatterns ps ∷ patternsBytes ps)

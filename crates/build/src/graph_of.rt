@@ -24,7 +24,7 @@ fn build_tables(arity: u8, s: &Tables, c: &[u64], buf: &mut [u8]) -> Built
         ≡ graphWritten arity (rulesIn (now (s .entry))) (grownIn (now (s .entry)) (now (c .entry))) (now (buf .entry)) ⌝ }
 {
     let mut keys = [0u64; 4097];
-    let mut runs = [0u64; 390];
+    let mut runs = [0u64; 579];
     let grown = grow(&mut keys, s, c, &mut runs);
     let Measured::Bytes(bytes) = grown else {
         return Built::Refused(18);

@@ -4,7 +4,7 @@ use mathlib.Core.Path.{_≡_, refl, ap}
 use mathlib.Core.Bool.{Bool, true, false, _&&_}
 use native.Mathlib.Omega.{arith}
 use lib.Dec.{T, leb, eqb, leb→le, le→leb, eqb→eq}
-use Rattle.terms.specs.Term.{Terms, count, never, symbol, compound, Wide}
+use Rattle.terms.specs.Term.{Terms, count, never, symbol, compound, Wide, Gauged}
 use Rattle.terms.specs.RuleTests.{Want, aSymbol, aNumber, aCompound}
 use Rattle.terms.specs.Outcome.{known, fits}
 use Rattle.basics.proofs.Booleans.{both-true, true-both, same-truth}
@@ -31,7 +31,7 @@ over low high code h = within false low high code (λ f. absurd f) (λ l u. absu
 -- The ids of a series, the id and the arity of a compound, and the numbers of a range fit a record.
 abbrev pub WantFields : Want → Type 0
 WantFields (aSymbol l h) = Wide l × Wide h
-WantFields (aNumber l h) = Wide l × Wide h
+WantFields (aNumber l h) = Gauged l × Gauged h
 WantFields (aCompound a n) = Wide a × (n < 256)
 
 -- A want at a symbol,

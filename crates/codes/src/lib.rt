@@ -1,6 +1,7 @@
 // The number of a term, but for its arguments, and runs of such numbers.
 ghost use mathlib.Core.Path.{_≡_};
 ghost use Prim.Native.Nat.{_≤_};
+ghost use Rattle.terms.specs.Term.{onGauge};
 ghost use Rattle.codes.specs.views.Codes.{symbolCode, compoundCode, numberCode, runOf, lowOf, highOf};
 
 // The codes of symbols, compounds and numbers begin here.
@@ -30,11 +31,18 @@ pub fn compound_code(id: u16, arity: u8) -> u32
     COMPOUNDS + (id as u32) * 256 + (arity as u32)
 }
 
-// The code of a number. Not that of a symbol with the same bytes, nor one that leaves a gap to the next number's.
+// The code of a number on gauge 0. Not that of a symbol with the same bytes, nor one that leaves a gap to the next number's.
 pub fn number_code(value: u16) -> u32
     ensures { λ r. ⌜ r ≡ numberCode value ⌝ }
 {
     NUMBERS + (value as u32)
+}
+
+// The code of a number on a gauge. Not that of the same value on another gauge, nor of another value on this one.
+pub fn gauged_code(gauge: u8, value: u16) -> u32
+    ensures { λ r. ⌜ r ≡ numberCode (onGauge gauge value) ⌝ }
+{
+    NUMBERS + (gauge as u32) * 0x1_0000 + (value as u32)
 }
 
 // The codes from low to high as one number, that of a single code the code itself.

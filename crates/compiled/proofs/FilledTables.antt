@@ -31,8 +31,8 @@ use Rattle.compiled.proofs.PartReads.{cuts-count}
 use Rattle.compiled.proofs.SoundCodes.{rules-sound}
 use Rattle.compiled.proofs.Filling.{Filled, few-tests, filled-few}
 
-module _ {arity : ℕ} {b numbers s₀ c₀ order : List ℕ} {all : List Patterns} (g : Compiling arity b numbers s₀ c₀ order all) (s c : List ℕ)
-    (f : Filled g (rulesIn s₀) s c) where
+module _ {arity : ℕ} {b numbers s₀ c₀ order : List ℕ} {all : List Patterns} (g : Compiling arity b numbers s₀ c₀ order all)
+    (s c : List ℕ) (f : Filled g (rulesIn s₀) s c) where
   abbrev rules : ℕ
   rules = rulesIn s₀
 
@@ -79,7 +79,8 @@ module _ {arity : ℕ} {b numbers s₀ c₀ order : List ℕ} {all : List Patter
       ap (λ (r : ℕ). cutsIn c (partAt r t)) (sym are) ∙ f .cuts t n h is ∙ ap (cutsTo all n) are
 
   -- The cuts of place test t have codes.
-  coded : (t k : ℕ) → t < placeTestsIn s₀ → k < countAt c (partAt rules t) → 0 < cutAt c (partAt rules t) k .code
+  coded : (t k : ℕ) → t < placeTestsIn s₀ → k < countAt c (partAt rules t)
+      → (0 < cutAt c (partAt rules t) k .code) × (cutAt c (partAt rules t) k .code < 0x1_0000_0000)
   coded t k h inside =
       let l = g .listed in
       let spot : t < length (l .places) = omega (arith, l .placesAre) in
@@ -94,7 +95,8 @@ module _ {arity : ℕ} {b numbers s₀ c₀ order : List ℕ} {all : List Patter
       let here : 0 + k ≡ k = omega arith in
       let it = all-at Coded (mem-at (cutWith 0 0) (cutsIn c from) k (omega (arith, cuts-count c from))) each in
       let same = row-at (cutAt c from) (cutWith 0 0) 0 (countAt c from) k inside ∙ ap (cutAt c from) here in
-      omega (arith, it .0, ap (λ (x : Cut). x .code) same)
+      let at = ap (λ (x : Cut). x .code) same in
+      (omega (arith, it .0, at), omega (arith, it .1, at))
 
   parted : Parted rules (placeTestsIn s) c
   parted = subst (λ (p : ℕ). Parted rules p c) (sym places)

@@ -25,8 +25,8 @@ case-told (compoundCase a n) f =
     let e : code % 256 ≡ n = omega (arith, f .1) in
     rw (le-ltb code 0x200_0000 (omega arith), lt-ltb code 0x300_0000 (omega (arith, f .0, f .1)), d, e)
 case-told (numbersCase l h) f =
-    let d : numberCode l % 0x1_0000 ≡ l = omega (arith, f .0) in
-    let e : numberCode h % 0x1_0000 ≡ h = omega (arith, f .1) in
+    let d : numberCode l % 0x100_0000 ≡ l = omega (arith, f .0) in
+    let e : numberCode h % 0x100_0000 ≡ h = omega (arith, f .1) in
     rw (le-ltb (numberCode l) 0x200_0000 (omega arith), le-ltb (numberCode l) 0x300_0000 (omega arith), d, e)
 
 -- The case of the codes of a case is this case.

@@ -2,19 +2,22 @@
 use Prim.Native.Nat.{ℕ, zero, suc, _+_, _*_, _-_, _≤_, _<_}
 use mathlib.Core.Path.{_≡_, sym, ap, subst, _∙_}
 use mathlib.Core.List.{List, [], _∷_, _++_, map}
+use mathlib.Core.Logic.{inl, inr}
 use native.Mathlib.Nat.{add-mul, mul-le-mul}
 use native.Mathlib.Omega.{arith}
 use native.Mathlib.Numerals.{add-one}
 use lib.Bits.{bitOr, or-zero-l, or-self}
 use lib.ListN.{length, length-append, length-map}
 use lib.Seq.{take-at, drop-at}
-use Rattle.basics.specs.Lists.{countFrom}
+use Rattle.basics.specs.Lists.{All, countFrom}
 use Rattle.basics.proofs.Counting.{count-append, count-length}
 use Rattle.basics.proofs.Filters.{map-join}
+use Rattle.basics.proofs.Numbers.{le-or-lt}
 use Rattle.cuts.specs.views.Runs.{Run, runAt, runsIn}
-use Rattle.cuts.specs.views.CaseRuns.{unionRow, unionPairs, caseRuns, runsFrom, pairsRow}
+use Rattle.cuts.specs.views.CaseRuns.{unionRow, unionPairs, gaugeAt, gaugePairs, caseRuns, runsFrom, pairsRow, GaugeUpTo}
 use Rattle.cuts.proofs.FramedPass.{runs-length}
 use Rattle.cuts.proofs.UnionPairs.{union-count}
+use Rattle.cuts.proofs.GaugePairs.{OtherFirst, RunOn, gauge-split, gauge-few}
 
 -- One run more that is paired makes at least as many cases more as one that is a case by itself.
 own-row : (n k : ℕ) → k * 2 ≤ k * suc (n + k)
@@ -54,33 +57,64 @@ module _ (runs : List ℕ) (count : ℕ) where
       ∙ ap (λ (i : ℕ). runsIn runs k ++ map (runAt runs) (countFrom i (count - k))) d
 
   -- The cases are the first runs, then the pairs of the others.
-  pub cases-parted : (k : ℕ) → k ≤ count → caseRuns k (runsIn runs count) ≡ runsIn runs k ++ unionPairs (runsFrom runs count k)
+  pub cases-parted : (k : ℕ) → k ≤ count → caseRuns k (runsIn runs count) ≡ runsIn runs k ++ gaugePairs (runsFrom runs count k)
   cases-parted k h =
       ap (caseRuns k) (runs-parted k h)
       ∙ (λ i.
       take-at (runsIn runs k) (runsFrom runs count k) k (runs-length runs k) i
-      ++ unionPairs (drop-at (runsIn runs k) (runsFrom runs count k) k (runs-length runs k) i))
+      ++ gaugePairs (drop-at (runsIn runs k) (runsFrom runs count k) k (runs-length runs k) i))
 
-  -- They are as many as the first runs, and n (n + 1) / 2 for n others.
-  pub cases-counted
-      : (k : ℕ) → k ≤ count → length (caseRuns k (runsIn runs count)) * 2 ≡ k * 2 + (count - k) * suc (count - k)
+  -- They are as many as the first runs and the pairs,
+  pub cases-counted : (k : ℕ) → k ≤ count
+      → length (caseRuns k (runsIn runs count)) ≡ k + length (gaugePairs (runsFrom runs count k))
   cases-counted k h =
       let same = ap (λ (l : List Run). length l) (cases-parted k h) in
-      let both = length-append (runsIn runs k) (unionPairs (runsFrom runs count k)) in
-      let pairs = union-count (runsFrom runs count k)
-      ∙ ap (λ (n : ℕ). n * suc n) (from-length k) in
+      let both = length-append (runsIn runs k) (gaugePairs (runsFrom runs count k)) in
       omega (arith, runs-length runs k)
 
-  -- They are at most 8,385.
-  pub cases-most : (k : ℕ) → k ≤ count → count ≤ 129 → length (caseRuns k (runsIn runs count)) ≤ 8385
+  -- which are n (n + 1) / 2 for n runs on one gauge.
+  pub pairs-counted : (k : ℕ) → length (unionPairs (runsFrom runs count k)) * 2 ≡ (count - k) * suc (count - k)
+  pairs-counted k = union-count (runsFrom runs count k) ∙ ap (λ (n : ℕ). n * suc n) (from-length k)
+
+  -- They are at most 18,721.
+  pub cases-most : (k : ℕ) → k ≤ count → count ≤ 193 → length (caseRuns k (runsIn runs count)) ≤ 18721
   cases-most k h few =
       let n = count - k in
       let all : n + k ≡ count = omega arith in
       let more : n * suc n + k * 2 ≤ count * suc count =
       subst (λ (m : ℕ). n * suc n + k * 2 ≤ m * suc m) all (pairs-outnumber n k) in
-      let most : count * suc count ≤ 129 * 130 =
-      mul-le-mul {n₁ = count} {m₁ = suc count} {n₂ = 129} {m₂ = 130} few (omega arith) in
-      omega (arith, cases-counted k h)
+      let most : count * suc count ≤ 193 * 194 =
+      mul-le-mul {n₁ = count} {m₁ = suc count} {n₂ = 193} {m₂ = 194} few (omega arith) in
+      omega (arith, cases-counted k h, gauge-few (runsFrom runs count k), pairs-counted k)
+
+  -- The runs from the k-th on are those on its gauge, then the others,
+  pub gauges-some : (k end : ℕ) → GaugeUpTo runs count k end
+      → gaugePairs (runsFrom runs count k) ≡ unionPairs (runsFrom runs end k) ++ gaugePairs (runsFrom runs count end)
+  gauges-some k end one =
+      let begun = one .some in
+      let within = one .within in
+      let g = gaugeAt (runAt runs k) in
+      let e : count - k ≡ (end - k) + (count - end) = omega arith in
+      let d : k + (end - k) ≡ end = omega arith in
+      let split : runsFrom runs count k ≡ runsFrom runs end k ++ runsFrom runs count end =
+      ap (λ (n : ℕ). map (runAt runs) (countFrom k n)) e
+      ∙ ap (map (runAt runs)) (count-append k (end - k) (count - end))
+      ∙ map-join (runAt runs) (countFrom k (end - k)) (countFrom (k + (end - k)) (count - end))
+      ∙ ap (λ (i : ℕ). runsFrom runs end k ++ map (runAt runs) (countFrom i (count - end))) d in
+      ap gaugePairs split
+      ∙ gauge-split g (runsFrom runs end k) (runsFrom runs count end) (on k (end - k) (omega arith) (omega arith))
+      (elim (le-or-lt count end) [
+        | inl over ↦ subst (OtherFirst g) (sym (from-none end over)) tt
+        | inr less ↦ subst (OtherFirst g) (sym (from-some end less)) (one .other less)
+      ])
+    where
+      on : (i n : ℕ) → k ≤ i → i + n ≤ end → All (RunOn (gaugeAt (runAt runs k))) (map (runAt runs) (countFrom i n))
+      on i zero h l = tt
+      on i (suc n) h l = (one .same i h (omega arith), on (suc i) n (omega arith) (omega arith))
+
+  -- and none behind the last.
+  pub gauges-none : (k : ℕ) → count ≤ k → gaugePairs (runsFrom runs count k) ≡ []
+  gauges-none k h = ap gaugePairs (from-none k h)
 
   -- The pairs from a first run on are its row, then those of the first runs behind it.
   pub pairs-some : (k : ℕ) → k < count

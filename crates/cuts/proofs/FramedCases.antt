@@ -18,11 +18,13 @@ use Rattle.decision.specs.Edges.{liveWants}
 use Rattle.decision.specs.Rules.{wantAt}
 use Rattle.decision.proofs.cases.CaseList.{nameCases, names-all}
 use Rattle.decision.proofs.cases.IdRuns.{id-runs-inside}
+use Rattle.decision.proofs.cases.GaugeRuns.{gaugeRuns}
 use Rattle.cuts.specs.views.Runs.{Run}
 use Rattle.cuts.specs.views.FramedRuns.{framedRuns, isNameRun}
 use Rattle.cuts.specs.views.CutsOf.{cutsTo, caseRun}
-use Rattle.cuts.proofs.FramedNumbers.{numberFrames, numberRun, numbers-are}
-use Rattle.cuts.proofs.FramedSwitch.{allSound, sets, base, names, none-first, framed-switch}
+use Rattle.cuts.proofs.FramedNumbers.{numberRun, numbers-are}
+use Rattle.cuts.proofs.FramedSwitch.{allSound, sets, names, none-first, framed-switch}
+use Rattle.cuts.proofs.Framing.{base}
 use Rattle.cuts.proofs.RunningSets.{setRuns}
 use Rattle.cuts.proofs.SwitchCases.{names-are}
 
@@ -52,10 +54,10 @@ module _ (rules : List Patterns) (n live : ℕ) (fits : live < 2 ^ length rules)
       (λ r m. let k = id-runs-inside wants known r m in lt-ltb (symbolCode (r .low)) base (omega (arith, k .1, k .2)))
       (λ a j m. let s = all-at SoundWant m known in lt-ltb (compoundCode a j) base (omega (arith, s .0, s .1))))
 
-  -- The runs are those of the cases for symbols and compounds, then all numbers in runs where a live rule has a range, each with
+  -- The runs are those of the cases for symbols and compounds, then those of the gauges that live rules have ranges on, each with
   -- the live rules that want something of it.
   pub runs-are-framed : framedRuns live (cutsTo rules n (length rules))
-      ≡ map (caseRun rules n live) (nameCases wants) ++ map asRun (numberFrames (rangesOf wants))
+      ≡ map (caseRun rules n live) (nameCases wants) ++ map asRun (gaugeRuns (rangesOf wants))
   runs-are-framed =
       let first =
       quiet-first (sets rules n live fits sound) (names rules n live fits sound) (none-first rules n live fits sound)

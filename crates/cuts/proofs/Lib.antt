@@ -17,6 +17,10 @@ pub mod TurningCuts
 pub mod SwitchCases
 -- All numbers in runs, and pairs of them.
 pub mod UnionPairs
+pub mod GaugePairs
+pub mod Gauging
+pub mod CutsToCome
+pub mod GaugedRuns
 pub mod CaseRuns
 pub mod NameCodes
 pub mod FramedSwitch

@@ -66,7 +66,7 @@ insert-right z (x ∷ xs) ys h =
     rw (le-ltb z x (omega (arith, h .0)), lt-ltb x z (h .0)) (ap (λ (l : List ℕ). x ∷ l) (insert-right z xs ys (h .1)))
 
 -- The codes of numbers are in order as the numbers are.
-code-before : (a b : ℕ) → ltb (numberCode a) (numberCode b) ≡ ltb a b
+pub code-before : (a b : ℕ) → ltb (numberCode a) (numberCode b) ≡ ltb a b
 code-before a b =
     by-cases (decLt a b) (λ (h : a < b). lt-ltb (numberCode a) (numberCode b) (omega arith) ∙ sym (lt-ltb a b h))
     (λ (h : ¬ (a < b)). le-ltb (numberCode a) (numberCode b) (omega arith) ∙ sym (le-ltb a b (omega arith)))

@@ -5,4 +5,6 @@ pub mod BuiltGraph
 pub mod Sharing
 pub mod OneLeaf
 pub mod SwitchSentence
+pub mod OlderSheets
+pub mod LiftedGraph
 pub mod SameGraph

@@ -1,4 +1,4 @@
--- The cases of a switch: lists in order, runs of all numbers, pairs of runs, the narrowest of them, and which case takes a term.
+-- The cases of a switch: lists in order, runs of the numbers of a gauge, pairs of runs, the narrowest of them, and which case takes a term.
 pub mod FunctorOrder
 pub mod Insertion
 pub mod Intervals
@@ -15,7 +15,13 @@ pub mod RunPairs
 pub mod Best
 pub mod Narrowest
 pub mod SpanFollows
+pub mod FramedPairs
+pub mod OnGauges
+pub mod GaugeRuns
+pub mod GaugeTotals
 pub mod NumberPairs
 pub mod CasesLaws
 pub mod CasesAccepted
 pub mod CasesSentence
+pub mod GaugesSentence
+pub mod OlderCases

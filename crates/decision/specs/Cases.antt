@@ -1,4 +1,4 @@
--- The cases of a switch (document 01, "Nodes", and document 02, requests 4 to 6).
+-- The cases of a switch (document 01, "Nodes", and document 02, requests 4 to 7).
 use Prim.Native.Nat.{ℕ}
 use mathlib.Core.Bool.{Bool, false, _&&_}
 use mathlib.Core.List.{List, [], _∷_, _++_, map}
@@ -8,8 +8,8 @@ use Rattle.terms.specs.Term.{Term, count, unknown, never, symbol, numbers, comp
 use Rattle.terms.specs.RuleTests.{Want, aSymbol, aNumber, aCompound, Range}
 use Rattle.decision.specs.Runs.{runs, numberPairs}
 
--- "Record 44 becomes (wide low, wide high, wide node) for a run of ids", "45 compound (wide id, arity, ..), 46 numbers (wide low,
--- wide high, ..)".
+-- "Record 44 becomes (wide low, wide high, wide node) for a run of ids", "45 compound (wide id, arity, ..)", "record 46 becomes
+-- (gauge, wide low, wide high, wide node)", low and high being on that gauge.
 pub data Case : Type 0 where
   symbolsCase : ℕ → ℕ → Case
   compoundCase : ℕ → ℕ → Case
@@ -80,10 +80,10 @@ compoundOf f = compoundCase (f .name) (f .arity)
 abbrev pub numbersIn : Range → Case
 numbersIn r = numbersCase (r .low) (r .high)
 
--- "Record 46 becomes one case for each pair of first and last run, ordered so, with low and high their ends": of the numbers that a
--- wide field holds, from 0 to 65,535, behind which 65,536 is the next.
+-- "Record 46 becomes one case for each pair of first and last run, ordered so, with low and high their ends", on each gauge of
+-- which a range is wanted.
 abbrev pub numberCases : List Want → List Case
-numberCases ws = map numbersIn (numberPairs 0 65536 (rangesOf ws))
+numberCases ws = map numbersIn (numberPairs (rangesOf ws))
 
 -- The cases for what the live rules want at a place, in the order of the records.
 abbrev pub casesOf : List Want → List Case

@@ -1,11 +1,12 @@
--- The runs that series cut ids into (document 02, request 5) and ranges all numbers, and the pairs of a first and a last run
--- (request 4).
+-- The runs that series cut ids into (document 02, request 5) and ranges the numbers of a gauge (request 7), and the pairs of a
+-- first and a last run (request 4).
 use Prim.Native.Nat.{ℕ, suc, pred}
 use mathlib.Core.Bool.{Bool, _&&_}
 use mathlib.Core.List.{List, [], _∷_, _++_, map}
-use lib.Dec.{leb, ltb}
+use lib.Dec.{leb, ltb, eqb}
 use Rattle.basics.specs.Lists.{filter, anyOf}
 use Rattle.basics.specs.Order.{insertBy}
+use Rattle.terms.specs.Term.{onGauge, gaugeOf}
 use Rattle.terms.specs.RuleTests.{Range}
 
 -- Ids and numbers are cut at each low and after each high: from one cut to the next the same ranges accept, and at each cut another
@@ -48,8 +49,24 @@ abbrev pub runPairs : List Range → List Range
 runPairs [] = []
 runPairs (r ∷ rs) = map (fromTo r) (r ∷ rs) ++ runPairs rs
 
--- "Where a live rule has a range at a switch's place, all numbers are cut into maximal runs ..; elsewhere a switch has no number
--- case."
-abbrev pub numberPairs : ℕ → ℕ → List Range → List Range
-numberPairs base top [] = []
-numberPairs base top (w ∷ ws) = runPairs (framed base top (w ∷ ws))
+-- The gauges of ranges, each once, ascending. A range is on the gauge of its low.
+abbrev pub gaugesOf : List Range → List ℕ
+gaugesOf [] = []
+gaugesOf (w ∷ ws) = insertBy ltb (gaugeOf (w .low)) (gaugesOf ws)
+
+abbrev pub isOn : ℕ → Range → Bool
+isOn g w = eqb (gaugeOf (w .low)) g
+
+-- A gauge "is cut into runs by itself": its numbers, by the ranges on it. The next gauge's first number is the one after its
+-- highest.
+abbrev pub runsOn : ℕ → List Range → List Range
+runsOn g ws = framed (onGauge g 0) (onGauge (suc g) 0) (filter (isOn g) ws)
+
+-- The pairs of first and last run of each of some gauges, "ordered by gauge first".
+abbrev pub pairsOn : List ℕ → List Range → List Range
+pairsOn [] ws = []
+pairsOn (g ∷ gs) ws = runPairs (runsOn g ws) ++ pairsOn gs ws
+
+-- "At a switch, each gauge of which a live rule has a range there is cut into runs by itself, and no other gauge has a case."
+abbrev pub numberPairs : List Range → List Range
+numberPairs ws = pairsOn (gaugesOf ws) ws

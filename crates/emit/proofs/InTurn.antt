@@ -8,8 +8,8 @@ use Rattle.decision.specs.Key.{Key}
 use Rattle.decision.specs.Node.{mapNode}
 use Rattle.decision.specs.GraphBytes.{caseBytes, nodesBytes}
 use Rattle.cuts.specs.views.Runs.{Run, runCase, runsIn}
-use Rattle.cuts.specs.views.CaseRuns.{unionPairs, caseRuns, runsFrom, pairsRow}
-use Rattle.cuts.proofs.CaseRuns.{cases-parted, pairs-some}
+use Rattle.cuts.specs.views.CaseRuns.{unionPairs, gaugePairs, caseRuns, runsFrom, pairsRow, GaugeUpTo}
+use Rattle.cuts.proofs.CaseRuns.{cases-parted, gauges-some, pairs-some}
 use Rattle.edges.specs.declared.Asked.{Asked}
 use Rattle.edges.specs.views.KeysBehind.{runBehind}
 use Rattle.edges.specs.views.NodeIn.{nodeIn}
@@ -41,12 +41,20 @@ module _ (s : List ℕ) (keys : List Key) (asked : Asked) where
     -- The cases of a switch are the runs that are cases by themselves, then the pairs,
     pub cases-bytes : (k : ℕ) → k ≤ count
         → runBytes s keys asked (caseRuns k (runsIn runs count))
-        ≡ runBytes s keys asked (runsIn runs k) ++ runBytes s keys asked (unionPairs (runsFrom runs count k))
+        ≡ runBytes s keys asked (runsIn runs k) ++ runBytes s keys asked (gaugePairs (runsFrom runs count k))
     cases-bytes k h =
         ap (runBytes s keys asked) (cases-parted runs count k h)
-        ∙ runs-join (runsIn runs k) (unionPairs (runsFrom runs count k))
+        ∙ runs-join (runsIn runs k) (gaugePairs (runsFrom runs count k))
 
-    -- and these, row after row.
+    -- these, gauge after gauge,
+    pub gauges-bytes : (k end : ℕ) → GaugeUpTo runs count k end
+        → runBytes s keys asked (gaugePairs (runsFrom runs count k))
+        ≡ runBytes s keys asked (unionPairs (runsFrom runs end k)) ++ runBytes s keys asked (gaugePairs (runsFrom runs count end))
+    gauges-bytes k end one =
+        ap (runBytes s keys asked) (gauges-some runs count k end one)
+        ∙ runs-join (unionPairs (runsFrom runs end k)) (gaugePairs (runsFrom runs count end))
+
+    -- and those of a gauge, row after row.
     pub pairs-bytes : (k : ℕ) → k < count
         → runBytes s keys asked (unionPairs (runsFrom runs count k))
         ≡ runBytes s keys asked (pairsRow runs count k) ++ runBytes s keys asked (unionPairs (runsFrom runs count (k + 1)))

@@ -4,6 +4,7 @@ use cuts::Row;
 use cuts::Runs;
 use cuts::case_count;
 use cuts::cut_switch;
+use cuts::gauge_end;
 use cuts::part;
 use edges::Asked;
 use edges::Key;
@@ -29,7 +30,7 @@ ghost use Rattle.graph.specs.views.WriteNode.{caseRecordBytes};
 ghost use Rattle.tables.specs.views.Planes.{rulesIn, placeTestsIn};
 ghost use Rattle.cuts.specs.views.Cuts.{Parted};
 ghost use Rattle.cuts.specs.views.Runs.{runCase, runsIn};
-ghost use Rattle.cuts.specs.views.CaseRuns.{unionPairs, caseRuns, runsFrom, pairsRow};
+ghost use Rattle.cuts.specs.views.CaseRuns.{unionPairs, gaugePairs, caseRuns, runsFrom, pairsRow};
 ghost use Rattle.edges.specs.views.VertexKey.{keyIn};
 ghost use Rattle.met.specs.views.KeysMet.{keyNumber, keysIn, Chained};
 ghost use Rattle.emit.specs.views.Laid.{runBytes, askBytes, keyBytes};
@@ -44,7 +45,7 @@ fn node_of(keys: &Keys, key: Key) -> u16
 }
 
 // The record of the case whose codes run from one to another. Not the record of symbols that have a compound's id, nor one of
-// symbols or numbers that ends at its low.
+// numbers on another gauge, nor one of symbols or numbers that ends at its low.
 fn case_record(first: u64, last: u64, node: u16) -> CaseRecord
     ensures { λ r. ⌜ caseRecordBytes r ≡ caseBytes (runCase first last) node ⌝ }
 {
@@ -54,7 +55,13 @@ fn case_record(first: u64, last: u64, node: u16) -> CaseRecord
     if first < 0x300_0000 {
         return CaseRecord::Compound((first / 256 % 0x1_0000) as u16, (first % 256) as u8, node);
     }
-    CaseRecord::Numbers((first % 0x1_0000) as u16, (last % 0x1_0000) as u16, node)
+    let gauge = (first / 0x1_0000 % 256) as u8;
+    CaseRecord::Numbers(
+        (first % 0x1_0000) as u16,
+        (last % 0x1_0000) as u16,
+        node,
+        gauge,
+    )
 }
 
 // The runs of a switch that are cases by themselves, and the position behind them. Not one that leads to the node of another case,
@@ -68,7 +75,7 @@ fn put_names(
     count: usize,
     keys: &Keys,
 ) -> usize
-    requires { ⌜ Chained (now keys) × (count ≤ 129)
+    requires { ⌜ Chained (now keys) × (count ≤ 193)
         × Room (now buf) start (runBytes (now s) (keysIn (now keys)) asked (runsIn (now runs) count)) ⌝ }
     ensures { λ r. ⌜ Wrote (now (buf .entry)) start
         (runBytes (now (s .entry)) (keysIn (now (keys .entry))) asked (runsIn (now (runs .entry)) count)) r (now (buf .exit)) ⌝ }
@@ -94,7 +101,7 @@ fn put_row(
     row: Row,
     keys: &Keys,
 ) -> usize
-    requires { ⌜ Chained (now keys) × (row .first < row .count) × (row .count ≤ 129)
+    requires { ⌜ Chained (now keys) × (row .first < row .count) × (row .count ≤ 193)
         × Room (now buf) start (runBytes (now s) (keysIn (now keys)) asked (pairsRow (now runs) (row .count) (row .first))) ⌝ }
     ensures { λ r. ⌜ Wrote (now (buf .entry)) start (runBytes (now (s .entry)) (keysIn (now (keys .entry))) asked
         (pairsRow (now (runs .entry)) (row .count) (row .first))) r (now (buf .exit)) ⌝ }
@@ -118,9 +125,40 @@ fn put_row(
     at
 }
 
-// The pairs of the runs that are not cases by themselves, row after row, and the position behind them. Not a row over the one
-// before it, nor the first row alone.
+// The pairs of runs on one gauge, row after row, and the position behind them. Not a row over the one before it, nor the first row
+// alone.
 fn put_pairs(
+    buf: &mut [u8],
+    start: usize,
+    s: &Tables,
+    asked: Asked,
+    runs: &Runs,
+    all: Row,
+    keys: &Keys,
+) -> usize
+    requires { ⌜ Chained (now keys) × (all .first ≤ all .count) × (all .count ≤ 193)
+        × Room (now buf) start (runBytes (now s) (keysIn (now keys)) asked
+        (unionPairs (runsFrom (now runs) (all .count) (all .first)))) ⌝ }
+    ensures { λ r. ⌜ Wrote (now (buf .entry)) start (runBytes (now (s .entry)) (keysIn (now (keys .entry))) asked
+        (unionPairs (runsFrom (now (runs .entry)) (all .count) (all .first)))) r (now (buf .exit)) ⌝ }
+{
+    let count = all.count;
+    let mut at = start;
+    let mut first = all.first;
+    while first < count {
+        let row = Row {
+            first: first,
+            count: count,
+        };
+        at = put_row(buf, at, s, asked, runs, row, keys);
+        first += 1;
+    }
+    at
+}
+
+// The pairs of the runs that are not cases by themselves, gauge after gauge, and the position behind them. Not a pair of runs on
+// two gauges, nor the first gauge alone.
+fn put_gauges(
     buf: &mut [u8],
     start: usize,
     s: &Tables,
@@ -129,22 +167,29 @@ fn put_pairs(
     framed: Framed,
     keys: &Keys,
 ) -> usize
-    requires { ⌜ Chained (now keys) × (framed .names ≤ framed .count) × (framed .count ≤ 129)
+    requires { ⌜ Chained (now keys) × (framed .names ≤ framed .count) × (framed .count ≤ 193) × (length (now runs) ≡ 579)
         × Room (now buf) start (runBytes (now s) (keysIn (now keys)) asked
-        (unionPairs (runsFrom (now runs) (framed .count) (framed .names)))) ⌝ }
+        (gaugePairs (runsFrom (now runs) (framed .count) (framed .names)))) ⌝ }
     ensures { λ r. ⌜ Wrote (now (buf .entry)) start (runBytes (now (s .entry)) (keysIn (now (keys .entry))) asked
-        (unionPairs (runsFrom (now (runs .entry)) (framed .count) (framed .names)))) r (now (buf .exit)) ⌝ }
+        (gaugePairs (runsFrom (now (runs .entry)) (framed .count) (framed .names)))) r (now (buf .exit)) ⌝ }
 {
-    let count = framed.count;
     let mut at = start;
     let mut first = framed.names;
-    while first < count {
-        let row = Row {
-            first: first,
-            count: count,
-        };
-        at = put_row(buf, at, s, asked, runs, row, keys);
-        first += 1;
+    while first < framed.count {
+        let end = gauge_end(runs, first, framed.count);
+        at = put_pairs(
+            buf,
+            at,
+            s,
+            asked,
+            runs,
+            Row {
+                first: first,
+                count: end,
+            },
+            keys,
+        );
+        first = end;
     }
     at
 }
@@ -159,14 +204,14 @@ fn put_runs(
     framed: Framed,
     keys: &Keys,
 ) -> usize
-    requires { ⌜ Chained (now keys) × (framed .names ≤ framed .count) × (framed .count ≤ 129)
+    requires { ⌜ Chained (now keys) × (framed .names ≤ framed .count) × (framed .count ≤ 193) × (length (now runs) ≡ 579)
         × Room (now buf) start (runBytes (now s) (keysIn (now keys)) asked
         (caseRuns (framed .names) (runsIn (now runs) (framed .count)))) ⌝ }
     ensures { λ r. ⌜ Wrote (now (buf .entry)) start (runBytes (now (s .entry)) (keysIn (now (keys .entry))) asked
         (caseRuns (framed .names) (runsIn (now (runs .entry)) (framed .count)))) r (now (buf .exit)) ⌝ }
 {
     let at = put_names(buf, start, s, asked, runs, framed.names, keys);
-    put_pairs(buf, at, s, asked, runs, framed, keys)
+    put_gauges(buf, at, s, asked, runs, framed, keys)
 }
 
 // A switch with its cases, and the position behind it. Not unknown where neither belongs, nor a switch's record without its cases.
@@ -180,15 +225,15 @@ fn put_switch(
     keys: &Keys,
 ) -> usize
     requires { ⌜ Chained (now keys) × Parted (rulesIn (now s)) (placeTestsIn (now s)) (now c)
-        × (asked .test < placeTestsIn (now s)) × (length (now runs) ≡ 390) ⌝ }
+        × (asked .test < placeTestsIn (now s)) × (length (now runs) ≡ 579) ⌝ }
     requires { ⌜ Room (now buf) at (askBytes (now s) (now c) (keysIn (now keys)) asked) ⌝ }
     ensures { λ r. ⌜ Wrote (now (buf .entry)) at
         (askBytes (now (s .entry)) (now (c .entry)) (keysIn (now (keys .entry))) asked) r (now (buf .exit)) ⌝ }
-    ensures { λ _. ⌜ length (now (runs .exit)) ≡ 390 ⌝ }
+    ensures { λ _. ⌜ length (now (runs .exit)) ≡ 579 ⌝ }
 {
     let t = asked.test;
     let framed = cut_switch(c, part(tables::rules(s), t), asked.live, runs);
-    let count = case_count(framed);
+    let count = case_count(runs, framed);
     let neither = node_of(keys, by_none(s, asked));
     let unknown = node_of(keys, by_unknown(s, asked));
     let place = (tables::test(s, t) % 0x1_0000) as u16;
@@ -224,11 +269,11 @@ pub fn put_one(
     runs: &mut Runs,
     keys: &Keys,
 ) -> usize
-    requires { ⌜ Chained (now keys) × Parted (rulesIn (now s)) (placeTestsIn (now s)) (now c) × (length (now runs) ≡ 390) ⌝ }
+    requires { ⌜ Chained (now keys) × Parted (rulesIn (now s)) (placeTestsIn (now s)) (now c) × (length (now runs) ≡ 579) ⌝ }
     requires { ⌜ Room (now buf) at (keyBytes (now s) (now c) (keysIn (now keys)) (keyIn key)) ⌝ }
     ensures { λ r. ⌜ Wrote (now (buf .entry)) at
         (keyBytes (now (s .entry)) (now (c .entry)) (keysIn (now (keys .entry))) (keyIn key)) r (now (buf .exit)) ⌝ }
-    ensures { λ _. ⌜ length (now (runs .exit)) ≡ 390 ⌝ }
+    ensures { λ _. ⌜ length (now (runs .exit)) ≡ 579 ⌝ }
 {
     let kind = kind_of(s, key);
     match kind {

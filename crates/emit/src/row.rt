@@ -44,7 +44,7 @@ fn put_nodes(
     runs: &mut Runs,
     keys: &Keys,
 ) -> usize
-    requires { ⌜ Chained (now keys) × Parted (rulesIn (now s)) (placeTestsIn (now s)) (now c) × (length (now runs) ≡ 390) ⌝ }
+    requires { ⌜ Chained (now keys) × Parted (rulesIn (now s)) (placeTestsIn (now s)) (now c) × (length (now runs) ≡ 579) ⌝ }
     requires { ⌜ Room (now buf) start (keysBytes (now s) (now c) (keysIn (now keys))) ⌝ }
     ensures { λ r. ⌜ Wrote (now (buf .entry)) start (keysBytes (now (s .entry)) (now (c .entry)) (keysIn (now (keys .entry)))) r
         (now (buf .exit)) ⌝ }
@@ -68,7 +68,7 @@ pub fn put_graph(
     runs: &mut Runs,
     keys: &Keys,
 ) -> usize
-    requires { ⌜ Chained (now keys) × Parted (rulesIn (now s)) (placeTestsIn (now s)) (now c) × (length (now runs) ≡ 390) ⌝ }
+    requires { ⌜ Chained (now keys) × Parted (rulesIn (now s)) (placeTestsIn (now s)) (now c) × (length (now runs) ≡ 579) ⌝ }
     requires { ⌜ Room (now buf) 0 (graphBytes arity (rulesIn (now s)) (nodesFrom (now s) (now c) (keysIn (now keys)))) ⌝ }
     ensures { λ r. ⌜ Wrote (now (buf .entry)) 0
         (graphBytes arity (rulesIn (now (s .entry))) (nodesFrom (now (s .entry)) (now (c .entry)) (keysIn (now (keys .entry)))))

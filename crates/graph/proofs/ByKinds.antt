@@ -95,7 +95,7 @@ module _ (s : List ℕ) where
   unfolding readCase
   same-numbers =
       let r : List ℕ = 0x46 ∷ s in
-      rw (not-empty 0x46) (case-whole (leb 7 (length r)) (Numbers (wideAt r 1) (wideAt r 3) (wideAt r 5)) _ _ refl)
+      rw (not-empty 0x46) (case-whole (leb 8 (length r)) (Numbers (wideAt r 2) (wideAt r 4) (wideAt r 6) (getD r 1 0)) _ _ refl)
 
   no-case : (x : ℕ) → (x ≡ 0x44 → ⊥) → (x ≡ 0x45 → ⊥) → (x ≡ 0x46 → ⊥) → CaseSame x
   unfolding readCase

@@ -1,17 +1,18 @@
 -- The records of cases are read as they are written, one and in rows of any number.
 use Prim.Native.Nat.{ℕ}
-use mathlib.Core.Path.{_≡_, refl, sym, subst, _∙_}
+use mathlib.Core.Path.{_≡_, refl, sym, ap, subst, _∙_}
 use mathlib.Core.Bool.{Bool, true, false, cond}
 use mathlib.Core.List.{List, _++_}
 use native.Mathlib.Omega.{arith}
 use borrow.Author.Tests.{le-leb, ne-eqb}
 use lib.Dec.{T, leb, eqb, eqb→eq, leb→le}
-use lib.ListN.{length, getD}
+use lib.ListN.{length, getD, drop}
 use Rattle.records.specs.Fields.{IsByte, wideAt}
 use Rattle.records.specs.Reading.{took}
 use Rattle.records.proofs.WideFields.{wide-of}
 use Rattle.basics.specs.Lists.{All}
-use Rattle.terms.specs.Term.{Wide}
+use Rattle.terms.specs.Term.{Wide, valueOf}
+use Rattle.terms.proofs.Gauges.{gauge-of-number, gauged-number}
 use Rattle.decision.specs.Cases.{Case, symbolsCase, compoundCase, numbersCase}
 use Rattle.decision.specs.Node.{CaseEdge}
 use Rattle.decision.specs.GraphBytes.{caseBytes, casesBytes}
@@ -25,6 +26,7 @@ use Rattle.graph.specs.ReadGraph.{readCases, edge, readCase}
 use Rattle.graph.proofs.ByKinds.{case-by-kind}
 use Rattle.graph.proofs.Spelling.{Reads, Spelled, GoodRow, row-spelled}
 use Rattle.graph.proofs.FieldBytes.{wide-at, byte-then, kind-then, wide-then}
+use Rattle.graph.proofs.GaugedCases.{gauged-bytes, gauged-case}
 use Rattle.records.proofs.ByteLists.{byte-at}
 
 -- What holds of a record where its kind is told, and of the others, holds of the head.
@@ -57,13 +59,14 @@ case-brought (compoundCase a m) n rest h k =
     rw (ne-eqb (length s) 0 (λ e. omega arith), le-leb 6 (length s) (omega arith), wide-of a (h .0), wide-of n k)
 case-brought (numbersCase l u) n rest h k =
     let s = caseBytes (numbersCase l u) n ++ rest in
+    let own = gauged-case l u (h .2) in
     rw (
       ne-eqb (length s) 0 (λ e. omega arith),
-      le-leb 7 (length s) (omega arith),
-      wide-of l (h .0),
-      wide-of u (h .1),
+      le-leb 8 (length s) (omega arith),
+      wide-of (valueOf l) (omega arith),
+      wide-of (valueOf u) (omega arith),
       wide-of n k,
-    )
+    ) (ap (λ (c : Case). took 8 (edge c n)) own)
 
 module _ (s : List ℕ) (h : All IsByte s) where
   abbrev Told : CaseHead → Type 0
@@ -98,14 +101,27 @@ module _ (s : List ℕ) (h : All IsByte s) where
             (wide-then s h 1 (omega arith) (byte-then s h 3 (omega arith) (wide-then s h 4 (omega arith) refl)));
       }))
       (kind-holds Told (eqb (getD s 0 0) 0x46)
-      (λ k. whole-told (leb 7 (length s)) (Numbers (wideAt s 1) (wideAt s 3) (wideAt s 5)) (λ l.
-      let there = leb→le 7 (length s) l in
+      (λ k. whole-told (leb 8 (length s)) (Numbers (wideAt s 2) (wideAt s 4) (wideAt s 6) (getD s 1 0)) (λ l.
+      let there = leb→le 8 (length s) l in
+      let gauge = getD s 1 0 in
+      let low = wide-at s h 2 in
+      let high = wide-at s h 4 in
       record {
-        good = ((wide-at s h 1, wide-at s h 3), wide-at s h 5);
+        good = (
+          (
+            gauged-number gauge (wideAt s 2) (byte-at s 1 h) low,
+            gauged-number gauge (wideAt s 4) (byte-at s 1 h) high,
+            gauge-of-number gauge (wideAt s 2) low ∙ sym (gauge-of-number gauge (wideAt s 4) high),
+          ),
+          wide-at s h 6,
+        );
         size = refl;
         begins =
             kind-then s h (eqb→eq (getD s 0 0) 0x46 k) (omega arith)
-            (wide-then s h 1 (omega arith) (wide-then s h 3 (omega arith) (wide-then s h 5 (omega arith) refl)));
+            (byte-then s h 1 (omega arith)
+            (wide-then s h 2 (omega arith) (wide-then s h 4 (omega arith) (wide-then s h 6 (omega arith) refl))))
+            ∙ ap (λ (r : List ℕ). r ++ drop 8 s)
+            (sym (gauged-bytes gauge (wideAt s 2) (wideAt s 4) (wideAt s 6) low high));
       }))
       tt)))
 

@@ -1,5 +1,5 @@
 -- How a graph is read for a sheet: its nodes, or the number of the first question that gets a no (document 01, "Questions at the
--- counter", 21 to 25, and document 02, requests 4 and 5).
+-- counter", 21 to 25, and document 02, requests 4, 5 and 7).
 use Prim.Native.Nat.{ℕ, _+_, _-_}
 use mathlib.Core.Bool.{Bool, true, false, _&&_, _||_, cond}
 use mathlib.Core.List.{List, [], _∷_}
@@ -8,6 +8,7 @@ use lib.ListN.{length, getD, drop}
 use Rattle.records.specs.Fields.{wideAt}
 use Rattle.records.specs.Kinds.{recordLength, kindOf, isWhole}
 use Rattle.records.specs.Reading.{Reading, took, refused, ask, after, andThen, readRow}
+use Rattle.terms.specs.Term.{onGauge}
 use Rattle.terms.specs.Pattern.{Patterns}
 use Rattle.sheet_tests.specs.SheetTests.{Test, place, pair, sheetTests}
 use Rattle.sheet.specs.Sheet.{Sheet}
@@ -22,13 +23,13 @@ use Rattle.basics.specs.Order.{pairBefore}
 abbrev pub edge : Case → ℕ → CaseEdge ℕ
 edge c n = record { case = c; target = n }
 
--- "Record 44 becomes (wide low, wide high, wide node) for a run of ids", "45 compound (wide id, arity, wide node), 46 numbers (wide
--- low, wide high, wide node)".
+-- "Record 44 becomes (wide low, wide high, wide node) for a run of ids", "45 compound (wide id, arity, wide node)", "record 46
+-- becomes (gauge, wide low, wide high, wide node), .. and takes only numbers of that gauge".
 abbrev pub caseOf : ℕ → List ℕ → CaseEdge ℕ
 caseOf kind s =
     cond (eqb kind 0x44) (edge (symbolsCase (wideAt s 1) (wideAt s 3)) (wideAt s 5))
     (cond (eqb kind 0x45) (edge (compoundCase (wideAt s 1) (getD s 3 0)) (wideAt s 4))
-    (edge (numbersCase (wideAt s 1) (wideAt s 3)) (wideAt s 5)))
+    (edge (numbersCase (onGauge (getD s 1 0) (wideAt s 2)) (onGauge (getD s 1 0) (wideAt s 4))) (wideAt s 6)))
 
 -- "22 Are the record and its cases whole, the node of kind 40 to 43 or 47, its cases of kinds 44 to 46, a switch with 1 case or
 -- more?"
@@ -77,8 +78,8 @@ inRange test rules nodes (end (executeNode i)) = leb 1 i && leb i rules
 inRange test rules nodes (switch n cs x y) = test (place n) && ltb x nodes && ltb y nodes && allInside nodes cs
 inRange test rules nodes (pairNode p q x y) = test (pair p q) && ltb x nodes && ltb y nodes
 
--- "24 Are cases strictly ascending, low at most high ..?" "In question 24 number cases ascend by low, then high, and may overlap."
--- Runs of ids are "questioned as numbers were in document 01": "no number in two".
+-- "24 Are cases strictly ascending, low at most high ..?" "In question 24 number cases ascend by low, then high, and may overlap",
+-- "ordered by gauge first", as numbers are. Runs of ids are "questioned as numbers were in document 01": "no number in two".
 abbrev pub caseBefore : Case → Case → Bool
 caseBefore (symbolsCase l h) (symbolsCase x y) = ltb h x
 caseBefore (symbolsCase l h) (compoundCase b m) = true

@@ -23,11 +23,11 @@ pub enum NodeRecord {
     Pair(u16, u16, u16, u16),
 }
 
-// A case's record, with the node that it leads to.
+// A case's record, with the node that it leads to, and of numbers their gauge.
 pub enum CaseRecord {
     Symbols(u16, u16, u16),
     Compound(u16, u8, u16),
-    Numbers(u16, u16, u16),
+    Numbers(u16, u16, u16, u8),
 }
 
 // The node record that the input begins with, or the number of the question that it got a no from.

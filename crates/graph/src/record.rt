@@ -91,13 +91,11 @@ fn symbols_head(s: &[u8]) -> CaseHead
     ))
 }
 
-// A compound case that the input begins with.
+// A compound case that the input begins with, whose bytes are there.
 fn compound_head(s: &[u8]) -> CaseHead
+    requires { ⌜ 6 ≤ length (now s) ⌝ }
     ensures { λ r. ⌜ r ≡ compoundHead (now (s .entry)) ⌝ }
 {
-    if s.len() < 6 {
-        return CaseHead::Refused(22);
-    }
     CaseHead::Whole(CaseRecord::Compound(
         records::wide(s[1], s[2]),
         s[3],
@@ -109,21 +107,23 @@ fn compound_head(s: &[u8]) -> CaseHead
 fn numbers_head(s: &[u8]) -> CaseHead
     ensures { λ r. ⌜ r ≡ numbersHead (now (s .entry)) ⌝ }
 {
-    if s.len() < 7 {
+    if s.len() < 8 {
         return CaseHead::Refused(22);
     }
     CaseHead::Whole(CaseRecord::Numbers(
-        records::wide(s[1], s[2]),
-        records::wide(s[3], s[4]),
-        records::wide(s[5], s[6]),
+        records::wide(s[2], s[3]),
+        records::wide(s[4], s[5]),
+        records::wide(s[6], s[7]),
+        s[1],
     ))
 }
 
-// The case record that the input begins with. A reader that takes a low for a high, or a node's kind for a case's, is none.
+// The case record that the input begins with, which has 6 bytes or more. A reader that takes a low for a high, or a node's kind for
+// a case's, is none.
 pub fn case_head(s: &[u8]) -> CaseHead
     ensures { λ r. ⌜ r ≡ caseHead (now (s .entry)) ⌝ }
 {
-    if s.len() == 0 {
+    if s.len() < 6 {
         return CaseHead::Refused(22);
     }
     let kind = s[0];

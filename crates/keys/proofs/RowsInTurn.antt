@@ -11,8 +11,9 @@ use Rattle.decision.specs.Node.{CaseEdge}
 use Rattle.decision.specs.Graph.{mostNodes}
 use Rattle.decision.specs.GraphBytes.{caseBytes}
 use Rattle.cuts.specs.views.Runs.{runCase, runAt, runsIn}
-use Rattle.cuts.specs.views.CaseRuns.{unionRow, unionPairs, caseRuns, runsFrom, pairsRow}
-use Rattle.cuts.proofs.CaseRuns.{cases-parted, pairs-some, pairs-none, row-first, row-begun, row-some, row-none}
+use Rattle.cuts.specs.views.CaseRuns.{unionRow, unionPairs, gaugePairs, caseRuns, runsFrom, pairsRow, GaugeUpTo}
+use Rattle.cuts.proofs.CaseRuns.{cases-parted, gauges-some, gauges-none, pairs-some, pairs-none}
+use Rattle.cuts.proofs.CaseRuns.{row-first, row-begun, row-some, row-none}
 use Rattle.edges.specs.declared.Asked.{Asked}
 use Rattle.edges.specs.views.KeysBehind.{runBehind}
 use Rattle.edges.specs.views.NodeIn.{runEdge}
@@ -104,9 +105,22 @@ module _ (s : List ℕ) (asked : Asked) (runs : List ℕ) (count : ℕ) where
   pub pairs-end : (k : ℕ) → count ≤ k → pairsLeft k ≡ []
   pairs-end k h = ap (map (runEdge s asked)) (pairs-none runs count k h)
 
+  -- The pairs of all gauges from run k on are those of its gauge and those of the gauges behind it.
+  abbrev pub gaugesLeft : ℕ → List (CaseEdge Key)
+  gaugesLeft k = map (runEdge s asked) (gaugePairs (runsFrom runs count k))
+
+  pub gauges-next : (k end : ℕ) → GaugeUpTo runs count k end
+      → gaugesLeft k ≡ map (runEdge s asked) (unionPairs (runsFrom runs end k)) ++ gaugesLeft end
+  gauges-next k end one =
+      ap (map (runEdge s asked)) (gauges-some runs count k end one)
+      ∙ map-join (runEdge s asked) (unionPairs (runsFrom runs end k)) (gaugePairs (runsFrom runs count end))
+
+  pub gauges-end : (k : ℕ) → count ≤ k → gaugesLeft k ≡ []
+  gauges-end k h = ap (map (runEdge s asked)) (gauges-none runs count k h)
+
   -- The cases of a switch are the runs that are cases by themselves, then the pairs.
   pub cases-both : (k : ℕ) → k ≤ count
-      → map (runEdge s asked) (caseRuns k (runsIn runs count)) ≡ map (runEdge s asked) (runsIn runs k) ++ pairsLeft k
+      → map (runEdge s asked) (caseRuns k (runsIn runs count)) ≡ map (runEdge s asked) (runsIn runs k) ++ gaugesLeft k
   cases-both k h =
       ap (map (runEdge s asked)) (cases-parted runs count k h)
-      ∙ map-join (runEdge s asked) (runsIn runs k) (unionPairs (runsFrom runs count k))
+      ∙ map-join (runEdge s asked) (runsIn runs k) (gaugePairs (runsFrom runs count k))

@@ -6,6 +6,7 @@ use cuts::Framed;
 use cuts::Row;
 use cuts::Runs;
 use cuts::cut_switch;
+use cuts::gauge_end;
 use cuts::part;
 use edges::Asked;
 use edges::Key;
@@ -28,7 +29,7 @@ ghost use Rattle.graph.specs.views.NodeRecord.{leafOf};
 ghost use Rattle.tables.specs.views.Planes.{rulesIn, placeTestsIn};
 ghost use Rattle.cuts.specs.views.Cuts.{Parted};
 ghost use Rattle.cuts.specs.views.Runs.{runCase, runsIn};
-ghost use Rattle.cuts.specs.views.CaseRuns.{unionPairs, caseRuns, runsFrom, pairsRow};
+ghost use Rattle.cuts.specs.views.CaseRuns.{unionPairs, gaugePairs, caseRuns, runsFrom, pairsRow};
 ghost use Rattle.edges.specs.views.VertexKey.{keyIn};
 ghost use Rattle.edges.specs.views.NodeIn.{runEdge, askIn, nodeIn};
 ghost use Rattle.met.specs.views.KeysMet.{keyAt, countIn, keysIn, Chained};
@@ -45,9 +46,10 @@ fn leaf_length(leaf: Leaf) -> usize
     }
 }
 
-// The length of the record of the case that begins at a code. Not a compound's for symbols or numbers, nor theirs for a compound.
+// The length of the record of the case that begins at a code. Not a compound's for symbols or numbers, nor that of
+// symbols for numbers.
 fn case_length(code: u64) -> usize
-    ensures { λ r. ⌜ ((high : ℕ) → r ≡ length (caseBytes (runCase code high) 0)) × (r ≤ 7) ⌝ }
+    ensures { λ r. ⌜ ((high : ℕ) → r ≡ length (caseBytes (runCase code high) 0)) × (r ≤ 8) ⌝ }
 {
     if code < 0x200_0000 {
         return 7;
@@ -55,7 +57,7 @@ fn case_length(code: u64) -> usize
     if code < 0x300_0000 {
         return 6;
     }
-    7
+    8
 }
 
 // Meets two keys, one after the other, where so many bytes are measured. Not the second first, nor the first alone.
@@ -76,10 +78,10 @@ fn meet_two(keys: &mut Keys, first: Key, second: Key, bytes: usize) -> Measured
 // Meets the keys behind the runs that are cases by themselves, in their order, and counts the bytes of their records. Not a case
 // that the runs have not, nor the case that ends first before one that begins first.
 fn meet_names(keys: &mut Keys, s: &Tables, asked: Asked, runs: &Runs, count: usize) -> Measured
-    requires { ⌜ Chained (now keys) × (count ≤ 129) ⌝ }
+    requires { ⌜ Chained (now keys) × (count ≤ 193) ⌝ }
     ensures { λ r. ⌜ CasesMet (map (runEdge (now (s .entry)) asked) (runsIn (now (runs .entry)) count))
         (keysIn (now (keys .entry))) r (now (keys .exit)) ⌝ }
-    ensures { λ r. ⌜ Chained (now (keys .exit)) × AtMost (7 * count) r ⌝ }
+    ensures { λ r. ⌜ Chained (now (keys .exit)) × AtMost (8 * count) r ⌝ }
 {
     let mut bytes: usize = 0;
     let mut k: usize = 0;
@@ -96,10 +98,10 @@ fn meet_names(keys: &mut Keys, s: &Tables, asked: Asked, runs: &Runs, count: usi
 // Meets the keys behind a row of pairs, in their order, and counts the bytes of their records. Where the next run adds no rule, its
 // key was just met. Not a pair without the rules of its first run, nor the row without the pair of the first run with itself.
 fn meet_row(keys: &mut Keys, s: &Tables, asked: Asked, runs: &Runs, row: Row) -> Measured
-    requires { ⌜ Chained (now keys) × (row .first < row .count) × (row .count ≤ 129) ⌝ }
+    requires { ⌜ Chained (now keys) × (row .first < row .count) × (row .count ≤ 193) ⌝ }
     ensures { λ r. ⌜ CasesMet (map (runEdge (now (s .entry)) asked) (pairsRow (now (runs .entry)) (row .count) (row .first)))
         (keysIn (now (keys .entry))) r (now (keys .exit)) ⌝ }
-    ensures { λ r. ⌜ Chained (now (keys .exit)) × AtMost 903 r ⌝ }
+    ensures { λ r. ⌜ Chained (now (keys .exit)) × AtMost 1544 r ⌝ }
 {
     let first = row.first;
     let count = row.count;
@@ -124,18 +126,18 @@ fn meet_row(keys: &mut Keys, s: &Tables, asked: Asked, runs: &Runs, row: Row) ->
     Measured::Bytes(bytes)
 }
 
-// Meets the keys behind the pairs of the runs that are not cases by themselves, row after row. Not a row before that of an earlier
-// first run, nor the first row alone.
-fn meet_pairs(keys: &mut Keys, s: &Tables, asked: Asked, runs: &Runs, framed: Framed) -> Measured
-    requires { ⌜ Chained (now keys) × (framed .names ≤ framed .count) × (framed .count ≤ 129) ⌝ }
+// Meets the keys behind the pairs of runs on one gauge, row after row. Not a row before that of an earlier first run, nor the first
+// row alone.
+fn meet_pairs(keys: &mut Keys, s: &Tables, asked: Asked, runs: &Runs, all: Row) -> Measured
+    requires { ⌜ Chained (now keys) × (all .first ≤ all .count) × (all .count ≤ 193) ⌝ }
     ensures { λ r. ⌜ CasesMet (map (runEdge (now (s .entry)) asked)
-        (unionPairs (runsFrom (now (runs .entry)) (framed .count) (framed .names))))
+        (unionPairs (runsFrom (now (runs .entry)) (all .count) (all .first))))
         (keysIn (now (keys .entry))) r (now (keys .exit)) ⌝ }
-    ensures { λ r. ⌜ Chained (now (keys .exit)) × AtMost (903 * (framed .count - framed .names)) r ⌝ }
+    ensures { λ r. ⌜ Chained (now (keys .exit)) × AtMost (1544 * (all .count - all .first)) r ⌝ }
 {
-    let count = framed.count;
+    let count = all.count;
     let mut bytes: usize = 0;
-    let mut first = framed.names;
+    let mut first = all.first;
     while first < count {
         let row = Row {
             first: first,
@@ -151,20 +153,52 @@ fn meet_pairs(keys: &mut Keys, s: &Tables, asked: Asked, runs: &Runs, framed: Fr
     Measured::Bytes(bytes)
 }
 
+// Meets the keys behind the pairs of the runs that are not cases by themselves, gauge after gauge. Not a pair of runs on two
+// gauges, nor the first gauge alone.
+fn meet_gauges(keys: &mut Keys, s: &Tables, asked: Asked, runs: &Runs, framed: Framed) -> Measured
+    requires { ⌜ Chained (now keys) × (framed .names ≤ framed .count) × (framed .count ≤ 193) × (length (now runs) ≡ 579) ⌝ }
+    ensures { λ r. ⌜ CasesMet (map (runEdge (now (s .entry)) asked)
+        (gaugePairs (runsFrom (now (runs .entry)) (framed .count) (framed .names))))
+        (keysIn (now (keys .entry))) r (now (keys .exit)) ⌝ }
+    ensures { λ r. ⌜ Chained (now (keys .exit)) × AtMost (1544 * (framed .count - framed .names)) r ⌝ }
+{
+    let mut bytes: usize = 0;
+    let mut first = framed.names;
+    while first < framed.count {
+        let end = gauge_end(runs, first, framed.count);
+        let met = meet_pairs(
+            keys,
+            s,
+            asked,
+            runs,
+            Row {
+                first: first,
+                count: end,
+            },
+        );
+        let Measured::Bytes(more) = met else {
+            return met;
+        };
+        bytes += more;
+        first = end;
+    }
+    Measured::Bytes(bytes)
+}
+
 // Meets the keys behind a switch's cases, in their order, and counts the bytes of their records. Not a pair before a run that is a
 // case by itself, nor the pairs alone.
 fn meet_runs(keys: &mut Keys, s: &Tables, asked: Asked, runs: &Runs, framed: Framed) -> Measured
-    requires { ⌜ Chained (now keys) × (framed .names ≤ framed .count) × (framed .count ≤ 129) ⌝ }
+    requires { ⌜ Chained (now keys) × (framed .names ≤ framed .count) × (framed .count ≤ 193) × (length (now runs) ≡ 579) ⌝ }
     ensures { λ r. ⌜ CasesMet (map (runEdge (now (s .entry)) asked)
         (caseRuns (framed .names) (runsIn (now (runs .entry)) (framed .count))))
         (keysIn (now (keys .entry))) r (now (keys .exit)) ⌝ }
-    ensures { λ r. ⌜ Chained (now (keys .exit)) × AtMost (7 * 129 * 129) r ⌝ }
+    ensures { λ r. ⌜ Chained (now (keys .exit)) × AtMost (8 * 193 * 193) r ⌝ }
 {
     let names = meet_names(keys, s, asked, runs, framed.names);
     let Measured::Bytes(bytes) = names else {
         return names;
     };
-    let pairs = meet_pairs(keys, s, asked, runs, framed);
+    let pairs = meet_gauges(keys, s, asked, runs, framed);
     let Measured::Bytes(more) = pairs else {
         return pairs;
     };
@@ -174,9 +208,9 @@ fn meet_runs(keys: &mut Keys, s: &Tables, asked: Asked, runs: &Runs, framed: Fra
 // A switch. Not neither before a case, nor unknown before neither.
 fn expand_switch(keys: &mut Keys, s: &Tables, c: &[u64], asked: Asked, runs: &mut Runs) -> Measured
     requires { ⌜ Chained (now keys) × Parted (rulesIn (now s)) (placeTestsIn (now s)) (now c)
-        × (asked .test < placeTestsIn (now s)) × (length (now runs) ≡ 390) ⌝ }
+        × (asked .test < placeTestsIn (now s)) × (length (now runs) ≡ 579) ⌝ }
     ensures { λ r. ⌜ EdgesMet (askIn (now (s .entry)) (now (c .entry)) asked) (keysIn (now (keys .entry))) r (now (keys .exit)) ⌝ }
-    ensures { λ r. ⌜ Chained (now (keys .exit)) × AtMost mostLength r × (length (now (runs .exit)) ≡ 390) ⌝ }
+    ensures { λ r. ⌜ Chained (now (keys .exit)) × AtMost mostLength r × (length (now (runs .exit)) ≡ 579) ⌝ }
 {
     let framed = cut_switch(c, part(tables::rules(s), asked.test), asked.live, runs);
     let met = meet_runs(keys, s, asked, runs, framed);
@@ -204,10 +238,10 @@ fn expand_pair(keys: &mut Keys, s: &Tables, asked: Asked) -> Measured
 // earlier edge, nor the length of a switch's record without its cases.
 pub fn expand(keys: &mut Keys, k: usize, s: &Tables, c: &[u64], runs: &mut Runs) -> Measured
     requires { ⌜ Chained (now keys) × (k < countIn (now keys)) × Parted (rulesIn (now s)) (placeTestsIn (now s)) (now c)
-        × (length (now runs) ≡ 390) ⌝ }
+        × (length (now runs) ≡ 579) ⌝ }
     ensures { λ r. ⌜ EdgesMet (nodeIn (now (s .entry)) (now (c .entry)) (keyAt (now (keys .entry)) k)) (keysIn (now (keys .entry)))
         r (now (keys .exit)) ⌝ }
-    ensures { λ r. ⌜ Chained (now (keys .exit)) × AtMost mostLength r × (length (now (runs .exit)) ≡ 390) ⌝ }
+    ensures { λ r. ⌜ Chained (now (keys .exit)) × AtMost mostLength r × (length (now (runs .exit)) ≡ 579) ⌝ }
 {
     let key = key_at(keys, k);
     let kind = kind_of(s, key);

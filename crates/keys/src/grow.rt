@@ -20,9 +20,9 @@ ghost use Rattle.keys.specs.views.Grown.{Grown};
 // edges alone, nor a key before one behind an earlier node's edges.
 pub fn grow(keys: &mut Keys, s: &Tables, c: &[u64], runs: &mut Runs) -> Measured
     requires { ⌜ (now keys ≡ replicate 4097 0) × Parted (rulesIn (now s)) (placeTestsIn (now s)) (now c)
-        × (length (now runs) ≡ 390) ⌝ }
+        × (length (now runs) ≡ 579) ⌝ }
     ensures { λ r. ⌜ Grown (now (s .entry)) (now (c .entry)) r (now (keys .exit)) ⌝ }
-    ensures { λ r. ⌜ Chained (now (keys .exit)) × AtMost (1024 * mostLength) r × (length (now (runs .exit)) ≡ 390) ⌝ }
+    ensures { λ r. ⌜ Chained (now (keys .exit)) × AtMost (1024 * mostLength) r × (length (now (runs .exit)) ≡ 579) ⌝ }
 {
     let first = root(s);
     add(keys, first.live, first.pending);

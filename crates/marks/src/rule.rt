@@ -65,6 +65,13 @@ fn leaf(
             mark(words, place);
             Took::Used(5, n)
         }
+        PatternRecord::Gauged(_, low, high) => {
+            if high < low {
+                return Took::Refused(7);
+            }
+            mark(words, place);
+            Took::Used(6, n)
+        }
     }
 }
 

@@ -12,6 +12,7 @@ use Rattle.records.specs.Fields.{IsByte, wideAt}
 use Rattle.records.specs.Reading.{Reading, took, refused, mapReading, after}
 use Rattle.records.proofs.Rows.{row-none, row-refused, row-next}
 use Rattle.basics.specs.Lists.{All}
+use Rattle.terms.specs.Term.{onGauge}
 use Rattle.decision.specs.Cases.{symbolsCase, compoundCase, numbersCase}
 use Rattle.decision.specs.Node.{CaseEdge}
 use Rattle.decision.specs.GraphBytes.{casesBytes}
@@ -42,7 +43,7 @@ head-fits s =
     (kind-holds (HeadFits s) (eqb (getD s 0 0) 0x45)
     (λ k. whole (leb 6 (length s)) (Compound (wideAt s 1) (getD s 3 0) (wideAt s 4)) (leb→le 6 (length s)))
     (kind-holds (HeadFits s) (eqb (getD s 0 0) 0x46)
-    (λ k. whole (leb 7 (length s)) (Numbers (wideAt s 1) (wideAt s 3) (wideAt s 5)) (leb→le 7 (length s))) refl)))
+    (λ k. whole (leb 8 (length s)) (Numbers (wideAt s 2) (wideAt s 4) (wideAt s 6) (getD s 1 0)) (leb→le 8 (length s))) refl)))
   where
     whole : (b : Bool) (c : CaseRecord) → (T b → rangeOf c .bytes ≤ length s) → HeadFits s (wholeCase b c)
     whole true c f = f tt
@@ -125,7 +126,8 @@ module _ (nodes : ℕ) where
         (readCases (count - (i + 1)) (drop (at + rangeOf c .bytes) s)))
     pass-next (Symbols l h n) e = read-next 7 (edge (symbolsCase l h) n) (case-read-by (drop at s) e)
     pass-next (Compound a k n) e = read-next 6 (edge (compoundCase a k) n) (case-read-by (drop at s) e)
-    pass-next (Numbers l h n) e = read-next 7 (edge (numbersCase l h) n) (case-read-by (drop at s) e)
+    pass-next (Numbers l h n g) e =
+        read-next 8 (edge (numbersCase (onGauge g l) (onGauge g h)) n) (case-read-by (drop at s) e)
 
     -- At a case that is not whole the pass is refused.
     pub pass-refused : {q r : ℕ} → caseHead (drop at s) ≡ Refused q → r ≡ q → Going (refused r)

@@ -11,6 +11,7 @@ use Rattle.basics.specs.Lists.{All}
 use Rattle.basics.specs.Order.{pairBefore}
 use Rattle.basics.proofs.Booleans.{same-truth}
 use Rattle.basics.proofs.Sorted.{pair-before, before-pair}
+use Rattle.terms.specs.Term.{Gauged}
 use Rattle.codes.specs.views.Codes.{symbolCode, compoundCode, numberCode}
 use Rattle.codes.proofs.CodeOrder.{in-order, before, compound-before}
 use Rattle.decision.specs.Cases.{Case, symbolsCase, compoundCase, numbersCase}
@@ -33,7 +34,7 @@ behind-rank u v w o =
     (λ t. lt→ltb end rank (omega (arith, ltb→lt u v t)))
 
 -- and "number cases ascend by low, then high".
-module _ (l h x y : ℕ) (wide : h < 0x1_0000) (wideOther : y < 0x1_0000) where
+module _ (l h x y : ℕ) (small : Gauged h) (smallOther : Gauged y) where
   abbrev rank : ℕ
   rank = rankOf (numberCode l) (numberCode h)
 

@@ -27,15 +27,15 @@ use Rattle.node_check.specs.views.CheckNode.{checked, switchCheck}
 use Rattle.node_check.proofs.CasesPass.{HeadFits, head-fits}
 use Rattle.graph.proofs.ByKinds.{case-by-kind}
 
--- What is known of the reading of n cases: a case has at most 7 bytes, and question 22 alone refuses.
+-- What is known of the reading of n cases: a case has at most 8 bytes, and question 22 alone refuses.
 abbrev CasesTold : {A : Type 0} → ℕ → Reading A → Type 0
-CasesTold n (took a x) = a ≤ 7 * n
+CasesTold n (took a x) = a ≤ 8 * n
 CasesTold n (refused q) = 22 ≡ q
 
 case-told : (s : List ℕ) (h : CaseHead) → HeadFits s h → CasesTold 1 (onCase h)
 case-told s (head.Whole (Symbols l h n)) f = omega arith
 case-told s (head.Whole (Compound a k n)) f = omega arith
-case-told s (head.Whole (Numbers l u n)) f = omega arith
+case-told s (head.Whole (Numbers l u n g)) f = omega arith
 case-told s (head.Refused q) f = f
 
 cases-told : (n : ℕ) (s : List ℕ) → CasesTold n (readCases n s)
@@ -46,7 +46,7 @@ cases-told (suc n) s =
     (λ a. cases-told n (drop a s))
   where
     behind
-        : (a : ℕ) (c : CaseEdge ℕ) (r : Reading (List (CaseEdge ℕ))) → a ≤ 7 → CasesTold n r
+        : (a : ℕ) (c : CaseEdge ℕ) (r : Reading (List (CaseEdge ℕ))) → a ≤ 8 → CasesTold n r
         → CasesTold (suc n) (after a (_∷_ c) r)
     behind a c (took b cs) small h = omega arith
     behind a c (refused q) small h = h
@@ -89,7 +89,7 @@ module _ (known : Bool) (count nodes : ℕ) (s : List ℕ) where
 
     module _ {a : ℕ} {inside ascend : Bool} (h : r ≡ cases.Used a inside ascend) where
       -- Cases have few bytes.
-      pub switch-bytes : a ≤ 7 * count
+      pub switch-bytes : a ≤ 8 * count
       switch-bytes =
           let view = took-view (casesFound nodes) (readCases count s) (ap checkedCases (sym h) ∙ e) in
           subst (CasesTold count) (view .1) (cases-told count s)

@@ -47,10 +47,10 @@ pub fn case_range(c: CaseRecord) -> CaseRange
             let code = codes::compound_code(a, n);
             range_to(code, code, rank_of(code, 0xffff_ffff), node, 6)
         }
-        CaseRecord::Numbers(low, high, node) => {
-            let first = codes::number_code(low);
-            let last = codes::number_code(high);
-            range_to(first, last, rank_of(first, last), node, 7)
+        CaseRecord::Numbers(low, high, node, gauge) => {
+            let first = codes::gauged_code(gauge, low);
+            let last = codes::gauged_code(gauge, high);
+            range_to(first, last, rank_of(first, last), node, 8)
         }
     }
 }

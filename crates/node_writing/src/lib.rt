@@ -10,7 +10,7 @@ ghost use Rattle.records.specs.Fields.{wideThen};
 ghost use Rattle.records.specs.Writing.{splice};
 ghost use Rattle.decision.specs.GraphBytes.{leafBytes};
 ghost use Rattle.graph.specs.declared.NodeRecord.the-variants.{Switch, Pair};
-ghost use Rattle.graph.specs.declared.CaseRecord.the-variants.{Compound};
+ghost use Rattle.graph.specs.declared.CaseRecord.the-variants.{Symbols, Compound, Numbers};
 ghost use Rattle.graph.specs.views.NodeRecord.{leafOf};
 ghost use Rattle.graph.specs.views.WriteNode.{nodeRecordBytes, caseRecordBytes};
 
@@ -94,17 +94,17 @@ pub fn put_node(buf: &mut [u8], at: usize, node: NodeRecord) -> usize
     }
 }
 
-// The record of a run, of ids or of numbers by its kind byte, and the position behind it.
-fn put_run(buf: &mut [u8], at: usize, kind: u8, low: u16, high: u16, node: u16) -> usize
-    requires { ⌜ at + 7 ≤ length (now buf) ⌝ }
-    ensures { λ r. ⌜ (r ≡ at + 7)
-        × (now (buf .exit) ≡ splice (now (buf .entry)) at (kind ∷ wideThen low (wideThen high (wideThen node [])))) ⌝ }
+// The record of a run of ids, and the position behind it.
+fn put_symbols(buf: &mut [u8], at: usize, low: u16, high: u16, node: u16) -> usize
+    requires { ⌜ at + length (caseRecordBytes (Symbols low high node)) ≤ length (now buf) ⌝ }
+    ensures { λ r. ⌜ (r ≡ at + length (caseRecordBytes (Symbols low high node)))
+        × (now (buf .exit) ≡ splice (now (buf .entry)) at (caseRecordBytes (Symbols low high node))) ⌝ }
 {
     records::put(
         buf,
         at,
         &[
-            kind,
+            0x44,
             records::high(low),
             records::low(low),
             records::high(high),
@@ -135,6 +135,28 @@ fn put_compound(buf: &mut [u8], at: usize, a: u16, arity: u8, node: u16) -> usiz
     )
 }
 
+// The record of numbers on a gauge, and the position behind it.
+fn put_numbers(buf: &mut [u8], at: usize, gauge: u8, low: u16, high: u16, node: u16) -> usize
+    requires { ⌜ at + length (caseRecordBytes (Numbers low high node gauge)) ≤ length (now buf) ⌝ }
+    ensures { λ r. ⌜ (r ≡ at + length (caseRecordBytes (Numbers low high node gauge)))
+        × (now (buf .exit) ≡ splice (now (buf .entry)) at (caseRecordBytes (Numbers low high node gauge))) ⌝ }
+{
+    records::put(
+        buf,
+        at,
+        &[
+            0x46,
+            gauge,
+            records::high(low),
+            records::low(low),
+            records::high(high),
+            records::low(high),
+            records::high(node),
+            records::low(node),
+        ],
+    )
+}
+
 // A case's record, and the position behind it. A writer that puts a high before its low, or the node first, is none.
 pub fn put_case(buf: &mut [u8], at: usize, c: CaseRecord) -> usize
     requires { ⌜ at + length (caseRecordBytes c) ≤ length (now buf) ⌝ }
@@ -142,8 +164,8 @@ pub fn put_case(buf: &mut [u8], at: usize, c: CaseRecord) -> usize
         × (now (buf .exit) ≡ splice (now (buf .entry)) at (caseRecordBytes c)) ⌝ }
 {
     match c {
-        CaseRecord::Symbols(low, high, node) => put_run(buf, at, 0x44, low, high, node),
+        CaseRecord::Symbols(low, high, node) => put_symbols(buf, at, low, high, node),
         CaseRecord::Compound(a, arity, node) => put_compound(buf, at, a, arity, node),
-        CaseRecord::Numbers(low, high, node) => put_run(buf, at, 0x46, low, high, node),
+        CaseRecord::Numbers(low, high, node, gauge) => put_numbers(buf, at, gauge, low, high, node),
     }
 }

@@ -12,18 +12,18 @@ use Rattle.number_search.specs.views.NumberRows.{rankAt, NumberRow, Coun
 pub record Halved (s : List ℕ) (start count rank from to : ℕ) : Type 0 where
   pub ordered : from ≤ to
   pub few : to ≤ count
-  pub before : (i : ℕ) → i < from → rankAt s (start + i * 7) < rank
-  pub others : (i : ℕ) → to ≤ i → i < count → rank ≤ rankAt s (start + i * 7)
+  pub before : (i : ℕ) → i < from → rankAt s (start + i * 8) < rank
+  pub others : (i : ℕ) → to ≤ i → i < count → rank ≤ rankAt s (start + i * 8)
 
 module _ {s : List ℕ} {start count : ℕ} (row : NumberRow s start count) where
   -- A case that does not stand behind another does not come after it.
-  pub row-order : (i j : ℕ) → i ≤ j → j < count → rankAt s (start + i * 7) ≤ rankAt s (start + j * 7)
+  pub row-order : (i j : ℕ) → i ≤ j → j < count → rankAt s (start + i * 8) ≤ rankAt s (start + j * 8)
   row-order i j l k =
       by-test (ltb i j)
       (λ e. let m = row .ascend i j (ltb-true i j e) k in omega (arith, m))
       (λ e.
       let same : i ≡ j = omega (arith, l, ltb-false i j e) in
-      let m = ap (λ (n : ℕ). rankAt s (start + n * 7)) same in omega (arith, m))
+      let m = ap (λ (n : ℕ). rankAt s (start + n * 8)) same in omega (arith, m))
 
   -- The first of them are such a row too.
   pub row-shorter : (n : ℕ) → n ≤ count → NumberRow s start n
@@ -55,7 +55,7 @@ module _ {s : List ℕ} {start count : ℕ} (row : NumberRow s start count) wher
         in-row = omega (arith, high, h .few)
 
         -- The case in the middle comes before it, and so do all in front of it;
-        pub halved-behind : rankAt s (start + middle * 7) < rank → Halved s start count rank (middle + 1) to
+        pub halved-behind : rankAt s (start + middle * 8) < rank → Halved s start count rank (middle + 1) to
         halved-behind passed = record {
           ordered = omega (arith, high);
           few = h .few;
@@ -64,7 +64,7 @@ module _ {s : List ℕ} {start count : ℕ} (row : NumberRow s start count) wher
         }
 
         -- or it does not, nor does any behind it.
-        pub halved-front : rank ≤ rankAt s (start + middle * 7) → Halved s start count rank from middle
+        pub halved-front : rank ≤ rankAt s (start + middle * 8) → Halved s start count rank from middle
         halved-front stays = record {
           ordered = low;
           few = omega (arith, high, h .few);

@@ -40,13 +40,13 @@ use Rattle.number_search.proofs.ReadRow.{IsNumbers, AreNumbers, numbers
 numbers-from : (c : CaseRecord) → CaseFields (edgeOf c .case) → 0x3000000 ≤ rangeOf c .first → IsNumbers (edgeOf c .case)
 numbers-from (Symbols l h n) fields o = omega (arith, fields .0, o)
 numbers-from (Compound a k n) fields o = omega (arith, fields .0, fields .1, o)
-numbers-from (Numbers l h n) fields o = tt
+numbers-from (Numbers l h n g) fields o = tt
 
 -- Any other ends below a number's code.
 others-below : (c : CaseRecord) → CaseFields (edgeOf c .case) → rangeOf c .first < 0x3000000 → caseHigh (edgeOf c .case) < 0x3000000
 others-below (Symbols l h n) fields other = omega (arith, fields .1)
 others-below (Compound a k n) fields other = omega (arith, fields .0, fields .1)
-others-below (Numbers l h n) fields other = absurd (omega (arith, other))
+others-below (Numbers l h n g) fields other = absurd (omega (arith, other))
 
 module _ (s : List ℕ) (low high neither : ℕ) where
   -- Where the cases, so many from a position on, lead.
@@ -88,6 +88,7 @@ module _ (s : List ℕ) (low high neither : ℕ) where
         begun = m .begun;
         listed = there (m .listed);
         notAbove = m .notAbove;
+        gaugeReached = m .gaugeReached;
         highest = (λ l. lower, m .highest);
         ended = (λ e. below, m .ended);
       }

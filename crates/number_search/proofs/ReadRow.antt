@@ -1,4 +1,4 @@
--- What is read behind a number case are number cases, one each 7 bytes, and so they stand in a row.
+-- What is read behind a number case are number cases, one each 8 bytes, and so they stand in a row.
 use Prim.Native.Nat.{ℕ, zero, suc, _+_, _*_, _<_, _≤_}
 use mathlib.Core.Path.{_≡_, refl, ap, subst, _∙_}
 use mathlib.Core.Bool.{Bool, true, false}
@@ -7,6 +7,7 @@ use mathlib.Core.List.{List, [], _∷_}
 use native.Mathlib.Omega.{arith}
 use lib.Dec.{T, leb, eqb}
 use lib.ListN.{length, getD, drop, length-drop}
+use lib.Seq.{getD-drop}
 use Rattle.basics.specs.Lists.{All}
 use Rattle.basics.specs.Order.{pairBefore}
 use Rattle.basics.proofs.Sorted.{pair-before}
@@ -69,7 +70,7 @@ numbers-behind c cs is ordered = (is, go (c .case) is cs (ordered .fields .1) (o
 
 -- The fields that the head of a number case tells.
 abbrev Fields : List ℕ → CaseHead → Type 0
-Fields s (Whole (Numbers l h n)) = edge (numbersCase l h) n ≡ edge (numbersCase (wideAt s 1) (wideAt s 3)) (wideAt s 5)
+Fields s (Whole (Numbers l h n g)) = edgeOf (Numbers l h n g) ≡ edgeOf (Numbers (wideAt s 2) (wideAt s 4) (wideAt s 6) (getD s 1 0))
 Fields s (Whole (Symbols l h n)) = Unit
 Fields s (Whole (Compound a k n)) = Unit
 Fields s (Refused q) = Unit
@@ -81,7 +82,7 @@ fields-told s =
     (λ k. symbols (leb 7 (length s)))
     (kind-holds (Fields s) (eqb (getD s 0 0) 0x45)
     (λ k. compound (leb 6 (length s)))
-    (kind-holds (Fields s) (eqb (getD s 0 0) 0x46) (λ k. numbers (leb 7 (length s))) tt)))
+    (kind-holds (Fields s) (eqb (getD s 0 0) 0x46) (λ k. numbers (leb 8 (length s))) tt)))
   where
     symbols : (b : Bool) → Fields s (wholeCase b (Symbols (wideAt s 1) (wideAt s 3) (wideAt s 5)))
     symbols true = tt
@@ -91,20 +92,20 @@ fields-told s =
     compound true = tt
     compound false = tt
 
-    numbers : (b : Bool) → Fields s (wholeCase b (Numbers (wideAt s 1) (wideAt s 3) (wideAt s 5)))
+    numbers : (b : Bool) → Fields s (wholeCase b (Numbers (wideAt s 2) (wideAt s 4) (wideAt s 6) (getD s 1 0)))
     numbers true = refl
     numbers false = tt
 
 module _ (s : List ℕ) where
-  numbers-at : (at l h n : ℕ) → caseHead (drop at s) ≡ Whole (Numbers l h n) → edge (numbersCase l h) n ≡ numbersAt s at
-  numbers-at at l h n e =
+  numbers-at : (at g l h n : ℕ) → caseHead (drop at s) ≡ Whole (Numbers l h n g) → edgeOf (Numbers l h n g) ≡ numbersAt s at
+  numbers-at at g l h n e =
       subst (Fields (drop at s)) e (fields-told (drop at s))
-      ∙ (λ i. edge (numbersCase (wide-behind s at 1 i) (wide-behind s at 3 i)) (wide-behind s at 5 i))
+      ∙ (λ i. edgeOf (Numbers (wide-behind s at 2 i) (wide-behind s at 4 i) (wide-behind s at 6 i) (getD-drop at s 1 0 i)))
 
-  -- Number cases that are read stand one each 7 bytes.
+  -- Number cases that are read stand one each 8 bytes.
   pub record Rowed (at m : ℕ) : Type 0 where
-    pub inside : at + m * 7 ≤ length s
-    pub read : readOr [] (readCases m (drop at s)) ≡ firsts (λ (i : ℕ). numbersAt s (at + i * 7)) m
+    pub inside : at + m * 8 ≤ length s
+    pub read : readOr [] (readCases m (drop at s)) ≡ firsts (λ (i : ℕ). numbersAt s (at + i * 8)) m
 
   -- With one more in front.
   abbrev Onward : ℕ → ℕ → Type 0
@@ -112,22 +113,22 @@ module _ (s : List ℕ) where
       at ≤ length s → IsTook (readCases m (drop at s)) → AreNumbers (readOr [] (readCases m (drop at s))) → Rowed at m
 
   module _ (m at : ℕ) (there : at ≤ length s) (left : IsTook (readCases (suc m) (drop at s)))
-      (onward : Onward m (at + 7)) where
+      (onward : Onward m (at + 8)) where
     one-more
         : (c : CaseRecord) → caseHead (drop at s) ≡ Whole c → IsNumbers (edgeOf c .case)
         → AreNumbers (readOr [] (readCases m (drop (at + rangeOf c .bytes) s))) → Rowed at (suc m)
     one-more (Symbols l h n) e is others = absurd is
     one-more (Compound a k n) e is others = absurd is
-    one-more (Numbers l h n) e is others =
-        let read = edge-read (drop at s) (Numbers l h n) e in
-        let inside : at + 7 ≤ length s = omega (arith, case-fits (drop at s) e, length-drop at s, there) in
+    one-more (Numbers l h n g) e is others =
+        let read = edge-read (drop at s) (Numbers l h n g) e in
+        let inside : at + 8 ≤ length s = omega (arith, case-fits (drop at s) e, length-drop at s, there) in
         let next = onward inside (others-left readCase s (suc m) m at refl left read) others in
-        let first : at ≡ at + 0 * 7 = omega arith in
-        let shift : (i : ℕ) → at + 7 + i * 7 ≡ at + suc i * 7 = λ i. omega arith in
+        let first : at ≡ at + 0 * 8 = omega arith in
+        let shift : (i : ℕ) → at + 8 + i * 8 ≡ at + suc i * 8 = λ i. omega arith in
         record {
           inside = omega (arith, next .inside);
           read = first-others readCase s (suc m) m at refl left read
-              ∙ (λ j. numbers-at at l h n e j ∷ next .read j)
+              ∙ (λ j. numbers-at at g l h n e j ∷ next .read j)
               ∙ (λ j. numbersAt s (first j) ∷ firsts (λ (i : ℕ). numbersAt s (shift i j)) m);
         }
 
@@ -145,7 +146,7 @@ module _ (s : List ℕ) where
     inside = omega (arith, there);
     read = ap (readOr []) (row-none [] _∷_ readCase zero (drop at s) refl);
   }
-  rowed (suc m) at there left are = by-head m at there left (rowed m (at + 7)) are (caseHead (drop at s)) refl
+  rowed (suc m) at there left are = by-head m at there left (rowed m (at + 8)) are (caseHead (drop at s)) refl
 
   -- Things in a row that ascend do so two by two.
   ascend-at
@@ -164,9 +165,9 @@ module _ (s : List ℕ) where
   pub numbers-read : (at m : ℕ) → CasesStand s at m → AreNumbers (readOr [] (readCases m (drop at s))) → NumbersRead s at m
   numbers-read at m stand are =
       let all = rowed m at (stand .begins) (stand .whole) are in
-      let row : ℕ → CaseEdge ℕ = λ i. numbersAt s (at + i * 7) in
+      let row : ℕ → CaseEdge ℕ = λ i. numbersAt s (at + i * 8) in
       let ordered = subst CasesInOrder (all .read) (stand .ordered) in
-      let high : (i : ℕ) → i < m → highAt s (at + i * 7) < 0x4000000 =
+      let high : (i : ℕ) → i < m → highAt s (at + i * 8) < 0x4000000 =
       λ i l. (let f = firsts-at (λ (c : CaseEdge ℕ). CaseFields (c .case)) row m i l (ordered .fields) in omega (arith, f .1)) in
       record {
         row = record {
@@ -179,5 +180,7 @@ module _ (s : List ℕ) where
                 | inr b ↦ omega (arith, b .0, b .1)
               ]);
         };
+        gauges = λ i l.
+            let f = firsts-at (λ (c : CaseEdge ℕ). CaseFields (c .case)) row m i l (ordered .fields) in omega (arith, f .2);
         read = all .read;
       }

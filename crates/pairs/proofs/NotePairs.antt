@@ -10,7 +10,7 @@ use Rattle.patterns.specs.views.Note.{Note, note}
 use Rattle.patterns.specs.views.NoteCode.{codePlace, codeRecord}
 use Rattle.sheet.specs.views.NoteArray.{notesIn}
 use Rattle.patterns.specs.declared.PatternRecord.{PatternRecord}
-use Rattle.patterns.specs.declared.PatternRecord.the-variants.{Anything, Symbol, Range, Compound, Variable, Ranged, Series}
+use Rattle.patterns.specs.declared.PatternRecord.the-variants.{Anything, Symbol, Range, Compound, Variable, Ranged, Series, Gauged}
 use Rattle.pairs.specs.declared.Name.{Name}
 use Rattle.pairs.specs.declared.Name.the-variants.{Nameless, Of}
 use Rattle.pairs.specs.views.KeptPairs.{KeptPairs, pairCode, keep, keepAll, pairsIn}
@@ -52,7 +52,9 @@ named-codes p v n (Compound a k) ns false e = refl
 named-codes p v n (Variable u) ns b e = named p v n u ns b e
 named-codes p v n (Ranged u l h) ns b e = named p v n u ns b e
 named-codes p v n (Series l h) ns true e = absurd (subst T (sym e) tt)
+named-codes p v n (Gauged g l h) ns true e = absurd (subst T (sym e) tt)
 named-codes p v n (Series l h) ns false e = refl
+named-codes p v n (Gauged g l h) ns false e = refl
 
 -- The pairs of a place of variable v with the notes from i on.
 abbrev pub withFrom : ℕ → ℕ → List ℕ → ℕ → ℕ → KeptPairs → KeptPairs

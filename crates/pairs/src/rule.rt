@@ -23,6 +23,7 @@ pub fn name_of(what: PatternRecord) -> Name
         PatternRecord::Variable(v) => Name::Of(v),
         PatternRecord::Ranged(v, _, _) => Name::Of(v),
         PatternRecord::Series(_, _) => Name::Nameless,
+        PatternRecord::Gauged(_, _, _) => Name::Nameless,
     }
 }
 
@@ -38,6 +39,7 @@ pub fn is_named(v: u8, what: PatternRecord) -> bool
         PatternRecord::Variable(u) => v == u,
         PatternRecord::Ranged(u, _, _) => v == u,
         PatternRecord::Series(_, _) => false,
+        PatternRecord::Gauged(_, _, _) => false,
     }
 }
 

@@ -1,5 +1,5 @@
 -- The bytes of a record: those that a list begins with, and those that spell the record.
-use Prim.Native.Nat.{ℕ, zero, suc, _+_, _≤_}
+use Prim.Native.Nat.{ℕ, zero, suc, _+_, _≤_, _<_}
 use mathlib.Core.Path.{_≡_, sym, ap, subst, _∙_}
 use mathlib.Core.List.{List, _∷_, _++_, map}
 use native.Mathlib.Omega.{arith}
@@ -11,14 +11,14 @@ use Rattle.records.proofs.WideFields.{wide-bound, high-of, low-of, wide-of}
 use Rattle.basics.specs.Lists.{countFrom}
 use Rattle.terms.specs.Term.{Wide}
 use Rattle.patterns.specs.declared.PatternRecord.{PatternRecord}
-use Rattle.patterns.specs.declared.PatternRecord.the-variants.{Anything, Symbol, Range, Compound, Variable, Ranged, Series}
+use Rattle.patterns.specs.declared.PatternRecord.the-variants.{Anything, Symbol, Range, Compound, Variable, Ranged, Series, Gauged}
 use Rattle.patterns.specs.declared.PatternHead.{PatternHead}
 use Rattle.patterns.specs.declared.PatternHead.the-variants.{Whole, Refused}
 use Rattle.patterns.specs.views.PatternRecord.{recordBytes, recordSpelling, patternHead}
 use Rattle.patterns.proofs.Heads.{head-cases}
 use Rattle.records.proofs.ByteLists.{byte-at}
 
--- The wide fields of a record are wide.
+-- The wide fields of a record are wide, and a gauge is a byte.
 abbrev pub WideFields : PatternRecord → Type 0
 WideFields Anything = Unit
 WideFields (Symbol a) = Wide a
@@ -27,6 +27,7 @@ WideFields (Compound a n) = Wide a
 WideFields (Variable v) = Unit
 WideFields (Ranged v l h) = Wide l × Wide h
 WideFields (Series l h) = Wide l × Wide h
+WideFields (Gauged g l h) = Wide l × Wide h × (g < 256)
 
 -- The k elements of a list from element i on.
 abbrev pub part : List ℕ → ℕ → ℕ → List ℕ
@@ -62,6 +63,14 @@ module _ (s : List ℕ) (bytes : AreBytes s) where
   range-bytes kind there is =
       first-bytes 5 s there ∙ (λ j. is j ∷ (two-bytes 1 _ ∙ ap (wideThen (wideAt s 1)) (two-bytes 3 (drop 5 s))) j)
 
+  -- Those of a byte and two ends.
+  ranged-bytes
+      : (kind : ℕ) → 6 ≤ length s → getD s 0 0 ≡ kind
+      → s ≡ kind ∷ getD s 1 0 ∷ wideThen (wideAt s 2) (wideThen (wideAt s 4) (drop 6 s))
+  ranged-bytes kind there is =
+      first-bytes 6 s there
+      ∙ (λ j. is j ∷ getD s 1 0 ∷ (two-bytes 2 _ ∙ ap (wideThen (wideAt s 2)) (two-bytes 4 (drop 6 s))) j)
+
   abbrev Spells : PatternHead → Type 0
   Spells (Whole r) = WideFields r × (s ≡ recordSpelling r ++ drop (recordBytes r) s)
   Spells (Refused q) = Unit
@@ -74,14 +83,11 @@ module _ (s : List ℕ) (bytes : AreBytes s) where
       (λ there is. ((wide 1, wide 3), range-bytes 0x22 there is))
       (λ there is. (wide 1, first-bytes 4 s there ∙ (λ j. is j ∷ two-bytes 1 (getD s 3 0 ∷ drop 4 s) j)))
       (λ there is. (tt, first-bytes 2 s there ∙ (λ j. is j ∷ getD s 1 0 ∷ drop 2 s)))
-      (λ there is. (
-        (wide 2, wide 4),
-        first-bytes 6 s there
-            ∙ (λ j. is j ∷ getD s 1 0 ∷ (two-bytes 2 _ ∙ ap (wideThen (wideAt s 2)) (two-bytes 4 (drop 6 s))) j),
-      ))
+      (λ there is. ((wide 2, wide 4), ranged-bytes 0x25 there is))
       (λ there is. ((wide 1, wide 3), range-bytes 0x26 there is))
+      (λ there is. ((wide 2, wide 4, byte-at s 1 bytes), ranged-bytes 0x27 there is))
 
-  -- The wide fields of a whole record are wide.
+  -- The wide fields of a whole record are wide, and its gauge is a byte.
   pub head-wide : {r : PatternRecord} → patternHead s ≡ Whole r → WideFields r
   head-wide e = (subst Spells e head-spells) .0
 
@@ -117,3 +123,7 @@ spelled-head (Series l h) rest w =
     let s = recordSpelling (Series l h) ++ rest in
     simp (ne-eqb (length s) 0 (λ e. omega arith), le-leb 5 (length s) (omega arith))
     (λ j. Whole (Series (wide-of l (w .0) j) (wide-of h (w .1) j)))
+spelled-head (Gauged g l h) rest w =
+    let s = recordSpelling (Gauged g l h) ++ rest in
+    simp (ne-eqb (length s) 0 (λ e. omega arith), le-leb 6 (length s) (omega arith))
+    (λ j. Whole (Gauged g (wide-of l (w .0) j) (wide-of h (w .1) j)))

@@ -6,31 +6,33 @@ use native.Mathlib.Omega.{arith}
 use lib.Dec.{eqb}
 use Rattle.terms.specs.Term.{Wide}
 use Rattle.patterns.specs.declared.PatternRecord.{PatternRecord}
-use Rattle.patterns.specs.declared.PatternRecord.the-variants.{Anything, Symbol, Range, Compound, Variable, Ranged, Series}
+use Rattle.patterns.specs.declared.PatternRecord.the-variants.{Anything, Symbol, Range, Compound, Variable, Ranged, Series, Gauged}
 use Rattle.patterns.specs.views.Note.{note}
-use Rattle.patterns.specs.views.NoteCode.{packedNote, noteCode, noteOf, codePlace, codeKind, codeVariable, codeFirst, codeSecond, codeRecord, Fitting}
+use Rattle.patterns.specs.views.NoteCode.{packedNote, noteCode, noteOf, codePlace, codeKind, codeVariable, codeGauge, codeFirst, codeSecond, codeRecord, Fitting}
 
 -- The record of kind k with these fields.
-abbrev recordWith : ℕ → ℕ → ℕ → ℕ → ℕ → PatternRecord
-recordWith k v x y arity =
+abbrev recordWith : ℕ → ℕ → ℕ → ℕ → ℕ → ℕ → PatternRecord
+recordWith k v g x y arity =
     cond (eqb k 1) (Symbol x)
     (cond (eqb k 2) (Range x y)
     (cond (eqb k 3) (Compound x arity)
-    (cond (eqb k 4) (Variable v) (cond (eqb k 5) (Ranged v x y) (cond (eqb k 6) (Series x y) Anything)))))
+    (cond (eqb k 4) (Variable v)
+    (cond (eqb k 5) (Ranged v x y) (cond (eqb k 6) (Series x y) (cond (eqb k 7) (Gauged g x y) Anything))))))
 
 -- Each part of a number made of parts that fit is that part.
 note-packed
-    : (n k v x y : ℕ) → k < 8 → v < 16 → Wide x → Wide y
-    → noteOf (packedNote n k v x y) ≡ note n (recordWith k v x y (packedNote n k v x y % 256))
+    : (n k b x y : ℕ) → k < 8 → b < 256 → Wide x → Wide y
+    → noteOf (packedNote n k b x y) ≡ note n (recordWith k (b % 16) b x y (packedNote n k b x y % 256))
 unfolding codeRecord
-note-packed n k v x y hk hv hx hy =
-    let c = packedNote n k v x y in
+note-packed n k b x y hk hb hx hy =
+    let c = packedNote n k b x y in
     let place : codePlace c ≡ n = omega arith in
     let kind : codeKind c ≡ k = omega arith in
-    let variable : codeVariable c ≡ v = omega arith in
+    let variable : codeVariable c ≡ b % 16 = omega arith in
+    let gauge : codeGauge c ≡ b = omega arith in
     let first : codeFirst c ≡ x = omega arith in
     let second : codeSecond c ≡ y = omega arith in
-    λ j. note (place j) (recordWith (kind j) (variable j) (first j) (second j) (c % 256))
+    λ j. note (place j) (recordWith (kind j) (variable j) (gauge j) (first j) (second j) (c % 256))
 
 -- The note that a note's number stands for is that note.
 pub note-kept : (n : ℕ) (r : PatternRecord) → Fitting r → noteOf (noteCode (note n r)) ≡ note n r
@@ -40,9 +42,14 @@ note-kept n (Range l h) f = note-packed n 2 0 l h (omega arith) (omega arith) (f
 note-kept n (Compound a k) h =
     let arity : packedNote n 3 0 a k % 256 ≡ k = omega arith in
     note-packed n 3 0 a k (omega arith) (omega arith) (h .0) (omega arith) ∙ ap (λ (i : ℕ). note n (Compound a i)) arity
-note-kept n (Variable v) h = note-packed n 4 v 0 0 (omega arith) h (omega arith) (omega arith)
-note-kept n (Ranged v l h) f = note-packed n 5 v l h (omega arith) (f .0) (f .1) (f .2)
+note-kept n (Variable v) h =
+    let small : v % 16 ≡ v = omega arith in
+    note-packed n 4 v 0 0 (omega arith) (omega arith) (omega arith) (omega arith) ∙ ap (λ (i : ℕ). note n (Variable i)) small
+note-kept n (Ranged v l h) f =
+    let small : v % 16 ≡ v = omega (arith, f .0) in
+    note-packed n 5 v l h (omega arith) (omega (arith, f .0)) (f .1) (f .2) ∙ ap (λ (i : ℕ). note n (Ranged i l h)) small
 note-kept n (Series l h) f = note-packed n 6 0 l h (omega arith) (omega arith) (f .0) (f .1)
+note-kept n (Gauged g l h) f = note-packed n 7 g l h (omega arith) (f .0) (f .1) (f .2)
 
 either-fits : (b : Bool) (x y : PatternRecord) → Fitting x → Fitting y → Fitting (cond b x y)
 either-fits true x y hx hy = hx
@@ -56,4 +63,5 @@ code-fits c =
     (either-fits (eqb (codeKind c) 2) _ _ (omega arith)
     (either-fits (eqb (codeKind c) 3) _ _ (omega arith)
     (either-fits (eqb (codeKind c) 4) _ _ (omega arith)
-    (either-fits (eqb (codeKind c) 5) _ _ (omega arith) (either-fits (eqb (codeKind c) 6) _ _ (omega arith) tt)))))
+    (either-fits (eqb (codeKind c) 5) _ _ (omega arith)
+    (either-fits (eqb (codeKind c) 6) _ _ (omega arith) (either-fits (eqb (codeKind c) 7) _ _ (omega arith) tt))))))

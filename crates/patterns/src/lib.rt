@@ -16,6 +16,7 @@ pub enum PatternRecord {
     Variable(u8),
     Ranged(u8, u16, u16),
     Series(u16, u16),
+    Gauged(u8, u16, u16),
 }
 
 // The record that the input begins with, or the number of the question that it got a no from.

@@ -6,11 +6,11 @@ ghost use Rattle.patterns.specs.views.Note.{note};
 ghost use Rattle.patterns.specs.views.NoteCode.{packedNote, noteCode, noteOf};
 
 // The parts of a note as one number.
-fn pack(place: usize, kind: u8, variable: u8, first: u16, second: u16) -> u64
+fn pack(place: usize, kind: u8, byte: u8, first: u16, second: u16) -> u64
     requires { ⌜ place < 680 ⌝ }
-    ensures { λ r. ⌜ r ≡ packedNote place kind variable first second ⌝ }
+    ensures { λ r. ⌜ r ≡ packedNote place kind byte first second ⌝ }
 {
-    let head = (place as u64 * 8 + kind as u64) * 16 + variable as u64;
+    let head = (place as u64 * 8 + kind as u64) * 256 + byte as u64;
     (head * 0x1_0000 + first as u64) * 0x1_0000 + second as u64
 }
 
@@ -28,6 +28,7 @@ pub fn note_code(place: usize, what: PatternRecord) -> u64
         PatternRecord::Variable(v) => pack(place, 4, v, 0, 0),
         PatternRecord::Ranged(v, low, high) => pack(place, 5, v, low, high),
         PatternRecord::Series(low, high) => pack(place, 6, 0, low, high),
+        PatternRecord::Gauged(gauge, low, high) => pack(place, 7, gauge, low, high),
     }
 }
 
@@ -35,15 +36,16 @@ pub fn note_code(place: usize, what: PatternRecord) -> u64
 pub fn note_place(code: u64) -> usize
     ensures { λ r. ⌜ r ≡ (noteOf code) .place ⌝ }
 {
-    (code / 0x80_0000_0000) as usize
+    (code / 0x800_0000_0000) as usize
 }
 
 // The record of a note, from its number: its own kind, and its fields in their order.
 pub fn note_record(code: u64) -> PatternRecord
     ensures { λ r. ⌜ r ≡ (noteOf code) .what ⌝ }
 {
-    let kind = code / 0x10_0000_0000 % 8;
+    let kind = code / 0x100_0000_0000 % 8;
     let variable = (code / 0x1_0000_0000 % 16) as u8;
+    let gauge = (code / 0x1_0000_0000 % 256) as u8;
     let first = (code / 0x1_0000 % 0x1_0000) as u16;
     let second = (code % 0x1_0000) as u16;
     match kind {
@@ -53,6 +55,7 @@ pub fn note_record(code: u64) -> PatternRecord
         4 => PatternRecord::Variable(variable),
         5 => PatternRecord::Ranged(variable, first, second),
         6 => PatternRecord::Series(first, second),
+        7 => PatternRecord::Gauged(gauge, first, second),
         _ => PatternRecord::Anything,
     }
 }

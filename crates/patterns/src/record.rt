@@ -2,39 +2,48 @@
 use crate::PatternHead;
 use crate::PatternRecord;
 ghost use mathlib.Core.Path.{_≡_};
-ghost use Rattle.patterns.specs.views.PatternRecord.{patternHead, rangeHead, rangedHead, headRefusal};
+ghost use Rattle.patterns.specs.views.PatternRecord.{patternHead, endsHead, idHead, headRefusal};
 
-// Two ends that the input begins with: a series of symbols, or a range of numbers.
-fn range_head(s: &[u8], symbols: bool) -> PatternHead
-    ensures { λ r. ⌜ r ≡ rangeHead symbols (now (s .entry)) ⌝ }
+// Two ends that the input begins with: of a range of numbers or a series of symbols, or, where the kind is odd, behind one byte
+// more, of a ranged variable or a range on a gauge.
+fn ends_head(s: &[u8], kind: u8) -> PatternHead
+    ensures { λ r. ⌜ r ≡ endsHead kind (now (s .entry)) ⌝ }
 {
-    if s.len() < 5 {
+    let at = (kind % 2) as usize + 1;
+    if s.len() < at + 4 {
         return PatternHead::Refused(4);
     }
-    let low = records::wide(s[1], s[2]);
-    let high = records::wide(s[3], s[4]);
-    if symbols {
-        return PatternHead::Whole(PatternRecord::Series(low, high));
-    }
-    PatternHead::Whole(PatternRecord::Range(low, high))
+    let low = records::wide(s[at], s[at + 1]);
+    let high = records::wide(s[at + 2], s[at + 3]);
+    let first = s[1];
+    let record = match kind {
+        0x22 => PatternRecord::Range(low, high),
+        0x25 => PatternRecord::Ranged(first, low, high),
+        0x26 => PatternRecord::Series(low, high),
+        _ => PatternRecord::Gauged(first, low, high),
+    };
+    PatternHead::Whole(record)
 }
 
-// The ranged variable that the input begins with.
-fn ranged_head(s: &[u8]) -> PatternHead
-    ensures { λ r. ⌜ r ≡ rangedHead (now (s .entry)) ⌝ }
+// An id that the input begins with: of a compound, with its arity, or of a symbol.
+fn id_head(s: &[u8], compound: bool) -> PatternHead
+    ensures { λ r. ⌜ r ≡ idHead compound (now (s .entry)) ⌝ }
 {
-    if s.len() < 6 {
+    if s.len() < 3 {
         return PatternHead::Refused(4);
     }
-    PatternHead::Whole(PatternRecord::Ranged(
-        s[1],
-        records::wide(s[2], s[3]),
-        records::wide(s[4], s[5]),
-    ))
+    let id = records::wide(s[1], s[2]);
+    if compound {
+        if s.len() < 4 {
+            return PatternHead::Refused(4);
+        }
+        return PatternHead::Whole(PatternRecord::Compound(id, s[3]));
+    }
+    PatternHead::Whole(PatternRecord::Symbol(id))
 }
 
-// The record of a pattern that the input begins with: question 4. A cut record is never whole, and kind 27 is no
-// pattern. Kinds 22 and 26 have one arm, so that the whole is small enough to be compiled into each of its callers.
+// The record of a pattern that the input begins with: question 4. A cut record is never whole, and kind 28 is no pattern. Kinds of
+// one shape share an arm: those with two ends, and those with an id.
 pub fn pattern_head(s: &[u8]) -> PatternHead
     ensures { λ r. ⌜ r ≡ patternHead (now (s .entry)) ⌝ }
 {
@@ -44,27 +53,15 @@ pub fn pattern_head(s: &[u8]) -> PatternHead
     let kind = s[0];
     match kind {
         0x20 => PatternHead::Whole(PatternRecord::Anything),
-        0x21 => {
-            if s.len() < 3 {
-                return PatternHead::Refused(4);
-            }
-            PatternHead::Whole(PatternRecord::Symbol(records::wide(s[1], s[2])))
-        }
-        0x22 | 0x26 => range_head(s, kind == 0x26),
-        0x23 => {
-            if s.len() < 4 {
-                return PatternHead::Refused(4);
-            }
-            PatternHead::Whole(PatternRecord::Compound(records::wide(s[1], s[2]), s[3]))
-        }
+        0x21 | 0x23 => id_head(s, kind == 0x23),
+        0x22 | 0x25..=0x27 => ends_head(s, kind),
         0x24 => {
             if s.len() < 2 {
                 return PatternHead::Refused(4);
             }
             PatternHead::Whole(PatternRecord::Variable(s[1]))
         }
-        0x25 => ranged_head(s),
-        0..=0x1f | 0x27..=255 => PatternHead::Refused(4),
+        0..=0x1f | 0x28..=255 => PatternHead::Refused(4),
     }
 }
 

@@ -1,5 +1,5 @@
 -- Bytes begin with a record of a term exactly where they spell it.
-use Prim.Native.Nat.{ℕ, suc, _+_, _≤_}
+use Prim.Native.Nat.{ℕ, suc, _+_, _≤_, _<_}
 use mathlib.Core.Path.{_≡_, ap, ap₂, sym, _∙_}
 use mathlib.Core.List.{List, _∷_}
 use native.Mathlib.Omega.{arith}
@@ -11,7 +11,7 @@ use Rattle.records.specs.Fields.{wideOf, wideAt, wideThen, AreBytes}
 use Rattle.records.proofs.WideFields.{wide-bound, high-of, low-of, wide-of}
 use Rattle.terms.specs.Term.{Wide}
 use Rattle.piece.specs.declared.TermRecord.{TermRecord}
-use Rattle.piece.specs.declared.TermRecord.the-variants.{Unknown, Symbol, Number, Compound, Span, Never}
+use Rattle.piece.specs.declared.TermRecord.the-variants.{Unknown, Symbol, Number, Compound, Span, Never, Gauged}
 use Rattle.piece.specs.declared.TermHead.{TermHead}
 use Rattle.piece.specs.declared.TermHead.the-variants.{Whole, Refused}
 use Rattle.piece.specs.views.TermRecord.{termHead}
@@ -26,8 +26,9 @@ recordThen (Number a) rest = 0x32 ∷ wideThen a rest
 recordThen (Compound a n) rest = 0x33 ∷ wideThen a (n ∷ rest)
 recordThen (Span l h) rest = 0x34 ∷ wideThen l (wideThen h rest)
 recordThen Never rest = 0x35 ∷ rest
+recordThen (Gauged g a) rest = 0x36 ∷ g ∷ wideThen a rest
 
--- The id or number of a record fits a wide field, and so do the ends of a span.
+-- The id or number of a record fits a wide field, and so do the ends of a span; a gauge is a byte.
 abbrev pub WideRecord : TermRecord → Type 0
 WideRecord Unknown = Unit
 WideRecord (Symbol a) = Wide a
@@ -35,6 +36,7 @@ WideRecord (Number a) = Wide a
 WideRecord (Compound a n) = Wide a
 WideRecord (Span l h) = Wide l × Wide h
 WideRecord Never = Unit
+WideRecord (Gauged g a) = Wide a × (g < 256)
 
 -- A head says that the bytes spell its record.
 abbrev pub HeadSpells : List ℕ → TermHead → Type 0
@@ -70,6 +72,12 @@ module _ (s : List ℕ) (bytes : AreBytes s) where
   two-fields : 5 ≤ length s → s ≡ getD s 0 0 ∷ wideThen (wideAt s 1) (wideThen (wideAt s 3) (drop 5 s))
   two-fields there = wide-field (omega arith) ∙ ap (λ l. getD s 0 0 ∷ wideThen (wideAt s 1) l) (field-at 3 there)
 
+  -- Or they are the first two and then those of a wide field.
+  byte-and-field : 4 ≤ length s → s ≡ getD s 0 0 ∷ getD s 1 0 ∷ wideThen (wideAt s 2) (drop 4 s)
+  byte-and-field there =
+      drop-cons s 0 0 (omega arith)
+      ∙ ap (λ l. getD s 0 0 ∷ l) (drop-cons s 1 0 (omega arith) ∙ ap (λ l. getD s 1 0 ∷ l) (field-at 2 there))
+
   -- What is read as a record is spelled.
   pub head-spells : HeadSpells s (termHead s)
   head-spells =
@@ -88,6 +96,10 @@ module _ (s : List ℕ) (bytes : AreBytes s) where
         (wide, wide-at 3),
       ))
       (λ there kind. (first there ∙ ap (λ x. x ∷ drop 1 s) kind, tt))
+      (λ there kind. (
+        byte-and-field there ∙ ap (λ x. x ∷ getD s 1 0 ∷ wideThen (wideAt s 2) (drop 4 s)) kind,
+        (wide-at 2, byte-at s 1 bytes),
+      ))
 
 -- What is spelled is read as the record.
 pub spelled-head : (r : TermRecord) (rest : List ℕ) → WideRecord r → termHead (recordThen r rest) ≡ Whole r
@@ -106,3 +118,6 @@ spelled-head (Span l h) rest wide =
     let there = le-leb 5 (suc (suc (suc (suc (suc k))))) (omega arith) in
     simp (eqb·suc-zero (suc (suc (suc (suc k)))), there, wide-of l (wide .0), wide-of h (wide .1))
 spelled-head Never rest wide = rw (eqb·suc-zero (length rest))
+spelled-head (Gauged g a) rest wide =
+    let k = length rest in
+    simp (eqb·suc-zero (suc (suc (suc k))), le-leb 4 (suc (suc (suc (suc k)))) (omega arith), wide-of a (wide .0))

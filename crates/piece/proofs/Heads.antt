@@ -10,7 +10,7 @@ use borrow.Author.Tests.{leb-true, eqb-true, eqb-false}
 use Rattle.records.specs.Fields.{wideAt}
 use Rattle.records.proofs.Questions.{kind-cases}
 use Rattle.piece.specs.declared.TermRecord.{TermRecord}
-use Rattle.piece.specs.declared.TermRecord.the-variants.{Unknown, Symbol, Number, Compound, Span, Never}
+use Rattle.piece.specs.declared.TermRecord.the-variants.{Unknown, Symbol, Number, Compound, Span, Never, Gauged}
 use Rattle.piece.specs.declared.TermHead.{TermHead}
 use Rattle.piece.specs.declared.TermHead.the-variants.{Whole, Refused}
 use Rattle.piece.specs.views.TermRecord.{termHead, wholeIf}
@@ -40,8 +40,9 @@ module _ (P : TermHead → Type 0) (s : List ℕ) (none : P (Refused 14)) where
       → (4 ≤ length s → getD s 0 0 ≡ 0x33 → P (Whole (Compound (wideAt s 1) (getD s 3 0))))
       → (5 ≤ length s → getD s 0 0 ≡ 0x34 → P (Whole (Span (wideAt s 1) (wideAt s 3))))
       → (1 ≤ length s → getD s 0 0 ≡ 0x35 → P (Whole Never))
+      → (4 ≤ length s → getD s 0 0 ≡ 0x36 → P (Whole (Gauged (getD s 1 0) (wideAt s 2))))
       → P (termHead s)
-  head-cases an-unknown a-symbol a-number a-compound a-span a-never =
+  head-cases an-unknown a-symbol a-number a-compound a-span a-never a-gauged =
       kind-cases P (eqb (length s) 0) _ _ (λ _. none) (λ some.
       let there : 1 ≤ length s = omega (arith, eqb-false (length s) 0 some) in
       kind-cases P (eqb (getD s 0 0) 0x30) _ _
@@ -50,7 +51,8 @@ module _ (P : TermHead → Type 0) (s : List ℕ) (none : P (Refused 14)) where
       (of-kind 0x32 3 (Number (wideAt s 1)) _ a-number
       (of-kind 0x33 4 (Compound (wideAt s 1) (getD s 3 0)) _ a-compound
       (of-kind 0x34 5 (Span (wideAt s 1) (wideAt s 3)) _ a-span
-      (kind-cases P (eqb (getD s 0 0) 0x35) _ _ (λ is. a-never there (eqb-true (getD s 0 0) 0x35 is)) (λ _. none)))))))
+      (kind-cases P (eqb (getD s 0 0) 0x35) _ _ (λ is. a-never there (eqb-true (getD s 0 0) 0x35 is)) (λ _.
+      of-kind 0x36 4 (Gauged (getD s 1 0) (wideAt s 2)) _ a-gauged none)))))))
 
 -- The bytes of a record.
 abbrev pub recordBytes : TermRecord → ℕ
@@ -60,6 +62,7 @@ recordBytes (Number a) = 3
 recordBytes (Compound a n) = 4
 recordBytes (Span l h) = 5
 recordBytes Never = 1
+recordBytes (Gauged g a) = 4
 
 -- The bytes of a head, 0 where it was refused.
 abbrev headBytes : TermHead → ℕ
@@ -71,4 +74,4 @@ pub record-within : (s : List ℕ) {r : TermRecord} → termHead s ≡ Whole r �
 record-within s e =
     subst (λ h. headBytes h ≤ length s) e
     (head-cases (λ h. headBytes h ≤ length s) s (omega arith) (λ there _. there) (λ there _. there) (λ there _. there)
-    (λ there _. there) (λ there _. there) (λ there _. there))
+    (λ there _. there) (λ there _. there) (λ there _. there) (λ there _. there))

@@ -13,7 +13,7 @@ use Rattle.records.specs.Reading.{Reading, ask}
 use Rattle.records.proofs.Questions.{kinds-agree, ask-refused}
 use Rattle.terms.specs.Term.{Term}
 use Rattle.piece.specs.declared.TermRecord.{TermRecord}
-use Rattle.piece.specs.declared.TermRecord.the-variants.{Unknown, Symbol, Number, Compound, Span, Never}
+use Rattle.piece.specs.declared.TermRecord.the-variants.{Unknown, Symbol, Number, Compound, Span, Never, Gauged}
 use Rattle.piece.specs.ReadPiece.{termOf}
 use Rattle.piece.specs.views.TermRecord.{wholeIf, termHead, onRecord, onHead}
 
@@ -27,21 +27,21 @@ module _ (compoundOf : ℕ → ℕ → Reading Term) where
   -- A record of a kind is whole where its bytes are there.
   kind-agrees
       : (s : List ℕ) (kind : ℕ) (r : TermRecord) → eqb (kindOf s) kind ≡ true
-      → ask 14 (isWhole 0x30 0x35 s) (onRecord compoundOf r)
-      ≡ onHead compoundOf (wholeIf (leb 0x30 kind && leb kind 0x35 && leb (recordLength kind) (length s)) r)
+      → ask 14 (isWhole 0x30 0x36 s) (onRecord compoundOf r)
+      ≡ onHead compoundOf (wholeIf (leb 0x30 kind && leb kind 0x36 && leb (recordLength kind) (length s)) r)
   kind-agrees s kind r is =
-      ap (λ (k : ℕ). ask 14 (leb 0x30 k && leb k 0x35 && leb (recordLength k) (length s)) (onRecord compoundOf r))
+      ap (λ (k : ℕ). ask 14 (leb 0x30 k && leb k 0x36 && leb (recordLength k) (length s)) (onRecord compoundOf r))
       (eqb-true (kindOf s) kind is)
-      ∙ whole-agrees (leb 0x30 kind && leb kind 0x35 && leb (recordLength kind) (length s)) r
+      ∙ whole-agrees (leb 0x30 kind && leb kind 0x36 && leb (recordLength kind) (length s)) r
 
   -- By the table, and by the enum of records.
   pub by-table
       : (s : List ℕ)
-      → ask 14 (isWhole 0x30 0x35 s) (termOf (compoundOf (wideAt s 1) (byteAt s 3)) s) ≡ onHead compoundOf (termHead s)
+      → ask 14 (isWhole 0x30 0x36 s) (termOf (compoundOf (wideAt s 1) (byteAt s 3)) s) ≡ onHead compoundOf (termHead s)
   by-table [] = refl
   by-table (x ∷ xs) =
       let s = x ∷ xs in
-      let whole = isWhole 0x30 0x35 s in
+      let whole = isWhole 0x30 0x36 s in
       let there : leb 1 (length s) ≡ true = le-leb 1 (length s) (omega arith) in
       rw (eqb·suc-zero (length xs))
       (kinds-agree (ask 14 whole) (onHead compoundOf) (eqb x 0x30)
@@ -52,4 +52,5 @@ module _ (compoundOf : ℕ → ℕ → Reading Term) where
       kinds-agree (ask 14 whole) (onHead compoundOf) (eqb x 0x34) (kind-agrees s 0x34 (Span _ _)) (λ _.
       kinds-agree (ask 14 whole) (onHead compoundOf) (eqb x 0x35)
       (λ is. kind-agrees s 0x35 Never is ∙ ap (λ b. onHead compoundOf (wholeIf b Never)) there) (λ _.
-      ask-refused 14 whole)))))))
+      kinds-agree (ask 14 whole) (onHead compoundOf) (eqb x 0x36) (kind-agrees s 0x36 (Gauged _ _)) (λ _.
+      ask-refused 14 whole))))))))

@@ -4,17 +4,18 @@ use Prim.Native.Nat.{ℕ, suc, _+_, _≤_}
 use mathlib.Core.Path.{_≡_, refl, ap, ap₂, sym, subst, _∙_}
 use mathlib.Core.Bool.{Bool, true, false, cond}
 use mathlib.Core.List.{List, [], _∷_, _++_, append-nil}
-use mathlib.Core.Logic.{_↔_, inl, inr}
+use mathlib.Core.Logic.{_↔_, _⊎_, inl, inr}
 use native.Mathlib.Omega.{arith}
 use lib.ListN.{length, drop}
 use lib.Seq.{drop-cons, drop-drop, drop-length}
 use lib.Dec.{eqb}
-use borrow.Author.Tests.{eq-eqb, eqb-true}
+use borrow.Author.Tests.{eq-eqb, eqb-true, eqb-false}
 use Rattle.records.specs.Reading.{Reading, took, refused, ask, after, andThen}
-use Rattle.terms.specs.Term.{Term, Terms, unknown, never, symbol, numbers, compound, nil, cons}
+use Rattle.terms.specs.Term.{Term, Terms, Wide, gaugeOf, valueOf, unknown, never, symbol, numbers, compound, nil, cons}
+use Rattle.terms.specs.Filling.{WellFormed, WellFormeds}
 use Rattle.piece.specs.Piece.{Piece, SoundPiece}
 use Rattle.piece.specs.ReadPiece.{readTerms, readArity, readPrefix, readPiece}
-use Rattle.piece.specs.WritePiece.{SpellsTerm, SpellsTerms, SpellsPiece, termBytes, termsBytes, pieceBytes}
+use Rattle.piece.specs.WritePiece.{SpellsTerm, SpellsTerms, SpellsPiece, numberBytes, termBytes, termsBytes, pieceBytes}
 use Rattle.piece.proofs.Readings.{asked, took-bytes}
 use Rattle.piece.proofs.PiecesRead.{ArityRead, arity-read, right-arity}
 use Rattle.piece.proofs.WrittenBytes.{piece-written}
@@ -146,30 +147,42 @@ piece-spelled s bytes k piece = (
   λ spelled. own-piece piece s (spelled .0) (spelled .1) ∙ ap (λ n. took n piece) (sym (spelled .2)),
 )
 
+-- The written bytes of a number spell it,
+number-spells : (a b : ℕ) → a ≡ b → SpellsTerm (numbers a b) (numberBytes a)
+number-spells a b same = go (eqb (gaugeOf a) 0) (eqb-true (gaugeOf a) 0)
+  where
+    go
+        : (c : Bool) → (c ≡ true → gaugeOf a ≡ 0)
+        → SpellsTerm (numbers a b) (cond c (0x32 ∷ wideThen a []) (0x36 ∷ gaugeOf a ∷ wideThen (valueOf a) []))
+    go true zeroth = inr (same, inl (omega (arith, zeroth refl), refl))
+    go false zeroth = inr (same, inr refl)
+
 mutual
-  -- The written bytes of a term spell it,
-  term-spells : (t : Term) → SpellsTerm t (termBytes t)
-  term-spells unknown = refl
-  term-spells never = refl
-  term-spells (symbol a) = refl
-  term-spells (numbers a b) = go (eqb a b) (eqb-true a b)
+  -- so do those of a well-formed term,
+  term-spells : (t : Term) → WellFormed t → SpellsTerm t (termBytes t)
+  term-spells unknown ok = refl
+  term-spells never ok = refl
+  term-spells (symbol a) ok = refl
+  term-spells (numbers a b) ok = go (eqb a b) refl (ok .2)
     where
       go
-          : (c : Bool) → (c ≡ true → a ≡ b)
-          → SpellsTerm (numbers a b) (cond c (0x32 ∷ wideThen a []) (0x34 ∷ wideThen a (wideThen b [])))
-      go true same = inr (same refl, refl)
-      go false same = inl refl
-  term-spells (compound a ts) = (termsBytes ts, refl, terms-spell ts)
+          : (c : Bool) → eqb a b ≡ c → (a ≡ b) ⊎ Wide b
+          → SpellsTerm (numbers a b) (cond c (numberBytes a) (0x34 ∷ wideThen a (wideThen b [])))
+      go true e one = number-spells a b (eqb-true a b e)
+      go false e (inl same) = absurd (eqb-false a b e same)
+      go false e (inr wide) = inl (wide, refl)
+  term-spells (compound a ts) ok = (termsBytes ts, refl, terms-spell ts (ok .3))
 
-  -- and so do those of a row of terms.
-  terms-spell : (ts : Terms) → SpellsTerms ts (termsBytes ts)
-  terms-spell nil = refl
-  terms-spell (cons t ts) = (termBytes t, termsBytes ts, refl, term-spells t, terms-spell ts)
+  -- and those of a row of terms.
+  terms-spell : (ts : Terms) → WellFormeds ts → SpellsTerms ts (termsBytes ts)
+  terms-spell nil ok = refl
+  terms-spell (cons t ts) ok = (termBytes t, termsBytes ts, refl, term-spells t (ok .0), terms-spell ts (ok .1))
 
 -- An accepted piece is spelled by its written bytes.
 pub written-piece
     : (piece : Piece) → SoundPiece piece
     → AreBytes (pieceBytes piece) × (readPiece (pieceBytes piece) ≡ took (length (pieceBytes piece)) piece)
 written-piece piece sound =
-    let spells : SpellsPiece piece (pieceBytes piece) = (termsBytes (piece .terms), refl, terms-spell (piece .terms)) in
+    let terms = terms-spell (piece .terms) (sound .accepted .wellFormed) in
+    let spells : SpellsPiece piece (pieceBytes piece) = (termsBytes (piece .terms), refl, terms) in
     (piece-written piece sound, own-piece piece (pieceBytes piece) sound spells)

@@ -12,10 +12,11 @@ use lib.Dec.{leb}
 use borrow.Author.Tests.{leb-true, le-leb, lt-leb}
 use Rattle.records.specs.Fields.{wideThen, AreBytes}
 use Rattle.records.specs.Reading.{Reading, took, refused, ask, after, andThen, readRow}
-use Rattle.terms.specs.Term.{Term, Terms, count, unknown, never, symbol, numbers, compound, nil, cons, Wide}
+use Rattle.terms.specs.Term.{Term, Terms, count, unknown, never, symbol, numbers, compound, nil, cons, Wide, onGauge, gaugeOf, valueOf}
+use Rattle.terms.proofs.Gauges.{gauge-and-value, gauge-of-number, value-of-number}
 use Rattle.terms.specs.Filling.{WellFormed, WellFormeds}
 use Rattle.terms.specs.Accepted.{Shallow, Shallows}
-use Rattle.piece.specs.declared.TermRecord.the-variants.{Unknown, Symbol, Number, Compound, Span, Never}
+use Rattle.piece.specs.declared.TermRecord.the-variants.{Unknown, Symbol, Number, Compound, Span, Never, Gauged}
 use Rattle.piece.specs.declared.TermHead.{TermHead}
 use Rattle.piece.specs.declared.TermHead.the-variants.{Whole, Refused}
 use Rattle.piece.specs.views.TermRecord.{termHead, onHead}
@@ -144,10 +145,10 @@ span-read s below l h head wide = go (leb l h) (leb-true l h)
     go : (b : Bool) → (b ≡ true → l ≤ h) → TermRead s below (ask 32 b (took 5 (numbers l h)))
     go true asked =
         record {
-          wellFormed = (asked refl, wide);
+          wellFormed = (asked refl, omega arith, inr wide);
           shallow = omega arith;
           own = 0x34 ∷ wideThen l (wideThen h []);
-          spells = inl refl;
+          spells = inl (wide, refl);
           size = refl;
           bytes = head;
         }
@@ -164,10 +165,10 @@ by-head-spelled s below compounds (Whole (Symbol a)) spelled =
     record { wellFormed = spelled .1; shallow = omega arith; own = _; spells = refl; size = refl; bytes = spelled .0 }
 by-head-spelled s below compounds (Whole (Number a)) spelled =
     record {
-      wellFormed = (omega arith, spelled .1);
+      wellFormed = (omega arith, omega (arith, spelled .1), inl refl);
       shallow = omega arith;
       own = 0x32 ∷ wideThen a [];
-      spells = inr (refl, refl);
+      spells = inr (refl, inl (spelled .1, refl));
       size = refl;
       bytes = spelled .0;
     }
@@ -175,6 +176,18 @@ by-head-spelled s below compounds (Whole (Compound a n)) spelled = compounds a n
 by-head-spelled s below compounds (Whole (Span l h)) spelled = span-read s below l h (spelled .0) (spelled .1 .1)
 by-head-spelled s below compounds (Whole Never) spelled =
     record { wellFormed = tt; shallow = omega arith; own = _; spells = refl; size = refl; bytes = spelled .0 }
+by-head-spelled s below compounds (Whole (Gauged g a)) spelled =
+    let wide = spelled .1 .0 in
+    let gauge = gauge-of-number g a wide in
+    let value = value-of-number g a wide in
+    record {
+      wellFormed = (omega arith, omega (arith, wide, spelled .1 .1), inl refl);
+      shallow = omega arith;
+      own = 0x36 ∷ g ∷ wideThen a [];
+      spells = inr (refl, inr (λ j. 0x36 ∷ sym gauge j ∷ wideThen (sym value j) []));
+      size = refl;
+      bytes = spelled .0;
+    }
 by-head-spelled s below compounds (Refused q) spelled = tt
 
 -- What is read as a term is accepted and spelled,
@@ -234,15 +247,20 @@ mutual
       rw spells (read-head below (0x35 ∷ rest) (spelled-head Never rest tt))
   term-reads (symbol a) below own rest ok shallow spells =
       rw spells (read-head below (0x31 ∷ wideThen a rest) (spelled-head (Symbol a) rest ok))
-  term-reads (numbers a b) below own rest ok shallow (inl spells) =
-      let wide : Wide a = omega (arith, ok .0, ok .1) in
+  term-reads (numbers a b) below own rest ok shallow (inl (wide, spells)) =
       rw spells
-      (read-head below (0x34 ∷ wideThen a (wideThen b rest)) (spelled-head (Span a b) rest (wide, ok .1))
+      (read-head below (0x34 ∷ wideThen a (wideThen b rest)) (spelled-head (Span a b) rest (omega (arith, ok .0), wide))
       ∙ (rw (le-leb a b (ok .0))))
-  term-reads (numbers a b) below own rest ok shallow (inr spells) =
-      rw (spells .1)
-      (read-head below (0x32 ∷ wideThen a rest) (spelled-head (Number a) rest (omega (arith, ok .0, ok .1)))
-      ∙ ap (λ c. took 3 (numbers a c)) (spells .0))
+  term-reads (numbers a b) below own rest ok shallow (inr (same, inl (wide, spells))) =
+      rw spells
+      (read-head below (0x32 ∷ wideThen a rest) (spelled-head (Number a) rest (omega (arith, ok .0)))
+      ∙ ap (λ c. took 3 (numbers a c)) same)
+  term-reads (numbers a b) below own rest ok shallow (inr (same, inr spells)) =
+      let g = gaugeOf a in
+      let v = valueOf a in
+      rw spells
+      (read-head below (0x36 ∷ g ∷ wideThen v rest) (spelled-head (Gauged g v) rest (omega arith, omega (arith, ok .0, ok .1)))
+      ∙ ap₂ (λ x y. took 4 (numbers x y)) (gauge-and-value a) (gauge-and-value a ∙ same))
   term-reads (compound a ts) zero own rest ok shallow spells = absurd (no-arguments ts (ok .1) (shallow .1))
   term-reads (compound a ts) (suc below) own rest ok shallow (others, is, spells) =
       let s : List ℕ = 0x33 ∷ wideThen a (count ts ∷ (others ++ rest)) in

@@ -65,7 +65,7 @@ within-by-compound below s compounds =
     rw (by-head below s)
     (head-cases (λ h. bytesOf (onHead (readCompound below s) h) ≤ length s) s (omega arith) (λ there _. there)
     (λ there _. there) (λ there _. there) (λ there _. compounds (wideAt s 1) (getD s 3 0) there)
-    (λ there _. ask-within 32 (leb (wideAt s 1) (wideAt s 3)) _ (length s) there) (λ there _. there))
+    (λ there _. ask-within 32 (leb (wideAt s 1) (wideAt s 3)) _ (length s) there) (λ there _. there) (λ there _. there))
 
 -- A term takes no more bytes than there are,
 pub term-within : (below : ℕ) (s : List ℕ) → bytesOf (readTerm below s) ≤ length s

@@ -1,5 +1,5 @@
 -- How a piece is read: its arity and terms, or the number of the first question that gets a no (document 01, "Questions at the
--- counter", 12 to 17; document 02, requests 4 and 6).
+-- counter", 12 to 17; document 02, requests 4, 6 and 7).
 use Prim.Native.Nat.{ℕ, zero, suc}
 use mathlib.Core.Bool.{cond, _&&_}
 use mathlib.Core.List.{List}
@@ -8,12 +8,13 @@ use lib.Dec.{leb, eqb}
 use Rattle.records.specs.Kinds.{recordLength, kindOf, beginsWith, isWhole}
 use Rattle.records.specs.Fields.{byteAt, wideAt}
 use Rattle.records.specs.Reading.{Reading, took, refused, ask, after, andThen, readRow}
-use Rattle.terms.specs.Term.{Term, Terms, unknown, never, symbol, number, numbers, compound, nil, cons}
+use Rattle.terms.specs.Term.{Term, Terms, onGauge, unknown, never, symbol, number, numbers, compound, nil, cons}
 use Rattle.piece.specs.Piece.{Piece}
 
 -- The term of a record, by its kind. A compound is read as given. "Record 34 (wide low, wide high): a number known to lie between
 -- them"; "a span with low above high is refused (32), after question 16 at that term": a span is no compound, so 15 and 16 have
--- nothing to ask there. "Record 35 stands for a reading that will never come."
+-- nothing to ask there. "Record 35 stands for a reading that will never come." "Record 36 (gauge, wide value) is a number on a
+-- named gauge; record 32 means gauge 0."
 abbrev pub termOf : Reading Term → List ℕ → Reading Term
 termOf ofArguments s =
     cond (eqb (kindOf s) 0x30) (took (recordLength 0x30) unknown)
@@ -23,15 +24,16 @@ termOf ofArguments s =
     (cond (eqb (kindOf s) 0x34)
     (ask 32 (leb (wideAt s 1) (wideAt s 3)) (took (recordLength 0x34) (numbers (wideAt s 1) (wideAt s 3))))
     (cond (eqb (kindOf s) 0x35) (took (recordLength 0x35) never)
-    (refused 14))))))
+    (cond (eqb (kindOf s) 0x36) (took (recordLength 0x36) (number (onGauge (byteAt s 1) (wideAt s 2))))
+    (refused 14)))))))
 
 -- A term with so many levels below it: "14 Is each term a whole record of kinds 30 to 33?" Of records 34 and 35: "Question 14
--- admits it". "15 If compound, is its depth at most 3?" Its depth is 4 where no level is below. "16 Is its arity 1 to 4?" Its
--- arguments follow.
+-- admits it"; of 36: "Questions 4, 7 and 14 take the new records in". "15 If compound, is its depth at most 3?" Its depth is 4
+-- where no level is below. "16 Is its arity 1 to 4?" Its arguments follow.
 unfoldable pub readTerm : ℕ → List ℕ → Reading Term
-readTerm zero s = ask 14 (isWhole 0x30 0x35 s) (termOf (refused 15) s)
+readTerm zero s = ask 14 (isWhole 0x30 0x36 s) (termOf (refused 15) s)
 readTerm (suc below) s =
-    ask 14 (isWhole 0x30 0x35 s)
+    ask 14 (isWhole 0x30 0x36 s)
     (termOf
     (ask 16 (leb 1 (byteAt s 3) && leb (byteAt s 3) 4)
     (after (recordLength 0x33) (compound (wideAt s 1))

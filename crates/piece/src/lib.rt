@@ -2,6 +2,7 @@
 use codes::NEVER;
 use codes::UNKNOWN;
 use codes::compound_code;
+use codes::gauged_code;
 use codes::number_code;
 use codes::run_of;
 use codes::symbol_code;
@@ -29,6 +30,7 @@ pub enum TermRecord {
     Compound(u16, u8),
     Span(u16, u16),
     Never,
+    Gauged(u8, u16),
 }
 
 // The record that the input begins with, or the number of the question that it got a no from.
@@ -43,8 +45,7 @@ pub enum Taken {
     Refused(u8),
 }
 
-// How reading the piece that the input begins with ended: its arity and the number of bytes that it took, or the number
-// of the question that got a no.
+// How reading the piece that the input begins with ended: its arity and its bytes, or the number of the question that got a no.
 pub enum Prefix {
     Read(u8, usize),
     Refused(u8),
@@ -91,7 +92,13 @@ pub fn term_head(s: &[u8]) -> TermHead
             TermHead::Whole(TermRecord::Span(records::wide(s[1], s[2]), records::wide(s[3], s[4])))
         }
         0x35 => TermHead::Whole(TermRecord::Never),
-        0..=0x2f | 0x36..=255 => TermHead::Refused(14),
+        0x36 => {
+            if s.len() < 4 {
+                return TermHead::Refused(14);
+            }
+            TermHead::Whole(TermRecord::Gauged(s[1], records::wide(s[2], s[3])))
+        }
+        0..=0x2f | 0x37..=255 => TermHead::Refused(14),
     }
 }
 
@@ -155,6 +162,11 @@ fn term(s: &[u8], below: usize, p: usize, cells: &mut Cells) -> Taken
             cells[p] = NEVER;
             Taken::Bytes(1)
         }
+        TermRecord::Gauged(gauge, value) => {
+            let code = gauged_code(gauge, value);
+            cells[p] = run_of(code, code);
+            Taken::Bytes(4)
+        }
     }
 }
 
@@ -196,8 +208,7 @@ fn piece_head(s: &[u8]) -> Prefix
     Prefix::Read(arity, 2)
 }
 
-// Empties the 21 cells of a child of an argument, which stands at place p: its own alone where the cell behind says that nothing
-// stands below it.
+// Empties the 21 cells of an argument's child at place p: its own alone where the cell behind says that nothing stands below it.
 // Ruled out: a cell left that is used; a cell of the next child emptied too.
 fn empty_child(cells: &mut Cells, p: usize)
     requires { ⌜ (p + 21 ≤ 680) × (length (now cells) ≡ 680) × TellsBelow 21 p (now cells) ⌝ }
@@ -214,8 +225,7 @@ fn empty_child(cells: &mut Cells, p: usize)
     }
 }
 
-// Empties the 85 cells of an argument, which stands at a place: its own alone where the cell behind says that nothing stands below
-// it, else its children's too.
+// Empties the 85 cells of an argument: its own alone where the cell behind says that nothing stands below it, else its children's.
 // Ruled out: the last child's cells left; a cell of the argument before emptied too.
 fn empty_argument(cells: &mut Cells, argument: usize)
     requires { ⌜ (argument + 85 ≤ 680) × (length (now cells) ≡ 680) × ArgumentTells argument (now cells) ⌝ }

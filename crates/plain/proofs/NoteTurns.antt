@@ -8,7 +8,7 @@ use lib.ListN.{length, getD, drop}
 use Rattle.terms.specs.RuleTests.{Occurrence, PairTest, both, pairsWith, pairsOf}
 use Rattle.terms.specs.Outcome.{Outcome, holds, _and_, together}
 use Rattle.patterns.specs.declared.PatternRecord.{PatternRecord}
-use Rattle.patterns.specs.declared.PatternRecord.the-variants.{Anything, Symbol, Range, Compound, Variable, Ranged, Series}
+use Rattle.patterns.specs.declared.PatternRecord.the-variants.{Anything, Symbol, Range, Compound, Variable, Ranged, Series, Gauged}
 use Rattle.patterns.specs.views.Note.{Note, note}
 use Rattle.patterns.specs.views.NoteCode.{noteOf, codePlace, codeRecord}
 use Rattle.sheet.specs.views.NoteArray.{notesIn}
@@ -46,7 +46,9 @@ named-pairs p v n (Compound a k) ns false e = refl
 named-pairs p v n (Variable u) ns b e = named p v n u (notesVariables ns) b e
 named-pairs p v n (Ranged u l h) ns b e = named p v n u (notesVariables ns) b e
 named-pairs p v n (Series l h) ns true e = absurd (subst T (sym e) tt)
+named-pairs p v n (Gauged g l h) ns true e = absurd (subst T (sym e) tt)
 named-pairs p v n (Series l h) ns false e = refl
+named-pairs p v n (Gauged g l h) ns false e = refl
 
 module _ (codes : List ℕ) (n : ℕ) (within : n ≤ length codes) (i : ℕ) where
   abbrev code : ℕ

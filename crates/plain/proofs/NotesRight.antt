@@ -9,7 +9,7 @@ use lib.Dec.{eqb}
 use lib.ListN.{getD}
 use borrow.Author.Tests.{le-leb}
 use Rattle.basics.specs.Lists.{All}
-use Rattle.terms.specs.Term.{Terms}
+use Rattle.terms.specs.Term.{Terms, onGauge}
 use Rattle.terms.specs.Pattern.{Patterns}
 use Rattle.terms.specs.RuleTests.{Range, Want, aSymbol, aNumber, aCompound, at, PairTest, both, Occurrence, rangeTest, pairsWith, pairsOf}
 use Rattle.terms.specs.Outcome.{_and_, together, placeOutcome, ruleOutcome}
@@ -18,8 +18,9 @@ use Rattle.terms.specs.Accepted.{InCommon, AcceptedRule, AcceptedPiece}
 use Rattle.basics.proofs.Booleans.{cond-holds}
 use Rattle.basics.proofs.ListLaws.{all-join, all-map}
 use Rattle.terms.proofs.Ranges.{WideRange, ranges-wide}
+use Rattle.terms.proofs.Gauges.{gauged-number}
 use Rattle.patterns.specs.declared.PatternRecord.{PatternRecord}
-use Rattle.patterns.specs.declared.PatternRecord.the-variants.{Anything, Symbol, Range as RangeOf, Compound, Variable, Ranged, Series}
+use Rattle.patterns.specs.declared.PatternRecord.the-variants.{Anything, Symbol, Range as RangeOf, Compound, Variable, Ranged, Series, Gauged}
 use Rattle.patterns.specs.views.Note.{Note}
 use Rattle.sheet.specs.views.Noted.{ruleNotes}
 use Rattle.patterns.specs.views.NoteCode.{Fitting}
@@ -87,7 +88,7 @@ module _ {arity : ℕ} (piece : Terms) (ok : AcceptedPiece arity piece) (few : a
   range-right p (some x) h some-number wide =
       let test = placeCells cells p (wantLow (aNumber (x .low) (x .high))) (wantHigh (aNumber (x .low) (x .high))) in
       ap (λ (b : Bool). testedIf b test) (le-leb (x .high) 65535 (omega (arith, wide)))
-      ∙ one-test p (aNumber (x .low) (x .high)) h (omega (arith, some-number, wide), wide)
+      ∙ one-test p (aNumber (x .low) (x .high)) h (omega (arith, some-number, wide), omega (arith, wide))
 
   module _ (rangeOf : ℕ → Option Range) (low high : List ℕ)
       (lows : (v : ℕ) → v < 16 → getD low v 0 ≡ lowEnd (rangeOf v))
@@ -105,11 +106,14 @@ module _ {arity : ℕ} (piece : Terms) (ok : AcceptedPiece arity piece) (few : a
         → recordOutcome cells low high p r ≡ together (placeOutcome piece) (recordTests rangeOf p r)
     record-right p Anything h fits = refl
     record-right p (Symbol a) h fits = one-test p (aSymbol a a) h (fits, fits)
-    record-right p (RangeOf l u) h fits = one-test p (aNumber l u) h fits
+    record-right p (RangeOf l u) h fits = one-test p (aNumber l u) h (omega (arith, fits .0), omega (arith, fits .1))
     record-right p (Compound a k) h fits = one-test p (aCompound a k) h fits
     record-right p (Variable v) h fits = variable-right p v h fits
     record-right p (Ranged v l u) h fits = variable-right p v h (fits .0)
     record-right p (Series l u) h fits = one-test p (aSymbol l u) h fits
+    record-right p (Gauged g l u) h fits =
+        one-test p (aNumber (onGauge g l) (onGauge g u)) h
+        (gauged-number g l (fits .0) (fits .1), gauged-number g u (fits .0) (fits .2))
 
     -- All place tests of a list of notes.
     notes-right

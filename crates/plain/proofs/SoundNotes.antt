@@ -3,7 +3,7 @@ use Prim.Native.Nat.{ℕ, suc, pred, _+_, _≤_}
 use native.Mathlib.Omega.{arith}
 use Rattle.places.specs.Numbering.{stride}
 use Rattle.basics.specs.Lists.{All}
-use Rattle.terms.specs.Pattern.{Pattern, Patterns, anything, theSymbol, theSeries, theRange, theCompound, variable, rangedVariable, pnil, pcons}
+use Rattle.terms.specs.Pattern.{Pattern, Patterns, anything, theSymbol, theSeries, theRange, theGauged, theCompound, variable, rangedVariable, pnil, pcons}
 use Rattle.terms.specs.Accepted.{Sound, Sounds, AcceptedRule}
 use Rattle.basics.proofs.ListLaws.{all-join}
 use Rattle.patterns.specs.views.Note.{Note}
@@ -23,6 +23,7 @@ mutual
   pattern-fits (theSymbol a) r below b sound = (sound .1, tt)
   pattern-fits (theSeries l h) r below b sound = ((omega (arith, sound .1, sound .2), sound .2), tt)
   pattern-fits (theRange l h) r below b sound = ((omega (arith, sound .1, sound .2), sound .2), tt)
+  pattern-fits (theGauged g l h) r below b sound = ((sound .3, omega (arith, sound .1, sound .2), sound .2), tt)
   pattern-fits (theCompound a ps) r below b sound =
       ((sound .1, omega (arith, sound .3)), patterns-fit ps (pred r) (pred below) (suc b) (sound .4))
   pattern-fits (variable v) r below b sound = (sound .1, tt)

@@ -22,7 +22,7 @@ ghost use Rattle.plain.specs.views.NotesOutcome.{fixedOutcome, rangeOutc
 ghost use Rattle.plain.specs.views.NotesOutcome.{pairTestCells, pairsOutcome, notesOutcome};
 
 // The outcome of the test of a symbol, a series, a range or a compound at a place; any other record has none. Not that of a range's
-// low end alone, nor a symbol's where a compound stands.
+// low end alone, nor that of a range on gauge 0 for one on a named gauge, nor a symbol's where a compound stands.
 pub fn fixed_outcome(cells: &Cells, place: usize, what: PatternRecord) -> TestOutcome
     requires { ⌜ place < 680 ⌝ }
     ensures { λ r. ⌜ outcomeOf r ≡ fixedOutcome (now (cells .entry)) place what ⌝ }
@@ -50,6 +50,14 @@ pub fn fixed_outcome(cells: &Cells, place: usize, what: PatternRecord) -> TestOu
                 place,
                 codes::symbol_code(low),
                 codes::symbol_code(high),
+            )
+        }
+        PatternRecord::Gauged(gauge, low, high) => {
+            place_outcome(
+                cells,
+                place,
+                codes::gauged_code(gauge, low),
+                codes::gauged_code(gauge, high),
             )
         }
         PatternRecord::Anything => TestOutcome::Holds,

@@ -1,4 +1,4 @@
--- A built graph has at most 60,112,901 bytes: 5, and for each of 1,024 nodes 9 and 8,385 cases of 7.
+-- A built graph has at most 68,699,141 bytes: 5, and for each of 1,024 nodes 9 and 8,385 cases of 8.
 use Prim.Native.Nat.{ℕ, _*_, _≤_}
 use mathlib.Core.Path.{_≡_, ap}
 use mathlib.Core.List.{List, [], _∷_}
@@ -27,9 +27,9 @@ use Rattle.promises.proofs.Request4.{built-switch-cases}
 
 -- A node of at most 8,385 cases.
 abbrev Small : Node ℕ → Type 0
-Small n = length (nodeBytes n) ≤ 58704
+Small n = length (nodeBytes n) ≤ 67089
 
-nodes-small : (ns : List (Node ℕ)) → All Small ns → length (nodesBytes ns) ≤ 58704 * length ns
+nodes-small : (ns : List (Node ℕ)) → All Small ns → length (nodesBytes ns) ≤ 67089 * length ns
 nodes-small [] h = omega arith
 nodes-small (n ∷ ns) h = omega (arith, length-append (nodeBytes n) (nodesBytes ns), h .0, nodes-small ns (h .1))
 
@@ -60,7 +60,7 @@ module _ {asking : Asking} {s buffer g : List ℕ} (built : BuiltGraph asking s 
         few,
       )
 
-  pub built-small : length g ≤ 60112901
+  pub built-small : length g ≤ 68699141
   built-small =
       omega (
         arith,

@@ -48,13 +48,13 @@ case-head-named s =
     kind-case (eqb (length s) 0) _ _ (omega arith, omega arith)
     (kind-case (eqb (getD s 0 0) 0x44) _ _ (whole-case (leb 7 (length s)) (Symbols (wideAt s 1) (wideAt s 3) (wideAt s 5)))
     (kind-case (eqb (getD s 0 0) 0x45) _ _ (whole-case (leb 6 (length s)) (Compound (wideAt s 1) (getD s 3 0) (wideAt s 4)))
-    (kind-case (eqb (getD s 0 0) 0x46) _ _ (whole-case (leb 7 (length s)) (Numbers (wideAt s 1) (wideAt s 3) (wideAt s 5)))
+    (kind-case (eqb (getD s 0 0) 0x46) _ _ (whole-case (leb 8 (length s)) (Numbers (wideAt s 2) (wideAt s 4) (wideAt s 6) (getD s 1 0)))
     (omega arith, omega arith))))
 
 on-case-named : (h : CaseHead) → CaseNamed h → Named GraphQuestion (onCase h)
 on-case-named (case.Whole (Symbols l u n)) h = tt
 on-case-named (case.Whole (Compound a k n)) h = tt
-on-case-named (case.Whole (Numbers l u n)) h = tt
+on-case-named (case.Whole (Numbers l u n g)) h = tt
 on-case-named (case.Refused q) h = h
 
 cases-named : (n : ℕ) (s : List ℕ) → Named GraphQuestion (readCases n s)

@@ -23,11 +23,13 @@ pub mod Request2
 pub mod Request4
 pub mod BuiltSize
 -- Request 5:
-pub mod SeriesForm
+pub mod LongForm
 pub mod Request5
 -- Request 6:
 pub mod TurnedNever
 pub mod Request6
+-- Request 7:
+pub mod Request7
 -- Request 9:
 pub mod Request9
 -- The cases that document 01 gives, its fakes, and its example by a table:

@@ -23,9 +23,9 @@ kind-named false x y h k = k
 
 record-named
     : (nested : Reading Term) → Named PieceQuestion nested → (s : List ℕ)
-    → Named PieceQuestion (ask 14 (isWhole 0x30 0x35 s) (termOf nested s))
+    → Named PieceQuestion (ask 14 (isWhole 0x30 0x36 s) (termOf nested s))
 record-named nested named s =
-    ask-named PieceQuestion 14 (isWhole 0x30 0x35 s) (termOf nested s) (inl (omega arith, omega arith))
+    ask-named PieceQuestion 14 (isWhole 0x30 0x36 s) (termOf nested s) (inl (omega arith, omega arith))
     (kind-named (eqb (kindOf s) 0x30) _ _ tt
     (kind-named (eqb (kindOf s) 0x31) _ _ tt
     (kind-named (eqb (kindOf s) 0x32) _ _ tt
@@ -33,7 +33,8 @@ record-named nested named s =
     (kind-named (eqb (kindOf s) 0x34) _ _
     (ask-named PieceQuestion 32 (leb (wideAt s 1) (wideAt s 3)) (took 5 (numbers (wideAt s 1) (wideAt s 3))) (inr refl) tt)
     (kind-named (eqb (kindOf s) 0x35) _ _ tt
-    (inl (omega arith, omega arith))))))))
+    (kind-named (eqb (kindOf s) 0x36) _ _ tt
+    (inl (omega arith, omega arith)))))))))
 
 -- with a term,
 term-named : (below : ℕ) (s : List ℕ) → Named PieceQuestion (readTerm below s)

@@ -1,5 +1,5 @@
--- Request 4 of document 02, over bytes: spans in a piece's bytes, the cases of a built graph's switches, and the list of a piece that
--- suspends. Demand 3, the monotone promise and the wait sentence hold of pieces with spans under their own names.
+-- Request 4 of document 02, over bytes: spans in a piece's bytes, the cases of a built graph's switches, and the list of a piece
+-- that suspends. Demand 3, the monotone promise and the wait sentence hold of pieces with spans under their own names.
 use Prim.Native.Nat.{ℕ, _≤_, _<_}
 use mathlib.Core.Path.{_≡_, refl, sym, ap, subst, _∙_}
 use mathlib.Core.Bool.{Bool, true, false, cond}
@@ -47,7 +47,8 @@ pub span-read
     : (below low high : ℕ) (rest : List ℕ) → low ≤ high → Wide high
     → readTerm below (0x34 ∷ wideThen low (wideThen high rest)) ≡ took 5 (numbers low high)
 span-read below low high rest ordered wide =
-    term-reads (numbers low high) below (0x34 ∷ wideThen low (wideThen high [])) rest (ordered, wide) (omega arith) (inl refl)
+    term-reads (numbers low high) below (0x34 ∷ wideThen low (wideThen high [])) rest (ordered, omega arith, inr wide) (omega arith)
+    (inl (wide, refl))
 
 -- "So a span with equal ends is that number": record 34 with equal ends and record 32 are read as the same term.
 pub equal-ends-read
@@ -56,7 +57,8 @@ pub equal-ends-read
     × (readTerm below (0x32 ∷ wideThen a rest) ≡ took 3 (number a))
 equal-ends-read below a rest wide = (
   span-read below a a rest (omega arith) wide,
-  term-reads (number a) below (0x32 ∷ wideThen a []) rest (omega arith, wide) (omega arith) (inr (refl, refl)),
+  term-reads (number a) below (0x32 ∷ wideThen a []) rest (omega arith, omega arith, inl refl) (omega arith)
+      (inr (refl, inl (wide, refl))),
 )
 
 -- "A span with low above high is refused (32), after question 16 at that term", at every depth: whatever follows it, so before any
@@ -137,8 +139,8 @@ module _ {asking : Asking} {s buffer g : List ℕ} {k : ℕ} {sheet : Sheet} (bu
     (areBytes : AreBytes s) (accepted : acceptSheet s ≡ took k sheet) {taken : ℕ} {nodes : List (Node ℕ)}
     (read : graphReading s g ≡ took taken nodes) {size : ℕ} {order : List Patterns → List ℕ}
     (ordered : readAsking asking ≡ took size order) where
-  -- The cases of a switch are those for what the live rules of the key behind it want at its place: "where a live rule has a range at
-  -- a switch's place, .. one case for each pair of first and last run", "elsewhere a switch has no number case".
+  -- The cases of a switch are those for what the live rules of the key behind it want at its place: "where a live rule has a range
+  -- at a switch's place, .. one case for each pair of first and last run", "elsewhere a switch has no number case".
   pub built-switch-cases
       : {m n x y : ℕ} {cs : List (CaseEdge ℕ)} → m < length nodes → getD nodes m (end failNode) ≡ switch n cs x y
       → (key : Key) × KeyBehind (sheet .rules) (order (sheet .rules)) nodes m key

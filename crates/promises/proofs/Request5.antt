@@ -39,8 +39,8 @@ use Rattle.tidy.specs.TidySheet.{tidyBytes, AllSameTests}
 use Rattle.tidy.specs.Tidied.{tidied}
 use Rattle.tidy.proofs.TidySheets.{tidy-exactly}
 use Rattle.walk.specs.Walking.{walkReply}
-use Rattle.promises.specs.SeriesForm.{seriesForms, seriesSheet}
-use Rattle.promises.proofs.SeriesForm.{form-places, form-pairs, rules-twice, form-accepted}
+use Rattle.promises.specs.LongForm.{longForms, longSheet}
+use Rattle.promises.proofs.LongForm.{form-places, form-pairs, rules-twice, form-accepted}
 use Rattle.promises.proofs.SameSheets.{same-check, same-build, same-plain, same-graph-check, same-rewrite, same-walk}
 
 -- "Pattern 26 (wide low, wide high) .. Question 4 admits it": it is read as that series, at every depth,
@@ -80,10 +80,11 @@ all-same (rule ∷ rules) (other ∷ others) places pairs =
       all-same rules others morePlaces morePairs,
     )
 
--- Bytes s and t of two accepted sheets that are the same once each symbol is written as a series:
+-- Bytes s and t of two accepted sheets that are the same once each symbol is written as a series, and each range as one on gauge 0
+-- (request 7):
 module _
     (s t : List ℕ) {j k : ℕ} {one two : Sheet} (e : acceptSheet s ≡ took j one) (d : acceptSheet t ≡ took k two)
-    (arity : one .arity ≡ two .arity) (same : map seriesForms (one .rules) ≡ map seriesForms (two .rules))
+    (arity : one .arity ≡ two .arity) (same : map longForms (one .rules) ≡ map longForms (two .rules))
   where
     places : map placeTests (one .rules) ≡ map placeTests (two .rules)
     places = form-places (one .rules) (two .rules) same
@@ -124,21 +125,21 @@ module _
         (arity, all-same (one .rules) (two .rules) places pairs) in
         ap left e ∙ ap (λ (l : List ℕ). resultOf buffer (askFits 31 buffer l)) bytes ∙ sym (ap left d)
 
--- So it is with a sheet and the sheet in which each 21 a is written 26 a a: where the one is accepted the other is, and has the same
--- graph.
+-- So it is with a sheet and the sheet in which each 21 a is written 26 a a, and each 22 l h is written 27 0 l h: where the one is
+-- accepted the other is, and has the same graph.
 module _ (s : List ℕ) (areBytes : AreBytes s) {k : ℕ} {sheet : Sheet} (e : acceptSheet s ≡ took k sheet) where
-  pub series-form-accepted
-      : acceptSheet (sheetBytes (seriesSheet sheet)) ≡ took (length (sheetBytes (seriesSheet sheet))) (seriesSheet sheet)
-  series-form-accepted =
+  pub long-form-accepted
+      : acceptSheet (sheetBytes (longSheet sheet)) ≡ took (length (sheetBytes (longSheet sheet))) (longSheet sheet)
+  long-form-accepted =
       let also = form-accepted sheet (sheet-accepted s areBytes k sheet .0 e .0) in
-      let bytes = sheetBytes (seriesSheet sheet) in
-      sheet-accepted bytes (sheet-bytes (seriesSheet sheet) (also .sound)) (length bytes) (seriesSheet sheet) .1 (also, refl, refl)
+      let bytes = sheetBytes (longSheet sheet) in
+      sheet-accepted bytes (sheet-bytes (longSheet sheet) (also .sound)) (length bytes) (longSheet sheet) .1 (also, refl, refl)
 
-  pub series-form-same-graph
+  pub long-form-same-graph
       : (asking : Asking) (buffer : List ℕ)
-      → outcomeIn asking (sheetBytes (seriesSheet sheet)) buffer ≡ outcomeIn asking s buffer
-  series-form-same-graph =
-      both-same-graph (sheetBytes (seriesSheet sheet)) s series-form-accepted e refl (rules-twice (sheet .rules))
+      → outcomeIn asking (sheetBytes (longSheet sheet)) buffer ≡ outcomeIn asking s buffer
+  long-form-same-graph =
+      both-same-graph (sheetBytes (longSheet sheet)) s long-form-accepted e refl (rules-twice (sheet .rules))
 
 -- "Questioned as numbers were in document 01": "no number in two".
 one-takes : (c d : Case) (a : ℕ) → CaseBefore c d → T (takes c (symbol a)) → T (takes d (symbol a)) → ⊥

@@ -3,7 +3,7 @@ pub mod Questions
 pub mod AcceptedBytes
 pub mod BuiltGraph
 pub mod TidyWritten
-pub mod SeriesForm
+pub mod LongForm
 pub mod TurnedNever
 pub mod Path
 pub mod Marked

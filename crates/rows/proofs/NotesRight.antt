@@ -8,14 +8,14 @@ use lib.ListN.{getD}
 use borrow.Author.Tests.{lt-ltb}
 use Rattle.places.specs.Numbering.{stride}
 use Rattle.basics.specs.Lists.{All}
-use Rattle.terms.specs.Pattern.{Pattern, Patterns, anything, theSymbol, theSeries, theRange, theCompound, variable, rangedVariable}
+use Rattle.terms.specs.Pattern.{Pattern, Patterns, anything, theSymbol, theSeries, theRange, theGauged, theCompound, variable, rangedVariable}
 use Rattle.terms.specs.Pattern.{pnil, pcons}
 use Rattle.terms.specs.RuleTests.{Range, PlaceTest, Occurrence, rangeTest, pairsOf, placeTests}
 use Rattle.terms.specs.Accepted.{Sound, Sounds, AcceptedRule}
 use Rattle.basics.proofs.ListLaws.{all-join}
 use Rattle.terms.proofs.Ranges.{WideRange, ranges-wide}
 use Rattle.patterns.specs.declared.PatternRecord.{PatternRecord}
-use Rattle.patterns.specs.declared.PatternRecord.the-variants.{Anything, Symbol, Range as RangeOf, Compound, Variable, Ranged, Series}
+use Rattle.patterns.specs.declared.PatternRecord.the-variants.{Anything, Symbol, Range as RangeOf, Compound, Variable, Ranged, Series, Gauged}
 use Rattle.patterns.specs.views.Note.{Note}
 use Rattle.sheet.specs.views.Noted.{patternNotes, patternsNotes, ruleNotes}
 use Rattle.sheet.specs.views.NoteRanges.{rangeIn, lowEnd, highEnd, lowsOf, highsOf}
@@ -36,6 +36,7 @@ Named (Compound a n) = Unit
 Named (Variable v) = v < 16
 Named (Ranged v l h) = v < 16
 Named (Series l h) = Unit
+Named (Gauged g l h) = Unit
 
 abbrev NoteNamed : Note → Type 0
 NoteNamed n = Named (n .what)
@@ -47,6 +48,7 @@ mutual
   pattern-named (theSymbol a) r below b sound = (tt, tt)
   pattern-named (theSeries l h) r below b sound = (tt, tt)
   pattern-named (theRange l h) r below b sound = (tt, tt)
+  pattern-named (theGauged g l h) r below b sound = (tt, tt)
   pattern-named (theCompound a ps) r below b sound = (tt, patterns-named ps (pred r) (pred below) (suc b) (sound .4))
   pattern-named (variable v) r below b sound = (sound .1, tt)
   pattern-named (rangedVariable v l h) r below b sound = (sound .3, tt)
@@ -85,6 +87,7 @@ module _ (rangeOf : ℕ → Option Range) (low high : List ℕ)
   record-right n (Variable v) h tests = variable-right n v h tests
   record-right n (Ranged v l u) h tests = variable-right n v h tests
   record-right n (Series l u) h tests = refl
+  record-right n (Gauged g l u) h tests = refl
 
   notes-right : (notes : List Note) → All NoteNamed notes → notesTests low high notes ≡ testsIn rangeOf notes
   notes-right [] h = refl

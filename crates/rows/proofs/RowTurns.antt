@@ -12,7 +12,7 @@ use Rattle.masks.specs.Mask.{has}
 use Rattle.masks.proofs.Extensionality.{maskOf-unique}
 use Rattle.terms.specs.RuleTests.{Want, PlaceTest, Occurrence, both, pairsWith, pairsOf}
 use Rattle.patterns.specs.declared.PatternRecord.{PatternRecord}
-use Rattle.patterns.specs.declared.PatternRecord.the-variants.{Anything, Symbol, Range, Compound, Variable, Ranged, Series}
+use Rattle.patterns.specs.declared.PatternRecord.the-variants.{Anything, Symbol, Range, Compound, Variable, Ranged, Series, Gauged}
 use Rattle.patterns.specs.views.NoteCode.{codePlace, codeRecord}
 use Rattle.sheet.specs.views.NoteArray.{notesIn}
 use Rattle.pairs.specs.declared.Name.{Name}
@@ -73,6 +73,7 @@ named-is v (Compound a k) = refl
 named-is v (Variable u) = refl
 named-is v (Ranged u l h) = refl
 named-is v (Series l h) = refl
+named-is v (Gauged g l h) = refl
 
 -- The pairs with an occurrence more.
 codes-more

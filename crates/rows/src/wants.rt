@@ -16,7 +16,8 @@ fn range_wanted(low: u16, high: u32) -> Wanted
     Wanted::Nothing
 }
 
-// What a record wants. Not a range of a ranged variable's own record alone, nor anything for a variable without a range.
+// What a record wants. Not a range of a ranged variable's own record alone, nor anything for a variable without a range, nor the
+// numbers of gauge 0 for a range on a named gauge.
 pub fn record_wanted(what: PatternRecord, ranges: Ranges) -> Wanted
     requires { ⌜ Fitting what ⌝ }
     ensures { λ r. ⌜ r ≡ wantedCodes (recordWant (ranges .low) (ranges .high) what) ⌝ }
@@ -44,6 +45,10 @@ pub fn record_wanted(what: PatternRecord, ranges: Ranges) -> Wanted
         }
         PatternRecord::Series(low, high) => {
             Wanted::Codes(0x100_0000 + low as u32, 0x100_0000 + high as u32)
+        }
+        PatternRecord::Gauged(gauge, low, high) => {
+            let first = 0x300_0000 + gauge as u32 * 0x1_0000;
+            Wanted::Codes(first + low as u32, first + high as u32)
         }
     }
 }

@@ -13,7 +13,7 @@ use Rattle.terms.specs.Pattern.{Pattern, Patterns, countPatterns, pnil, pcons}
 use Rattle.terms.specs.Outcome.{Outcome, holds, notKnown, contradicted, Holds, Contradicted}
 use Rattle.terms.proofs.Outcomes.{contradicted-left, contradicted-together}
 use Rattle.patterns.specs.declared.PatternRecord.{PatternRecord}
-use Rattle.patterns.specs.declared.PatternRecord.the-variants.{Anything, Symbol, Range, Compound, Variable, Ranged, Series}
+use Rattle.patterns.specs.declared.PatternRecord.the-variants.{Anything, Symbol, Range, Compound, Variable, Ranged, Series, Gauged}
 use Rattle.patterns.specs.declared.PatternHead.{PatternHead}
 use Rattle.patterns.specs.declared.PatternHead.the-variants.{Whole, Refused}
 use Rattle.sheet.specs.ReadSheet.{readPattern, readPatterns}
@@ -22,7 +22,7 @@ use Rattle.patterns.specs.views.Note.{Note, note}
 use Rattle.sheet.specs.views.Noted.{patternNotes, patternsNotes, ruleNotes}
 use Rattle.sheet.specs.views.NoteRanges.{lowsOf, highsOf}
 use Rattle.sheet.proofs.Compounds.{row-count}
-use Rattle.sheet.proofs.PatternReads.{PatternIs, isAnything, isSymbol, isRange, isCompound, isVariable, isRanged, isSeries, pattern-is}
+use Rattle.sheet.proofs.PatternReads.{PatternIs, isAnything, isSymbol, isRange, isCompound, isVariable, isRanged, isSeries, isGauged, pattern-is}
 use Rattle.codes.specs.views.Codes.{compoundCode}
 use Rattle.outcomes.specs.views.CellOutcome.{placeCells}
 use Rattle.plain.specs.views.NotesOutcome.{flatBytes, fixedOutcome, noteOutcome}
@@ -45,6 +45,7 @@ flat-there (Compound a n) = omega arith
 flat-there (Variable v) = omega arith
 flat-there (Ranged v l h) = omega arith
 flat-there (Series l h) = omega arith
+flat-there (Gauged g l h) = omega arith
 
 is-out : (x : Outcome) → Contradicted x → x ≡ contradicted
 is-out holds h = absurd h
@@ -64,6 +65,7 @@ module _ (s : List ℕ) {r : PatternRecord} (head : patternHead s ≡ Whole r) w
   flat-took flat (isVariable h small) = ap flatBytes (same-record s h head)
   flat-took flat (isRanged h range small) = ap flatBytes (same-record s h head)
   flat-took flat (isSeries h range) = ap flatBytes (same-record s h head)
+  flat-took flat (isGauged h range) = ap flatBytes (same-record s h head)
 
   -- and where its test is contradicted, so is that of a note.
   module _ (cells low high : List ℕ) (place : ℕ) (out : fixedOutcome cells place r ≡ contradicted) where
@@ -83,6 +85,8 @@ module _ (s : List ℕ) {r : PatternRecord} (head : patternHead s ≡ Whole r) w
     first-note (isVariable h small) = absurd (holds-no refl (known h))
     first-note (isRanged h range small) = absurd (holds-no refl (known h))
     first-note (isSeries {l = l} {h = u} h range) = (note place (Series l u), here, subst Contradicted (sym (known h)) tt)
+    first-note (isGauged {g = g} {l = l} {h = u} h range) =
+        (note place (Gauged g l u), here, subst Contradicted (sym (known h)) tt)
 
 -- The arguments of a rule from argument i on, behind its first bytes.
 pub record Left (arity : ℕ) (s : List ℕ) (rule : Patterns) (i at : ℕ) : Type 0 where

@@ -25,6 +25,7 @@ fn flat_length(what: PatternRecord) -> usize
         PatternRecord::Variable(_) => 2,
         PatternRecord::Ranged(_, _, _) => 6,
         PatternRecord::Series(_, _) => 5,
+        PatternRecord::Gauged(_, _, _) => 6,
     }
 }
 

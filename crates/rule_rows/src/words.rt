@@ -58,6 +58,7 @@ fn meet_record(what: PatternRecord, words: &mut Words)
         PatternRecord::Symbol(_) => {}
         PatternRecord::Series(_, _) => {}
         PatternRecord::Range(_, _) => {}
+        PatternRecord::Gauged(_, _, _) => {}
         PatternRecord::Compound(_, _) => {}
         PatternRecord::Variable(v) => meet_variable(v, 0, 0x1_0000, words),
         PatternRecord::Ranged(v, low, high) => meet_variable(v, low, high as u32, words),
@@ -110,6 +111,7 @@ pub fn number_record(what: PatternRecord, count: u64, words: &mut Words) -> u64
         PatternRecord::Symbol(_) => count,
         PatternRecord::Series(_, _) => count,
         PatternRecord::Range(_, _) => count,
+        PatternRecord::Gauged(_, _, _) => count,
         PatternRecord::Compound(_, _) => count,
         PatternRecord::Variable(v) => number_variable(v, count, words),
         PatternRecord::Ranged(v, _, _) => number_variable(v, count, words),

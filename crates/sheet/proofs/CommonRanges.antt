@@ -5,7 +5,7 @@ use mathlib.Core.List.{List, [], _∷_, _++_}
 use mathlib.Core.Option.{Option, some, none}
 use native.Mathlib.Omega.{arith}
 use Rattle.places.specs.Numbering.{stride}
-use Rattle.terms.specs.Pattern.{Pattern, Patterns, anything, theSymbol, theSeries, theRange, theCompound, variable, rangedVariable, pnil, pcons}
+use Rattle.terms.specs.Pattern.{Pattern, Patterns, anything, theSymbol, theSeries, theRange, theGauged, theCompound, variable, rangedVariable, pnil, pcons}
 use Rattle.terms.specs.RuleTests.{Range, commonPart, patternRange, patternsRange}
 use Rattle.patterns.specs.views.Note.{Note}
 use Rattle.sheet.specs.views.Noted.{patternNotes, patternsNotes, ruleNotes}
@@ -43,6 +43,7 @@ mutual
   pattern-range (theSymbol a) below b v = refl
   pattern-range (theSeries l h) below b v = refl
   pattern-range (theRange l h) below b v = refl
+  pattern-range (theGauged g l h) below b v = refl
   pattern-range (theCompound a ps) below b v = patterns-range ps (pred below) (suc b) v
   pattern-range (variable u) below b v = refl
   pattern-range (rangedVariable u l h) below b v = common-none (patternRange (rangedVariable u l h) v)

@@ -14,7 +14,7 @@ use Rattle.records.specs.Reading.{Reading, took, refused, ask, mapReading, afte
 use Rattle.records.proofs.Rows.{map-ask, took-view, refused-view, row-size}
 use Rattle.terms.specs.Pattern.{Pattern, Patterns, countPatterns, theCompound, pnil, pcons}
 use Rattle.patterns.specs.declared.PatternRecord.{PatternRecord}
-use Rattle.patterns.specs.declared.PatternRecord.the-variants.{Anything, Symbol, Range, Compound, Variable, Ranged, Series}
+use Rattle.patterns.specs.declared.PatternRecord.the-variants.{Anything, Symbol, Range, Compound, Variable, Ranged, Series, Gauged}
 use Rattle.patterns.specs.declared.PatternHead.the-variants.{Whole, Refused}
 use Rattle.patterns.specs.views.PatternRecord.{patternHead, onRecord, onHead}
 use Rattle.sheet.specs.ReadSheet.{readPattern, readPatterns}
@@ -45,19 +45,22 @@ Flat (Compound a n) = ⊥
 Flat (Variable v) = Unit
 Flat (Ranged v l h) = Unit
 Flat (Series l h) = Unit
+Flat (Gauged g l h) = Unit
 
 -- What the arm for compounds does not take is no compound.
-pub flat-tag : (r : PatternRecord) → OneOf (0 ∷ 1 ∷ 2 ∷ 4 ∷ 5 ∷ 6 ∷ []) (tagOf the-type r) → Flat r
+pub flat-tag : (r : PatternRecord) → OneOf (0 ∷ 1 ∷ 2 ∷ 4 ∷ 5 ∷ 6 ∷ 7 ∷ []) (tagOf the-type r) → Flat r
 flat-tag Anything o = tt
 flat-tag (Symbol a) o = tt
 flat-tag (Range l h) o = tt
 flat-tag (Compound a n) o =
     ⊎-elim (λ e. omega arith)
     (⊎-elim (λ e. omega arith)
-    (⊎-elim (λ e. omega arith) (⊎-elim (λ e. omega arith) (⊎-elim (λ e. omega arith) (λ e. omega arith))))) o
+    (⊎-elim (λ e. omega arith)
+    (⊎-elim (λ e. omega arith) (⊎-elim (λ e. omega arith) (⊎-elim (λ e. omega arith) (λ e. omega arith)))))) o
 flat-tag (Variable v) o = tt
 flat-tag (Ranged v l h) o = tt
 flat-tag (Series l h) o = tt
+flat-tag (Gauged g l h) o = tt
 
 -- As many patterns are read as are asked for.
 pub row-count
@@ -99,6 +102,7 @@ module _ {A : Type 0} (put : A → Note → A) (below place : ℕ) (before : A) 
       ∙ ap (ask 7 (leb l h)) (map-ask _ 8 (leb v 15) _ ∙ sym (map-ask _ 8 (leb v 15) _))
       ∙ sym (map-ask _ 7 (leb l h) _)
   flat-same (Series l h) f = map-ask _ 7 (leb l h) _ ∙ sym (map-ask _ 7 (leb l h) _)
+  flat-same (Gauged g l h) f = map-ask _ 7 (leb l h) _ ∙ sym (map-ask _ 7 (leb l h) _)
 
   -- A record that is no compound.
   pub flat-read : {r : PatternRecord} → patternHead s ≡ Whole r → Flat r → leafHeld put place before r ≡ patternRead

@@ -3,7 +3,7 @@ use Prim.Native.Nat.{ℕ, _≤_, _<_}
 use mathlib.Core.Path.{_≡_, refl}
 use borrow.Author.Tests.{le-leb, lt-leb}
 use Rattle.records.specs.Reading.{took, refused}
-use Rattle.patterns.specs.declared.PatternRecord.the-variants.{Anything, Range, Variable, Ranged, Series}
+use Rattle.patterns.specs.declared.PatternRecord.the-variants.{Anything, Range, Variable, Ranged, Series, Gauged}
 use Rattle.patterns.specs.views.Note.{Note, note}
 use Rattle.sheet.specs.views.NotesBehind.{leafHeld}
 
@@ -27,6 +27,14 @@ module _ {A : Type 0} (put : A → Note → A) (place : ℕ) (held : A) where
 
   pub series-no : {l h : ℕ} → h < l → refused 7 ≡ leafHeld put place held (Series l h)
   series-no {l} {h} k = rw (lt-leb l h k)
+
+  -- Question 7 at a range on a gauge.
+  pub gauged-yes
+      : {g l h : ℕ} → l ≤ h → took 6 (put held (note place (Gauged g l h))) ≡ leafHeld put place held (Gauged g l h)
+  gauged-yes {g} {l} {h} k = rw (le-leb l h k)
+
+  pub gauged-no : (g : ℕ) {l h : ℕ} → h < l → refused 7 ≡ leafHeld put place held (Gauged g l h)
+  gauged-no g {l} {h} k = rw (lt-leb l h k)
 
   -- Question 8 at a variable.
   pub variable-yes

@@ -5,7 +5,7 @@ use mathlib.Core.List.{List, [], _∷_, _++_}
 use native.Mathlib.Nat.{mul-le-mul-right, suc-mul}
 use native.Mathlib.Omega.{arith}
 use Rattle.places.specs.Numbering.{stride}
-use Rattle.terms.specs.Pattern.{Pattern, Patterns, countPatterns, anything, theSymbol, theSeries, theRange, theCompound, variable, rangedVariable, pnil, pcons}
+use Rattle.terms.specs.Pattern.{Pattern, Patterns, countPatterns, anything, theSymbol, theSeries, theRange, theGauged, theCompound, variable, rangedVariable, pnil, pcons}
 use Rattle.terms.specs.Accepted.{Sound, Sounds, AcceptedRule}
 use Rattle.patterns.specs.views.Note.{Note}
 use Rattle.sheet.specs.views.Noted.{patternNotes, patternsNotes, ruleNotes}
@@ -41,6 +41,7 @@ mutual
   pattern-places (theSymbol a) below b sound = omega arith
   pattern-places (theSeries l h) below b sound = omega arith
   pattern-places (theRange l h) below b sound = omega arith
+  pattern-places (theGauged g l h) below b sound = omega arith
   pattern-places (theCompound a ps) below b sound =
       let deep = sounds-level ps below (sound .4) (sound .2) in
       let level : suc (pred below) ≡ below = omega arith in

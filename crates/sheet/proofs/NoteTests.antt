@@ -5,11 +5,12 @@ use mathlib.Core.List.{List, [], _∷_, _++_, append-nil, append-assoc}
 use mathlib.Core.Option.{Option}
 use native.Mathlib.Omega.{arith}
 use Rattle.places.specs.Numbering.{stride}
-use Rattle.terms.specs.Pattern.{Pattern, Patterns, countPatterns, anything, theSymbol, theSeries, theRange, theCompound, variable, rangedVariable, pnil, pcons}
+use Rattle.terms.specs.Term.{onGauge}
+use Rattle.terms.specs.Pattern.{Pattern, Patterns, countPatterns, anything, theSymbol, theSeries, theRange, theGauged, theCompound, variable, rangedVariable, pnil, pcons}
 use Rattle.terms.specs.RuleTests.{Range, aSymbol, aNumber, aCompound, PlaceTest, at, Occurrence, rangeTest, patternTests, patternsTests, placeTests, patternVariables, patternsVariables, ruleVariables, patternsRange}
 use Rattle.terms.specs.Accepted.{Sound, Sounds, AcceptedRule}
 use Rattle.patterns.specs.declared.PatternRecord.{PatternRecord}
-use Rattle.patterns.specs.declared.PatternRecord.the-variants.{Anything, Symbol, Range as RangeOf, Compound, Variable, Ranged, Series}
+use Rattle.patterns.specs.declared.PatternRecord.the-variants.{Anything, Symbol, Range as RangeOf, Compound, Variable, Ranged, Series, Gauged}
 use Rattle.patterns.specs.views.Note.{Note}
 use Rattle.sheet.specs.views.Noted.{patternNotes, patternsNotes, ruleNotes}
 use Rattle.sheet.specs.views.NoteRanges.{rangeIn}
@@ -25,6 +26,7 @@ recordTests rangeOf n (Compound a k) = at n (aCompound a k) ∷ []
 recordTests rangeOf n (Variable v) = rangeTest n (rangeOf v)
 recordTests rangeOf n (Ranged v l h) = rangeTest n (rangeOf v)
 recordTests rangeOf n (Series l h) = at n (aSymbol l h) ∷ []
+recordTests rangeOf n (Gauged g l h) = at n (aNumber (onGauge g l) (onGauge g h)) ∷ []
 
 abbrev pub testsIn : (ℕ → Option Range) → List Note → List PlaceTest
 testsIn rangeOf [] = []
@@ -39,6 +41,7 @@ recordVariables n (Compound a k) = []
 recordVariables n (Variable v) = record { place = n; name = v } ∷ []
 recordVariables n (Ranged v l h) = record { place = n; name = v } ∷ []
 recordVariables n (Series l h) = []
+recordVariables n (Gauged g l h) = []
 
 abbrev pub variablesIn : List Note → List Occurrence
 variablesIn [] = []
@@ -68,6 +71,7 @@ mutual
   pattern-tests rangeOf (theSymbol a) below b sound = refl
   pattern-tests rangeOf (theSeries l h) below b sound = refl
   pattern-tests rangeOf (theRange l h) below b sound = refl
+  pattern-tests rangeOf (theGauged g l h) below b sound = refl
   pattern-tests rangeOf (theCompound a ps) zero b sound =
       absurd (omega (arith, sounds-level ps 0 (sound .4) (sound .2)))
   pattern-tests rangeOf (theCompound a ps) (suc below) b sound =
@@ -93,6 +97,7 @@ mutual
   pattern-variables (theSymbol a) below b sound = refl
   pattern-variables (theSeries l h) below b sound = refl
   pattern-variables (theRange l h) below b sound = refl
+  pattern-variables (theGauged g l h) below b sound = refl
   pattern-variables (theCompound a ps) zero b sound = absurd (omega (arith, sounds-level ps 0 (sound .4) (sound .2)))
   pattern-variables (theCompound a ps) (suc below) b sound = patterns-variables ps below (suc b) (sound .4)
   pattern-variables (variable v) below b sound = refl

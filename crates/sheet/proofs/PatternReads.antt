@@ -9,8 +9,8 @@ use lib.Dec.{leb}
 use borrow.Author.Tests.{leb-true}
 use Rattle.records.specs.Reading.{Reading, took, refused, after}
 use Rattle.records.proofs.Rows.{ask-holds}
-use Rattle.terms.specs.Pattern.{Pattern, Patterns, anything, theSymbol, theSeries, theRange, theCompound, variable, rangedVariable}
-use Rattle.patterns.specs.declared.PatternRecord.the-variants.{Anything, Symbol, Range, Compound, Variable, Ranged, Series}
+use Rattle.terms.specs.Pattern.{Pattern, Patterns, anything, theSymbol, theSeries, theRange, theGauged, theCompound, variable, rangedVariable}
+use Rattle.patterns.specs.declared.PatternRecord.the-variants.{Anything, Symbol, Range, Compound, Variable, Ranged, Series, Gauged}
 use Rattle.patterns.specs.declared.PatternHead.{PatternHead}
 use Rattle.patterns.specs.declared.PatternHead.the-variants.{Whole, Refused}
 use Rattle.patterns.specs.views.PatternRecord.{patternHead, onHead}
@@ -30,6 +30,7 @@ pub data PatternIs (below : ℕ) (s : List ℕ) : ℕ → Pattern → Type 0 whe
   isRanged
       : {v l h : ℕ} → patternHead s ≡ Whole (Ranged v l h) → l ≤ h → v ≤ 15 → PatternIs below s 6 (rangedVariable v l h)
   isSeries : {l h : ℕ} → patternHead s ≡ Whole (Series l h) → l ≤ h → PatternIs below s 5 (theSeries l h)
+  isGauged : {g l h : ℕ} → patternHead s ≡ Whole (Gauged g l h) → l ≤ h → PatternIs below s 6 (theGauged g l h)
 
 abbrev Reads : ℕ → List ℕ → Reading Pattern → Type 0
 Reads below s (took k p) = PatternIs below s k p
@@ -67,6 +68,8 @@ head-reads below s (Whole (Ranged v l h)) head =
     ask-holds (Reads below s) 8 (leb v 15) _ tt (λ small. isRanged head (leb-true l h range) (leb-true v 15 small)))
 head-reads below s (Whole (Series l h)) head =
     ask-holds (Reads below s) 7 (leb l h) _ tt (λ range. isSeries head (leb-true l h range))
+head-reads below s (Whole (Gauged g l h)) head =
+    ask-holds (Reads below s) 7 (leb l h) _ tt (λ range. isGauged head (leb-true l h range))
 head-reads below s (Refused q) head = tt
 
 -- A pattern that was read is what its record says.

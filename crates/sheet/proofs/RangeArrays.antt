@@ -15,7 +15,7 @@ use Rattle.basics.specs.Lists.{countFrom}
 use Rattle.terms.specs.Term.{Wide}
 use Rattle.terms.specs.RuleTests.{Range, commonPart}
 use Rattle.patterns.specs.declared.PatternRecord.{PatternRecord}
-use Rattle.patterns.specs.declared.PatternRecord.the-variants.{Anything, Symbol, Range as RangeOf, Compound, Variable, Ranged, Series}
+use Rattle.patterns.specs.declared.PatternRecord.the-variants.{Anything, Symbol, Range as RangeOf, Compound, Variable, Ranged, Series, Gauged}
 use Rattle.patterns.specs.views.Note.{Note}
 use Rattle.patterns.specs.views.NoteCode.{noteOf, codeRecord, Fitting}
 use Rattle.sheet.specs.views.NoteArray.{notesIn}
@@ -97,7 +97,7 @@ high-common (some x) l h k = refl
 
 -- What the arm for ranged variables does not take gives no range.
 pub no-range
-    : (r : PatternRecord) → OneOf (0 ∷ 1 ∷ 2 ∷ 3 ∷ 4 ∷ 6 ∷ []) (tagOf the-type r) → (v : ℕ) → recordRange r v ≡ none
+    : (r : PatternRecord) → OneOf (0 ∷ 1 ∷ 2 ∷ 3 ∷ 4 ∷ 6 ∷ 7 ∷ []) (tagOf the-type r) → (v : ℕ) → recordRange r v ≡ none
 no-range Anything o v = refl
 no-range (Symbol a) o v = refl
 no-range (RangeOf l h) o v = refl
@@ -107,8 +107,10 @@ no-range (Ranged u l h) o v =
     absurd
     (⊎-elim (λ e. omega arith)
     (⊎-elim (λ e. omega arith)
-    (⊎-elim (λ e. omega arith) (⊎-elim (λ e. omega arith) (⊎-elim (λ e. omega arith) (λ e. omega arith))))) o)
+    (⊎-elim (λ e. omega arith)
+    (⊎-elim (λ e. omega arith) (⊎-elim (λ e. omega arith) (⊎-elim (λ e. omega arith) (λ e. omega arith)))))) o)
 no-range (Series l h) o v = refl
+no-range (Gauged g l h) o v = refl
 
 -- The fields of a ranged record that a number stands for.
 pub ranged-fits : (c : ℕ) {u l h : ℕ} → codeRecord c ≡ Ranged u l h → (u < 16) × Wide l × Wide h

@@ -6,7 +6,7 @@ use mathlib.Core.Option.{Option, some, none}
 use native.Mathlib.Decide.{decLt}
 use native.Mathlib.Omega.{arith}
 use borrow.Author.Tests.{leb-true, le-leb, ne-eqb}
-use Rattle.terms.specs.Pattern.{Pattern, Patterns, anything, theSymbol, theSeries, theRange, theCompound, variable, rangedVariable, pnil, pcons}
+use Rattle.terms.specs.Pattern.{Pattern, Patterns, anything, theSymbol, theSeries, theRange, theGauged, theCompound, variable, rangedVariable, pnil, pcons}
 use Rattle.terms.specs.RuleTests.{Range, commonPart, patternRange, patternsRange}
 use Rattle.terms.specs.Accepted.{Sound, Sounds, InCommon}
 use Rattle.sheet.specs.ReadSheet.{inCommon, rangesMeet}
@@ -27,6 +27,7 @@ mutual
   range-beyond (theSymbol a) r v h k = refl
   range-beyond (theSeries l u) r v h k = refl
   range-beyond (theRange l u) r v h k = refl
+  range-beyond (theGauged g l u) r v h k = refl
   range-beyond (theCompound a ps) r v h k = ranges-beyond ps _ v (h .4) k
   range-beyond (variable u) r v h k = refl
   range-beyond (rangedVariable u l m) r v h k =

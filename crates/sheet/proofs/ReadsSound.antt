@@ -17,7 +17,7 @@ use Rattle.patterns.proofs.HeadBytes.{head-wide}
 use Rattle.sheet.proofs.Compounds.{row-count}
 use Rattle.sheet.proofs.RangesMeet.{meet-common}
 use Rattle.sheet.proofs.SheetReads.{rule-is, sheet-is}
-use Rattle.sheet.proofs.PatternReads.{PatternIs, isAnything, isSymbol, isRange, isCompound, isVariable, isRanged, isSeries, pattern-is}
+use Rattle.sheet.proofs.PatternReads.{PatternIs, isAnything, isSymbol, isRange, isCompound, isVariable, isRanged, isSeries, isGauged, pattern-is}
 use Rattle.records.proofs.ByteLists.{bytes-drop}
 
 -- A pattern is sound where the rows below it are.
@@ -34,6 +34,8 @@ sound-from below s bytes rows (isCompound {n = n} {b = b} {ps = ps} head deep en
 sound-from below s bytes rows (isVariable head small) = (omega arith, omega arith)
 sound-from below s bytes rows (isRanged head range small) = (omega arith, range, head-wide s bytes head .1, omega arith)
 sound-from below s bytes rows (isSeries head range) = (omega arith, range, head-wide s bytes head .1)
+sound-from below s bytes rows (isGauged head range) =
+    let fields = head-wide s bytes head in (omega arith, range, fields .1, fields .2)
 
 -- A row of patterns is sound where each is.
 row-sound

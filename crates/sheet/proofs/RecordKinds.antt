@@ -13,7 +13,7 @@ use Rattle.records.specs.Reading.{Reading, ask}
 use Rattle.records.proofs.Questions.{kinds-agree, ask-refused}
 use Rattle.terms.specs.Pattern.{Pattern}
 use Rattle.patterns.specs.declared.PatternRecord.{PatternRecord}
-use Rattle.patterns.specs.declared.PatternRecord.the-variants.{Anything, Symbol, Range, Compound, Variable, Ranged, Series}
+use Rattle.patterns.specs.declared.PatternRecord.the-variants.{Anything, Symbol, Range, Compound, Variable, Ranged, Series, Gauged}
 use Rattle.sheet.specs.ReadSheet.{patternOf}
 use Rattle.patterns.specs.views.PatternRecord.{wholeIf, patternHead, onRecord, onHead}
 
@@ -27,21 +27,21 @@ module _ (compoundOf : ℕ → ℕ → Reading Pattern) where
   -- A record of a kind is whole where its bytes are there.
   kind-agrees
       : (s : List ℕ) (kind : ℕ) (r : PatternRecord) → eqb (kindOf s) kind ≡ true
-      → ask 4 (isWhole 0x20 0x26 s) (onRecord compoundOf r)
-      ≡ onHead compoundOf (wholeIf (leb 0x20 kind && leb kind 0x26 && leb (recordLength kind) (length s)) r)
+      → ask 4 (isWhole 0x20 0x27 s) (onRecord compoundOf r)
+      ≡ onHead compoundOf (wholeIf (leb 0x20 kind && leb kind 0x27 && leb (recordLength kind) (length s)) r)
   kind-agrees s kind r is =
-      ap (λ (k : ℕ). ask 4 (leb 0x20 k && leb k 0x26 && leb (recordLength k) (length s)) (onRecord compoundOf r))
+      ap (λ (k : ℕ). ask 4 (leb 0x20 k && leb k 0x27 && leb (recordLength k) (length s)) (onRecord compoundOf r))
       (eqb-true (kindOf s) kind is)
-      ∙ whole-agrees (leb 0x20 kind && leb kind 0x26 && leb (recordLength kind) (length s)) r
+      ∙ whole-agrees (leb 0x20 kind && leb kind 0x27 && leb (recordLength kind) (length s)) r
 
   -- By the table, and by the enum of records.
   pub by-table
       : (s : List ℕ)
-      → ask 4 (isWhole 0x20 0x26 s) (patternOf (compoundOf (wideAt s 1) (byteAt s 3)) s) ≡ onHead compoundOf (patternHead s)
+      → ask 4 (isWhole 0x20 0x27 s) (patternOf (compoundOf (wideAt s 1) (byteAt s 3)) s) ≡ onHead compoundOf (patternHead s)
   by-table [] = refl
   by-table (x ∷ xs) =
       let s = x ∷ xs in
-      let whole = isWhole 0x20 0x26 s in
+      let whole = isWhole 0x20 0x27 s in
       let there : leb 1 (length s) ≡ true = le-leb 1 (length s) (omega arith) in
       rw (eqb·suc-zero (length xs))
       (kinds-agree (ask 4 whole) (onHead compoundOf) (eqb x 0x20)
@@ -52,4 +52,5 @@ module _ (compoundOf : ℕ → ℕ → Reading Pattern) where
       kinds-agree (ask 4 whole) (onHead compoundOf) (eqb x 0x24) (kind-agrees s 0x24 (Variable _)) (λ _.
       kinds-agree (ask 4 whole) (onHead compoundOf) (eqb x 0x25) (kind-agrees s 0x25 (Ranged _ _ _)) (λ _.
       kinds-agree (ask 4 whole) (onHead compoundOf) (eqb x 0x26) (kind-agrees s 0x26 (Series _ _)) (λ _.
-      ask-refused 4 whole))))))))
+      kinds-agree (ask 4 whole) (onHead compoundOf) (eqb x 0x27) (kind-agrees s 0x27 (Gauged _ _ _)) (λ _.
+      ask-refused 4 whole)))))))))

@@ -11,10 +11,10 @@ use Rattle.records.proofs.Rows.{row-none}
 use Rattle.records.proofs.Spelling.{row-joined}
 use Rattle.basics.specs.Lists.{All}
 use Rattle.terms.specs.Term.{Wide}
-use Rattle.terms.specs.Pattern.{Pattern, Patterns, countPatterns, anything, theSymbol, theSeries, theRange, theCompound, variable, rangedVariable, pnil, pcons}
+use Rattle.terms.specs.Pattern.{Pattern, Patterns, countPatterns, anything, theSymbol, theSeries, theRange, theGauged, theCompound, variable, rangedVariable, pnil, pcons}
 use Rattle.terms.specs.Accepted.{Sound, Sounds, AcceptedRule}
 use Rattle.patterns.specs.declared.PatternRecord.{PatternRecord}
-use Rattle.patterns.specs.declared.PatternRecord.the-variants.{Anything, Symbol, Range, Compound, Variable, Ranged, Series}
+use Rattle.patterns.specs.declared.PatternRecord.the-variants.{Anything, Symbol, Range, Compound, Variable, Ranged, Series, Gauged}
 use Rattle.sheet.specs.ReadSheet.{readPattern, readPatterns, rangesMeet, readRule, readRules}
 use Rattle.sheet.specs.WriteSheet.{patternBytes, patternsBytes, rulesBytes}
 use Rattle.patterns.proofs.HeadBytes.{WideFields, spelled-head}
@@ -28,6 +28,7 @@ sound-level anything r h = h
 sound-level (theSymbol a) r h = h .0
 sound-level (theSeries l u) r h = h .0
 sound-level (theRange l u) r h = h .0
+sound-level (theGauged g l u) r h = h .0
 sound-level (theCompound a ps) r h = h .0
 sound-level (variable v) r h = h .0
 sound-level (rangedVariable v l u) r h = h .0
@@ -51,6 +52,13 @@ pub series-low-above-high
 series-low-above-high below l h rest wideLow wideHigh less =
     by-record below (Series l h) rest (wideLow, wideHigh) ∙ rw (lt-leb l h less)
 
+-- "Questions 4, 7 and 14 take the new records in": so is a range on a gauge.
+pub gauged-low-above-high
+    : (below g l h : ℕ) (rest : List ℕ) → g < 256 → Wide l → Wide h → h < l
+    → readPattern below (0x27 ∷ g ∷ wideThen l (wideThen h rest)) ≡ refused 7
+gauged-low-above-high below g l h rest byte wideLow wideHigh less =
+    by-record below (Gauged g l h) rest (wideLow, wideHigh, byte) ∙ rw (lt-leb l h less)
+
 mutual
   -- The bytes of a sound pattern, with so many levels below it, are read as it.
   pub pattern-read
@@ -62,6 +70,9 @@ mutual
       by-record below (Series l h) rest (omega (arith, sound .1, sound .2), sound .2) ∙ rw (le-leb l h (sound .1))
   pattern-read (theRange l h) below rest sound =
       by-record below (Range l h) rest (omega (arith, sound .1, sound .2), sound .2) ∙ rw (le-leb l h (sound .1))
+  pattern-read (theGauged g l h) below rest sound =
+      by-record below (Gauged g l h) rest (omega (arith, sound .1, sound .2), sound .2, sound .3)
+      ∙ rw (le-leb l h (sound .1))
   pattern-read (theCompound a ps) zero rest sound = absurd (omega (arith, sounds-level ps 0 (sound .4) (sound .2)))
   pattern-read (theCompound a ps) (suc below) rest sound =
       let n = countPatterns ps in

@@ -10,7 +10,7 @@ use Rattle.records.specs.Kinds.{recordLength, kindOf, beginsWith, isWhole}
 use Rattle.records.specs.Fields.{byteAt, wideAt}
 use Rattle.records.specs.Reading.{Reading, took, refused, ask, after, andThen, readRow}
 use Rattle.terms.specs.Pattern.{Pattern, Patterns, pnil, pcons}
-use Rattle.terms.specs.Pattern.{anything, theSymbol, theSeries, theRange, theCompound, variable, rangedVariable}
+use Rattle.terms.specs.Pattern.{anything, theSymbol, theSeries, theRange, theGauged, theCompound, variable, rangedVariable}
 use Rattle.terms.specs.RuleTests.{Range, patternsRange}
 use Rattle.sheet.specs.Sheet.{Sheet, SheetHead, mostRules}
 use Rattle.basics.specs.Lists.{allBelow}
@@ -41,15 +41,18 @@ patternOf compound s =
     (ask 8 (leb (byteAt s 1) 15) (took (recordLength 0x25) (rangedVariable (byteAt s 1) (wideAt s 2) (wideAt s 4)))))
     (cond (eqb (kindOf s) 0x26)
     (ask 7 (leb (wideAt s 1) (wideAt s 3)) (took (recordLength 0x26) (theSeries (wideAt s 1) (wideAt s 3))))
-    (refused 4)))))))
+    (cond (eqb (kindOf s) 0x27)
+    (ask 7 (leb (wideAt s 2) (wideAt s 4)) (took (recordLength 0x27) (theGauged (byteAt s 1) (wideAt s 2) (wideAt s 4))))
+    (refused 4))))))))
 
 -- A pattern with so many levels below it: "4 Is it a whole record of kinds 20 to 25?", and of 26 "question 4 admits it and
--- question 7 applies to it" (document 02, request 5). "5 If compound, is its depth at most 3?" Its depth is 4 where no level is
--- below. "6 Is its arity 1 to 4?" Its arguments follow, "in prefix order".
+-- question 7 applies to it" (document 02, request 5); of 27 "questions 4, 7 and 14 take the new records in" (request 7). "5 If
+-- compound, is its depth at most 3?" Its depth is 4 where no level is below. "6 Is its arity 1 to 4?" Its arguments follow, "in
+-- prefix order".
 unfoldable pub readPattern : ℕ → List ℕ → Reading Pattern
-readPattern zero s = ask 4 (isWhole 0x20 0x26 s) (patternOf (refused 5) s)
+readPattern zero s = ask 4 (isWhole 0x20 0x27 s) (patternOf (refused 5) s)
 readPattern (suc below) s =
-    ask 4 (isWhole 0x20 0x26 s)
+    ask 4 (isWhole 0x20 0x27 s)
     (patternOf
     (ask 6 (leb 1 (byteAt s 3) && leb (byteAt s 3) 4)
     (after (recordLength 0x23) (theCompound (wideAt s 1))

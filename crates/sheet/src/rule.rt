@@ -93,6 +93,12 @@ fn leaf(what: PatternRecord, place: usize, n: usize, notes: &mut [u64; 680]) -> 
             }
             noted(5, place, what, n, notes)
         }
+        PatternRecord::Gauged(_, low, high) => {
+            if high < low {
+                return Took::Refused(7);
+            }
+            noted(6, place, what, n, notes)
+        }
     }
 }
 

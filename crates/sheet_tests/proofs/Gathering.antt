@@ -18,7 +18,7 @@ use Rattle.patterns.specs.views.NoteCode.{Fitting, noteOf}
 use Rattle.sheet.specs.views.NoteArray.{notesIn}
 use Rattle.sheet.specs.views.NoteRanges.{recordRange, rangeIn, highEnd, highsOf}
 use Rattle.patterns.specs.declared.PatternRecord.{PatternRecord}
-use Rattle.patterns.specs.declared.PatternRecord.the-variants.{Anything, Symbol, Range as RangeOf, Compound, Variable, Ranged, Series}
+use Rattle.patterns.specs.declared.PatternRecord.the-variants.{Anything, Symbol, Range as RangeOf, Compound, Variable, Ranged, Series, Gauged}
 use Rattle.patterns.proofs.NoteCodes.{code-fits}
 use Rattle.sheet.proofs.RangeArrays.{variable-at}
 use Rattle.basics.proofs.Sorted.{Ascending}
@@ -69,6 +69,7 @@ record-ends (Ranged u l t) v h = go (eqb u v)
     go true = h .2
     go false = tt
 record-ends (Series l u) v h = tt
+record-ends (Gauged g l u) v h = tt
 
 range-ends : (notes : List Note) (v : ℕ) → All Fits notes → Ends (rangeIn notes v)
 range-ends [] v h = tt
@@ -95,6 +96,7 @@ record-known f g e (Compound a n) h = refl
 record-known f g e (Variable v) h = e v h
 record-known f g e (Ranged v l u) h = e v (h .0)
 record-known f g e (Series l u) h = refl
+record-known f g e (Gauged n l u) h = refl
 
 places-known
     : (f g : ℕ → Bool) → ((v : ℕ) → v < 16 → f v ≡ g v) → (notes : List Note) → All Fits notes

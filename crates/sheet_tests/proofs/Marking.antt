@@ -11,7 +11,7 @@ use Rattle.basics.specs.Order.{insertBy}
 use Rattle.basics.proofs.Sorted.{Ascending, insert-ascends, number-order}
 use Rattle.terms.specs.RuleTests.{commonPart}
 use Rattle.patterns.specs.declared.PatternRecord.{PatternRecord}
-use Rattle.patterns.specs.declared.PatternRecord.the-variants.{Anything, Symbol, Range, Compound, Variable, Ranged, Series}
+use Rattle.patterns.specs.declared.PatternRecord.the-variants.{Anything, Symbol, Range, Compound, Variable, Ranged, Series, Gauged}
 use Rattle.patterns.specs.views.Note.{Note}
 use Rattle.sheet.specs.views.NotesBehind.{heldWith}
 use Rattle.sheet.specs.views.NoteRanges.{recordRange, rangeIn, lowEnd, highEnd, forVariables, endsMeet, notesMeet}
@@ -33,6 +33,7 @@ withName (Compound a k) n ns = ns
 withName (Variable v) n ns = n ∷ ns
 withName (Ranged v l h) n ns = n ∷ ns
 withName (Series l h) n ns = ns
+withName (Gauged g l h) n ns = ns
 
 abbrev pub namesOf : List Note → List Note
 namesOf [] = []
@@ -74,6 +75,7 @@ marks-all (n ∷ ns) m = go (marks-all ns) (n .what)
         all (named m n)
         ∙ ap (beside (withPlaces (m .words) (fixedPlaces ns))) (append-assoc (m .names) (n ∷ []) (namesOf ns))
     go all (Series l h) = all (placed m (n .place))
+    go all (Gauged g l h) = all (placed m (n .place))
 
 -- The set then has those places and the places before them.
 pub fixed-places
@@ -109,6 +111,7 @@ names-range (n ∷ ns) v = go (n .what) refl (names-range ns v)
     go (Variable u) e same = λ j. commonPart (recordRange (e j) v) (same j)
     go (Ranged u l h) e same = λ j. commonPart (recordRange (e j) v) (same j)
     go (Series l h) e same = same
+    go (Gauged g l h) e same = same
 
 pub names-ranges : (ns : List Note) → rangeIn (namesOf ns) ≡ rangeIn ns
 names-ranges ns = λ j v. names-range ns v j
@@ -133,6 +136,7 @@ names-variables (n ∷ ns) = go (n .what) refl (names-variables ns)
     go (Variable u) e same = λ j. occurrence (n .place) (nameOf (e j)) (same j)
     go (Ranged u l h) e same = λ j. occurrence (n .place) (nameOf (e j)) (same j)
     go (Series l h) e same = same
+    go (Gauged g l h) e same = same
 
 -- places among the 680,
 pub names-placed : (ns : List Note) → All Placed ns → All Placed (namesOf ns)
@@ -147,6 +151,7 @@ names-placed (n ∷ ns) h = go (n .what) (names-placed ns (h .1))
     go (Variable v) all = (h .0, all)
     go (Ranged v l k) all = (h .0, all)
     go (Series l k) all = all
+    go (Gauged g l k) all = all
 
 -- and, put in after the places marked, those of the place tests.
 module _ (ranged : ℕ → Bool) where
@@ -188,3 +193,4 @@ module _ (ranged : ℕ → Bool) where
       go (Variable v) e same next = variable e same next
       go (Ranged v x y) e same next = variable e same next
       go (Series x y) e same next = next
+      go (Gauged g x y) e same next = next

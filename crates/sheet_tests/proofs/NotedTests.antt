@@ -10,7 +10,7 @@ use Rattle.terms.specs.Pattern.{Patterns, countPatterns}
 use Rattle.terms.specs.RuleTests.{Range, PlaceTest, Occurrence, rangeTest, placeTests, ruleVariables}
 use Rattle.terms.specs.Accepted.{Sounds, AcceptedRule}
 use Rattle.patterns.specs.declared.PatternRecord.{PatternRecord}
-use Rattle.patterns.specs.declared.PatternRecord.the-variants.{Anything, Symbol, Range as RangeOf, Compound, Variable, Ranged, Series}
+use Rattle.patterns.specs.declared.PatternRecord.the-variants.{Anything, Symbol, Range as RangeOf, Compound, Variable, Ranged, Series, Gauged}
 use Rattle.patterns.specs.views.Note.{Note}
 use Rattle.sheet.specs.views.Noted.{ruleNotes}
 use Rattle.sheet.specs.views.NoteRanges.{rangeIn}
@@ -43,6 +43,7 @@ record-place rangeOf n (Compound a k) l = refl
 record-place rangeOf n (Variable v) l = range-place n (rangeOf v) l
 record-place rangeOf n (Ranged v a b) l = range-place n (rangeOf v) l
 record-place rangeOf n (Series a b) l = refl
+record-place rangeOf n (Gauged g a b) l = refl
 
 notes-tested
     : (rangeOf : ℕ → Option Range) (notes : List Note)
@@ -68,6 +69,7 @@ record-variable n (Compound a k) os = refl
 record-variable n (Variable v) os = refl
 record-variable n (Ranged v a b) os = refl
 record-variable n (Series a b) os = refl
+record-variable n (Gauged g a b) os = refl
 
 notes-varied : (notes : List Note) → variablesIn notes ≡ notesVariables notes
 notes-varied [] = refl

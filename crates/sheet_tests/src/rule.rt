@@ -35,6 +35,7 @@ fn is_tested(what: PatternRecord, high: &[u32; 16]) -> bool
         PatternRecord::Variable(v) => has_range(high, v),
         PatternRecord::Ranged(v, _, _) => has_range(high, v),
         PatternRecord::Series(_, _) => true,
+        PatternRecord::Gauged(_, _, _) => true,
     }
 }
 

@@ -31,7 +31,7 @@ by-range
     ≡ f (rangeOf c .first) (rangeOf c .last) (rangeOf c .node)
 by-range (Symbols l h n) f = refl
 by-range (Compound a k n) f = refl
-by-range (Numbers l h n) f = refl
+by-range (Numbers l h n g) f = refl
 
 module _ (s : List ℕ) (neither low high : ℕ) where
   -- Where a pass over the cases, so many, that are read from a position leads, of which the best so far begins and leads so.

@@ -32,6 +32,11 @@ ends-behind : (first last low high : ℕ) → last < high → leb first low && l
 ends-behind first last low high h =
     same-truth (leb first low && leb high last) false (λ t. omega (arith, both-le first low high last .0 t .1, h)) (λ t. absurd t)
 
+-- Nor do codes that begin before it.
+begins-before : (first last low high : ℕ) → low < first → leb first low && leb high last ≡ false
+begins-before first last low high h =
+    same-truth (leb first low && leb high last) false (λ t. omega (arith, both-le first low high last .0 t .0, h)) (λ t. absurd t)
+
 -- A case takes a term exactly where its range holds the term's codes: where a want of the same fits the term.
 pub takes-codes : (c : Case) (t : Term) → CaseFields c → WellFormed t → takesCodes c (termLow t) (termHigh t) ≡ takes c t
 takes-codes (symbolsCase l u) unknown h ok =
@@ -51,12 +56,12 @@ takes-codes (compoundCase a n) (numbers b c) h ok =
 takes-codes (compoundCase a n) (compound b ts) h ok =
     same-known _ (eqb a b && eqb n (count ts)) (compound-fits (aCompound a n) b ts h (ok .0) (ok .2))
 takes-codes (numbersCase l u) unknown h ok =
-    ends-behind (numberCode l) (numberCode u) (symbolCode 0) highestCode (omega (arith, h .1))
-takes-codes (numbersCase l u) never h ok = same-known _ false (never-fits (aNumber l u) h)
-takes-codes (numbersCase l u) (symbol b) h ok = same-known _ false (symbol-fits (aNumber l u) b h ok)
+    begins-before (numberCode l) (numberCode u) (symbolCode 0) highestCode (omega arith)
+takes-codes (numbersCase l u) never h ok = same-known _ false (never-fits (aNumber l u) (h .0, h .1))
+takes-codes (numbersCase l u) (symbol b) h ok = same-known _ false (symbol-fits (aNumber l u) b (h .0, h .1) ok)
 takes-codes (numbersCase l u) (numbers b c) h ok = λ i. in-order 0x3000000 l b i && in-order 0x3000000 c u i
 takes-codes (numbersCase l u) (compound b ts) h ok =
-    same-known _ false (compound-fits (aNumber l u) b ts h (ok .0) (ok .2))
+    same-known _ false (compound-fits (aNumber l u) b ts (h .0, h .1) (ok .0) (ok .2))
 
 -- Numbers that are no pair in order come in no order.
 out-of-order : (p q x y : ℕ) → ((p < x) ⊎ ((p ≡ x) × (q < y)) → ⊥) → pairBefore p q x y ≡ false

@@ -5,7 +5,7 @@ use mathlib.Core.Logic.{inl, inr}
 use lib.Dec.{eqb}
 use native.Mathlib.Decide.{ℕ-discrete}
 use native.Mathlib.Omega.{arith}
-use Rattle.terms.specs.Term.{Term, Terms, Wide, unknown, never, symbol, number, numbers, compound, nil, cons}
+use Rattle.terms.specs.Term.{Term, Terms, Gauged, unknown, never, symbol, number, numbers, compound, nil, cons}
 use Rattle.terms.specs.Outcome.{Holds, NotKnown, known, compareSpans, compare, compares}
 use Rattle.terms.specs.Filling.{Ground, WellFormed, WellFormeds, Fills, Filling}
 use Rattle.terms.specs.Filling.{putUnknown, putNumbers, putCompound, putCons}
@@ -86,7 +86,7 @@ right-unknown t ok =
 
 -- Of two spans, two numbers that are not the same.
 numbers-apart
-    : (a b c d x y : ℕ) → Wide b → Wide d → Within a b x → Within c d y → (x ≡ y → ⊥) → Apart (numbers a b) (numbers c d)
+    : (a b c d x y : ℕ) → Gauged b → Gauged d → Within a b x → Within c d y → (x ≡ y → ⊥) → Apart (numbers a b) (numbers c d)
 numbers-apart a b c d x y wide other p q differ = record {
   left = number x;
   right = number y;
@@ -99,7 +99,7 @@ numbers-apart a b c d x y wide other p q differ = record {
 spans-apart
     : (a b c d : ℕ) → WellFormed (numbers a b) → WellFormed (numbers c d) → NotKnown (compareSpans a b c d)
     → Apart (numbers a b) (numbers c d)
-spans-apart a b c d (ab, wide) (cd, other) h =
+spans-apart a b c d (ab, wide, s) (cd, other, r) h =
     let lows = numbers-apart a b c d a c wide other (omega arith, ab) (omega arith, cd) in
     elim (ℕ-discrete a c) [
       | no n ↦ lows n

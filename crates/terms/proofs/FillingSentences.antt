@@ -3,7 +3,7 @@ use Prim.Native.Nat.{ℕ, _≤_}
 use mathlib.Core.Path.{_≡_, refl, sym, subst}
 use mathlib.Core.Logic.{_↔_, _⊎_, inl, inr}
 use native.Mathlib.Omega.{arith}
-use Rattle.terms.specs.Term.{Term, Terms, Wide, unknown, never, symbol, number, numbers, compound, nil, cons}
+use Rattle.terms.specs.Term.{Term, Terms, Wide, Gauged, unknown, never, symbol, number, numbers, compound, nil, cons}
 use Rattle.terms.specs.Filling.{WellFormed, WellFormeds, Puts, Putss, Fills, Filling, FilledFurther, Known, Knowns}
 use Rattle.terms.specs.Filling.{putUnknown, putNever, putSymbol, putNumbers, putCompound, putNil, putCons}
 use Rattle.terms.proofs.Never.{Ordinary}
@@ -56,7 +56,7 @@ one-filling piece filled ok h =
 
 -- "A filling puts a number of that span there",
 pub span-filling
-    : (a b : ℕ) → Wide b → (g : Term) → Fills (numbers a b) g ↔ ((v : ℕ) × Within a b v × (g ≡ number v))
+    : (a b : ℕ) → Gauged b → (g : Term) → Fills (numbers a b) g ↔ ((v : ℕ) × Within a b v × (g ≡ number v))
 span-filling a b wide g = (forth, back)
   where
     forth : {g : Term} → Fills (numbers a b) g → (v : ℕ) × Within a b v × (g ≡ number v)
@@ -70,9 +70,9 @@ span-filling a b wide g = (forth, back)
         subst (Fills (numbers a b)) (sym e) one
 
 -- "so a span with equal ends is that number".
-pub span-of-one : (a : ℕ) → Wide a → (g : Term) → Fills (numbers a a) g ↔ (g ≡ number a)
+pub span-of-one : (a : ℕ) → Gauged a → (g : Term) → Fills (numbers a a) g ↔ (g ≡ number a)
 span-of-one a wide g =
-    (λ f. puts-same refl f, λ e. subst (Fills (number a)) (sym e) (fills-itself (number a) (omega arith, wide) refl))
+    (λ f. puts-same refl f, λ e. subst (Fills (number a)) (sym e) (fills-itself (number a) (omega arith, wide, inl refl) refl))
 
 -- "Narrowing one is filling in more."
 pub span-narrowed
@@ -85,7 +85,7 @@ span-narrowed a b wide u = (forth, back)
 
     back : (c d : ℕ) × (a ≤ c) × (c ≤ d) × (d ≤ b) × (u ≡ numbers c d) → Puts WellFormed (numbers a b) u
     back (c, d, x, y, z, e) =
-        subst (Puts WellFormed (numbers a b)) (sym e) (putNumbers {c = c} {d = d} x y z (y, omega arith))
+        subst (Puts WellFormed (numbers a b)) (sym e) (putNumbers {c = c} {d = d} x y z (y, omega arith, inr (omega arith)))
 
 -- "An unknown may later become 35, and that is filling in more",
 pub unknown-never : Puts WellFormed unknown never
@@ -126,7 +126,7 @@ mutual
   fills-further (putUnknown {g = g} h) = let x = ground-known g h in (putUnknown (x .0), x .1, putUnknown (x .2))
   fills-further putNever = (putNever, tt, putNever)
   fills-further putSymbol = (putSymbol, tt, putSymbol)
-  fills-further (putNumbers x y z h) = (putNumbers x y z (y, h .1), h .0, putNumbers x y z (λ n. n))
+  fills-further (putNumbers x y z h) = (putNumbers x y z (y, h .1, inl (h .0)), h .0, putNumbers x y z (λ n. n))
   fills-further (putCompound fs) = let x = all-fill-further fs in (putCompound (x .0), x .1, putCompound (x .2))
 
   all-fill-further : {ts gs : Terms} → Filling ts gs → FilledFurther ts gs × Knowns gs × Putss Ordinary ts gs

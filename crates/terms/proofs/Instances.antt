@@ -10,8 +10,8 @@ use native.Mathlib.Omega.{arith}
 use lib.Dec.{leb, eqb, T, eqb→eq, eqb-refl}
 use Rattle.places.specs.Numbering.{stride}
 use Rattle.basics.specs.Lists.{All}
-use Rattle.terms.specs.Term.{Term, Terms, count, Wide, unknown, never, symbol, number, numbers, compound, nil, cons}
-use Rattle.terms.specs.Pattern.{Pattern, Patterns, countPatterns, anything, theSymbol, theSeries, theRange, theCompound, variable, rangedVariable, pnil, pcons}
+use Rattle.terms.specs.Term.{Term, Terms, count, Wide, Gauged, onGauge, unknown, never, symbol, number, numbers, compound, nil, cons}
+use Rattle.terms.specs.Pattern.{Pattern, Patterns, countPatterns, anything, theSymbol, theSeries, theRange, theGauged, theCompound, variable, rangedVariable, pnil, pcons}
 use Rattle.terms.specs.RuleTests.{Want, aSymbol, aNumber, aCompound, PlaceTest, at, Occurrence, Range, rangeTest, patternVariables, patternsVariables, patternTests, patternsTests}
 use Rattle.terms.specs.Lookup.{Found, found}
 use Rattle.terms.specs.Outcome.{Holds, fits, atPlace}
@@ -58,7 +58,7 @@ fitting-symbol l h le wide (compound b ts) o = absurd o
 
 -- Where a range is not ruled out, some filling is a number in it.
 pub fitting-number
-    : (l h : ℕ) → l ≤ h → Wide h → (t : Term) → WellFormed t → Open (fits (aNumber l h) t) → Fitting (aNumber l h) t
+    : (l h : ℕ) → l ≤ h → Gauged h → (t : Term) → WellFormed t → Open (fits (aNumber l h) t) → Fitting (aNumber l h) t
 fitting-number l h le wide unknown ok o =
     (number l, putUnknown {g = number l} (refl, omega arith), range-holds-at l h l l .1 (omega arith, le))
 fitting-number l h le wide never ok o = absurd o
@@ -67,7 +67,7 @@ fitting-number l h le wide (numbers a b) ok o =
     let s = range-open-at l h a b (ok .0) .0 o in
     let v = max l a in
     let high : v ≤ b = omega (arith, s .0, ok .0) in
-    let ground : (v ≡ v) × Wide v = (refl, omega (arith, ok .1)) in (
+    let ground : (v ≡ v) × Gauged v = (refl, omega (arith, ok .1)) in (
       number v,
       putNumbers {a = a} {b = b} {c = v} {d = v} (omega arith) (omega arith) high ground,
       range-holds-at l h v v .1 (omega arith, omega (arith, s .1)),
@@ -196,7 +196,14 @@ module _ (rangeOf : ℕ → Option Range) (chosen : Occurrence → Term) where
           (fitting-symbol l h (sound .1) (sound .2) t (open-root look (aSymbol l h) t r b (sound .0) shown (opens .0)))
       instance-of (theRange l h) t r b sound ok shown opens suits =
           leaf-instance (aNumber l h) t r b (sound .0)
-          (fitting-number l h (sound .1) (sound .2) t ok (open-root look (aNumber l h) t r b (sound .0) shown (opens .0)))
+          (fitting-number l h (sound .1) (omega (arith, sound .2)) t ok
+          (open-root look (aNumber l h) t r b (sound .0) shown (opens .0)))
+      instance-of (theGauged g l h) t r b sound ok shown opens suits =
+          let low = onGauge g l in
+          let high = onGauge g h in
+          leaf-instance (aNumber low high) t r b (sound .0)
+          (fitting-number low high (omega (arith, sound .1)) (omega (arith, sound .2, sound .3)) t ok
+          (open-root look (aNumber low high) t r b (sound .0) shown (opens .0)))
       instance-of (theCompound a ps) unknown r b sound ok shown opens suits =
           let n = countPatterns ps in
           let below = shows-unknown look n r b (sound .0) (sound .3) shown in

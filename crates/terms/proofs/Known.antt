@@ -1,4 +1,5 @@
 -- Terms in which nothing is left to fill in, and those that a filling puts in.
+use mathlib.Core.Logic.{inl}
 use native.Mathlib.Omega.{arith}
 use Rattle.terms.specs.Term.{Term, Terms, unknown, never, symbol, numbers, compound, nil, cons}
 use Rattle.terms.specs.Filling.{Ground, Grounds, WellFormed, WellFormeds, Known, Knowns}
@@ -10,7 +11,7 @@ mutual
   ground-known unknown h = absurd h
   ground-known never h = absurd h
   ground-known (symbol a) h = (h, tt, λ n. n)
-  ground-known (numbers a b) h = ((omega (arith, h .0), h .1), h .0, λ n. n)
+  ground-known (numbers a b) h = ((omega (arith, h .0), h .1, inl (h .0)), h .0, λ n. n)
   ground-known (compound a ts) h = let x = grounds-known ts (h .3) in ((h .0, h .1, h .2, x .0), x .1, x .2)
 
   grounds-known : (ts : Terms) → Grounds ts → WellFormeds ts × Knowns ts × Ordinaries ts

@@ -6,6 +6,7 @@ pub mod Arguments
 pub mod KnownTests
 pub mod Spans
 pub mod Series
+pub mod Gauges
 pub mod Never
 pub mod Known
 pub mod CompareSentences

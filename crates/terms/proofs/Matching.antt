@@ -1,14 +1,15 @@
--- What a rule says of its arguments, in one page: a term matches a pattern, with σ for the variables. "20 anything", "21
--- symbol (wide id)", "22 range (wide low, wide high): a number from low to high", "23 compound (wide id, arity), then its
--- arguments", "24 variable (its number)", "25 ranged variable (its number, wide low, wide high)".
-use Prim.Native.Nat.{ℕ, suc, _≤_, min, max}
+-- What a rule says of its arguments, in one page: a term matches a pattern, with σ for the variables. "20 anything", "21 symbol
+-- (wide id)", "22 range (wide low, wide high): a number from low to high", "23 compound (wide id, arity), then its arguments", "24
+-- variable (its number)", "25 ranged variable (its number, wide low, wide high)"; document 02: "pattern 26 (wide low, wide high)
+-- accepts every symbol with an id from low to high", "pattern 27 (gauge, wide low, wide high)" the gauge "it names".
+use Prim.Native.Nat.{ℕ, suc, _-_, _≤_, min, max}
 use mathlib.Core.Path.{_≡_, refl, ap, sym, subst, _∙_}
 use mathlib.Core.Option.{Option, some, none}
 use native.Mathlib.Omega.{arith}
 use lib.Dec.{eqb, eqb→eq, eqb-refl}
 use Rattle.basics.proofs.Booleans.{cond-by}
-use Rattle.terms.specs.Term.{Term, Terms, count, symbol, number, numbers, compound, nil, cons}
-use Rattle.terms.specs.Pattern.{Pattern, Patterns, countPatterns, anything, theSymbol, theSeries, theRange, theCompound, variable, rangedVariable, pnil, pcons}
+use Rattle.terms.specs.Term.{Term, Terms, count, onGauge, symbol, number, numbers, compound, nil, cons}
+use Rattle.terms.specs.Pattern.{Pattern, Patterns, countPatterns, anything, theSymbol, theSeries, theRange, theGauged, theCompound, variable, rangedVariable, pnil, pcons}
 use Rattle.terms.specs.RuleTests.{aSymbol, aNumber, Range, commonPart, patternRange, patternsRange}
 use Rattle.terms.specs.Outcome.{Holds, fits}
 use Rattle.terms.specs.Filling.{Known}
@@ -23,6 +24,7 @@ mutual
     asSymbol : {a : ℕ} → Matches σ (theSymbol a) (symbol a)
     asSeries : {l h a : ℕ} → l ≤ a → a ≤ h → Matches σ (theSeries l h) (symbol a)
     asRange : {l h n : ℕ} → l ≤ n → n ≤ h → Matches σ (theRange l h) (number n)
+    asGauged : {g l h v n : ℕ} → n ≡ onGauge g v → l ≤ v → v ≤ h → Matches σ (theGauged g l h) (number n)
     asCompound : {a : ℕ} {ps : Patterns} {ts : Terms} → AllMatch σ ps ts → Matches σ (theCompound a ps) (compound a ts)
     asVariable : {v : ℕ} {t : Term} → t ≡ σ v → Matches σ (variable v) t
     asRanged : {v l h n : ℕ} → number n ≡ σ v → l ≤ n → n ≤ h → Matches σ (rangedVariable v l h) (number n)
@@ -51,6 +53,16 @@ pub range-in : (l h : ℕ) {t : Term} → Known t → Wanted (aNumber l h) t →
 range-in l h known (inRange {a = a} {b = b} p q) =
     (a, λ i. numbers a (sym known i), p, omega (arith, known))
 
+-- In a range on a gauge it is a number of that gauge.
+pub gauged-in
+    : (g l h : ℕ) {t : Term} → Known t → Wanted (aNumber (onGauge g l) (onGauge g h)) t
+    → (v n : ℕ) × (t ≡ number n) × (n ≡ onGauge g v) × (l ≤ v) × (v ≤ h)
+gauged-in g l h known w =
+    let n = range-in (onGauge g l) (onGauge g h) known w in
+    let v = n .0 - onGauge g 0 in
+    let e : n .0 ≡ onGauge g v = omega (arith, n .2) in
+    (v, n .0, n .1, e, omega (arith, n .2), omega (arith, n .2, n .3))
+
 -- A term in two ranges is in their common part.
 in-common : (x y : Option Range) (t : Term) → InRange x t → InRange y t → InRange (commonPart x y) t
 in-common none y t h k = k
@@ -72,6 +84,7 @@ module _ {σ : ℕ → Term} where
     match-range asSymbol v = tt
     match-range (asSeries p q) v = tt
     match-range (asRange p q) v = tt
+    match-range (asGauged e p q) v = tt
     match-range (asCompound ms) v = match-ranges ms v
     match-range (asVariable e) v = tt
     match-range (asRanged {v = u} {l = l} {h = h} {n = n} e p q) v =
@@ -98,6 +111,7 @@ module _ (Q : ℕ → ℕ → ℕ → Type 0) where
     EachRanged (theSymbol a) = Unit
     EachRanged (theSeries l h) = Unit
     EachRanged (theRange l h) = Unit
+    EachRanged (theGauged g l h) = Unit
     EachRanged (theCompound a ps) = AllRanged ps
     EachRanged (variable v) = Unit
     EachRanged (rangedVariable v l h) = Q v l h
@@ -113,6 +127,7 @@ module _ (P Q : ℕ → ℕ → ℕ → Type 0) (f : (v l h : ℕ) → P v l h �
     ranged-map (theSymbol a) k = tt
     ranged-map (theSeries l h) k = tt
     ranged-map (theRange l h) k = tt
+    ranged-map (theGauged g l h) k = tt
     ranged-map (theCompound a ps) k = all-ranged-map ps k
     ranged-map (variable v) k = tt
     ranged-map (rangedVariable v l h) k = f v l h k
@@ -139,6 +154,7 @@ mutual
   each-narrowed (theSymbol a) = tt
   each-narrowed (theSeries l h) = tt
   each-narrowed (theRange l h) = tt
+  each-narrowed (theGauged g l h) = tt
   each-narrowed (theCompound a ps) = all-narrowed ps
   each-narrowed (variable v) = tt
   each-narrowed (rangedVariable v l h) =

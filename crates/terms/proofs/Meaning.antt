@@ -1,6 +1,6 @@
--- What a rule means: a piece in which nothing is left to fill in meets a rule of an accepted sheet exactly when its arguments match the
--- rule's patterns, with one term for each variable, which is or holds record 35 at most where the variable stands once. For patterns
--- and terms of any depth.
+-- What a rule means: a piece in which nothing is left to fill in meets a rule of an accepted sheet exactly when its arguments match
+-- the rule's patterns, with one term for each variable, which is or holds record 35 at most where the variable stands once. For
+-- patterns and terms of any depth.
 use Prim.Native.Nat.{ℕ, suc, pred, _+_, _≤_}
 use mathlib.Core.Path.{_≡_, ap, sym, subst, _∙_}
 use mathlib.Core.Bool.{cond}
@@ -13,8 +13,8 @@ use Rattle.places.specs.Numbering.{stride}
 use Rattle.basics.specs.Lists.{All}
 use Rattle.basics.proofs.Booleans.{cond-by}
 use Rattle.basics.proofs.ListLaws.{all-split, all-join, all-map, all-at, all-from}
-use Rattle.terms.specs.Term.{Term, Terms, count, symbol, number, compound, nil, cons}
-use Rattle.terms.specs.Pattern.{Pattern, Patterns, countPatterns, anything, theSymbol, theSeries, theRange, theCompound, variable, rangedVariable, pnil, pcons}
+use Rattle.terms.specs.Term.{Term, Terms, count, onGauge, symbol, number, compound, nil, cons}
+use Rattle.terms.specs.Pattern.{Pattern, Patterns, countPatterns, anything, theSymbol, theSeries, theRange, theGauged, theCompound, variable, rangedVariable, pnil, pcons}
 use Rattle.terms.specs.RuleTests.{Want, aSymbol, aNumber, aCompound, at, PairTest, both, Occurrence, Range, rangeTest, patternsRange}
 use Rattle.terms.specs.RuleTests.{patternVariables, patternsVariables, patternTests, patternsTests, pairsWith, pairsOf, ruleVariables, pairTests}
 use Rattle.terms.specs.Lookup.{Found, lacking, found, finds, termAt}
@@ -31,8 +31,8 @@ use Rattle.terms.proofs.Never.{Ordinary}
 use Rattle.terms.proofs.PairTests.{pairs-with-at, pairs-each, all-variables-ascend}
 use Rattle.terms.proofs.CompareSentences.{holds-equal, same-holds}
 use Rattle.terms.proofs.PlaceSentences.{Wanted, inSeries, thatCompound, inRange, fits-wanted, wanted-fits}
-use Rattle.terms.proofs.Matching.{Matches, AllMatch, asAnything, asSymbol, asSeries, asRange, asCompound, asVariable, asRanged, asNil, asCons}
-use Rattle.terms.proofs.Matching.{match-count, match-ranges, series-in, range-in, Narrows, EachRanged, AllRanged, all-narrowed}
+use Rattle.terms.proofs.Matching.{Matches, AllMatch, asAnything, asSymbol, asSeries, asRange, asGauged, asCompound, asVariable, asRanged, asNil, asCons}
+use Rattle.terms.proofs.Matching.{match-count, match-ranges, series-in, range-in, gauged-in, Narrows, EachRanged, AllRanged, all-narrowed}
 
 -- A term of an accepted piece in which nothing is left to fill in; and so for a row of terms.
 abbrev Settled : Term → Type 0
@@ -92,6 +92,10 @@ module _ (rangeOf : ℕ → Option Range) (σ : ℕ → Term) (look : ℕ → Fo
     tests-match (theRange l u) t r b sound settled shown narrow h s =
         let n = range-in l u (settled .1) (root-holds look (aNumber l u) t r b (sound .0) shown (h .0)) in
         subst (Matches σ (theRange l u)) (sym (n .1)) (asRange (n .2) (n .3))
+    tests-match (theGauged g l u) t r b sound settled shown narrow h s =
+        let w = aNumber (onGauge g l) (onGauge g u) in
+        let n = gauged-in g l u (settled .1) (root-holds look w t r b (sound .0) shown (h .0)) in
+        subst (Matches σ (theGauged g l u)) (sym (n .2)) (asGauged {v = n .0} (n .3) (n .4) (n .5))
     tests-match (theCompound a ps) t r b sound settled shown narrow h s =
         as-compound t settled shown (root-holds look (aCompound a (countPatterns ps)) t r b (sound .0) shown (h .0))
         (λ ts below same e. all-tests-match ps ts (pred r) (suc b) (sound .4) below e same narrow (h .1) s)
@@ -145,6 +149,9 @@ module _ (rangeOf : ℕ → Option Range) (σ : ℕ → Term) (look : ℕ → Fo
           ((holds-root look (aSymbol l h) (symbol a) r b (sound .0) shown (inSeries p q), tt), tt)
       match-tests (theRange l h) r b sound shown (asRange {n = n} p q) =
           ((holds-root look (aNumber l h) (number n) r b (sound .0) shown (inRange p q), tt), tt)
+      match-tests (theGauged g l h) r b sound shown (asGauged {v = v} {n = n} e p q) =
+          let w = aNumber (onGauge g l) (onGauge g h) in
+          ((holds-root look w (number n) r b (sound .0) shown (inRange (omega arith) (omega arith)), tt), tt)
       match-tests (theCompound a ps) r b sound shown (asCompound {ts = ts} ms) =
           let e = match-count ms in
           let below = shows-arguments look a ts r b (sound .0) (omega (arith, sound .3)) shown in
@@ -233,8 +240,8 @@ ordinary-pair lacking y h = tt
 ordinary-pair (found t) lacking h = absurd h
 ordinary-pair (found t) (found u) h = holds-equal t u h .2
 
--- A piece in which nothing is left to fill in meets an accepted rule of its arity exactly when there is a term for each variable with which
--- its arguments match the rule's patterns, and record 35 is not at or in a term that is compared.
+-- A piece in which nothing is left to fill in meets an accepted rule of its arity exactly when there is a term for each variable
+-- with which its arguments match the rule's patterns, and record 35 is not at or in a term that is compared.
 pub meaning
     : {arity : ℕ} {rule : Patterns} → AcceptedRule arity rule → (piece : Terms) → count piece ≡ arity → Settleds piece
     → Meets rule piece ↔ (((σ : ℕ → Term) × AllMatch σ rule piece) × OrdinaryPairs rule piece)

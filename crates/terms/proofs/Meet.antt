@@ -3,6 +3,7 @@
 -- that is in all of them.
 use Prim.Native.Nat.{ℕ, suc, min, max}
 use mathlib.Core.Path.{_≡_, refl, ap, subst}
+use mathlib.Core.Logic.{inl, inr}
 use mathlib.Core.List.{List, [], _∷_}
 use native.Mathlib.Omega.{arith}
 use lib.Dec.{eqb, eqb→eq}
@@ -192,7 +193,14 @@ mutual
   meet-well-formed (numbers a b) never okt oku p = okt
   meet-well-formed (numbers a b) (symbol c) okt oku p = okt
   meet-well-formed (numbers a b) (numbers c d) okt oku p =
-      let x = spans-open a b c d .0 p in (omega (arith, x .0, x .1, okt .0, oku .0), omega (arith, okt .1))
+      let x = spans-open a b c d .0 p in (
+        omega (arith, x .0, x .1, okt .0, oku .0),
+        omega (arith, okt .1),
+        elim (okt .2) [
+          | inl e ↦ inl (omega (arith, x .0, x .1))
+          | inr w ↦ inr (omega arith)
+        ],
+      )
   meet-well-formed (numbers a b) (compound c us) okt oku p = okt
   meet-well-formed (compound a ts) unknown okt oku p = okt
   meet-well-formed (compound a ts) never okt oku p = okt

@@ -13,7 +13,8 @@ use Rattle.basics.proofs.Clash.{clash}
 use Rattle.basics.proofs.ListLaws.{all-join, all-at, all-from}
 use Rattle.basics.proofs.Filters.{mem-left, mem-right}
 use Rattle.terms.proofs.Numbered.{row-next, row-first}
-use Rattle.terms.specs.Pattern.{Pattern, Patterns, countPatterns, anything, theSymbol, theSeries, theRange, theCompound, variable, rangedVariable, pnil, pcons}
+use Rattle.terms.specs.Term.{onGauge}
+use Rattle.terms.specs.Pattern.{Pattern, Patterns, countPatterns, anything, theSymbol, theSeries, theRange, theGauged, theCompound, variable, rangedVariable, pnil, pcons}
 use Rattle.terms.specs.RuleTests.{aSymbol, aNumber, aCompound, PlaceTest, at, Occurrence, Range, rangeTest, patternsRange}
 use Rattle.terms.specs.RuleTests.{patternVariables, patternsVariables, patternTests, patternsTests, placeTests, ruleVariables}
 
@@ -41,6 +42,7 @@ module _ {X : Type 0} (own : Pattern → ℕ → List X) where
     collect (theSymbol a) r b = own (theSymbol a) b
     collect (theSeries l h) r b = own (theSeries l h) b
     collect (theRange l h) r b = own (theRange l h) b
+    collect (theGauged g l h) r b = own (theGauged g l h) b
     collect (theCompound a ps) r b = own (theCompound a ps) b ++ collects ps (pred r) (suc b)
     collect (variable v) r b = own (variable v) b
     collect (rangedVariable v l h) r b = own (rangedVariable v l h) b
@@ -55,6 +57,7 @@ module _ {X : Type 0} (own : Pattern → ℕ → List X) where
   own-collected (theSymbol a) r b m = m
   own-collected (theSeries l h) r b m = m
   own-collected (theRange l h) r b m = m
+  own-collected (theGauged g l h) r b m = m
   own-collected (theCompound a ps) r b m = mem-left (collects ps (pred r) (suc b)) m
   own-collected (variable v) r b m = m
   own-collected (rangedVariable v l h) r b m = m
@@ -112,6 +115,7 @@ module _ {X : Type 0} (own : Pattern → ℕ → List X) where
       collected-stands (theSymbol a) r b s = own-stands (theSymbol a) r b s
       collected-stands (theSeries l h) r b s = own-stands (theSeries l h) r b s
       collected-stands (theRange l h) r b s = own-stands (theRange l h) r b s
+      collected-stands (theGauged g l h) r b s = own-stands (theGauged g l h) r b s
       collected-stands (theCompound a ps) r b s =
           all-join OfPattern (own (theCompound a ps) b) (collects ps (pred r) (suc b)) (own-stands (theCompound a ps) r b s)
           (row-collected ps (pred r) (suc b) (λ j p e. moved j p (child s j e)))
@@ -142,13 +146,14 @@ module _ {X : Type 0} (own : Pattern → ℕ → List X) where
           λ o. stands-collected (o .3) (own-collected (o .2) (o .0) (o .1) (o .4)),
         )
 
--- A pattern's own place test, at its place: "one place test for each symbol, range or compound (id and arity)", for a series too, and "if
--- any of its records is ranged, the common part of those ranges is a place test at all k places" of a variable.
+-- A pattern's own place test, at its place: "one place test for each symbol, range or compound (id and arity)", for a series too,
+-- and "if any of its records is ranged, the common part of those ranges is a place test at all k places" of a variable.
 abbrev pub ownTests : (ℕ → Option Range) → Pattern → ℕ → List PlaceTest
 ownTests rangeOf anything n = []
 ownTests rangeOf (theSymbol a) n = at n (aSymbol a a) ∷ []
 ownTests rangeOf (theSeries l h) n = at n (aSymbol l h) ∷ []
 ownTests rangeOf (theRange l h) n = at n (aNumber l h) ∷ []
+ownTests rangeOf (theGauged g l h) n = at n (aNumber (onGauge g l) (onGauge g h)) ∷ []
 ownTests rangeOf (theCompound a ps) n = at n (aCompound a (countPatterns ps)) ∷ []
 ownTests rangeOf (variable v) n = rangeTest n (rangeOf v)
 ownTests rangeOf (rangedVariable v l h) n = rangeTest n (rangeOf v)
@@ -159,6 +164,7 @@ ownVariable anything n = []
 ownVariable (theSymbol a) n = []
 ownVariable (theSeries l h) n = []
 ownVariable (theRange l h) n = []
+ownVariable (theGauged g l h) n = []
 ownVariable (theCompound a ps) n = []
 ownVariable (variable v) n = record { place = n; name = v } ∷ []
 ownVariable (rangedVariable v l h) n = record { place = n; name = v } ∷ []
@@ -171,6 +177,7 @@ module _ (rangeOf : ℕ → Option Range) where
     tests-are (theSymbol a) r b = refl
     tests-are (theSeries l h) r b = refl
     tests-are (theRange l h) r b = refl
+    tests-are (theGauged g l h) r b = refl
     tests-are (theCompound a ps) r b =
         ap (λ (l : List PlaceTest). at b (aCompound a (countPatterns ps)) ∷ l) (all-tests-are ps (pred r) (suc b))
     tests-are (variable v) r b = refl
@@ -187,6 +194,7 @@ mutual
   variables-are (theSymbol a) r b = refl
   variables-are (theSeries l h) r b = refl
   variables-are (theRange l h) r b = refl
+  variables-are (theGauged g l h) r b = refl
   variables-are (theCompound a ps) r b = all-variables-are ps (pred r) (suc b)
   variables-are (variable v) r b = refl
   variables-are (rangedVariable v l h) r b = refl

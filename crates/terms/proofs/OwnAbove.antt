@@ -13,7 +13,7 @@ use Rattle.basics.specs.Lists.{Mem, All}
 use Rattle.basics.proofs.Booleans.{both-true}
 use Rattle.basics.proofs.ListLaws.{all-split, all-join, all-map, all-at, all-from}
 use Rattle.terms.specs.Pattern.{Pattern, Patterns, countPatterns, pnil, pcons}
-use Rattle.terms.specs.Pattern.{anything, theSymbol, theSeries, theRange, theCompound, variable, rangedVariable}
+use Rattle.terms.specs.Pattern.{anything, theSymbol, theSeries, theRange, theGauged, theCompound, variable, rangedVariable}
 use Rattle.terms.specs.RuleTests.{Want, aCompound, PlaceTest, at, PairTest, Occurrence, Range, patternsRange, rangeTest}
 use Rattle.terms.specs.RuleTests.{patternTests, patternsTests, patternVariables, patternsVariables}
 use Rattle.terms.specs.RuleTests.{placeTests, pairTests, ruleVariables}
@@ -90,6 +90,7 @@ module _ (rangeOf : ℕ → Option Range) (Listed : PlaceTest → Type 0) where
     pattern-owned (theSymbol a) r b sound row listed = ((first-owned b, tt), tt)
     pattern-owned (theSeries l h) r b sound row listed = ((first-owned b, tt), tt)
     pattern-owned (theRange l h) r b sound row listed = ((first-owned b, tt), tt)
+    pattern-owned (theGauged g l h) r b sound row listed = ((first-owned b, tt), tt)
     pattern-owned (theCompound a ps) r b sound row listed =
         let n = countPatterns ps in
         let rows = row-below r b (extent n (pred r)) (sound .0) row (extent-fits n r (sound .0) (sound .3)) in

@@ -11,7 +11,7 @@ use lib.Dec.{eqb, eqb→eq}
 use Rattle.places.specs.Numbering.{stride}
 use Rattle.basics.specs.Lists.{Mem, All}
 use Rattle.terms.specs.Term.{Term, Terms, count, unknown, symbol, numbers, compound, nil, cons}
-use Rattle.terms.specs.Pattern.{Pattern, Patterns, countPatterns, anything, theSymbol, theSeries, theRange, theCompound, variable, rangedVariable, pnil, pcons}
+use Rattle.terms.specs.Pattern.{Pattern, Patterns, countPatterns, anything, theSymbol, theSeries, theRange, theGauged, theCompound, variable, rangedVariable, pnil, pcons}
 use Rattle.terms.specs.RuleTests.{aCompound, PlaceTest, at, PairTest, Occurrence, Range, patternsRange, rangeTest}
 use Rattle.terms.specs.RuleTests.{patternTests, patternsTests, patternVariables, patternsVariables}
 use Rattle.terms.specs.RuleTests.{placeTests, pairTests, ruleVariables}
@@ -109,6 +109,7 @@ module _ (rangeOf : ℕ → Option Range) (look : ℕ → Found) (Listed : Place
     pattern-reached (theSymbol a) t r b sound shown row listed = ((root-reached t r b (sound .0) shown, tt), tt)
     pattern-reached (theSeries l h) t r b sound shown row listed = ((root-reached t r b (sound .0) shown, tt), tt)
     pattern-reached (theRange l h) t r b sound shown row listed = ((root-reached t r b (sound .0) shown, tt), tt)
+    pattern-reached (theGauged g l h) t r b sound shown row listed = ((root-reached t r b (sound .0) shown, tt), tt)
     pattern-reached (theCompound a ps) t r b sound shown row listed =
         let n = countPatterns ps in
         let Below = AllReached (patternsTests rangeOf ps (pred r) (suc b)) (patternsVariables ps (pred r) (suc b)) in

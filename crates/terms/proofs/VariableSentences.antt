@@ -11,7 +11,7 @@ use lib.Dec.{T, eqb, eqb→eq, eqb-refl}
 use Rattle.basics.specs.Lists.{Mem, All}
 use Rattle.basics.proofs.ListLaws.{all-at, all-from, mem-cases, mem-none}
 use Rattle.basics.proofs.Filters.{mem-left, mem-right}
-use Rattle.terms.specs.Pattern.{Pattern, Patterns, countPatterns, anything, theSymbol, theSeries, theRange, theCompound, variable, rangedVariable, pnil, pcons}
+use Rattle.terms.specs.Pattern.{Pattern, Patterns, countPatterns, anything, theSymbol, theSeries, theRange, theGauged, theCompound, variable, rangedVariable, pnil, pcons}
 use Rattle.terms.specs.RuleTests.{PairTest, both, Occurrence, Range, commonPart, patternRange, patternsRange, pairsWith, pairsOf, ruleVariables, pairTests}
 use Rattle.terms.specs.Accepted.{AcceptedRule}
 use Rattle.terms.proofs.TermPlaces.{extent}
@@ -111,6 +111,7 @@ module _
       record-holds (theSymbol a) = (λ h. tt, λ h. free)
       record-holds (theSeries l h) = (λ k. tt, λ k. free)
       record-holds (theRange l h) = (λ k. tt, λ k. free)
+      record-holds (theGauged g l h) = (λ k. tt, λ k. free)
       record-holds (theCompound a ps) = records-hold ps
       record-holds (variable u) = (λ h. tt, λ h. free)
       record-holds (rangedVariable u l h) =

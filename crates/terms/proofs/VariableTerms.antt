@@ -5,6 +5,7 @@ use mathlib.Core.Path.{_≡_, refl, sym, subst, _∙_}
 use mathlib.Core.Bool.{Bool, true, false, cond}
 use mathlib.Core.List.{List, [], _∷_, _++_}
 use mathlib.Core.Option.{Option, some, none}
+use native.Mathlib.Omega.{arith}
 use lib.Dec.{eqb, T, eqb→eq, eqb-refl}
 use Rattle.basics.specs.Lists.{All}
 use Rattle.terms.specs.Term.{Term, unknown, symbol}
@@ -40,7 +41,7 @@ in-range
     : (x : Option Range) (t : Term) → InCommon x → WideRange x → WellFormed t → OpenRange x t
     → (g : Term) × Fills t g × InRange x g
 in-range none t nonempty wide ok may = (fillWith t (symbol 0), fill-with t (symbol 0) ok zero-ground, tt)
-in-range (some y) t nonempty wide ok may = fitting-number (y .low) (y .high) nonempty wide t ok may
+in-range (some y) t nonempty wide ok may = fitting-number (y .low) (y .high) nonempty (omega (arith, wide)) t ok may
 
 -- An unknown rules out no range, nor does the meet of terms that do not.
 unknown-open : (x : Option Range) → OpenRange x unknown

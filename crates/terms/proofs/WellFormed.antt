@@ -1,5 +1,6 @@
 -- Well-formed terms, as an accepted piece has them, and what their fillings are: known, and ground where record 35 is in none.
 use Prim.Native.Nat.{ℕ}
+use mathlib.Core.Logic.{inl}
 use native.Mathlib.Omega.{arith}
 use Rattle.terms.specs.Term.{Term, Terms}
 use Rattle.terms.specs.Lookup.{finds}
@@ -18,7 +19,7 @@ mutual
   fills-known ok (putUnknown {g = g} h) = let x = ground-known g h in (x .0, x .1)
   fills-known ok putNever = (tt, tt)
   fills-known ok putSymbol = (ok, tt)
-  fills-known ok (putNumbers x y z h) = ((y, h .1), h .0)
+  fills-known ok (putNumbers x y z h) = ((y, h .1, inl (h .0)), h .0)
   fills-known ok (putCompound fs) =
       let e = puts-count fs in
       let x = filling-known (ok .3) fs in

@@ -4,7 +4,7 @@ use mathlib.Core.Path.{_≡_}
 use mathlib.Core.Option.{Option, some, none}
 use Rattle.terms.specs.Term.{Term, Terms, count, Wide, unknown, never, symbol, numbers, compound, nil, cons}
 use Rattle.terms.specs.Pattern.{Pattern, Patterns, countPatterns, pnil, pcons}
-use Rattle.terms.specs.Pattern.{anything, theSymbol, theSeries, theRange, theCompound, variable, rangedVariable}
+use Rattle.terms.specs.Pattern.{anything, theSymbol, theSeries, theRange, theGauged, theCompound, variable, rangedVariable}
 use Rattle.terms.specs.RuleTests.{Range, patternsRange}
 use Rattle.terms.specs.Filling.{WellFormeds}
 
@@ -16,6 +16,7 @@ abbrev mutual
   Sound (theSymbol a) r = (1 ≤ r) × Wide a
   Sound (theSeries l h) r = (1 ≤ r) × (l ≤ h) × Wide h
   Sound (theRange l h) r = (1 ≤ r) × (l ≤ h) × Wide h
+  Sound (theGauged g l h) r = (1 ≤ r) × (l ≤ h) × Wide h × (g < 256)
   Sound (theCompound a ps) r = (1 ≤ r) × Wide a × (1 ≤ countPatterns ps) × (countPatterns ps ≤ 4) × Sounds ps (pred r)
   Sound (variable v) r = (1 ≤ r) × (v < 16)
   Sound (rangedVariable v l h) r = (1 ≤ r) × (l ≤ h) × Wide h × (v < 16)

@@ -1,30 +1,32 @@
--- Fillings of a piece, and pieces filled in further (document 01, "Places and tests"; document 02, requests 4 and 6).
+-- Fillings of a piece, and pieces filled in further (document 01, "Places and tests"; document 02, requests 4, 6
+-- and 7).
 use Prim.Native.Nat.{ℕ, _≤_}
 use mathlib.Core.Path.{_≡_}
-use Rattle.terms.specs.Term.{Term, Terms, count, Wide, unknown, never, symbol, numbers, compound, nil, cons}
+use mathlib.Core.Logic.{_⊎_}
+use Rattle.terms.specs.Term.{Term, Terms, count, Wide, Gauged, unknown, never, symbol, numbers, compound, nil, cons}
 
--- What a filling puts in: "a term without unknowns, of any depth and compound arities 1 to 4". Its ids and numbers are 0 to
--- 65,535, as in records, and its numbers are known. "A filling itself still uses ordinary terms only": not record 35.
+-- What a filling puts in: "a term without unknowns, of any depth and compound arities 1 to 4". Its ids are 0 to 65,535, as in
+-- records, its numbers are on any gauge and known. "A filling itself still uses ordinary terms only": not record 35.
 abbrev mutual
   pub Ground : Term → Type 0
   Ground unknown = ⊥
   Ground never = ⊥
   Ground (symbol a) = Wide a
-  Ground (numbers a b) = (a ≡ b) × Wide b
+  Ground (numbers a b) = (a ≡ b) × Gauged b
   Ground (compound a ts) = Wide a × (1 ≤ count ts) × (count ts ≤ 4) × Grounds ts
 
   pub Grounds : Terms → Type 0
   Grounds nil = Unit
   Grounds (cons t ts) = Ground t × Grounds ts
 
--- What filling in more puts in: "terms, which may hold unknowns". A span has a number, low being at most high. "An unknown may
--- later become 35, and that is filling in more."
+-- What filling in more puts in: "terms, which may hold unknowns". A span has a number, low being at most high, and spans "keep to
+-- gauge 0", which has the numbers that a wide field holds. "An unknown may later become 35, and that is filling in more."
 abbrev mutual
   pub WellFormed : Term → Type 0
   WellFormed unknown = Unit
   WellFormed never = Unit
   WellFormed (symbol a) = Wide a
-  WellFormed (numbers a b) = (a ≤ b) × Wide b
+  WellFormed (numbers a b) = (a ≤ b) × Gauged b × ((a ≡ b) ⊎ Wide b)
   WellFormed (compound a ts) = Wide a × (1 ≤ count ts) × (count ts ≤ 4) × WellFormeds ts
 
   pub WellFormeds : Terms → Type 0

@@ -1,4 +1,4 @@
--- The three values of a test in a piece, and of a rule's tests (document 01, "Places and tests"; document 02, requests 4 to 6).
+-- The three values of a test in a piece, and of a rule's tests (document 01, "Places and tests"; document 02, requests 4 to 7).
 use Prim.Native.Nat.{ℕ}
 use mathlib.Core.Bool.{Bool, true, false, _&&_, _||_, cond}
 use mathlib.Core.List.{List, [], _∷_}
@@ -60,7 +60,8 @@ fits (aCompound a n) (symbol b) = contradicted
 fits (aCompound a n) (numbers b c) = contradicted
 fits (aCompound a n) (compound b ts) = known (eqb a b && eqb n (count ts))
 
--- "Spans with no common number differ, .. and a span of several numbers makes a comparison otherwise not known."
+-- "Spans with no common number differ, .. and a span of several numbers makes a comparison otherwise not known." "Two numbers are
+-- now equal only if gauge and value are both equal", and "a span and a number on another gauge differ".
 abbrev pub compareSpans : ℕ → ℕ → ℕ → ℕ → Outcome
 compareSpans a b c d = cond (ltb b c || ltb d a) contradicted (cond (eqb a b && eqb c d) holds notKnown)
 

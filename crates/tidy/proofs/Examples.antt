@@ -3,7 +3,7 @@ use Prim.Native.Nat.{ℕ}
 use mathlib.Core.Path.{_≡_, refl}
 use mathlib.Core.List.{[], _∷_}
 use Rattle.terms.specs.Pattern.{Patterns, pnil, pcons}
-use Rattle.terms.specs.Pattern.{theSeries, variable, rangedVariable}
+use Rattle.terms.specs.Pattern.{theSeries, theGauged, variable, rangedVariable}
 use Rattle.sheet.specs.Sheet.{Sheet}
 use Rattle.tidy.specs.TidySheet.{tidySheet, tidyBytes}
 
@@ -46,3 +46,11 @@ writes-21 = refl
 -- and a series of more stays: 100101 26 0001 0002.
 series-stays : tidyBytes (one 1 (pcons (theSeries 1 2) pnil)) ≡ 0x10 ∷ 1 ∷ 1 ∷ 0x26 ∷ 0 ∷ 1 ∷ 0 ∷ 2 ∷ []
 series-stays = refl
+
+-- "Gauge 0 is tidied to 22", 100101 27 00 0001 0002,
+writes-22 : tidyBytes (one 1 (pcons (theGauged 0 1 2) pnil)) ≡ 0x10 ∷ 1 ∷ 1 ∷ 0x22 ∷ 0 ∷ 1 ∷ 0 ∷ 2 ∷ []
+writes-22 = refl
+
+-- and a range on another gauge stays: 100101 27 05 0001 0002.
+gauge-stays : tidyBytes (one 1 (pcons (theGauged 5 1 2) pnil)) ≡ 0x10 ∷ 1 ∷ 1 ∷ 0x27 ∷ 5 ∷ 0 ∷ 1 ∷ 0 ∷ 2 ∷ []
+gauge-stays = refl

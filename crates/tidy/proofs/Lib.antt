@@ -8,6 +8,7 @@ pub mod NewNumbers
 pub mod PairOrder
 -- The tidy rule has the rule's tests and is accepted:
 pub mod Series
+pub mod Gauges
 pub mod Renumbered
 pub mod TidyTests
 pub mod TidyAccepted

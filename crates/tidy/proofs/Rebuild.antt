@@ -13,14 +13,16 @@ use Rattle.basics.specs.Lists.{Mem, filter, anyOf, countFrom}
 use Rattle.basics.proofs.Booleans.{both-true, cond-false}
 use Rattle.basics.proofs.Numbers.{eq-true}
 use Rattle.basics.proofs.Filters.{filter-mem, mem-any, any-mem}
+use Rattle.terms.specs.Term.{onGauge}
 use Rattle.terms.specs.Pattern.{Pattern, Patterns, countPatterns, pnil, pcons}
-use Rattle.terms.specs.Pattern.{anything, theSymbol, theSeries, theRange, theCompound, variable, rangedVariable}
+use Rattle.terms.specs.Pattern.{anything, theSymbol, theSeries, theRange, theGauged, theCompound, variable, rangedVariable}
 use Rattle.terms.specs.RuleTests.{Want, aSymbol, aNumber, aCompound, PlaceTest, at, PairTest, Occurrence, Range}
 use Rattle.terms.specs.RuleTests.{patternsRange, rangeTest, patternVariables, patternsVariables}
 use Rattle.terms.specs.RuleTests.{patternTests, patternsTests, pairsOf, placeTests, pairTests, ruleVariables}
-use Rattle.terms.specs.Accepted.{Sound, Sounds, AcceptedRule}
+use Rattle.terms.specs.Accepted.{Sound, Sounds, InCommon, AcceptedRule}
 use Rattle.terms.proofs.TermPlaces.{extent, extent-fits}
 use Rattle.terms.proofs.Ascending.{Ascends}
+use Rattle.terms.proofs.Ranges.{WideRange, ranges-wide}
 use Rattle.terms.proofs.PairTests.{variablePlace, variables-ascend, all-variables-ascend}
 use Rattle.terms.proofs.VariableSentences.{standing, pairs-of-are}
 use Rattle.terms.proofs.PreorderTests.{testPlace, tests-ascend, all-tests-ascend}
@@ -28,6 +30,7 @@ use Rattle.tidy.specs.TidyRule.{isNamed, positionOf, isRepeated}
 use Rattle.tidy.specs.TidyRule.{appearsFirst, firstAppearances, newNumber, single, repeated, tidySeries, tidyPattern, tidyPatterns}
 use Rattle.tidy.specs.TidyRule.{tidyRule}
 use Rattle.tidy.proofs.Series.{tidy-one}
+use Rattle.tidy.proofs.Gauges.{rangeOn, range-on-0, range-on}
 use Rattle.tidy.proofs.Pairs.{isFirst, isSecond, paired, leads, alike, first-is, repeated-is, no-variable-there, alike-is}
 use Rattle.tidy.proofs.ByPlace.{lookIn, look-here, look-past, look-none, look-mem, Has, has-left, has-right, places-filtered}
 use Rattle.tidy.proofs.ByPlace.{position-at}
@@ -37,7 +40,7 @@ abbrev written : Option Want → Option ℕ → (ℕ → Patterns) → Pattern
 written none none f = anything
 written none (some n) f = variable n
 written (some (aSymbol l h)) n f = tidySeries l h
-written (some (aNumber l h)) none f = theRange l h
+written (some (aNumber l h)) none f = rangeOn l h
 written (some (aNumber l h)) (some n) f = rangedVariable n l h
 written (some (aCompound a k)) n f = theCompound a (f k)
 
@@ -77,20 +80,22 @@ rebuild arity tests pairs = row (patternAt (wantedAt tests) (numberAt (extent ar
 
 -- What is written for a variable, by its range and its number.
 variable-written
-    : (c : Bool) (n : ℕ) (x : Option Range) (b : ℕ) (f : ℕ → Patterns)
+    : (c : Bool) (n : ℕ) (x : Option Range) (b : ℕ) (f : ℕ → Patterns) → InCommon x → WideRange x
     → written (wantedAt (rangeTest b x) b) (cond c (some n) none) f ≡ cond c (repeated n x) (single x)
-variable-written true n none b f = refl
-variable-written false n none b f = refl
-variable-written true n (some x) b f =
+variable-written true n none b f common wide = refl
+variable-written false n none b f common wide = refl
+variable-written true n (some x) b f common wide =
     ap (λ (w : Option Want). written w (some n) f) (look-here testPlace wanted (at b (aNumber (x .low) (x .high))) [] b refl)
-variable-written false n (some x) b f =
+variable-written false n (some x) b f common wide =
     ap (λ (w : Option Want). written w none f) (look-here testPlace wanted (at b (aNumber (x .low) (x .high))) [] b refl)
+    ∙ range-on-0 (x .low) (x .high) common wide
 
 -- The new number of a variable, if it is repeated.
 abbrev numbered : List Occurrence → Occurrence → Option ℕ
 numbered os o = cond (isRepeated os (o .name)) (some (newNumber os (o .name))) none
 
-module _ (os : List Occurrence) (rangeOf : ℕ → Option Range) (want : ℕ → Option Want) (number : ℕ → Option ℕ) where
+module _ (os : List Occurrence) (rangeOf : ℕ → Option Range) (want : ℕ → Option Want) (number : ℕ → Option ℕ)
+    (common : (v : ℕ) → InCommon (rangeOf v)) (wide : (v : ℕ) → WideRange (rangeOf v)) where
   -- One test at a place, and no variable.
   only-test
       : (w : Want) (r b : ℕ) (f : ℕ → Patterns) → 1 ≤ r → Has testPlace wanted want (at b w ∷ []) b (b + stride r)
@@ -109,7 +114,7 @@ module _ (os : List Occurrence) (rangeOf : ℕ → Option Range) (want : ℕ →
       let w-is = tests b (omega arith) near in
       let n-is =
       variables b (omega arith) near ∙ look-here variablePlace (numbered os) (record { place = b; name = v }) [] b refl in
-      (λ i. written (w-is i) (n-is i) f) ∙ variable-written (isRepeated os v) (newNumber os v) (rangeOf v) b f
+      (λ i. written (w-is i) (n-is i) f) ∙ variable-written (isRepeated os v) (newNumber os v) (rangeOf v) b f (common v) (wide v)
 
   mutual
     -- What is wanted and numbered at a pattern's places gives its tidy form,
@@ -129,6 +134,11 @@ module _ (os : List Occurrence) (rangeOf : ℕ → Option Range) (want : ℕ →
         pattern-at want number r b (sound .0) ∙ only-test (aSymbol l h) r b _ (sound .0) tests variables
     pattern-rebuilt (theRange l h) r b sound tests variables =
         pattern-at want number r b (sound .0) ∙ only-test (aNumber l h) r b _ (sound .0) tests variables
+        ∙ range-on-0 l h (sound .1) (sound .2)
+    pattern-rebuilt (theGauged g l h) r b sound tests variables =
+        pattern-at want number r b (sound .0)
+        ∙ only-test (aNumber (onGauge g l) (onGauge g h)) r b _ (sound .0) tests variables
+        ∙ range-on g l h (sound .1) (sound .2)
     pattern-rebuilt (theCompound a ps) r b sound tests variables =
         let n = countPatterns ps in
         let fit = extent-fits n r (sound .0) (sound .3) in
@@ -237,5 +247,5 @@ rebuild-tidy arity rule accepted =
     let size = extent (countPatterns rule) 4 in
     let up = all-variables-ascend rule 4 0 (accepted .sound) in
     ap (λ (n : ℕ). rebuild n (placeTests rule) (pairTests rule)) (sym (accepted .arguments))
-    ∙ patterns-rebuilt os (patternsRange rule) (wantedAt (placeTests rule)) (numberAt size (pairTests rule)) rule 4 0
-    (accepted .sound) (λ m l k. refl) (λ m l k. numbers-there size os up m)
+    ∙ patterns-rebuilt os (patternsRange rule) (wantedAt (placeTests rule)) (numberAt size (pairTests rule))
+    (accepted .common) (ranges-wide rule 4 (accepted .sound)) rule 4 0 (accepted .sound) (λ m l k. refl) (λ m l k. numbers-there size os up m)

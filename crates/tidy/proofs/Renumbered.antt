@@ -10,7 +10,7 @@ use Rattle.basics.specs.Lists.{Mem, filter}
 use Rattle.basics.proofs.Filters.{mem-map, map-mem, mem-filter, filter-mem, map-join, filter-join}
 use Rattle.basics.proofs.Sorted.{same-members}
 use Rattle.terms.specs.Pattern.{Pattern, Patterns, pnil, pcons}
-use Rattle.terms.specs.Pattern.{anything, theSymbol, theSeries, theRange, theCompound, variable, rangedVariable}
+use Rattle.terms.specs.Pattern.{anything, theSymbol, theSeries, theRange, theGauged, theCompound, variable, rangedVariable}
 use Rattle.terms.specs.RuleTests.{PairTest, Occurrence, Range}
 use Rattle.terms.specs.RuleTests.{patternVariables, patternsVariables}
 use Rattle.terms.specs.RuleTests.{pairsOf}
@@ -20,6 +20,7 @@ use Rattle.terms.proofs.VariableSentences.{standing, pairs-of-are}
 use Rattle.tidy.specs.TidyRule.{isRepeated}
 use Rattle.tidy.specs.TidyRule.{newNumber, single, repeated, tidyVariable, tidyPattern, tidyPatterns}
 use Rattle.tidy.proofs.Series.{series-kept}
+use Rattle.tidy.proofs.Gauges.{gauge-kept}
 use Rattle.tidy.proofs.Occurrences.{ascends-filter}
 use Rattle.tidy.proofs.Pairs.{repeats}
 use Rattle.tidy.proofs.NewNumbers.{numbers-differ}
@@ -118,6 +119,7 @@ module _ (os : List Occurrence) (rangeOf : ℕ → Option Range) where
     variables-kept (theSymbol a) r b = refl
     variables-kept (theSeries l h) r b = series-kept (λ (p : Pattern). patternVariables p r b) l h (λ e. refl)
     variables-kept (theRange l h) r b = refl
+    variables-kept (theGauged g l h) r b = gauge-kept (λ (p : Pattern). patternVariables p r b) g l h (λ e. refl)
     variables-kept (theCompound a ps) r b = all-variables-kept ps (pred r) (suc b)
     variables-kept (variable v) r b = variable-kept v r b
     variables-kept (rangedVariable v l h) r b = variable-kept v r b

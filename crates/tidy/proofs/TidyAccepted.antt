@@ -12,7 +12,7 @@ use Rattle.basics.proofs.Booleans.{both-true, cond-holds, cond-by}
 use Rattle.basics.proofs.ListLaws.{all-join}
 use Rattle.basics.proofs.Filters.{any-mem}
 use Rattle.terms.specs.Pattern.{Pattern, Patterns, countPatterns, pnil, pcons}
-use Rattle.terms.specs.Pattern.{anything, theSymbol, theSeries, theRange, theCompound, variable, rangedVariable}
+use Rattle.terms.specs.Pattern.{anything, theSymbol, theSeries, theRange, theGauged, theCompound, variable, rangedVariable}
 use Rattle.terms.specs.RuleTests.{Occurrence, Range}
 use Rattle.terms.specs.RuleTests.{patternsRange, patternVariables, patternsVariables}
 use Rattle.terms.specs.RuleTests.{ruleVariables}
@@ -37,6 +37,7 @@ mutual
   names-small (theSymbol a) r b sound = tt
   names-small (theSeries l h) r b sound = tt
   names-small (theRange l h) r b sound = tt
+  names-small (theGauged g l h) r b sound = tt
   names-small (theCompound a ps) r b sound = all-names-small ps (pred r) (suc b) (sound .4)
   names-small (variable v) r b sound = (sound .1, tt)
   names-small (rangedVariable v l h) r b sound = (sound .3, tt)
@@ -72,6 +73,8 @@ module _
       tidy-sound (theSeries l h) r sound =
           cond-by (λ (p : Pattern). Sound p r) (eqb l h) (λ e. (sound .0, omega (arith, sound .1, sound .2))) (λ e. sound)
       tidy-sound (theRange l h) r sound = sound
+      tidy-sound (theGauged g l h) r sound =
+          cond-by (λ (p : Pattern). Sound p r) (eqb g 0) (λ e. (sound .0, sound .1, sound .2)) (λ e. sound)
       tidy-sound (theCompound a ps) r sound =
           let n = tidy-count os rangeOf ps in
           (sound .0, sound .1, omega (arith, n, sound .2), omega (arith, n, sound .3), tidy-sounds ps (pred r) (sound .4))

@@ -16,7 +16,7 @@ use Rattle.basics.proofs.Booleans.{cond-by}
 use Rattle.basics.proofs.ListLaws.{mem-cases, mem-none}
 use Rattle.basics.proofs.Filters.{map-mem}
 use Rattle.terms.specs.Pattern.{Pattern, Patterns, countPatterns, pnil, pcons}
-use Rattle.terms.specs.Pattern.{anything, theSymbol, theSeries, theRange, theCompound, variable, rangedVariable}
+use Rattle.terms.specs.Pattern.{anything, theSymbol, theSeries, theRange, theGauged, theCompound, variable, rangedVariable}
 use Rattle.terms.specs.RuleTests.{Occurrence, Range, PlaceTest, rangeTest, patternTests, patternsTests}
 use Rattle.terms.specs.RuleTests.{at, patternsRange, ruleVariables, placeTests}
 use Rattle.terms.specs.Accepted.{Sound, Sounds, AcceptedRule}
@@ -53,6 +53,8 @@ module _ (variables : List Occurrence) (rangeOf : ℕ → Option Range) where
     pattern-short (theSeries l h) r b sound =
         cond-by (λ (p : Pattern). length (patternBytes p) ≤ 12) (eqb l h) (λ e. omega arith) (λ e. omega arith)
     pattern-short (theRange l h) r b sound = omega arith
+    pattern-short (theGauged g l h) r b sound =
+        cond-by (λ (p : Pattern). length (patternBytes p) ≤ 12) (eqb g 0) (λ e. omega arith) (λ e. omega arith)
     pattern-short (theCompound a ps) r b sound = omega (arith, sound .3, patterns-short ps (pred r) (suc b) (sound .4))
     pattern-short (variable v) r b sound = variable-short v b
     pattern-short (rangedVariable v l h) r b sound = variable-short v b

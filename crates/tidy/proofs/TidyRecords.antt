@@ -8,14 +8,14 @@ use mathlib.Core.Option.{Option, some, none}
 use lib.Dec.{eqb}
 use Rattle.basics.proofs.Filters.{map-join}
 use Rattle.terms.specs.Pattern.{Pattern, Patterns, countPatterns, pnil, pcons}
-use Rattle.terms.specs.Pattern.{anything, theSymbol, theSeries, theRange, theCompound, variable, rangedVariable}
+use Rattle.terms.specs.Pattern.{anything, theSymbol, theSeries, theRange, theGauged, theCompound, variable, rangedVariable}
 use Rattle.terms.specs.RuleTests.{Occurrence}
 use Rattle.terms.specs.RuleTests as tests
 use Rattle.sheet.specs.WriteSheet.{patternBytes, patternsBytes}
 use Rattle.patterns.specs.declared.PatternRecord.{PatternRecord}
-use Rattle.patterns.specs.declared.PatternRecord.the-variants.{Anything, Symbol, Series, Range, Compound, Variable, Ranged}
-use Rattle.patterns.specs.views.PatternRecord.{seriesRecord, recordSpelling, recordsSpelling}
-use Rattle.tidy.specs.TidyRule.{isRepeated, newNumber, single, repeated, tidySeries, tidyPattern, tidyPatterns}
+use Rattle.patterns.specs.declared.PatternRecord.the-variants.{Anything, Symbol, Series, Range, Compound, Variable, Ranged, Gauged}
+use Rattle.patterns.specs.views.PatternRecord.{seriesRecord, gaugedRecord, recordSpelling, recordsSpelling}
+use Rattle.tidy.specs.TidyRule.{isRepeated, newNumber, single, repeated, tidySeries, tidyGauged, tidyPattern, tidyPatterns}
 use Rattle.tidy.proofs.TidyTests.{tidy-count}
 
 -- The records of a pattern, in preorder.
@@ -25,6 +25,7 @@ abbrev mutual
   patternRecords (theSymbol a) = Symbol a ∷ []
   patternRecords (theSeries l h) = Series l h ∷ []
   patternRecords (theRange l h) = Range l h ∷ []
+  patternRecords (theGauged g l h) = Gauged g l h ∷ []
   patternRecords (theCompound a ps) = Compound a (countPatterns ps) ∷ patternsRecords ps
   patternRecords (variable v) = Variable v ∷ []
   patternRecords (rangedVariable v l h) = Ranged v l h ∷ []
@@ -47,6 +48,7 @@ mutual
   pattern-records-spell (theSymbol a) = refl
   pattern-records-spell (theSeries l h) = refl
   pattern-records-spell (theRange l h) = refl
+  pattern-records-spell (theGauged g l h) = refl
   pattern-records-spell (theCompound a ps) =
       ap (λ (l : List ℕ). recordSpelling (Compound a (countPatterns ps)) ++ l) (records-spell ps)
   pattern-records-spell (variable v) = refl
@@ -82,7 +84,15 @@ series-records l h = go (eqb l h)
     go true = refl
     go false = refl
 
--- The tidy form of a record: only that of a series and that of a variable change.
+-- What the record of a range on a gauge becomes.
+gauged-records : (g l h : ℕ) → patternRecords (tidyGauged g l h) ≡ gaugedRecord g l h ∷ []
+gauged-records g l h = go (eqb g 0)
+  where
+    go : (c : Bool) → patternRecords (cond c (theRange l h) (theGauged g l h)) ≡ cond c (Range l h) (Gauged g l h) ∷ []
+    go true = refl
+    go false = refl
+
+-- The tidy form of a record: only that of a series, that of a range on a gauge and that of a variable change.
 module _ (os : List Occurrence) (rangeOf : ℕ → Option tests.Range) where
   abbrev pub tidyVariableRecord : ℕ → PatternRecord
   tidyVariableRecord v = cond (isRepeated os v) (repeatedRecord (newNumber os v) (rangeOf v)) (singleRecord (rangeOf v))
@@ -92,6 +102,7 @@ module _ (os : List Occurrence) (rangeOf : ℕ → Option tests.Range) where
   tidyRecord (Symbol a) = Symbol a
   tidyRecord (Series l h) = seriesRecord l h
   tidyRecord (Range l h) = Range l h
+  tidyRecord (Gauged g l h) = gaugedRecord g l h
   tidyRecord (Compound a n) = Compound a n
   tidyRecord (Variable v) = tidyVariableRecord v
   tidyRecord (Ranged v l h) = tidyVariableRecord v
@@ -103,6 +114,7 @@ module _ (os : List Occurrence) (rangeOf : ℕ → Option tests.Range) where
     tidy-pattern-records (theSymbol a) = refl
     tidy-pattern-records (theSeries l h) = series-records l h
     tidy-pattern-records (theRange l h) = refl
+    tidy-pattern-records (theGauged g l h) = gauged-records g l h
     tidy-pattern-records (theCompound a ps) = λ i. Compound a (tidy-count os rangeOf ps i) ∷ tidy-records ps i
     tidy-pattern-records (variable v) = variable-records (isRepeated os v) (newNumber os v) (rangeOf v)
     tidy-pattern-records (rangedVariable v l h) = variable-records (isRepeated os v) (newNumber os v) (rangeOf v)

@@ -11,9 +11,10 @@ use Rattle.basics.specs.Lists.{anyOf}
 use Rattle.basics.proofs.Booleans.{both-true, true-both, cond-true}
 use Rattle.basics.proofs.Numbers.{eq-true}
 use Rattle.basics.proofs.Filters.{mem-any, any-mem, any-join}
+use Rattle.terms.specs.Term.{onGauge}
 use Rattle.terms.specs.Pattern.{Pattern, Patterns, countPatterns, pnil, pcons}
-use Rattle.terms.specs.Pattern.{anything, theSymbol, theSeries, theRange, theCompound, variable, rangedVariable}
-use Rattle.terms.specs.RuleTests.{aSymbol, aCompound, at, Occurrence, Range}
+use Rattle.terms.specs.Pattern.{anything, theSymbol, theSeries, theRange, theGauged, theCompound, variable, rangedVariable}
+use Rattle.terms.specs.RuleTests.{aSymbol, aNumber, aCompound, at, Occurrence, Range}
 use Rattle.terms.specs.RuleTests.{commonPart, patternRange, patternsRange, rangeTest, patternVariables, patternsVariables}
 use Rattle.terms.specs.RuleTests.{patternTests, patternsTests, pairsOf, placeTests, pairTests, ruleVariables}
 use Rattle.terms.specs.Accepted.{AcceptedRule}
@@ -25,6 +26,7 @@ use Rattle.tidy.specs.TidyRule.{newNumber, single, repeated, tidyPattern
 use Rattle.tidy.proofs.Occurrences.{later}
 use Rattle.tidy.proofs.NewNumbers.{numbers-differ}
 use Rattle.tidy.proofs.Series.{series-kept}
+use Rattle.tidy.proofs.Gauges.{gauge-kept}
 use Rattle.tidy.proofs.Renumbered.{pairs-kept, all-variables-kept}
 
 -- What is written for a variable tests the range,
@@ -86,6 +88,11 @@ module _ (os : List Occurrence) (rangeOf : ℕ → Option Range) where
       tests-kept (theSeries l h) r b =
           series-kept (λ (p : Pattern). patternTests newRange p r b) l h (λ e i. at b (aSymbol l (e i)) ∷ [])
       tests-kept (theRange l h) r b = refl
+      tests-kept (theGauged g l h) r b =
+          gauge-kept (λ (p : Pattern). patternTests newRange p r b) g l h (λ e.
+          let low : l ≡ onGauge g l = omega arith in
+          let high : h ≡ onGauge g h = omega arith in
+          λ i. at b (aNumber (low i) (high i)) ∷ [])
       tests-kept (theCompound a ps) r b =
           λ i. at b (aCompound a (tidy-count ps i)) ∷ all-tests-kept ps (pred r) (suc b) i
       tests-kept (variable v) r b = variable-tests newRange (isRepeated os v) (newNumber os v) (rangeOf v) (same v) r b
@@ -106,6 +113,7 @@ module _ (os : List Occurrence) (rangeOf : ℕ → Option Range) where
       range-kept (theSymbol a) r b = refl
       range-kept (theSeries l h) r b = series-kept (λ (p : Pattern). patternRange p k) l h (λ e. refl)
       range-kept (theRange l h) r b = refl
+      range-kept (theGauged g l h) r b = gauge-kept (λ (p : Pattern). patternRange p k) g l h (λ e. refl)
       range-kept (theCompound a ps) r b = ranges-kept ps (pred r) (suc b)
       range-kept (variable v) r b = variable-range (isRepeated os v) (newNumber os v) (rangeOf v) x k (same v)
       range-kept (rangedVariable v l h) r b = variable-range (isRepeated os v) (newNumber os v) (rangeOf v) x k (same v)

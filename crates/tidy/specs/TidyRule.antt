@@ -7,7 +7,7 @@ use mathlib.Core.Option.{Option, some, none}
 use lib.Dec.{eqb, ltb}
 use Rattle.basics.specs.Lists.{filter, anyOf}
 use Rattle.terms.specs.Pattern.{Pattern, Patterns, pnil, pcons}
-use Rattle.terms.specs.Pattern.{anything, theSymbol, theSeries, theRange, theCompound, variable, rangedVariable}
+use Rattle.terms.specs.Pattern.{anything, theSymbol, theSeries, theRange, theGauged, theCompound, variable, rangedVariable}
 use Rattle.terms.specs.RuleTests.{Occurrence, Range, patternsRange, ruleVariables}
 
 -- Variable v stands there.
@@ -67,8 +67,12 @@ repeated n (some x) = rangedVariable n (x .low) (x .high)
 abbrev pub tidySeries : ℕ → ℕ → Pattern
 tidySeries l h = cond (eqb l h) (theSymbol l) (theSeries l h)
 
+-- A range on a gauge: "Gauge 0 is tidied to 22" (request 7).
+abbrev pub tidyGauged : ℕ → ℕ → ℕ → Pattern
+tidyGauged g l h = cond (eqb g 0) (theRange l h) (theGauged g l h)
+
 -- The tidy form of what stands in a rule with these variables, where rangeOf v is the common part of the ranges of variable v.
--- All that is no variable and no series stays as it is.
+-- All that is no variable, no series and no range on a gauge stays as it is.
 module _ (variables : List Occurrence) (rangeOf : ℕ → Option Range) where
   abbrev pub tidyVariable : ℕ → Pattern
   tidyVariable v = cond (isRepeated variables v) (repeated (newNumber variables v) (rangeOf v)) (single (rangeOf v))
@@ -79,6 +83,7 @@ module _ (variables : List Occurrence) (rangeOf : ℕ → Option Range) where
     tidyPattern (theSymbol a) = theSymbol a
     tidyPattern (theSeries l h) = tidySeries l h
     tidyPattern (theRange l h) = theRange l h
+    tidyPattern (theGauged g l h) = tidyGauged g l h
     tidyPattern (theCompound a ps) = theCompound a (tidyPatterns ps)
     tidyPattern (variable v) = tidyVariable v
     tidyPattern (rangedVariable v l h) = tidyVariable v

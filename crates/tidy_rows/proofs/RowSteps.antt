@@ -7,7 +7,7 @@ use lib.ListN.{length, length-append}
 use Rattle.records.specs.Writing.{splice}
 use Rattle.records.proofs.Writing.{splice-more}
 use Rattle.patterns.specs.declared.PatternRecord.{PatternRecord}
-use Rattle.patterns.specs.declared.PatternRecord.the-variants.{Anything, Symbol, Series, Range, Compound, Variable, Ranged}
+use Rattle.patterns.specs.declared.PatternRecord.the-variants.{Anything, Symbol, Series, Range, Compound, Variable, Ranged, Gauged}
 use Rattle.patterns.specs.views.PatternRecord.{recordBytes, recordSpelling, recordsSpelling}
 use Rattle.rule_rows.specs.declared.Row.{Row}
 use Rattle.rule_rows.specs.views.Row.{recordsFrom}
@@ -19,6 +19,7 @@ pub spelled-length : (r : PatternRecord) → length (recordSpelling r) ≡ recor
 spelled-length Anything = refl
 spelled-length (Symbol a) = refl
 spelled-length (Series l h) = refl
+spelled-length (Gauged g l h) = refl
 spelled-length (Range l h) = refl
 spelled-length (Compound a n) = refl
 spelled-length (Variable v) = refl
@@ -28,6 +29,7 @@ pub few-bytes : (r : PatternRecord) → recordBytes r ≤ 6
 few-bytes Anything = omega arith
 few-bytes (Symbol a) = omega arith
 few-bytes (Series l h) = omega arith
+few-bytes (Gauged g l h) = omega arith
 few-bytes (Range l h) = omega arith
 few-bytes (Compound a n) = omega arith
 few-bytes (Variable v) = omega arith

@@ -13,7 +13,7 @@ ghost use Prim.Native.Nat.{_+_, _≤_};
 ghost use lib.ListN.{length};
 ghost use Rattle.records.specs.Fields.{wideThen};
 ghost use Rattle.records.specs.Writing.{splice};
-ghost use Rattle.patterns.specs.views.PatternRecord.{seriesRecord, recordSpelling, recordsSpelling};
+ghost use Rattle.patterns.specs.views.PatternRecord.{seriesRecord, gaugedRecord, recordSpelling, recordsSpelling};
 ghost use Rattle.rule_rows.specs.views.Row.{recordsFrom, Going};
 ghost use Rattle.tidy_rows.specs.views.TidyRow.{tidyWord, tidyIn, tidySpelling, tidyOnward};
 
@@ -47,7 +47,17 @@ fn tidy_series(low: u16, high: u16) -> PatternRecord
     PatternRecord::Series(low, high)
 }
 
-// What a record becomes: only a series of one symbol changes, and a variable's, at each of its places.
+// What a range on a gauge becomes: a range where the gauge is 0.
+fn tidy_gauged(gauge: u8, low: u16, high: u16) -> PatternRecord
+    ensures { λ r. ⌜ r ≡ gaugedRecord gauge low high ⌝ }
+{
+    if gauge == 0 {
+        return PatternRecord::Range(low, high);
+    }
+    PatternRecord::Gauged(gauge, low, high)
+}
+
+// What a record becomes: only a series of one symbol changes, a range on gauge 0, and a variable's, at each of its places.
 fn tidy_record(what: PatternRecord, words: &Words) -> PatternRecord
     requires { ⌜ length (now words) ≡ 16 ⌝ }
     ensures { λ r. ⌜ r ≡ tidyIn (now (words .entry)) what ⌝ }
@@ -57,6 +67,7 @@ fn tidy_record(what: PatternRecord, words: &Words) -> PatternRecord
         PatternRecord::Symbol(_) => what,
         PatternRecord::Series(low, high) => tidy_series(low, high),
         PatternRecord::Range(_, _) => what,
+        PatternRecord::Gauged(gauge, low, high) => tidy_gauged(gauge, low, high),
         PatternRecord::Compound(_, _) => what,
         PatternRecord::Variable(v) => tidy_variable(words[(v % 16) as usize]),
         PatternRecord::Ranged(v, _, _) => tidy_variable(words[(v % 16) as usize]),
@@ -81,6 +92,26 @@ fn put_ends(buf: &mut [u8], at: usize, kind: u8, low: u16, high: u16) -> usize
     )
 }
 
+// A record of a kind byte, another byte and two ends.
+fn put_byte_and_ends(buf: &mut [u8], at: usize, kind: u8, byte: u8, low: u16, high: u16) -> usize
+    requires { ⌜ at + 6 ≤ length (now buf) ⌝ }
+    ensures { λ r. ⌜ (r ≡ at + 6)
+        × (now (buf .exit) ≡ splice (now (buf .entry)) at (kind ∷ byte ∷ wideThen low (wideThen high []))) ⌝ }
+{
+    records::put(
+        buf,
+        at,
+        &[
+            kind,
+            byte,
+            records::high(low),
+            records::low(low),
+            records::high(high),
+            records::low(high),
+        ],
+    )
+}
+
 // A record in the part of a buffer that begins at a position, and the position behind it. Not the low byte of a field first, nor a
 // byte changed behind the record.
 fn put_record(buf: &mut [u8], at: usize, what: PatternRecord) -> usize
@@ -97,24 +128,14 @@ fn put_record(buf: &mut [u8], at: usize, what: PatternRecord) -> usize
         ),
         PatternRecord::Series(l, h) => put_ends(buf, at, 0x26, l, h),
         PatternRecord::Range(l, h) => put_ends(buf, at, 0x22, l, h),
+        PatternRecord::Gauged(g, l, h) => put_byte_and_ends(buf, at, 0x27, g, l, h),
         PatternRecord::Compound(a, n) => records::put(
             buf,
             at,
             &[0x23, records::high(a), records::low(a), n],
         ),
         PatternRecord::Variable(v) => records::put(buf, at, &[0x24, v]),
-        PatternRecord::Ranged(v, l, h) => records::put(
-            buf,
-            at,
-            &[
-                0x25,
-                v,
-                records::high(l),
-                records::low(l),
-                records::high(h),
-                records::low(h),
-            ],
-        ),
+        PatternRecord::Ranged(v, l, h) => put_byte_and_ends(buf, at, 0x25, v, l, h),
     }
 }
 

@@ -13,11 +13,11 @@ use Rattle.basics.proofs.Booleans.{cond-holds}
 use Rattle.basics.proofs.Filters.{map-join}
 use Rattle.places.specs.Numbering.{stride}
 use Rattle.terms.specs.Pattern.{Pattern, Patterns, pnil, pcons}
-use Rattle.terms.specs.Pattern.{anything, theSymbol, theSeries, theRange, theCompound, variable, rangedVariable}
+use Rattle.terms.specs.Pattern.{anything, theSymbol, theSeries, theRange, theGauged, theCompound, variable, rangedVariable}
 use Rattle.terms.specs.RuleTests.{Occurrence, commonPart, patternRange, patternsRange, patternVariables, patternsVariables}
 use Rattle.terms.specs.RuleTests as tests
 use Rattle.patterns.specs.declared.PatternRecord.{PatternRecord}
-use Rattle.patterns.specs.declared.PatternRecord.the-variants.{Anything, Symbol, Series, Range, Compound, Variable, Ranged}
+use Rattle.patterns.specs.declared.PatternRecord.the-variants.{Anything, Symbol, Series, Range, Compound, Variable, Ranged, Gauged}
 use Rattle.patterns.specs.views.NoteCode.{Fitting}
 use Rattle.sheet.specs.views.NoteRanges.{recordRange, lowEnd, highEnd, forVariables}
 use Rattle.sheet.proofs.CommonRanges.{common-none, common-assoc}
@@ -33,6 +33,7 @@ abbrev pub recordName : PatternRecord → List ℕ
 recordName Anything = []
 recordName (Symbol a) = []
 recordName (Series l h) = []
+recordName (Gauged g l h) = []
 recordName (Range l h) = []
 recordName (Compound a n) = []
 recordName (Variable v) = v ∷ []
@@ -76,6 +77,7 @@ mutual
   pattern-names (theSymbol a) r b = refl
   pattern-names (theSeries l h) r b = refl
   pattern-names (theRange l h) r b = refl
+  pattern-names (theGauged g l h) r b = refl
   pattern-names (theCompound a ps) r b = patterns-names ps (pred r) (suc b)
   pattern-names (variable v) r b = refl
   pattern-names (rangedVariable v l h) r b = refl
@@ -95,6 +97,7 @@ mutual
   pattern-over (theSymbol a) v = refl
   pattern-over (theSeries l h) v = refl
   pattern-over (theRange l h) v = refl
+  pattern-over (theGauged g l h) v = refl
   pattern-over (theCompound a ps) v = patterns-over ps v
   pattern-over (variable u) v = refl
   pattern-over (rangedVariable u l h) v = common-none (patternRange (rangedVariable u l h) v)
@@ -148,6 +151,7 @@ record-ends : (r : PatternRecord) (v : ℕ) → Fitting r → EndsFit (recordRan
 record-ends Anything v h = record { low = omega arith; high = omega arith }
 record-ends (Symbol a) v h = record { low = omega arith; high = omega arith }
 record-ends (Series l u) v h = record { low = omega arith; high = omega arith }
+record-ends (Gauged g l u) v h = record { low = omega arith; high = omega arith }
 record-ends (Range l u) v h = record { low = omega arith; high = omega arith }
 record-ends (Compound a n) v h = record { low = omega arith; high = omega arith }
 record-ends (Variable u) v h = record { low = omega arith; high = omega arith }
@@ -203,6 +207,7 @@ module _ (uses : ℕ → ℕ) (range : ℕ → Option tests.Range) (fits : (v : 
   record-met Anything h = no-more
   record-met (Symbol a) h = no-more
   record-met (Series l u) h = no-more
+  record-met (Gauged g l u) h = no-more
   record-met (Range l u) h = no-more
   record-met (Compound a n) h = no-more
   record-met (Variable u) h =

@@ -5,7 +5,7 @@ use mathlib.Core.List.{List, [], _∷_}
 use native.Mathlib.Omega.{arith}
 use lib.ListN.{length, drop, length-drop, length-append}
 use Rattle.patterns.specs.declared.PatternRecord.{PatternRecord}
-use Rattle.patterns.specs.declared.PatternRecord.the-variants.{Anything, Symbol, Series, Range, Compound, Variable, Ranged}
+use Rattle.patterns.specs.declared.PatternRecord.the-variants.{Anything, Symbol, Series, Range, Compound, Variable, Ranged, Gauged}
 use Rattle.patterns.specs.declared.PatternHead.{PatternHead}
 use Rattle.patterns.specs.declared.PatternHead.the-variants.{Whole, Refused}
 use Rattle.patterns.specs.views.PatternRecord.{recordBytes, recordSpelling, recordsSpelling, patternHead}
@@ -21,6 +21,7 @@ grows : (words : List ℕ) (r : PatternRecord) → recordBytes (tidyIn words r) 
 grows words Anything = omega arith
 grows words (Symbol a) = omega arith
 grows words (Series l h) = omega (arith, few-bytes (tidyIn words (Series l h)))
+grows words (Gauged g l h) = omega (arith, few-bytes (tidyIn words (Gauged g l h)))
 grows words (Range l h) = omega arith
 grows words (Compound a n) = omega arith
 grows words (Variable v) = few-bytes (tidyIn words (Variable v))

@@ -9,10 +9,10 @@ use Rattle.basics.specs.Lists.{All}
 use Rattle.basics.proofs.ListLaws.{all-join}
 use Rattle.places.specs.Numbering.{stride}
 use Rattle.terms.specs.Pattern.{Pattern, Patterns, countPatterns, pnil, pcons}
-use Rattle.terms.specs.Pattern.{anything, theSymbol, theSeries, theRange, theCompound, variable, rangedVariable}
+use Rattle.terms.specs.Pattern.{anything, theSymbol, theSeries, theRange, theGauged, theCompound, variable, rangedVariable}
 use Rattle.terms.specs.Accepted.{Sound, Sounds, AcceptedRule}
 use Rattle.patterns.specs.declared.PatternRecord.{PatternRecord}
-use Rattle.patterns.specs.declared.PatternRecord.the-variants.{Anything, Symbol, Series, Range, Compound, Variable, Ranged}
+use Rattle.patterns.specs.declared.PatternRecord.the-variants.{Anything, Symbol, Series, Range, Compound, Variable, Ranged, Gauged}
 use Rattle.sheet.specs.WriteSheet.{patternBytes, patternsBytes}
 use Rattle.patterns.specs.views.NoteCode.{Fitting}
 use Rattle.patterns.specs.views.PatternRecord.{recordBytes, recordSpelling}
@@ -27,6 +27,7 @@ spelled-rest : (r : PatternRecord) (rest : List ℕ) → drop (recordBytes r) (r
 spelled-rest Anything rest = refl
 spelled-rest (Symbol a) rest = refl
 spelled-rest (Series l h) rest = refl
+spelled-rest (Gauged g l h) rest = refl
 spelled-rest (Range l h) rest = refl
 spelled-rest (Compound a n) rest = refl
 spelled-rest (Variable v) rest = refl
@@ -61,6 +62,8 @@ mutual
       leaf-row (Series l h) most k rest (omega (arith, sound .1, sound .2), sound .2) refl room
   pattern-row (theRange l h) r most k rest sound room =
       leaf-row (Range l h) most k rest (omega (arith, sound .1, sound .2), sound .2) refl room
+  pattern-row (theGauged g l h) r most k rest sound room =
+      leaf-row (Gauged g l h) most k rest (omega (arith, sound .1, sound .2), sound .2, sound .3) refl room
   pattern-row (theCompound a ps) r most k rest sound room =
       let size : most - 1 - length (patternsRecords ps) ≡ most - suc (length (patternsRecords ps)) = omega arith in
       let n = countPatterns ps in
@@ -101,6 +104,7 @@ mutual
   pattern-size (theSymbol a) below sound = omega arith
   pattern-size (theSeries l h) below sound = omega arith
   pattern-size (theRange l h) below sound = omega arith
+  pattern-size (theGauged g l h) below sound = omega arith
   pattern-size (theCompound a ps) below sound =
       let deep = sounds-level ps below (sound .4) (sound .2) in
       let level : suc (pred below) ≡ below = omega arith in
@@ -131,6 +135,7 @@ mutual
   pattern-fits (theSymbol a) r sound = (sound .1, tt)
   pattern-fits (theSeries l h) r sound = ((omega (arith, sound .1, sound .2), sound .2), tt)
   pattern-fits (theRange l h) r sound = ((omega (arith, sound .1, sound .2), sound .2), tt)
+  pattern-fits (theGauged g l h) r sound = ((sound .3, omega (arith, sound .1, sound .2), sound .2), tt)
   pattern-fits (theCompound a ps) r sound = ((sound .1, omega (arith, sound .3)), patterns-fit ps (pred r) (sound .4))
   pattern-fits (variable v) r sound = (sound .1, tt)
   pattern-fits (rangedVariable v l h) r sound = ((sound .3, omega (arith, sound .1, sound .2), sound .2), tt)

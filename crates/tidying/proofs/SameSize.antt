@@ -10,7 +10,7 @@ use lib.ListN.{length, getD, set, length-set}
 use lib.Seq.{getD-set-same, getD-set-other}
 use borrow.Author.Tests.{le-ltb, eqb-true}
 use Rattle.patterns.specs.declared.PatternRecord.{PatternRecord}
-use Rattle.patterns.specs.declared.PatternRecord.the-variants.{Anything, Symbol, Series, Range, Compound, Variable, Ranged}
+use Rattle.patterns.specs.declared.PatternRecord.the-variants.{Anything, Symbol, Series, Range, Compound, Variable, Ranged, Gauged}
 use Rattle.patterns.specs.views.PatternRecord.{recordBytes}
 use Rattle.rule_rows.specs.views.Words.{wordHigh, wordUses, wordPlace, Numbering, numberedAt, numberRecord}
 use Rattle.tidy_rows.specs.views.TidyRow.{tidyWord, tidyIn, tidySpelling, metIn, tidyRow}
@@ -80,6 +80,7 @@ kept-record : (r : PatternRecord) (x : Numbering) → length (x .words) ≡ 16 �
 kept-record Anything x size = record { alike = λ k. refl; size = size }
 kept-record (Symbol a) x size = record { alike = λ k. refl; size = size }
 kept-record (Series l h) x size = record { alike = λ k. refl; size = size }
+kept-record (Gauged g l h) x size = record { alike = λ k. refl; size = size }
 kept-record (Range l h) x size = record { alike = λ k. refl; size = size }
 kept-record (Compound a n) x size = record { alike = λ k. refl; size = size }
 kept-record (Variable v) x size = kept-at v x size
@@ -94,6 +95,7 @@ bytes-alike : (xs ys : List ℕ) → Alike xs ys → (r : PatternRecord) → rec
 bytes-alike xs ys same Anything = refl
 bytes-alike xs ys same (Symbol a) = refl
 bytes-alike xs ys same (Series l h) = refl
+bytes-alike xs ys same (Gauged g l h) = refl
 bytes-alike xs ys same (Range l h) = refl
 bytes-alike xs ys same (Compound a n) = refl
 bytes-alike xs ys same (Variable v) = same (wordPlace v)

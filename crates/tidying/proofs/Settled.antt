@@ -10,7 +10,7 @@ use lib.ListN.{length, getD, set, length-set}
 use lib.Seq.{getD-set-same, getD-set-other}
 use borrow.Author.Tests.{eqb-true, eqb-false}
 use Rattle.patterns.specs.declared.PatternRecord.{PatternRecord}
-use Rattle.patterns.specs.declared.PatternRecord.the-variants.{Anything, Symbol, Series, Range, Compound, Variable, Ranged}
+use Rattle.patterns.specs.declared.PatternRecord.the-variants.{Anything, Symbol, Series, Range, Compound, Variable, Ranged, Gauged}
 use Rattle.patterns.specs.views.PatternRecord.{recordSpelling}
 use Rattle.rule_rows.specs.views.Words.{freshWords, wordPlace, metRecord, metRecords, Numbering, numberedAt, numberRecord}
 use Rattle.tidy_rows.specs.views.TidyRow.{tidyWord, tidyIn, tidySpelling, tidyOnward, metIn, tidyRow}
@@ -70,6 +70,7 @@ kept-record : (r : PatternRecord) (x : Numbering) → length (x .words) ≡ 16 �
 kept-record Anything x size = record { size = size; stays = λ k h. refl }
 kept-record (Symbol a) x size = record { size = size; stays = λ k h. refl }
 kept-record (Series l h) x size = record { size = size; stays = λ k n. refl }
+kept-record (Gauged g l h) x size = record { size = size; stays = λ k n. refl }
 kept-record (Range l h) x size = record { size = size; stays = λ k h. refl }
 kept-record (Compound a n) x size = record { size = size; stays = λ k h. refl }
 kept-record (Variable v) x size = let g = given-at v x size in record { size = g .size; stays = g .stays }
@@ -91,6 +92,7 @@ now-as-last
 now-as-last Anything x rs size = refl
 now-as-last (Symbol a) x rs size = refl
 now-as-last (Series l h) x rs size = refl
+now-as-last (Gauged g l h) x rs size = refl
 now-as-last (Range l h) x rs size = refl
 now-as-last (Compound a n) x rs size = refl
 now-as-last (Variable v) x rs size =
@@ -115,6 +117,7 @@ met-size words (r ∷ rs) size = met-size (metRecord words r) rs (go r)
     go Anything = size
     go (Symbol a) = size
     go (Series l h) = size
+    go (Gauged g l h) = size
     go (Range l h) = size
     go (Compound a n) = size
     go (Variable v) = length-set words (wordPlace v) _ ∙ size

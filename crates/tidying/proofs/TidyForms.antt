@@ -21,7 +21,7 @@ use Rattle.terms.proofs.PairTests.{variablePlace, all-variables-ascend}
 use Rattle.terms.proofs.Ranges.{WideRange, ranges-wide}
 use Rattle.terms.proofs.TermPlaces.{extent}
 use Rattle.patterns.specs.declared.PatternRecord.{PatternRecord}
-use Rattle.patterns.specs.declared.PatternRecord.the-variants.{Anything, Symbol, Series, Range, Compound, Variable, Ranged}
+use Rattle.patterns.specs.declared.PatternRecord.the-variants.{Anything, Symbol, Series, Range, Compound, Variable, Ranged, Gauged}
 use Rattle.sheet.specs.WriteSheet.{patternsBytes, rulesBytes}
 use Rattle.patterns.specs.views.NoteCode.{Fitting}
 use Rattle.sheet.specs.views.NoteRanges.{lowEnd, highEnd}
@@ -87,6 +87,7 @@ number-names x (Anything ∷ rs) = number-names x rs
 number-names x (Symbol a ∷ rs) = number-names x rs
 number-names x (Series l h ∷ rs) = number-names x rs
 number-names x (Range l h ∷ rs) = number-names x rs
+number-names x (Gauged g l h ∷ rs) = number-names x rs
 number-names x (Compound a n ∷ rs) = number-names x rs
 number-names x (Variable v ∷ rs) = number-names _ rs
 number-names x (Ranged v l h ∷ rs) = number-names _ rs
@@ -178,6 +179,7 @@ module _ (arity : ℕ) (rule : Patterns) (accepted : AcceptedRule arity rule) wh
   record-tidy Anything h = refl
   record-tidy (Symbol a) h = refl
   record-tidy (Series l u) h = refl
+  record-tidy (Gauged g l u) h = refl
   record-tidy (Range l u) h = refl
   record-tidy (Compound a n) h = refl
   record-tidy (Variable v) h = variable-tidy v h

@@ -11,7 +11,7 @@ use lib.ListN.{length, getD}
 use Rattle.places.specs.Numbering.{parentAt}
 use Rattle.basics.specs.Lists.{All, Mem}
 use Rattle.basics.proofs.Booleans.{cond-true, cond-by}
-use Rattle.terms.specs.Term.{Terms, numbers, Wide}
+use Rattle.terms.specs.Term.{Terms, numbers}
 use Rattle.terms.specs.Pattern.{Patterns}
 use Rattle.terms.specs.Lookup.{found, termAt}
 use Rattle.terms.specs.Filling.{WellFormed}
@@ -70,10 +70,10 @@ own-cell cells n {run} e some shows = go (eqb (getD cells n 0) 0) e
     go false k = k
 
 -- The run of several numbers is a span.
-several : (a b : ℕ) → a ≤ b → Wide b → (a ≡ b → ⊥) → isSpan (termRun (numbers a b)) ≡ true
-several a b ordered wide apart =
-    ap (λ (c : Bool). cond c false (leb 0x100000000 (termRun (numbers a b)))) (run-unknown (found (numbers a b)) (ordered, wide))
-    ∙ le-leb 0x100000000 (termRun (numbers a b)) (omega arith)
+several : (a b : ℕ) → WellFormed (numbers a b) → (a ≡ b → ⊥) → isSpan (termRun (numbers a b)) ≡ true
+several a b formed apart =
+    ap (λ (c : Bool). cond c false (leb 0x100000000 (termRun (numbers a b)))) (run-unknown (found (numbers a b)) formed)
+    ∙ le-leb 0x100000000 (termRun (numbers a b)) (omega (arith, formed .0))
 
 module _ (arity : ℕ) (rules : List Patterns) (few : arity ≤ 8) (accepted : All (AcceptedRule arity) rules)
     (fewTests : length (sheetTests rules) ≤ 64) (near : (t : Test) → Mem t (sheetTests rules) → NearTest t) (piece : Terms)
@@ -88,7 +88,7 @@ module _ (arity : ℕ) (rules : List Patterns) (few : arity ≤ 8) (accepted : A
   span-cell n low high inside stands apart =
       let formed : WellFormed (numbers low high) =
       subst (IfFound WellFormed) stands (finds-well-formed piece (ok .wellFormed) 4 n) in
-      let span = several low high (formed .0) (formed .1) apart in
+      let span = several low high formed apart in
       ap isSpan
       (own-cell cells n (look-finds arity piece ok few n inside ∙ ap foundRun stands) (run-some (numbers low high))
       (run-hidden (found (numbers low high)) formed))

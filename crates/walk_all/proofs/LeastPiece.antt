@@ -9,7 +9,7 @@ use lib.ListN.{drop}
 use Rattle.records.specs.Reading.{Reading, took, refused, after, andThen}
 use Rattle.records.proofs.Rows.{ask-holds, after-took, row-split}
 use Rattle.terms.specs.Term.{Term, Terms, numbers, compound, nil, cons}
-use Rattle.piece.specs.declared.TermRecord.the-variants.{Unknown, Symbol, Number, Compound, Span, Never}
+use Rattle.piece.specs.declared.TermRecord.the-variants.{Unknown, Symbol, Number, Compound, Span, Never, Gauged}
 use Rattle.piece.specs.declared.TermHead.{TermHead}
 use Rattle.piece.specs.declared.TermHead.the-variants.{Whole, Refused}
 use Rattle.piece.specs.views.TermRecord.{termHead, onHead}
@@ -34,6 +34,7 @@ some-head f each (Whole (Number a)) = omega arith
 some-head f each (Whole (Compound a n)) = each a n
 some-head f each (Whole (Span l h)) = ask-holds {A = Term} Some 32 (leb l h) (took 5 (numbers l h)) tt (λ _. omega arith)
 some-head f each (Whole Never) = omega arith
+some-head f each (Whole (Gauged g a)) = omega arith
 some-head f each (Refused q) = tt
 
 some-compound : (below : ℕ) (s : List ℕ) (a n : ℕ) → Some (readCompound below s a n)

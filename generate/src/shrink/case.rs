@@ -91,7 +91,7 @@ impl<'a> Case<'a> {
             };
             steps.extend(pieces.iter().enumerate().flat_map(one));
         }
-        steps.extend([Value::Id, Value::Number].map(Step::Ranked));
+        steps.extend([Value::Id, Value::Number, Value::Gauge].map(Step::Ranked));
         if let Some((graph, _)) = &self.graph {
             steps.extend(graphs::steps(graph).map(Step::Graph));
         }
@@ -217,7 +217,8 @@ impl<'a> Case<'a> {
         Some(self.refitted(call))
     }
 
-    /// The call with ids or numbers of sheet and piece made small alike.
+    /// The call with ids, numbers or gauges of sheet and piece made small alike. Gauge 0 keeps its name, as ranges and
+    /// spans may be on it without one.
     fn ranked(&self, which: Value) -> Option<Call> {
         let (mut sheet, mut piece, mut several) =
             (self.sheet.clone(), self.piece.clone(), self.pieces.clone());
@@ -232,7 +233,7 @@ impl<'a> Case<'a> {
                 pieces::each(terms, which, change);
             }
         };
-        let mut used = BTreeSet::new();
+        let mut used = BTreeSet::from_iter((which == Value::Gauge).then_some(0));
         each(&mut |value| used.extend([*value]));
         each(&mut |value| *value = used.range(..*value).count() as u16);
         let mut call = self.call.clone();

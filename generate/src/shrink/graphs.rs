@@ -22,16 +22,17 @@ pub enum Step {
     Edges(usize, u16),
 }
 
-/// What a case is made: a compound's, which is the shortest, a symbol's, or one of its low end alone.
+/// What a case is made: a compound's, which is the shortest, a symbol's, one of its low end alone, or one on gauge 0.
 #[derive(Clone, Copy, Debug)]
 pub enum Instead {
     Compound,
     Symbol,
     Low,
+    Gauge,
 }
 
 impl Instead {
-    const ALL: [Instead; 3] = [Instead::Compound, Instead::Symbol, Instead::Low];
+    const ALL: [Instead; 4] = [Instead::Compound, Instead::Symbol, Instead::Low, Instead::Gauge];
 
     /// The case that comes in the stead of this one.
     fn of(self, case: &Case) -> Case {
@@ -39,7 +40,8 @@ impl Instead {
         match (self, *case) {
             (Instead::Compound, _) => Case::Compound { id: 0, arity: 0, node },
             (Instead::Low, Case::Symbols { low, .. }) => Case::Symbols { low, high: low, node },
-            (Instead::Low, Case::Numbers { low, .. }) => Case::Numbers { low, high: low, node },
+            (Instead::Low, Case::Numbers { gauge, low, .. }) => Case::Numbers { gauge, low, high: low, node },
+            (Instead::Gauge, Case::Numbers { low, high, .. }) => Case::Numbers { gauge: 0, low, high, node },
             _ => Case::Symbols { low: 0, high: 0, node },
         }
     }

@@ -1,5 +1,5 @@
 //! A call made smaller for as long as it shows what it has to show: fewer rules, arguments and nodes,
-//! simpler patterns and terms, smaller ids and numbers, orders closer to ascending, fewer and lower positions,
+//! simpler patterns and terms, smaller ids, numbers and gauges, orders closer to ascending, fewer and lower positions,
 //! fewer bytes.
 //!
 //! Sheets, pieces and graphs that can be read are made smaller as trees; a sheet takes its own graph, the
@@ -31,7 +31,7 @@ enum Step {
     Pieces(Range<usize>),
     /// A step of one of several pieces.
     OneOf(usize, pieces::Step),
-    /// Ids, or numbers, of sheet and piece counted from 0 in their order.
+    /// Ids, numbers or gauges of sheet and piece counted from 0 in their order.
     Ranked(Value),
     Graph(graphs::Step),
     Order(orders::Step),
@@ -43,11 +43,19 @@ enum Step {
     Bytes(Role, bytes::Step),
 }
 
-/// What a wide field holds.
+/// What a field holds.
 #[derive(Clone, Copy, Debug, PartialEq, Eq)]
 enum Value {
     Id,
     Number,
+    Gauge,
+}
+
+/// Does to a field of one byte what is done to wide ones.
+fn narrow(field: &mut u8, change: &mut dyn FnMut(&mut u16)) {
+    let mut value = u16::from(*field);
+    change(&mut value);
+    *field = value as u8;
 }
 
 /// What says the bytes of an accepted sheet's own graph, in a reading order if one is given.

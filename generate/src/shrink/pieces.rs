@@ -1,6 +1,6 @@
 //! Pieces made simpler: fewer arguments, unknowns and simpler terms, smaller ids, numbers and spans.
 
-use super::{lower, parts, sheets, Value};
+use super::{lower, narrow, parts, sheets, Value};
 use crate::trees::{piece_bytes, read_piece, SheetTree, Term};
 use std::ops::Range;
 
@@ -97,6 +97,11 @@ fn simpler(term: &Term) -> Vec<Term> {
             new.extend([Term::Symbol(0), Term::Number(*low), Term::Number(*high)]);
             new.extend(sheets::ranges(*low, *high).map(|(low, high)| Term::Span(low, high)));
         }
+        Term::Gauged(gauge, value) => {
+            new.extend([Term::Symbol(0), Term::Number(*value)]);
+            new.extend(lower((*gauge).into()).map(|gauge| Term::Gauged(gauge as u8, *value)));
+            new.extend(lower(*value).map(|value| Term::Gauged(*gauge, value)));
+        }
         Term::Never => {}
     }
     new
@@ -130,11 +135,12 @@ pub fn after(terms: &[Term], step: &Step) -> Option<Vec<Term>> {
     Some(terms)
 }
 
-/// Does the same to each id, or to each number.
+/// Does the same to each id, to each number, or to each gauge.
 pub fn each(terms: &mut [Term], which: Value, change: &mut dyn FnMut(&mut u16)) {
     visit(terms, &mut |term| match term {
         Term::Symbol(id) | Term::Compound(id, _) if which == Value::Id => change(id),
-        Term::Number(value) if which == Value::Number => change(value),
+        Term::Number(value) | Term::Gauged(_, value) if which == Value::Number => change(value),
+        Term::Gauged(gauge, _) if which == Value::Gauge => narrow(gauge, change),
         Term::Span(low, high) if which == Value::Number => {
             change(low);
             change(high);

@@ -1,6 +1,6 @@
 //! Sheets made simpler: fewer rules, fewer arguments, simpler patterns, smaller ids and numbers.
 
-use super::{lower, parts, Value};
+use super::{lower, narrow, parts, Value};
 use crate::trees::{all, replace, visit, Pattern, SheetTree};
 use std::collections::BTreeSet;
 use std::ops::Range;
@@ -36,6 +36,11 @@ fn simpler(pattern: &Pattern) -> Vec<Pattern> {
         Pattern::Range(low, high) => {
             new.push(Pattern::Symbol(0));
             new.extend(ranges(*low, *high).map(|(low, high)| Pattern::Range(low, high)));
+        }
+        Pattern::Gauged(gauge, low, high) => {
+            new.extend([Pattern::Symbol(0), Pattern::Range(*low, *high)]);
+            new.extend(lower((*gauge).into()).map(|gauge| Pattern::Gauged(gauge as u8, *low, *high)));
+            new.extend(ranges(*low, *high).map(|(low, high)| Pattern::Gauged(*gauge, low, high)));
         }
         Pattern::Series(low, high) => {
             new.extend([0, *low, *high].map(Pattern::Symbol));
@@ -146,7 +151,7 @@ pub fn after(sheet: &SheetTree, step: &Step) -> Option<SheetTree> {
     Some(sheet)
 }
 
-/// Does the same to each id, ends of series among them, or to each end of a range.
+/// Does the same to each id, ends of series among them, to each end of a range, or to each gauge.
 pub fn each(sheet: &mut SheetTree, which: Value, change: &mut dyn FnMut(&mut u16)) {
     for rule in &mut sheet.rules {
         visit(rule, &mut |pattern| match pattern {
@@ -155,10 +160,13 @@ pub fn each(sheet: &mut SheetTree, which: Value, change: &mut dyn FnMut(&mut u16
                 change(low);
                 change(high);
             }
-            Pattern::Range(low, high) | Pattern::Ranged(_, low, high) if which == Value::Number => {
+            Pattern::Range(low, high) | Pattern::Ranged(_, low, high) | Pattern::Gauged(_, low, high)
+                if which == Value::Number =>
+            {
                 change(low);
                 change(high);
             }
+            Pattern::Gauged(gauge, ..) if which == Value::Gauge => narrow(gauge, change),
             _ => {}
         });
     }

@@ -6,7 +6,7 @@ use crate::trees::{piece_bytes, Pattern, SheetTree, Term};
 
 /// Sheets of one or two rules, or none.
 fn sheets() -> Vec<SheetTree> {
-    use Pattern::{Anything, Compound, Range, Series, Symbol, Variable};
+    use Pattern::{Anything, Compound, Gauged, Range, Series, Symbol, Variable};
     let one = |pattern: Pattern| SheetTree { arity: 1, rules: vec![vec![pattern]] };
     let two = |first, second| SheetTree { arity: 1, rules: vec![vec![first], vec![second]] };
     vec![
@@ -14,6 +14,7 @@ fn sheets() -> Vec<SheetTree> {
         one(Anything),
         one(Symbol(0)),
         one(Range(0, 0)),
+        one(Gauged(1, 0, 0)),
         one(Series(0, 1)),
         one(Compound(0, vec![Anything])),
         two(Anything, Anything),
@@ -23,13 +24,15 @@ fn sheets() -> Vec<SheetTree> {
         two(Symbol(0), Series(0, 1)),
         two(Series(0, 1), Series(1, 2)),
         two(Range(0, 0), Symbol(0)),
+        two(Anything, Gauged(1, 0, 0)),
+        two(Range(0, 0), Gauged(1, 0, 0)),
         SheetTree { arity: 2, rules: vec![vec![Variable(0); 2]] },
     ]
 }
 
 /// Pieces of one or two arguments.
 fn pieces() -> Vec<Vec<Term>> {
-    use Term::{Compound, Never, Number, Span, Symbol, Unknown};
+    use Term::{Compound, Gauged, Never, Number, Span, Symbol, Unknown};
     vec![
         vec![Unknown],
         vec![Symbol(0)],
@@ -38,6 +41,8 @@ fn pieces() -> Vec<Vec<Term>> {
         vec![Span(0, 0)],
         vec![Span(0, 1)],
         vec![Never],
+        vec![Gauged(0, 0)],
+        vec![Gauged(1, 0)],
         vec![Compound(0, vec![Unknown])],
         vec![Unknown, Unknown],
         vec![Symbol(0), Unknown],
@@ -45,6 +50,7 @@ fn pieces() -> Vec<Vec<Term>> {
         vec![Symbol(0), Symbol(1)],
         vec![Unknown, Never],
         vec![Never, Never],
+        vec![Number(0), Gauged(1, 0)],
     ]
 }
 

@@ -2,7 +2,7 @@
 
 use super::piece::{Piece, LACKING, NOT_KNOWN};
 use super::places::step_of_children;
-use super::records::{ends, COMPOUND, NEVER, NUMBER, SPAN, UNKNOWN};
+use super::records::{ends, COMPOUND, GAUGED, NEVER, NUMBER, SPAN, UNKNOWN};
 
 /// What a piece says about a test.
 #[derive(Clone, Copy, PartialEq, Eq)]
@@ -64,15 +64,15 @@ fn same_head(bytes: &[u8], a: usize, b: usize) -> bool {
 /// Compares the terms at two offsets, of which the first is known and no compound.
 #[inline(always)]
 fn leaves(bytes: &[u8], a: usize, b: usize) -> Truth {
-    if bytes[a] != SPAN && bytes[b] != SPAN {
+    if bytes[a] < SPAN && bytes[b] < SPAN {
         return if same_head(bytes, a, b) { Truth::Holds } else { Truth::Contradicted };
     }
     numbers(bytes, a, b)
 }
 
-/// The same where one of them is a span.
+/// The same where one of them is a span or names its gauge.
 fn numbers(bytes: &[u8], a: usize, b: usize) -> Truth {
-    let is_number = |kind: u8| kind == NUMBER || kind == SPAN;
+    let is_number = |kind: u8| kind == NUMBER || kind == SPAN || kind == GAUGED;
     if !is_number(bytes[a]) || !is_number(bytes[b]) {
         return Truth::Contradicted;
     }

@@ -2,7 +2,8 @@
 
 use super::pairs::{self, pair};
 use super::places;
-use super::records::{self, wide, Case, Node, COMPOUND_BYTES, RUN_BYTES, SWITCH};
+use super::records::{self, on_gauge, wide, Case, Node};
+use super::records::{COMPOUND_BYTES, NUMBERS_BYTES, SWITCH, SYMBOLS_BYTES};
 use super::sheet::Sheet;
 use crate::results::Refusal;
 
@@ -90,7 +91,7 @@ fn cases(bytes: &[u8], count: u16) -> Option<Cases> {
             Case::Symbols(low, high, to) => {
                 (first, last, node) = (low.into(), high.into(), to);
                 next = turn(last + 1, 0);
-                cases.used += RUN_BYTES;
+                cases.used += SYMBOLS_BYTES;
             }
             Case::Compound(id, arity, to) => {
                 first = 1 << 24 | u32::from(id) << 8 | u32::from(arity);
@@ -98,10 +99,10 @@ fn cases(bytes: &[u8], count: u16) -> Option<Cases> {
                 next = turn(first, last + 1);
                 cases.used += COMPOUND_BYTES;
             }
-            Case::Numbers(low, high, to) => {
-                (first, last, node) = (2 << 24 | u32::from(low), 2 << 24 | u32::from(high), to);
+            Case::Numbers(gauge, low, high, to) => {
+                (first, last, node) = (2 << 24 | on_gauge(gauge, low), 2 << 24 | on_gauge(gauge, high), to);
                 next = turn(first, last + 1);
-                cases.used += RUN_BYTES;
+                cases.used += NUMBERS_BYTES;
             }
         }
         cases.in_order &= turn(first, last) >= least && first <= last;

@@ -45,6 +45,7 @@ fn length(bytes: &[u8], depth: usize) -> Result<usize, Refusal> {
         None => Err(14),
         Some(Term::Unknown | Term::Never) => Ok(1),
         Some(Term::SymbolOrNumber) => Ok(3),
+        Some(Term::Gauged) => Ok(4),
         Some(Term::Compound(arity)) => {
             if depth > 3 {
                 return Err(15);
@@ -139,6 +140,10 @@ impl<'a> Piece<'a> {
             Some(Term::SymbolOrNumber) => {
                 self.offsets[place] = from as u16;
                 Ok(3)
+            }
+            Some(Term::Gauged) => {
+                self.offsets[place] = from as u16;
+                Ok(4)
             }
             Some(Term::Compound(arity)) => {
                 if depth > 3 {

@@ -13,7 +13,7 @@ pub fn put_wide(bytes: &mut [u8], at: usize, field: u16) {
     bytes[at] = (field >> 8) as u8;
 }
 
-/// A pattern of kinds 20 to 26.
+/// A pattern of kinds 20 to 27.
 #[derive(Clone, Copy)]
 pub enum Pattern {
     Anything,
@@ -23,6 +23,7 @@ pub enum Pattern {
     Variable(u8),
     Ranged(u8, u16, u16),
     Series(u16, u16),
+    Gauged(u8, u16, u16),
 }
 
 #[inline(always)]
@@ -39,6 +40,7 @@ pub fn pattern(bytes: &[u8]) -> Option<Pattern> {
         0x24 if len >= 2 => Some(Pattern::Variable(bytes[1])),
         0x25 if len >= 6 => Some(Pattern::Ranged(bytes[1], wide(bytes, 2), wide(bytes, 4))),
         0x26 if len >= 5 => Some(Pattern::Series(wide(bytes, 1), wide(bytes, 3))),
+        0x27 if len >= 6 => Some(Pattern::Gauged(bytes[1], wide(bytes, 2), wide(bytes, 4))),
         _ => None,
     }
 }
@@ -50,8 +52,9 @@ pub const NUMBER: u8 = 0x32;
 pub const COMPOUND: u8 = 0x33;
 pub const SPAN: u8 = 0x34;
 pub const NEVER: u8 = 0x35;
+pub const GAUGED: u8 = 0x36;
 
-/// A term of kinds 30 to 35, as far as reading on depends on it.
+/// A term of kinds 30 to 36, as far as reading on depends on it.
 #[derive(Clone, Copy)]
 pub enum Term {
     Unknown,
@@ -59,6 +62,7 @@ pub enum Term {
     Compound(u8),
     Span(u16, u16),
     Never,
+    Gauged,
 }
 
 #[inline(always)]
@@ -73,15 +77,25 @@ pub fn term(bytes: &[u8]) -> Option<Term> {
         COMPOUND if len >= 4 => Some(Term::Compound(bytes[3])),
         SPAN if len >= 5 => Some(Term::Span(wide(bytes, 1), wide(bytes, 3))),
         NEVER => Some(Term::Never),
+        GAUGED if len >= 4 => Some(Term::Gauged),
         _ => None,
     }
 }
 
-/// The ends between which the number or span at an offset lies; a number is both.
+/// A number on a gauge as one number, which ascends by gauge, then value.
 #[inline(always)]
-pub fn ends(bytes: &[u8], at: usize) -> (u16, u16) {
-    let low = wide(bytes, at + 1);
-    (low, if bytes[at] == SPAN { wide(bytes, at + 3) } else { low })
+pub fn on_gauge(gauge: u8, value: u16) -> u32 {
+    u32::from(gauge) << 16 | u32::from(value)
+}
+
+/// The ends between which the number or span at an offset lies, on their gauge; a number is both.
+#[inline(always)]
+pub fn ends(bytes: &[u8], at: usize) -> (u32, u32) {
+    let low = match bytes[at] {
+        GAUGED => on_gauge(bytes[at + 1], wide(bytes, at + 2)),
+        _ => wide(bytes, at + 1).into(),
+    };
+    (low, if bytes[at] == SPAN { wide(bytes, at + 3).into() } else { low })
 }
 
 /// The bytes of a switch before its cases.
@@ -128,16 +142,17 @@ pub const SYMBOLS_CASE: u8 = 0x44;
 pub const COMPOUND_CASE: u8 = 0x45;
 pub const NUMBERS_CASE: u8 = 0x46;
 
-/// The bytes of a case of symbols or of numbers, and of a compound's.
-pub const RUN_BYTES: usize = 7;
+/// The bytes of a case of symbols, of a compound's and of numbers.
+pub const SYMBOLS_BYTES: usize = 7;
 pub const COMPOUND_BYTES: usize = 6;
+pub const NUMBERS_BYTES: usize = 8;
 
 /// A case of kinds 44 to 46; the last field is its node.
 #[derive(Clone, Copy)]
 pub enum Case {
     Symbols(u16, u16, u16),
     Compound(u16, u8, u16),
-    Numbers(u16, u16, u16),
+    Numbers(u8, u16, u16, u16),
 }
 
 #[inline(always)]
@@ -147,12 +162,12 @@ pub fn case(bytes: &[u8]) -> Option<Case> {
         return None;
     }
     match bytes[0] {
-        SYMBOLS_CASE if len >= RUN_BYTES => {
+        SYMBOLS_CASE if len >= SYMBOLS_BYTES => {
             Some(Case::Symbols(wide(bytes, 1), wide(bytes, 3), wide(bytes, 5)))
         }
         COMPOUND_CASE => Some(Case::Compound(wide(bytes, 1), bytes[3], wide(bytes, 4))),
-        NUMBERS_CASE if len >= RUN_BYTES => {
-            Some(Case::Numbers(wide(bytes, 1), wide(bytes, 3), wide(bytes, 5)))
+        NUMBERS_CASE if len >= NUMBERS_BYTES => {
+            Some(Case::Numbers(bytes[1], wide(bytes, 2), wide(bytes, 4), wide(bytes, 6)))
         }
         _ => None,
     }

@@ -3,7 +3,7 @@
 use super::compare::{equal, Truth};
 use super::piece::{Piece, LACKING, NOT_KNOWN};
 use super::places::STEP;
-use super::records::{self, ends, wide, Pattern, COMPOUND, NUMBER, SPAN, SYMBOL};
+use super::records::{self, ends, on_gauge, wide, Pattern, COMPOUND, GAUGED, NUMBER, SPAN, SYMBOL};
 use super::sheet::Sheet;
 use super::variables::Variables;
 
@@ -43,14 +43,14 @@ fn series_test(
     in_series(piece, offset, low, high).then_some(Made { used, not_known: 0 })
 }
 
-/// Whether a number from low to high stands at this offset.
+/// Whether a number from low to high, both on their gauge, stands at this offset.
 #[inline(always)]
-pub fn in_range(piece: &Piece, offset: usize, low: u16, high: u16) -> Truth {
+pub fn in_range(piece: &Piece, offset: usize, low: u32, high: u32) -> Truth {
     if offset <= NOT_KNOWN {
         return if offset == NOT_KNOWN { Truth::NotKnown } else { Truth::Contradicted };
     }
     let kind = piece.bytes[offset];
-    if kind != NUMBER && kind != SPAN {
+    if kind != NUMBER && kind != SPAN && kind != GAUGED {
         return Truth::Contradicted;
     }
     let (first, last) = ends(piece.bytes, offset);
@@ -63,12 +63,18 @@ pub fn in_range(piece: &Piece, offset: usize, low: u16, high: u16) -> Truth {
     }
 }
 
-/// A range's test at a place: bytes read, and the test itself if it is not known.
+/// A range's test at a place, whose record has so many bytes: these, and the test itself if it is not known.
 #[inline(always)]
-fn range_test(sheet: &Sheet, piece: &Piece, place: usize, (low, high): (u16, u16)) -> Option<Made> {
+fn range_test(
+    sheet: &Sheet,
+    piece: &Piece,
+    place: usize,
+    (low, high): (u32, u32),
+    used: usize,
+) -> Option<Made> {
     match in_range(piece, piece.find(place), low, high) {
-        Truth::Holds => Some(Made { used: 5, not_known: 0 }),
-        Truth::NotKnown => Some(Made { used: 5, not_known: 1 << sheet.place_test(place) }),
+        Truth::Holds => Some(Made { used, not_known: 0 }),
+        Truth::NotKnown => Some(Made { used, not_known: 1 << sheet.place_test(place) }),
         Truth::Contradicted => None,
     }
 }
@@ -103,7 +109,10 @@ fn pattern(
         Pattern::Anything => Some(Made { used: 1, not_known: 0 }),
         Pattern::Symbol(id) => series_test(sheet, piece, place, (id, id), 3),
         Pattern::Series(low, high) => series_test(sheet, piece, place, (low, high), 5),
-        Pattern::Range(low, high) => range_test(sheet, piece, place, (low, high)),
+        Pattern::Range(low, high) => range_test(sheet, piece, place, (low.into(), high.into()), 5),
+        Pattern::Gauged(gauge, low, high) => {
+            range_test(sheet, piece, place, (on_gauge(gauge, low), on_gauge(gauge, high)), 6)
+        }
         Pattern::Compound(id, arity) => {
             let offset = piece.find(place);
             let mut not_known = 0;
@@ -155,8 +164,8 @@ fn variable(variables: &Variables, number: usize, sheet: &Sheet, piece: &Piece) 
     for i in 0..count {
         let p = variables.place(number, i);
         if variables.is_ranged(number) {
-            let range = (variables.low(number), variables.high(number));
-            not_known |= range_test(sheet, piece, usize::from(p), range)?.not_known;
+            let range = (variables.low(number).into(), variables.high(number).into());
+            not_known |= range_test(sheet, piece, usize::from(p), range, 0)?.not_known;
         }
         for j in i + 1..count {
             let q = variables.place(number, j);

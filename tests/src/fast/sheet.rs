@@ -116,13 +116,8 @@ fn pattern(
             places::put(tested, place);
             Ok(3)
         }
-        Some(Pattern::Range(low, high) | Pattern::Series(low, high)) => {
-            if low > high {
-                return Err(7);
-            }
-            places::put(tested, place);
-            Ok(5)
-        }
+        Some(Pattern::Range(low, high) | Pattern::Series(low, high)) => ended(low, high, place, tested, 5),
+        Some(Pattern::Gauged(_, low, high)) => ended(low, high, place, tested, 6),
         Some(Pattern::Compound(_, arity)) => {
             if depth > 3 {
                 return Err(5);
@@ -143,6 +138,16 @@ fn pattern(
         }
         Some(Pattern::Ranged(number, low, high)) => ranged(number, low, high, place, variables),
     }
+}
+
+/// Reads a range or a series, which has so many bytes.
+#[inline(always)]
+fn ended(low: u16, high: u16, place: usize, tested: &mut PlaceSet, used: usize) -> Result<usize, Refusal> {
+    if low > high {
+        return Err(7);
+    }
+    places::put(tested, place);
+    Ok(used)
 }
 
 #[inline(always)]

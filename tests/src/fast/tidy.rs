@@ -14,15 +14,17 @@ fn length(record: Pattern) -> usize {
         Pattern::Range(..) | Pattern::Series(..) => 5,
         Pattern::Compound(..) => 4,
         Pattern::Variable(_) => 2,
-        Pattern::Ranged(..) => 6,
+        Pattern::Ranged(..) | Pattern::Gauged(..) => 6,
     }
 }
 
-/// The tidy form of a record that is no variable's: a series of one symbol is that symbol.
+/// The tidy form of a record that is no variable's: a series of one symbol is that symbol, a range on gauge 0 has no
+/// gauge.
 #[inline(always)]
 fn alone(record: Pattern) -> Pattern {
     match record {
         Pattern::Series(low, high) if low == high => Pattern::Symbol(low),
+        Pattern::Gauged(0, low, high) => Pattern::Range(low, high),
         _ => record,
     }
 }
@@ -88,7 +90,7 @@ fn tidied(variables: &Variables, numbers: &mut Numbers, number: usize) -> Patter
     }
 }
 
-/// Writes the record of a variable or a symbol; gives how many bytes it has.
+/// Writes the record of a variable, a symbol or a range on gauge 0; gives how many bytes it has.
 #[inline(always)]
 fn put(to: &mut [u8], record: Pattern) -> usize {
     let length = length(record);
@@ -132,6 +134,7 @@ fn put_rule(rule: &[u8], variables: &Variables, needed: usize, to: &mut [u8]) ->
                 end += put(&mut to[end..], record);
             }
             Pattern::Series(low, high) if low == high => end += put(&mut to[end..], Pattern::Symbol(low)),
+            Pattern::Gauged(0, low, high) => end += put(&mut to[end..], Pattern::Range(low, high)),
             _ => {
                 to[end..end + used].copy_from_slice(&rule[at..at + used]);
                 end += used;

@@ -4,7 +4,7 @@ use super::compare::{equal, Truth};
 use super::graph::NodeStarts;
 use super::piece::{Piece, NOT_KNOWN};
 use super::places::STEP;
-use super::records::{self, Node, Pattern};
+use super::records::{self, on_gauge, Node, Pattern};
 use super::rule::{in_range, in_series, is_compound};
 use super::sheet::{RuleStarts, Sheet};
 use super::variables::Variables;
@@ -60,8 +60,13 @@ impl Making<'_> {
                 5
             }
             Some(Pattern::Range(low, high)) => {
-                self.said.note(test, in_range(self.piece, offset, low, high));
+                self.said.note(test, in_range(self.piece, offset, low.into(), high.into()));
                 5
+            }
+            Some(Pattern::Gauged(gauge, low, high)) => {
+                let (low, high) = (on_gauge(gauge, low), on_gauge(gauge, high));
+                self.said.note(test, in_range(self.piece, offset, low, high));
+                6
             }
             Some(Pattern::Compound(id, arity)) => {
                 self.said.note(test, truth(offset, is_compound(self.piece, offset, id, arity)));
@@ -96,7 +101,7 @@ impl Making<'_> {
                 let (low, high) = (self.variables.low(number), self.variables.high(number));
                 let offset = self.piece.find(usize::from(p));
                 let test = self.sheet.place_test(usize::from(p)) as usize;
-                self.said.note(test, in_range(self.piece, offset, low, high));
+                self.said.note(test, in_range(self.piece, offset, low.into(), high.into()));
             }
             for j in i + 1..count {
                 let q = self.variables.place(number, j);

@@ -3,8 +3,8 @@
 use super::compare::{equal, Truth};
 use super::graph::NodeStarts;
 use super::piece::{Piece, LACKING, NOT_KNOWN};
-use super::records::{self, ends, wide, Node, COMPOUND, COMPOUND_BYTES, COMPOUND_CASE, RUN_BYTES};
-use super::records::{NEVER, SPAN, SWITCH, SYMBOL, SYMBOLS_CASE};
+use super::records::{self, ends, wide, Node, COMPOUND, COMPOUND_BYTES, COMPOUND_CASE, NEVER};
+use super::records::{NUMBERS_BYTES, SPAN, SWITCH, SYMBOL, SYMBOLS_BYTES, SYMBOLS_CASE};
 use super::rule::make;
 use super::sheet::{RuleStarts, Sheet};
 use super::variables::Variables;
@@ -138,7 +138,7 @@ fn take(cases: &[u8], count: usize, piece: &[u8], offset: usize, neither: u16) -
         if kind == SYMBOL && field <= wide(cases, at + 3) {
             return if wide(cases, at + 1) <= field { wide(cases, at + 5) } else { neither };
         }
-        at += RUN_BYTES;
+        at += SYMBOLS_BYTES;
         i += 1;
     }
     if kind == SYMBOL {
@@ -158,14 +158,14 @@ fn take(cases: &[u8], count: usize, piece: &[u8], offset: usize, neither: u16) -
     narrowest(&cases[at..], count - i, first, last).unwrap_or(neither)
 }
 
-/// Both ends of a number case as one number, which ascends as the cases do.
+/// Gauge and both ends of a number case as one number, which ascends as the cases do.
 #[inline(always)]
 fn turn(cases: &[u8], case: usize) -> u64 {
-    let at = RUN_BYTES * case + 1;
-    u64::from(wide(cases, at)) << 16 | u64::from(wide(cases, at + 2))
+    let at = NUMBERS_BYTES * case + 1;
+    u64::from(cases[at]) << 32 | u64::from(wide(cases, at + 1)) << 16 | u64::from(wide(cases, at + 3))
 }
 
-/// The first of so many number cases that does not come before these ends.
+/// The first of so many number cases that does not come before these ends, the low one on its gauge.
 #[inline(always)]
 fn first_from(cases: &[u8], count: usize, low: u64, high: u16) -> usize {
     let ends = low << 16 | u64::from(high);
@@ -182,14 +182,18 @@ fn first_from(cases: &[u8], count: usize, low: u64, high: u16) -> usize {
 }
 
 /// The node of the number case that has the highest low, then the lowest high, of those that contain all from
-/// first to last. Cases of one low are gone through by halves, from the highest low that may do downwards.
-fn narrowest(cases: &[u8], count: usize, first: u16, last: u16) -> Option<u16> {
+/// first to last, both on one gauge. Cases of one low are gone through by halves, from the highest low that may do
+/// downwards to the last of that gauge.
+fn narrowest(cases: &[u8], count: usize, first: u32, last: u32) -> Option<u16> {
     let mut below = first_from(cases, count, u64::from(first) + 1, 0);
     while below > 0 {
         let low = turn(cases, below - 1) >> 16;
-        let case = first_from(cases, below, low, last);
+        if low >> 16 != u64::from(first) >> 16 {
+            break;
+        }
+        let case = first_from(cases, below, low, last as u16);
         if case < below {
-            return Some(wide(cases, RUN_BYTES * case + 5));
+            return Some(wide(cases, NUMBERS_BYTES * case + 6));
         }
         below = first_from(cases, below, low, 0);
     }

@@ -1,6 +1,6 @@
 //! Building the graph of a sheet: nodes breadth first from the root, then the buffer.
 
-use super::cases::{pairs, Cases, Run};
+use super::cases::{maximal, pairs, Cases, Run};
 use super::graph::MOST_NODES;
 use super::keys::{Asking, Key, Kind};
 use super::nodes::{graph_bytes, Case, Node};
@@ -10,11 +10,12 @@ use crate::results::Refusal;
 /// Room for so many nodes is made at first.
 const FEW: usize = 32;
 
-/// The most runs of numbers at a place: one more than the ends of ranges, two for each rule.
+/// The most runs of numbers at a place, if all ranges are on one gauge: one more than their ends, two for each rule. On
+/// several gauges there may be more runs in all, but fewer pairs of runs of one gauge.
 const MOST_RUNS: usize = 2 * MOST_RULES as usize + 1;
 
-/// The most bytes of a graph that is built: 5, and for each node 9 and its cases of 7, one for each pair of runs.
-pub const MOST_BUILT: usize = 5 + MOST_NODES as usize * (9 + 7 * (MOST_RUNS * (MOST_RUNS + 1) / 2));
+/// The most bytes of a graph that is built: 5, and for each node 9 and its cases of 8, one for each pair of runs.
+pub const MOST_BUILT: usize = 5 + MOST_NODES as usize * (9 + 8 * (MOST_RUNS * (MOST_RUNS + 1) / 2));
 
 /// The nodes met so far: what each is, by number; the numbers of leaves; and the keys of those that
 /// ask, each with its number.
@@ -28,7 +29,7 @@ struct Known {
     /// That of each rule's execute.
     execute: Vec<Option<u16>>,
     keys: Vec<(Key, u16)>,
-    /// The runs of ids, then those of numbers, at the place that is asked.
+    /// The runs of ids, then those of the numbers of a gauge, at the place that is asked.
     runs: Vec<Run>,
 }
 
@@ -98,16 +99,19 @@ impl Known {
         for ((id, arity), rules) in wanted.compounds(tested) {
             cases.push(Case::Compound { id, arity, node: self.number(kind(rules))? });
         }
-        wanted.numbers(tested, &mut runs);
-        cases.reserve(runs.len() * (runs.len() + 1) / 2);
-        self.numbers(&runs, kind, &mut cases)?;
+        for (gauge, all) in wanted.gauges(tested) {
+            maximal(all, tested, &mut runs);
+            cases.reserve(runs.len() * (runs.len() + 1) / 2);
+            self.numbers(gauge, &runs, &kind, &mut cases)?;
+        }
         self.runs = runs;
         Ok(cases)
     }
 
-    /// Adds the cases of pairs of runs. Where the rules are those of the case before, so is the node.
+    /// Adds the cases of pairs of runs of a gauge. Where the rules are those of the case before, so is the node.
     fn numbers(
         &mut self,
+        gauge: u8,
         runs: &[Run],
         kind: impl Fn(u64) -> Kind,
         cases: &mut Vec<Case>,
@@ -119,7 +123,7 @@ impl Known {
                 _ => self.number(kind(rules))?,
             };
             before = Some((rules, node));
-            cases.push(Case::Numbers { low, high, node });
+            cases.push(Case::Numbers { gauge, low, high, node });
         }
         Ok(())
     }

@@ -1,13 +1,23 @@
 //! The cases of a switch, from what the rules want at its place.
 
 use super::sheet::Want;
+use std::collections::BTreeMap;
 
-/// Ids or numbers from the first to the last, and the rules that accept them.
+/// Ids, or numbers on one gauge, from the first to the last, and the rules that accept them.
 #[derive(Clone, Copy, Debug, PartialEq, Eq)]
 pub struct Run {
     pub low: u16,
     pub high: u16,
     pub rules: u64,
+}
+
+/// The numbers on a gauge.
+struct Gauge {
+    gauge: u8,
+    /// The rules that want a range on it.
+    ranged: u64,
+    /// All of them in runs that the same rules accept, none included, ascending.
+    runs: Vec<Run>,
 }
 
 /// What is wanted at a place.
@@ -16,18 +26,15 @@ pub struct Cases {
     symbols: Vec<Run>,
     /// The compounds by id and arity, in order, each with the rules that want it.
     compounds: Vec<((u16, u8), u64)>,
-    /// The rules that want a range.
-    ranged: u64,
-    /// All numbers in runs that the same rules accept, none included, ascending.
-    numbers: Vec<Run>,
+    /// The gauges on which a range is wanted, ascending.
+    gauges: Vec<Gauge>,
 }
 
 impl Cases {
     /// What these rules want.
     pub fn new(wants: &[(usize, Want)]) -> Cases {
-        let (mut symbols, mut numbers) = (Vec::new(), Vec::new());
+        let (mut symbols, mut gauges) = (Vec::new(), BTreeMap::<u8, Vec<(u32, u64)>>::new());
         let mut compounds: Vec<((u16, u8), u64)> = Vec::new();
-        let mut ranged = 0;
         for &(rule, want) in wants {
             let rules = 1 << rule;
             match want {
@@ -38,13 +45,16 @@ impl Cases {
                         Err(at) => compounds.insert(at, ((id, arity), rules)),
                     }
                 }
-                Want::Range { low, high } => {
-                    numbers.extend(ends(low, high, rules));
-                    ranged |= rules;
+                Want::Range { gauge, low, high } => {
+                    gauges.entry(gauge).or_default().extend(ends(low, high, rules));
                 }
             }
         }
-        Cases { symbols: runs(symbols), compounds, ranged, numbers: runs(numbers) }
+        let gauge = |(gauge, ends): (u8, Vec<(u32, u64)>)| {
+            let ranged = ends.iter().fold(0, |all, (_, rules)| all | rules);
+            Gauge { gauge, ranged, runs: runs(ends) }
+        };
+        Cases { symbols: runs(symbols), compounds, gauges: gauges.into_iter().map(gauge).collect() }
     }
 
     /// The maximal runs of ids that the same non-empty set of these rules accepts.
@@ -58,18 +68,16 @@ impl Cases {
         self.compounds.iter().map(move |(name, rules)| (*name, rules & live)).filter(|(_, rules)| *rules != 0)
     }
 
-    /// All numbers in maximal runs that the same set of these rules accepts, none included; no runs if none of
-    /// them wants a range.
-    pub fn numbers(&self, live: u64, to: &mut Vec<Run>) {
-        match self.ranged & live {
-            0 => to.clear(),
-            _ => maximal(&self.numbers, live, to),
-        }
+    /// Of each gauge on which one of these rules wants a range, ascending, all numbers in runs; those beside each other
+    /// may be accepted by the same set of these rules, which `maximal` joins.
+    pub fn gauges(&self, live: u64) -> impl Iterator<Item = (u8, &[Run])> + '_ {
+        let wanted = self.gauges.iter().filter(move |gauge| gauge.ranged & live != 0);
+        wanted.map(|gauge| (gauge.gauge, &gauge.runs[..]))
     }
 }
 
 /// Runs that the same set of these rules accepts, joined.
-fn maximal(runs: &[Run], live: u64, to: &mut Vec<Run>) {
+pub fn maximal(runs: &[Run], live: u64, to: &mut Vec<Run>) {
     to.clear();
     for run in runs {
         let rules = run.rules & live;

@@ -32,12 +32,14 @@ fn ascending(first: &Case, second: &Case) -> bool {
         (Symbols { .. }, _) => true,
         (Compound { id: f, arity: j, .. }, Compound { id: g, arity: k, .. }) => (f, j) < (g, k),
         (Compound { .. }, Numbers { .. }) => true,
-        (Numbers { low: a, high: b, .. }, Numbers { low: c, high: d, .. }) => (a, b) < (c, d),
+        (Numbers { gauge: g, low: a, high: b, .. }, Numbers { gauge: h, low: c, high: d, .. }) => {
+            (g, a, b) < (h, c, d)
+        }
         _ => false,
     }
 }
 
-/// Question 24: are cases strictly ascending, numbers by low, then high, low at most high, and no id in two?
+/// Question 24: are cases strictly ascending, numbers by gauge, low, then high, low at most high, and no id in two?
 fn in_order(node: &Node) -> bool {
     let Node::Switch { cases, .. } = node else {
         return true;

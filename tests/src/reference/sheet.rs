@@ -12,12 +12,12 @@ pub const MOST_RULES: u8 = 64;
 /// The most tests that a sheet may have.
 pub const MOST_TESTS: usize = 64;
 
-/// What a rule wants at a place: a symbol with an id from low to high, a compound, or a number from low to high.
+/// What a rule wants at a place: a symbol with an id from low to high, a compound, or a number on a gauge from low to high.
 #[derive(Clone, Copy, Debug, PartialEq, Eq)]
 pub enum Want {
     Symbols { low: u16, high: u16 },
     Compound { id: u16, arity: u8 },
-    Range { low: u16, high: u16 },
+    Range { gauge: u8, low: u16, high: u16 },
 }
 
 /// A rule's tests, the place tests ascending by place.
@@ -88,7 +88,11 @@ impl RuleReader<'_, '_> {
             }
             PatternRecord::Range { low, high } => {
                 in_order(low, high)?;
-                self.rule.wants.push((place, Want::Range { low, high }));
+                self.rule.wants.push((place, Want::Range { gauge: 0, low, high }));
+            }
+            PatternRecord::Gauged { gauge, low, high } => {
+                in_order(low, high)?;
+                self.rule.wants.push((place, Want::Range { gauge, low, high }));
             }
             PatternRecord::Compound { id, arity } => {
                 if depth > 3 {

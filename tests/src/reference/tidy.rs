@@ -32,7 +32,7 @@ fn collect(patterns: &[Pattern], to: &mut Variables) {
                 *range = Some((lowest.max(*low), highest.min(*high)));
                 *places += 1;
             }
-            Pattern::Anything | Pattern::Symbol(_) | Pattern::Series(..) | Pattern::Range(..) => {}
+            _ => {}
         }
     }
 }
@@ -54,9 +54,8 @@ impl Writer<'_> {
             Pattern::Variable(number) | Pattern::Ranged(number, ..) => self.variable(*number),
             Pattern::Compound(id, arguments) => Pattern::Compound(*id, self.patterns(arguments)),
             Pattern::Series(low, high) if low == high => Pattern::Symbol(*low),
-            Pattern::Anything | Pattern::Symbol(_) | Pattern::Series(..) | Pattern::Range(..) => {
-                pattern.clone()
-            }
+            Pattern::Gauged(0, low, high) => Pattern::Range(*low, *high),
+            other => other.clone(),
         }
     }
 

@@ -40,10 +40,10 @@ pub fn wanted(piece: &Piece, place: u16, want: Want) -> Truth {
     match (cells[0].term, want) {
         (TermRecord::Unknown, _) => NotKnown,
         (TermRecord::Symbol(id), Want::Symbols { low, high }) => Truth::of(low <= id && id <= high),
-        (TermRecord::Number(n), Want::Range { low, high }) => inside((n, n), low, high),
-        (TermRecord::Span { low: first, high: last }, Want::Range { low, high }) => {
-            inside((first, last), low, high)
-        }
+        (term, Want::Range { gauge, low, high }) => match ends(term) {
+            Some(ends) if ends.gauge == gauge => inside(ends, low, high),
+            _ => Contradicted,
+        },
         (TermRecord::Compound { id, arity }, Want::Compound { id: wanted, arity: many }) => {
             Truth::of(id == wanted && arity == many)
         }
@@ -51,9 +51,9 @@ pub fn wanted(piece: &Piece, place: u16, want: Want) -> Truth {
     }
 }
 
-/// Whether a number that lies between two ends lies in a range: it does if both ends do, and does not if all
-/// numbers between them are outside.
-fn inside((first, last): (u16, u16), low: u16, high: u16) -> Truth {
+/// Whether a number that lies between two ends lies in a range on its gauge: it does if both ends do, and does not if
+/// all numbers between them are outside.
+fn inside(Ends { first, last, .. }: Ends, low: u16, high: u16) -> Truth {
     if low <= first && last <= high {
         Holds
     } else if last < low || high < first {
@@ -63,20 +63,30 @@ fn inside((first, last): (u16, u16), low: u16, high: u16) -> Truth {
     }
 }
 
-/// Between which ends a number lies; none for other terms.
-pub fn ends(term: TermRecord) -> Option<(u16, u16)> {
-    match term {
-        TermRecord::Number(n) => Some((n, n)),
-        TermRecord::Span { low, high } => Some((low, high)),
-        _ => None,
-    }
+/// A number on a gauge, between two ends.
+#[derive(Clone, Copy, PartialEq, Eq)]
+pub struct Ends {
+    pub gauge: u8,
+    pub first: u16,
+    pub last: u16,
 }
 
-/// Whether two numbers, each between its ends, are the same.
-fn same_numbers(a: (u16, u16), b: (u16, u16)) -> Truth {
-    if a.1 < b.0 || b.1 < a.0 {
+/// Between which ends a number lies, and on which gauge: 0 for a span, and where none is named. None for other terms.
+pub fn ends(term: TermRecord) -> Option<Ends> {
+    let (gauge, first, last) = match term {
+        TermRecord::Number(n) => (0, n, n),
+        TermRecord::Gauged { gauge, value } => (gauge, value, value),
+        TermRecord::Span { low, high } => (0, low, high),
+        _ => return None,
+    };
+    Some(Ends { gauge, first, last })
+}
+
+/// Whether two numbers, each between its ends, are the same: on the same gauge, of the same value.
+fn same_numbers(a: Ends, b: Ends) -> Truth {
+    if a.gauge != b.gauge || a.last < b.first || b.last < a.first {
         Contradicted
-    } else if a.0 == a.1 && b.0 == b.1 {
+    } else if a.first == a.last && b.first == b.last {
         Holds
     } else {
         NotKnown

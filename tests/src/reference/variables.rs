@@ -10,7 +10,7 @@ pub struct Occurrence {
     pub range: Option<(u16, u16)>,
 }
 
-/// The common part of the ranges of one variable's records, none if no record is ranged.
+/// The common part of the ranges of one variable's records, all on gauge 0, none if no record is ranged.
 /// It is empty where its low is above its high.
 fn common_part(records: &[Occurrence]) -> Option<(u16, u16)> {
     records.iter().filter_map(|record| record.range).reduce(|(low, high), (l, h)| (low.max(l), high.min(h)))
@@ -31,7 +31,7 @@ pub fn add_wants(records: &[Occurrence], wants: &mut Vec<(u16, Want)>) -> Result
     if low > high {
         return Err(9);
     }
-    wants.extend(records.iter().map(|record| (record.place, Want::Range { low, high })));
+    wants.extend(records.iter().map(|record| (record.place, Want::Range { gauge: 0, low, high })));
     Ok(())
 }
 

@@ -4,7 +4,7 @@ use super::nodes::{Case, Node};
 use super::piece::{Found, Piece};
 use super::records::TermRecord;
 use super::sheet::{Rule, Sheet};
-use super::truth::{ends, equal, wanted, Truth};
+use super::truth::{ends, equal, wanted, Ends, Truth};
 use crate::results::{Answer, Refusal, Walk, Word};
 use std::cmp::Reverse;
 
@@ -48,12 +48,12 @@ pub fn walk(sheet: &Sheet, nodes: &[Node], piece: &Piece) -> Result<Answer, Refu
     }
 }
 
-/// The case that a term follows which is not unknown. Of the cases that contain it, a number or span follows the one
-/// with the highest low, then the lowest high. A reading that will never come follows none.
+/// The case that a term follows which is not unknown. Of the cases of its gauge that contain it, a number or span follows
+/// the one with the highest low, then the lowest high. A reading that will never come follows none.
 fn taken(cases: &[Case], term: TermRecord) -> Option<&Case> {
-    if let Some((first, last)) = ends(term) {
+    if let Some(Ends { gauge, first, last }) = ends(term) {
         let contain = |case: &&Case| match case {
-            Case::Numbers { low, high, .. } => *low <= first && last <= *high,
+            Case::Numbers { gauge: on, low, high, .. } => *on == gauge && *low <= first && last <= *high,
             _ => false,
         };
         let narrowest = |case: &&Case| match case {

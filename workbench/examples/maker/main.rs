@@ -2,6 +2,7 @@
 //!
 //! `vt conform --program maker` finds no difference. `maker --wrong TRAP` is its wrong twin: see `wrong`.
 
+mod gauges;
 mod nevers;
 mod orders;
 mod series;

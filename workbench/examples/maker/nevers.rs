@@ -50,7 +50,7 @@ fn shallow(piece: &Piece, p: u16, q: u16) -> Truth {
 }
 
 /// The plain answer with terms compared by this function.
-fn plain(arguments: &mut [Vec<u8>], same: impl Fn(&Piece, u16, u16) -> Truth) -> Option<Said> {
+pub fn plain(arguments: &mut [Vec<u8>], same: impl Fn(&Piece, u16, u16) -> Truth) -> Option<Said> {
     let [sheet, piece] = &*arguments else { return None };
     let (Ok(size), Ok(made)) = (check_sheet(sheet), check_piece(piece)) else {
         return right("plain", arguments);

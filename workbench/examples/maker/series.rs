@@ -25,34 +25,35 @@ fn single(name: &str, arguments: &mut [Vec<u8>]) -> Option<Said> {
     right(name, arguments)
 }
 
-/// Puts the series of a sheet back where its tidy form has symbols.
-fn put_back(tidied: &mut [Pattern], written: &[Pattern]) {
+/// Puts patterns of a sheet that are to be kept back into its tidy form.
+fn put_back(tidied: &mut [Pattern], written: &[Pattern], keeps: fn(&Form) -> bool) {
     for (tidied, written) in tidied.iter_mut().zip(written) {
         match (&mut tidied.form, &written.form) {
-            (Form::Symbol(_), Form::Series(low, high)) => tidied.form = Form::Series(*low, *high),
-            (Form::Compound(_, tidied), Form::Compound(_, written)) => put_back(tidied, written),
+            (Form::Compound(_, tidied), Form::Compound(_, written)) => put_back(tidied, written, keeps),
+            (_, form) if keeps(form) => tidied.form = form.clone(),
             _ => {}
         }
     }
 }
 
-/// The tidy sheet in which a series of one symbol stays a series.
-fn kept(bytes: &[u8], buffer: &mut [u8]) -> Said {
+/// The tidy sheet in which some patterns stay as they are written.
+pub fn kept(bytes: &[u8], buffer: &mut [u8], keeps: fn(&Form) -> bool) -> Said {
     // No record has more than three times as many bytes when it is tidy.
     let mut room = vec![0; 3 * bytes.len()];
     let length = tidy(bytes, &mut room)?.bytes as usize;
     let [mut tidied, written] =
         [&room[..length], bytes].map(|bytes| Sheet::read(bytes).expect("an accepted sheet"));
     for (tidied, written) in tidied.rules.iter_mut().zip(&written.rules) {
-        put_back(&mut tidied.patterns, &written.patterns);
+        put_back(&mut tidied.patterns, &written.patterns, keeps);
     }
     let bytes = tidied.bytes();
     buffer.get_mut(..bytes.len()).ok_or(31)?.copy_from_slice(&bytes);
     Ok(bytes.len().to_string())
 }
 
-/// Cases in which the ids between runs have cases too, which lead where neither does.
-fn filled(cases: &[(Case, u16)], neither: u16) -> Vec<(Case, u16)> {
+/// Cases in which all ids are cut into runs, as numbers are: those between runs have cases too, which lead where neither
+/// does.
+fn gaps(cases: &[(Case, u16)], neither: u16) -> Vec<(Case, u16)> {
     let mut all = Vec::new();
     let mut next = Some(0);
     for (case, node) in cases {
@@ -69,14 +70,18 @@ fn filled(cases: &[(Case, u16)], neither: u16) -> Vec<(Case, u16)> {
     all
 }
 
-/// The graph in which all ids are cut into runs, as numbers are, those that no rule accepts included.
-fn gaps(name: &str, arguments: &mut [Vec<u8>]) -> Option<Said> {
+/// The sheet's graph, with the cases that this function makes of those of each switch and its node for neither.
+pub fn recut(
+    name: &str,
+    arguments: &mut [Vec<u8>],
+    cut: impl Fn(&[(Case, u16)], u16) -> Vec<(Case, u16)>,
+) -> Option<Said> {
     let [sheet, buffer] = &mut *arguments else { return None };
     let Some(bytes) = own_graph(sheet) else { return right(name, arguments) };
     let mut graph = Graph::read(&bytes).expect("a graph");
     for node in &mut graph.nodes {
         if let Kind::Switch { neither, cases, .. } = &mut node.kind {
-            *cases = filled(cases, *neither);
+            *cases = cut(cases, *neither);
         }
     }
     let bytes = graph.bytes();
@@ -89,8 +94,10 @@ fn gaps(name: &str, arguments: &mut [Vec<u8>]) -> Option<Said> {
 pub fn call(trap: &str, name: &str, arguments: &mut [Vec<u8>]) -> Option<Said> {
     match (trap, name, &mut *arguments) {
         ("single", "plain" | "walk", _) => single(name, arguments),
-        ("gaps", "build", _) => gaps(name, arguments),
-        ("kept", "tidy", [sheet, buffer]) => Some(kept(sheet, buffer)),
+        ("gaps", "build", _) => recut(name, arguments, gaps),
+        ("kept", "tidy", [sheet, buffer]) => {
+            Some(kept(sheet, buffer, |form| matches!(form, Form::Series(..))))
+        }
         _ => right(name, arguments),
     }
 }

@@ -12,6 +12,11 @@
 //! - `alike` holds two readings that will never come equal.
 //! - `shallow` overlooks what will never come inside a compound, where it compares terms.
 //! - `settled` asks for no pair after an unknown at one of its places.
+//! - `blind` holds equal values on two gauges equal.
+//! - `mingled` cuts every gauge where one of them is cut.
+//! - `lean` has cases for one run only of a named gauge, none for pairs of runs.
+//! - `ground` has a case for gauge 0 where only named gauges are asked for.
+//! - `zero` leaves a range the gauge 0 that it names in a tidy sheet.
 //! - `lowest` asks the lowest test under every reading order.
 //! - `hurried` refuses by question 30 before it has asked 29 over the whole table.
 //! - `drift` puts places down by their positions alone, whether or not their parent is down.
@@ -25,7 +30,7 @@
 //! - `stale` gives each accepted piece the arity of the first.
 //! - `mute` says nothing at all, `chatter` says each reply twice, `half` knows no graphs.
 
-use super::{call as right, nevers, orders, series, Said};
+use super::{call as right, gauges, nevers, orders, series, Said};
 use std::collections::BTreeSet;
 use std::sync::OnceLock;
 use voltunnis_tests::generate::trees::{piece_bytes, read_piece, SheetTree, Term};
@@ -133,9 +138,13 @@ fn first_case(sheet: &[u8], graph: &[u8], piece: &[u8]) -> Result<String> {
     for node in &mut nodes {
         let Node::Switch { place, cases, .. } = node else { continue };
         let Found::Term(cells) = piece.find(*place) else { continue };
-        let Some((a, b)) = ends(cells[0].term) else { continue };
-        let contains =
-            |case: &Case| matches!(case, Case::Numbers { low, high, .. } if *low <= a && b <= *high);
+        let Some(found) = ends(cells[0].term) else { continue };
+        let contains = |case: &Case| match *case {
+            Case::Numbers { gauge, low, high, .. } => {
+                gauge == found.gauge && low <= found.first && found.last <= high
+            }
+            _ => false,
+        };
         let first = cases.iter().position(contains);
         cases.truncate(first.map_or(cases.len(), |at| at + 1));
         cases.drain(..first.unwrap_or(0));
@@ -207,6 +216,7 @@ pub fn call(trap: &str, name: &str, arguments: &mut [Vec<u8>]) -> Option<Said> {
         ("first", "walk", [sheet, graph, piece]) => Some(first_case(sheet, graph, piece)),
         ("single" | "gaps" | "kept", ..) => series::call(trap, name, arguments),
         ("patient" | "alike" | "shallow" | "settled", ..) => nevers::call(trap, name, arguments),
+        ("blind" | "mingled" | "lean" | "ground" | "zero", ..) => gauges::call(trap, name, arguments),
         ("lowest" | "hurried" | "drift" | "higher", ..) => orders::call(trap, name, arguments),
         ("late", "walk_all", _) => late(name, arguments),
         ("eager", "walk_all", _) => eager(name, arguments),

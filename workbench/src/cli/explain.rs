@@ -3,6 +3,7 @@
 use super::answers::{listed, word, Bench};
 use super::args::{Args, BYTES, JSON, OUTPUT};
 use super::draw::GRAPH;
+use super::gauges::Gauges;
 use super::nevers::Nevers;
 use super::order::ORDER;
 use super::out::Out;
@@ -26,9 +27,9 @@ pub const COMMAND: Command = Command {
     summary: "retrace a piece's walk step by step, as a table or a picture",
     about: "Shows for each node what it asks, what the piece has there, the edge taken and the rules left; then\n\
             the tests of the rule that is left, and what the piece waits for; of a span such as `231..239?` also\n\
-            why this case was taken and whose range it lies partly inside, and which tests a reading that never\n\
-            comes, `!`, contradicts. The way is read from the graph's bytes and must come to the library's answer.\n\
-            With -o the picture has the way marked.",
+            why this case was taken and whose range it lies partly inside, which tests a reading that never comes,\n\
+            `!`, contradicts, and which a number on another gauge. The way is read from the graph's bytes and must\n\
+            come to the library's answer. With -o the picture has the way marked.",
     options: &[OUTPUT, GRAPH, ORDER, BYTES, JSON],
     examples: &[
         ("vt explain coins.sheet '(silver, ?, 25)'", "why this piece waits"),
@@ -133,7 +134,7 @@ impl Explained<'_> {
         let mut text =
             format!("{}\n\n{}\n", self.out.bold(self.shown), table.print(|head| self.out.dim(head)));
         let spans = self.spans();
-        let said = spans.chosen() + &self.nevers().met(self.way);
+        let said = spans.chosen() + &self.nevers().met(self.way) + &self.gauges().met(self.way);
         if !said.is_empty() {
             text += &format!("{said}\n");
         }
@@ -155,6 +156,10 @@ impl Explained<'_> {
 
     fn nevers(&self) -> Nevers<'_> {
         Nevers { piece: &self.piece.piece }
+    }
+
+    fn gauges(&self) -> Gauges<'_> {
+        Gauges { bench: self.bench, piece: &self.piece.piece }
     }
 
     /// The node at which the walk ended.
@@ -200,7 +205,9 @@ impl Explained<'_> {
         let mut text = written.map(|rule| format!("  rule {rule}\n")).unwrap_or_default();
         let mut table = Table::new(&[], &[]);
         for made in &self.way.made {
-            let truth = format!("{}{}", made.truth.words(), self.nevers().beside(made.test));
+            let never = self.nevers().beside(made.test);
+            let gauge = self.gauges().beside(made.test, made.want);
+            let truth = format!("{}{never}{gauge}", made.truth.words());
             table.row(vec![self.made_words(made), self.made_found(made), truth]);
         }
         for line in table.print(|head| head.into()).lines() {

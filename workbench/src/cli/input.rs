@@ -6,6 +6,7 @@ use super::order::OrderInput;
 use super::refused;
 use super::source::{Content, Source};
 use super::stop::Stop;
+use crate::lift::lift;
 use crate::locate::{self, Where};
 use crate::notation::{parse_graph, parse_sheet, Graph, Names, Pattern, Sheet, SheetText, Span};
 use voltunnis::{check_graph, check_sheet, graph, graph_ordered, Refusal, SheetSize};
@@ -92,6 +93,10 @@ fn part(sheet: Option<&Sheet>, place: Where) -> Span {
     sheet.rules.iter().find_map(|rule| nth(&rule.patterns, &mut index)).map_or(sheet.head, |found| found.at)
 }
 
+/// What helps with a graph whose number cases have no gauge.
+const OLDER: &str =
+    "help: it is from before gauges; `vt lift` puts a gauge of 0 into each of its number cases\n";
+
 /// A graph with its bytes.
 pub struct GraphInput {
     pub graph: Graph,
@@ -134,13 +139,17 @@ impl GraphInput {
         check_graph(&sheet.bytes, bytes).map_err(|refusal| {
             let place = locate::in_graph(&sheet.bytes, bytes, refusal);
             let graph = read.as_ref().ok().map(|read| &read.graph);
-            refused::in_source(source, bytes, refusal, place, |place| match (graph, place) {
+            let mut stop = refused::in_source(source, bytes, refusal, place, |place| match (graph, place) {
                 (Some(graph), Where::Record { index, .. }) => {
                     graph.nodes.get(index).map_or(graph.head, |node| node.at)
                 }
                 (Some(graph), _) => graph.head,
                 (None, _) => Span::default(),
-            })
+            });
+            if source.text().is_none() && lift(&sheet.bytes, bytes).is_ok() {
+                stop.message += OLDER;
+            }
+            stop
         })?;
         read
     }

@@ -8,8 +8,10 @@ mod check;
 mod conform;
 mod draw;
 mod explain;
+mod gauges;
 mod help;
 pub mod input;
+mod lift;
 mod listing;
 mod nevers;
 mod order;
@@ -57,6 +59,7 @@ pub const COMMANDS: &[Command] = &[
     tidy::COMMAND,
     track_order::COMMAND,
     build::COMMAND,
+    lift::COMMAND,
     draw::COMMAND,
     try_pieces::COMMAND,
     explain::COMMAND,

@@ -4,6 +4,7 @@ use super::args::{Args, BYTES};
 use super::out::reason;
 use super::stop::Stop;
 use super::track::POSITIONS;
+use crate::notation::declares;
 use std::ffi::OsStr;
 use std::io::Read;
 use std::path::Path;
@@ -97,8 +98,8 @@ impl Source {
                 _ => About::Sheet,
             },
             Content::Text(text) => {
-                let telling =
-                    |line: &&str| !(line.is_empty() || line.starts_with("--") || line.starts_with("name "));
+                let declares = |line: &str| line.split(' ').next().is_some_and(declares);
+                let telling = |line: &&str| !(line.is_empty() || line.starts_with("--") || declares(line));
                 let first = text.lines().map(str::trim_start).find(telling);
                 match first {
                     Some(line) if line.starts_with("graph") => About::Graph,

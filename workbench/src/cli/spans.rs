@@ -49,7 +49,7 @@ impl Spans<'_> {
             let ranges: Vec<String> = rules
                 .filter(|(at, _)| step.partly >> at & 1 == 1)
                 .filter_map(|(at, rule)| match rule.at(place)? {
-                    Want::Numbers(low, high) => Some(format!("{low}..{high} (rule {})", at + 1)),
+                    Want::Numbers(_, low, high) => Some(format!("{low}..{high} (rule {})", at + 1)),
                     Want::Symbols(..) | Want::Compound(..) => None,
                 })
                 .collect();

@@ -11,7 +11,7 @@ use super::stop::Stop;
 use super::track::{track, POSITIONS};
 use super::Command;
 use crate::json::Json;
-use crate::notation::Names;
+use crate::notation::{Names, Used};
 
 pub const COMMAND: Command = Command {
     name: "text",
@@ -46,9 +46,10 @@ fn run(args: &Args, out: &Out) -> Result<(), Stop> {
         }
         About::Pieces => {
             let (pieces, names) = pieces(&source, &names)?;
-            let ids = pieces.iter().flat_map(|piece| piece.piece.ids()).collect();
+            let mut used = Used::default();
+            pieces.iter().for_each(|piece| piece.piece.note(&mut used));
             let lines = pieces.iter().map(|piece| piece.piece.print(&names) + "\n");
-            ("pieces", names.declarations(ids) + &lines.collect::<String>())
+            ("pieces", names.declarations(used) + &lines.collect::<String>())
         }
         About::Graph => ("graph", graph_text(&source, sheet.as_ref())?),
         About::Order => ("order", OrderInput::of(&source)?.order.print()),

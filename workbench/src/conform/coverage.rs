@@ -25,17 +25,17 @@ pub struct Coverage {
 }
 
 /// The kinds of patterns, in the order of their records.
-const PATTERNS: [&str; 7] =
-    ["anything", "symbol", "range", "compound", "variable", "ranged variable", "series"];
+const PATTERNS: [&str; 8] =
+    ["anything", "symbol", "range", "compound", "variable", "ranged variable", "series", "range on a gauge"];
 
 /// The kinds of terms, in the order of their records.
-const TERMS: [&str; 6] = ["unknown", "symbol", "number", "compound", "span", "never"];
+const TERMS: [&str; 7] = ["unknown", "symbol", "number", "compound", "span", "never", "number on a gauge"];
 
 /// The kinds of nodes, in the order of their records.
 const NODES: [&str; 5] = ["fail", "suspend", "execute", "switch", "pair"];
 
-/// The kinds of cases, in the order of their records.
-const CASES: [&str; 3] = ["symbols", "compound", "numbers"];
+/// The kinds of cases, in the order of their records; numbers of gauge 0, then those of others.
+const CASES: [&str; 4] = ["symbols", "compound", "numbers", "numbers on a gauge"];
 
 /// The question of a window's calls, which are not in the stream.
 const WINDOW: u8 = 36;
@@ -89,6 +89,7 @@ impl Coverage {
                 Form::Variable(_) => 4,
                 Form::Ranged(..) => 5,
                 Form::Series(..) => 6,
+                Form::Gauged(..) => 7,
             }] += 1;
             self.add_patterns(pattern.arguments());
         }
@@ -103,6 +104,7 @@ impl Coverage {
                 What::Compound(..) => 3,
                 What::Between(..) => 4,
                 What::Never => 5,
+                What::Gauged(..) => 6,
             }] += 1;
             self.add_terms(term.arguments());
         }
@@ -118,7 +120,8 @@ impl Coverage {
                     self.cases[match case {
                         Case::Symbols { .. } => 0,
                         Case::Compound { .. } => 1,
-                        Case::Numbers { .. } => 2,
+                        Case::Numbers { gauge: 0, .. } => 2,
+                        Case::Numbers { .. } => 3,
                     }] += 1;
                 }
                 3

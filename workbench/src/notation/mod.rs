@@ -7,6 +7,7 @@
 mod names;
 mod order;
 mod parse_graph;
+mod parse_names;
 mod parse_order;
 mod parse_piece;
 mod parse_place;
@@ -23,13 +24,15 @@ mod track;
 mod tree;
 mod write;
 
-pub use names::{distance, Name, Names};
+pub use names::{distance, Declared, Name, Names, Used};
 pub use order::{Line, Order};
 pub use parse_graph::parse_graph;
+pub use parse_names::declares;
 pub use parse_order::parse_order;
 pub use parse_piece::{parse_piece, parse_pieces};
 pub use parse_sheet::{parse_sheet, SheetText};
 pub use parse_track::parse_track;
+pub use print::numbers;
 pub use print_graph::count;
 pub use read::Unread;
 pub use span::{position, Fault, Position, Span};
@@ -41,9 +44,9 @@ pub use tree::{Case, Form, Graph, Kind, Node, Pattern, Piece, Rule, Sheet, Term,
 /// ```
 /// use voltunnis_workbench::notation::print_sheet;
 ///
-/// let bytes = [0x10, 2, 2, 0x24, 0, 0x24, 0, 0x26, 0, 1, 0, 3, 0x22, 0, 5, 0, 9];
-/// assert_eq!(print_sheet(&bytes).unwrap(), "sheet 2\n1: (X, X)\n2: (#1..#3, 5..9)\n");
-/// assert_eq!(print_sheet(&[0x10, 1, 1, 0x27]).unwrap_err().at, 3);
+/// let bytes = [0x10, 2, 2, 0x24, 0, 0x27, 3, 0, 5, 0, 9, 0x26, 0, 1, 0, 3, 0x22, 0, 5, 0, 9];
+/// assert_eq!(print_sheet(&bytes).unwrap(), "sheet 2\n1: (X, 5..9@3)\n2: (#1..#3, 5..9)\n");
+/// assert_eq!(print_sheet(&[0x10, 1, 1, 0x28]).unwrap_err().at, 3);
 /// ```
 pub fn print_sheet(bytes: &[u8]) -> Result<String, Unread> {
     Sheet::read(bytes).map(|sheet| sheet.print(&Names::default()))
@@ -55,7 +58,8 @@ pub fn print_sheet(bytes: &[u8]) -> Result<String, Unread> {
 /// use voltunnis_workbench::notation::print_piece;
 ///
 /// assert_eq!(print_piece(&[0x11, 2, 0x30, 0x33, 0, 7, 1, 0x32, 0, 180]).unwrap(), "(?, #7(180))");
-/// assert_eq!(print_piece(&[0x11, 2, 0x34, 0, 231, 0, 239, 0x35]).unwrap(), "(231..239?, !)");
+/// let bytes = [0x11, 3, 0x34, 0, 231, 0, 239, 0x35, 0x36, 3, 0, 180];
+/// assert_eq!(print_piece(&bytes).unwrap(), "(231..239?, !, 180@3)");
 /// ```
 pub fn print_piece(bytes: &[u8]) -> Result<String, Unread> {
     Piece::read(bytes).map(|piece| piece.print(&Names::default()))
@@ -66,8 +70,8 @@ pub fn print_piece(bytes: &[u8]) -> Result<String, Unread> {
 /// ```
 /// use voltunnis_workbench::notation::print_graph;
 ///
-/// let bytes = [0x12, 1, 1, 0, 3, 0x43, 0, 0, 0, 1, 0, 2, 0, 1, 0x46, 0, 5, 0, 9, 0, 1, 0x42, 1, 0x40];
-/// let text = "graph 1, 1 rule, 3 nodes\n0: argument 1\n   5..9    -> 1\n   neither -> 2\n   unknown -> 1\n\
+/// let bytes = [0x12, 1, 1, 0, 3, 0x43, 0, 0, 0, 1, 0, 2, 0, 1, 0x46, 3, 0, 5, 0, 9, 0, 1, 0x42, 1, 0x40];
+/// let text = "graph 1, 1 rule, 3 nodes\n0: argument 1\n   5..9@3  -> 1\n   neither -> 2\n   unknown -> 1\n\
 ///             1: execute 1\n2: fail\n";
 /// assert_eq!(print_graph(&bytes).unwrap(), text);
 /// ```

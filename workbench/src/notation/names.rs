@@ -1,4 +1,4 @@
-//! Names of ids: `name silver = 17`.
+//! Names of ids, `name silver = 17`, and of gauges, `gauge roller = 1`.
 
 use super::span::Span;
 
@@ -6,23 +6,24 @@ use super::span::Span;
 #[derive(Clone, Debug)]
 pub struct Name {
     pub name: String,
-    pub id: u16,
+    /// The id, or the gauge.
+    pub number: u16,
     /// Where it is declared.
     pub at: Span,
 }
 
-/// Declared names, in order. One id may have several; it is printed by the first.
+/// Names of one sort, in the order of their declarations. One number may have several; it is printed by the first.
 #[derive(Clone, Debug, Default)]
-pub struct Names(Vec<Name>);
+pub struct Declared(Vec<Name>);
 
-impl Names {
+impl Declared {
     /// Declares a name.
-    pub fn add(&mut self, name: String, id: u16, at: Span) {
-        self.0.push(Name { name, id, at });
+    pub fn add(&mut self, name: String, number: u16, at: Span) {
+        self.0.push(Name { name, number, at });
     }
 
     /// Adds those of other names that are not declared here.
-    pub fn extend(&mut self, more: &Names) {
+    fn extend(&mut self, more: &Declared) {
         for other in &more.0 {
             if self.get(&other.name).is_none() {
                 self.0.push(other.clone());
@@ -35,25 +36,17 @@ impl Names {
         self.0.iter().find(|known| known.name == name)
     }
 
-    /// The id as it is printed: its first name, or `#17`.
-    pub fn show(&self, id: u16) -> String {
-        self.0
-            .iter()
-            .find(|known| known.id == id)
-            .map_or_else(|| format!("#{id}"), |known| known.name.clone())
+    /// The name by which a number is printed, if it has one.
+    fn first(&self, number: u16) -> Option<&Name> {
+        self.0.iter().find(|known| known.number == number)
     }
 
-    /// A series as it is printed: both its ends, also where they are one id.
-    pub fn series(&self, low: u16, high: u16) -> String {
-        format!("{}..{}", self.show(low), self.show(high))
-    }
-
-    /// The lines that declare the names by which these ids are printed.
-    pub fn declarations(&self, mut ids: Vec<u16>) -> String {
-        ids.sort_unstable();
-        ids.dedup();
-        let named = |id: &u16| self.0.iter().find(|known| known.id == *id);
-        ids.iter().filter_map(named).map(|known| format!("name {} = {}\n", known.name, known.id)).collect()
+    /// The lines, each beginning with this word, that declare the names by which these numbers are printed.
+    fn declarations(&self, word: &str, mut numbers: Vec<u16>) -> String {
+        numbers.sort_unstable();
+        numbers.dedup();
+        let named = numbers.iter().filter_map(|number| self.first(*number));
+        named.map(|known| format!("{word} {} = {}\n", known.name, known.number)).collect()
     }
 
     /// The declared name that is closest to one that is not, if one is close.
@@ -63,9 +56,52 @@ impl Names {
         (far <= 1 + wrong.chars().count() / 4).then_some(name)
     }
 
-    /// An id that has no name yet, for a suggestion: the lowest above all that have one.
-    pub fn free(&self) -> u16 {
-        self.0.iter().map(|known| known.id).max().map_or(1, |most| most.saturating_add(1))
+    /// A number that has no name yet, for a suggestion: the lowest above all that have one, up to this one.
+    pub fn free(&self, most: u16) -> u16 {
+        self.0.iter().map(|known| known.number).max().map_or(1, |highest| highest.saturating_add(1).min(most))
+    }
+}
+
+/// The names that hold in a text: those of ids, of symbols and compounds alike, and those of gauges.
+#[derive(Clone, Debug, Default)]
+pub struct Names {
+    pub ids: Declared,
+    pub gauges: Declared,
+}
+
+/// The ids and the gauges that stand in something.
+#[derive(Clone, Debug, Default)]
+pub struct Used {
+    pub ids: Vec<u16>,
+    pub gauges: Vec<u16>,
+}
+
+impl Names {
+    /// Adds those of other names that are not declared here.
+    pub fn extend(&mut self, more: &Names) {
+        self.ids.extend(&more.ids);
+        self.gauges.extend(&more.gauges);
+    }
+
+    /// The id as it is printed: its first name, or `#17`.
+    pub fn show(&self, id: u16) -> String {
+        self.ids.first(id).map_or_else(|| format!("#{id}"), |known| known.name.clone())
+    }
+
+    /// A series as it is printed: both its ends, also where they are one id.
+    pub fn series(&self, low: u16, high: u16) -> String {
+        format!("{}..{}", self.show(low), self.show(high))
+    }
+
+    /// A gauge as it is printed after a number: its first name, or its own number: `@roller`, `@1`.
+    pub fn on(&self, gauge: u8) -> String {
+        let named = self.gauges.first(u16::from(gauge));
+        named.map_or_else(|| format!("@{gauge}"), |known| format!("@{}", known.name))
+    }
+
+    /// The lines that declare the names by which these are printed.
+    pub fn declarations(&self, used: Used) -> String {
+        self.ids.declarations("name", used.ids) + &self.gauges.declarations("gauge", used.gauges)
     }
 }
 

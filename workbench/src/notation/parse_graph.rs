@@ -2,7 +2,7 @@
 
 use super::names::Names;
 use super::parse_place::place;
-use super::parse_sheet::{range, series_end};
+use super::parse_sheet::{gauged_range, series_end};
 use super::parser::Parser;
 use super::print_graph::count;
 use super::span::{Fault, Span};
@@ -131,11 +131,11 @@ fn cases(parser: &mut Parser, switch: Span) -> Result<Vec<(Case, u16)>, Fault> {
         parser.skip();
         let case = match parser.peek() {
             Token::Number(_) => {
-                let (low, high) = range(parser)?;
-                Case::Numbers(low, high)
+                let (low, high, gauge) = gauged_range(parser, "`->`")?;
+                Case::Numbers(gauge.unwrap_or(0), low, high)
             }
             Token::Word(word) if word == "neither" => return Ok(cases),
-            Token::Word(word) if word == "unknown" && parser.names.get(word).is_none() => {
+            Token::Word(word) if word == "unknown" && parser.names.ids.get(word).is_none() => {
                 return Err(parser.expected("the edge `neither`"));
             }
             _ => {

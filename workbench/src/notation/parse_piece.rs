@@ -12,13 +12,24 @@ const TERM: &str = "a term: `?`, `!`, a name, a number or a span";
 /// That a reading which will never come has no other mark beside it.
 const ALONE: &str = "a reading that never comes is `!` alone";
 
+/// What a number that is not known yet is.
+const LATE: &str = "a number not known yet is `?`, one between two numbers `231..239?`";
+
+/// That a gauge may stand after a number, but not after a span.
+const NO_GAUGE: &str = "a span is on gauge 0; on another gauge a number not known yet is `?`";
+
+/// What follows a term.
+const FOLLOWS: &str = "`,` or `)`";
+
 /// The piece that a text spells, by these names.
 ///
 /// ```
 /// use voltunnis_workbench::notation::{parse_piece, Names};
 ///
-/// let piece = parse_piece("(#17, ?, 180, 231..239?, !)", &Names::default()).unwrap();
-/// assert_eq!(piece.bytes(), [0x11, 5, 0x31, 0, 17, 0x30, 0x32, 0, 180, 0x34, 0, 231, 0, 239, 0x35]);
+/// let piece = parse_piece("(#17, ?, 180, 231..239?, !, 180@3)", &Names::default()).unwrap();
+/// assert_eq!(piece.bytes(), [
+///     0x11, 6, 0x31, 0, 17, 0x30, 0x32, 0, 180, 0x34, 0, 231, 0, 239, 0x35, 0x36, 3, 0, 180,
+/// ]);
 /// ```
 pub fn parse_piece(text: &str, names: &Names) -> Result<Piece, Fault> {
     let mut parser = Parser::new(text, names)?;
@@ -63,29 +74,39 @@ fn piece(parser: &mut Parser) -> Result<Piece, Fault> {
     Ok(Piece { at: start.to(parser.last()), terms })
 }
 
-/// A number, or a span: `231..239?`.
+/// A number, on the gauge that is named after it, or a span: `180`, `180@roller`, `231..239?`.
 fn number(parser: &mut Parser) -> Result<What, Fault> {
-    let low = parser.number("a number")?;
-    match parser.peek() {
-        Token::Mark("..") => {}
-        Token::Mark("?") => {
-            let help = "a number not known yet is `?`, one between two numbers `231..239?`";
-            return Err(parser.expected("`,` or `)`").help(help));
+    let value = parser.number("a number")?;
+    let gauge = parser.gauge()?;
+    match (parser.peek(), gauge) {
+        (Token::Mark(".."), None) => {
+            parser.advance();
+            span(parser, value)
         }
-        _ => return Ok(What::Number(low)),
+        (Token::Mark(".."), Some(_)) => Err(parser.expected(FOLLOWS).help(NO_GAUGE)),
+        (Token::Mark("?"), _) => Err(parser.expected(FOLLOWS).help(LATE)),
+        (_, None) => Ok(What::Number(value)),
+        (_, Some(gauge)) => Ok(What::Gauged(gauge, value)),
     }
-    parser.advance();
+}
+
+/// A span, after its `..`, which is on gauge 0.
+fn span(parser: &mut Parser, low: u16) -> Result<What, Fault> {
     let high = parser.number("the end of the span")?;
-    match parser.accept("?") {
-        true => Ok(What::Between(low, high)),
-        false if *parser.peek() == Token::Mark("!") => Err(parser.expected("`?`").help(ALONE)),
-        false => {
-            let help = format!(
-                "a number between the two, not known yet, is `{low}..{high}?`; ranges stand in sheets"
-            );
-            Err(parser.expected("`?`").help(help))
-        }
+    if parser.accept("?") {
+        return match parser.peek() {
+            Token::Mark("@") => Err(parser.expected(FOLLOWS).help(NO_GAUGE)),
+            _ => Ok(What::Between(low, high)),
+        };
     }
+    let fault = parser.expected("`?`");
+    Err(match parser.peek() {
+        Token::Mark("!") => fault.help(ALONE),
+        Token::Mark("@") => fault.help(NO_GAUGE),
+        _ => fault.help(format!(
+            "a number between the two, not known yet, is `{low}..{high}?`; ranges stand in sheets"
+        )),
+    })
 }
 
 /// A term that begins with an id: a symbol, or a compound and its arguments.
@@ -98,7 +119,7 @@ fn by_id(parser: &mut Parser, depth: usize) -> Result<What, Fault> {
         }
         Token::Mark("..") => {
             let help = "a series of symbols stands in a sheet; in a piece a symbol not known yet is `?`";
-            Err(parser.expected("`,` or `)`").help(help))
+            Err(parser.expected(FOLLOWS).help(help))
         }
         _ => Ok(What::Symbol(id)),
     }
@@ -127,8 +148,8 @@ fn term(parser: &mut Parser, depth: usize) -> Result<Term, Fault> {
         _ => return Err(parser.expected(TERM)),
     };
     match (&what, parser.peek()) {
-        (_, Token::Mark("!")) | (What::Never, Token::Mark("?" | "(" | "..")) => {
-            Err(parser.expected("`,` or `)`").help(ALONE))
+        (_, Token::Mark("!")) | (What::Never, Token::Mark("?" | "(" | ".." | "@")) => {
+            Err(parser.expected(FOLLOWS).help(ALONE))
         }
         _ => Ok(Term { at: start.to(parser.last()), what }),
     }

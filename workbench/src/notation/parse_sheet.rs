@@ -6,6 +6,9 @@ use super::span::{Fault, Span};
 use super::token::Token;
 use super::tree::{Form, Pattern, Rule, Sheet};
 
+/// What follows a pattern.
+const FOLLOWS: &str = "`,` or `)`";
+
 /// A sheet as it is written: the sheet, and the names that the text declares.
 #[derive(Clone, Debug)]
 pub struct SheetText {
@@ -18,10 +21,12 @@ pub struct SheetText {
 /// ```
 /// use voltunnis_workbench::notation::parse_sheet;
 ///
-/// let text = "sheet 2\nname silver = 17\n1: (silver, 180..190)\n2: (X, X)\n3: (silver..#99, _)\n";
+/// let text = "sheet 2\nname silver = 17\ngauge roller = 1\n1: (silver, 180..190)\n2: (X, X)\n\
+///             3: (silver..#99, 100..180@roller)\n";
 /// let written = parse_sheet(text).unwrap();
 /// assert_eq!(written.sheet.bytes(), [
-///     0x10, 2, 3, 0x21, 0, 17, 0x22, 0, 180, 0, 190, 0x24, 0, 0x24, 0, 0x26, 0, 17, 0, 99, 0x20,
+///     0x10, 2, 3, 0x21, 0, 17, 0x22, 0, 180, 0, 190, 0x24, 0, 0x24, 0,
+///     0x26, 0, 17, 0, 99, 0x27, 1, 0, 100, 0, 180,
 /// ]);
 ///
 /// let fault = parse_sheet("sheet 1\n1: (190...200)\n").unwrap_err();
@@ -128,20 +133,14 @@ fn pattern(parser: &mut Parser, variables: &Variables, depth: usize) -> Result<P
             parser.advance();
             Form::Anything
         }
-        Token::Number(_) => {
-            let (low, high) = pattern_range(parser)?;
-            Form::Range(low, high)
-        }
+        Token::Number(_) => match gauged_range(parser, FOLLOWS)? {
+            (low, high, None) => Form::Range(low, high),
+            (low, high, Some(gauge)) => Form::Gauged(gauge, low, high),
+        },
         Token::Variable(name) => {
             let number = variables.number(&name).ok_or_else(|| parser.expected("a pattern"))?;
             parser.advance();
-            match parser.accept(":") {
-                true => {
-                    let (low, high) = pattern_range(parser)?;
-                    Form::Ranged(number, low, high)
-                }
-                false => Form::Variable(number),
-            }
+            by_variable(parser, number)?
         }
         Token::Id(_) | Token::Word(_) => by_id(parser, variables, depth)?,
         Token::Mark("?") => {
@@ -154,7 +153,13 @@ fn pattern(parser: &mut Parser, variables: &Variables, depth: usize) -> Result<P
         }
         _ => return Err(parser.expected("a pattern: `_`, a name, a series, a number, a range or a variable")),
     };
-    Ok(Pattern { at: start.to(parser.last()), form })
+    match (&form, parser.peek()) {
+        (Form::Range(..) | Form::Ranged(..) | Form::Gauged(..), Token::Mark("?")) => {
+            let help = "`231..239?` is a reading of a piece; in a sheet a range is `231..239`";
+            Err(parser.expected(FOLLOWS).help(help))
+        }
+        _ => Ok(Pattern { at: start.to(parser.last()), form }),
+    }
 }
 
 /// A pattern that begins with an id: a symbol, a series of symbols, or a compound and its arguments.
@@ -170,21 +175,38 @@ fn by_id(parser: &mut Parser, variables: &Variables, depth: usize) -> Result<For
     let high = series_end(parser)?;
     match parser.peek() {
         Token::Mark("(") => {
-            Err(parser.expected("`,` or `)`").help("a series is of symbols; a compound has one id"))
+            Err(parser.expected(FOLLOWS).help("a series is of symbols; a compound has one id"))
         }
         _ => Ok(Form::Series(id, high)),
     }
 }
 
-/// The range of a pattern, which no `?` follows.
-fn pattern_range(parser: &mut Parser) -> Result<(u16, u16), Fault> {
-    let found = range(parser)?;
+/// A pattern that begins with a variable: the variable, or its range, which is on gauge 0, too.
+fn by_variable(parser: &mut Parser, number: u8) -> Result<Form, Fault> {
+    if !parser.accept(":") {
+        return Ok(Form::Variable(number));
+    }
+    let (low, high) = range(parser)?;
     match parser.peek() {
-        Token::Mark("?") => {
-            let help = "`231..239?` is a reading of a piece; in a sheet a range is `231..239`";
-            Err(parser.expected("`,` or `)`").help(help))
+        Token::Mark("@") => {
+            let help =
+                "a variable's range is on gauge 0; on another gauge a range stands alone, as `5..9@roller`";
+            Err(parser.expected(FOLLOWS).help(help))
         }
-        _ => Ok(found),
+        _ => Ok(Form::Ranged(number, low, high)),
+    }
+}
+
+/// A range and the gauge that is named after it, if one is: `100..180@roller`. What may follow it is for the message.
+pub fn gauged_range(parser: &mut Parser, follows: &str) -> Result<(u16, u16, Option<u8>), Fault> {
+    let (low, high) = range(parser)?;
+    let gauge = parser.gauge()?;
+    match parser.peek() {
+        Token::Mark("..") if gauge.is_some() => {
+            let help = "the gauge of a range stands after its end, as `100..180@roller`";
+            Err(parser.expected(follows).help(help))
+        }
+        _ => Ok((low, high, gauge)),
     }
 }
 

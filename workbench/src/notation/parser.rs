@@ -1,6 +1,7 @@
 //! What the parsers of the notation have in common.
 
 use super::names::Names;
+use super::parse_names::{declares, AFTER_A_NUMBER};
 use super::read::DEEPEST;
 use super::span::{position, Fault, Span};
 use super::token::{tokens, Token};
@@ -45,6 +46,11 @@ impl<'a> Parser<'a> {
     /// Goes on to the next token, but never past the end.
     pub fn advance(&mut self) {
         self.at = (self.at + 1).min(self.tokens.len() - 1);
+    }
+
+    /// Goes back to the first token.
+    pub fn restart(&mut self) {
+        self.at = 0;
     }
 
     /// Takes a mark, if it comes next.
@@ -103,7 +109,7 @@ impl<'a> Parser<'a> {
         loop {
             match self.peek() {
                 Token::LineEnd => self.advance(),
-                Token::Word(word) if word == "name" => {
+                Token::Word(word) if declares(word) => {
                     while *self.peek() != Token::LineEnd {
                         self.advance();
                     }
@@ -154,74 +160,6 @@ impl<'a> Parser<'a> {
         Fault::new(at, format!("{words} stands twice")).help(format!("line {line} has it"))
     }
 
-    /// Declares the names of all lines that begin with `name`.
-    fn declare(&mut self) -> Result<(), Fault> {
-        let mut line_begins = true;
-        while !self.at_end() {
-            if line_begins && self.accept_word("name") {
-                self.declaration()?;
-            }
-            line_begins = *self.peek() == Token::LineEnd;
-            self.advance();
-        }
-        self.at = 0;
-        Ok(())
-    }
-
-    /// One declaration, after its first word: `silver = 17`.
-    fn declaration(&mut self) -> Result<(), Fault> {
-        let at = self.span();
-        let Token::Word(name) = self.peek().clone() else {
-            let fault = self.expected("a name in small letters");
-            return Err(match self.peek() {
-                Token::Variable(_) => fault.help("words that begin with a capital are variables"),
-                _ => fault,
-            });
-        };
-        self.advance();
-        self.expect("=")?;
-        let id = match *self.peek() {
-            Token::Number(id) | Token::Id(id) => id,
-            _ => return Err(self.expected("an id from 0 to 65535")),
-        };
-        self.advance();
-        if *self.peek() != Token::LineEnd {
-            return Err(self.expected("the end of the line"));
-        }
-        if let Some(known) = self.names.get(&name) {
-            let line = position(self.text, known.at.start).line;
-            let fault = Fault::new(at, format!("the name `{name}` is declared twice"));
-            return Err(fault.help(format!("line {line} says `name {name} = {}`", known.id)));
-        }
-        self.names.add(name, id, at);
-        Ok(())
-    }
-
-    /// Takes the id of a symbol or compound that must come next, by name or by itself.
-    pub fn id(&mut self, what: &str) -> Result<u16, Fault> {
-        let id = match self.peek() {
-            Token::Id(id) => *id,
-            Token::Word(name) => match self.names.get(name) {
-                Some(known) => known.id,
-                None => return Err(self.undeclared(name)),
-            },
-            _ => return Err(self.expected(what)),
-        };
-        self.advance();
-        Ok(id)
-    }
-
-    fn undeclared(&self, name: &str) -> Fault {
-        let fault = Fault::new(self.span(), format!("expected a declared name, found `{name}`"));
-        match self.names.closest(name) {
-            Some(close) => fault.help(format!("did you mean `{close}`?")),
-            None => fault.help(format!(
-                "declare it on a line of its own, `name {name} = {}`, or write the id itself, as `#17`",
-                self.names.free()
-            )),
-        }
-    }
-
     /// Takes a list in parentheses, parted by commas, each item by this function.
     pub fn list<T>(
         &mut self,
@@ -257,6 +195,9 @@ impl<'a> Parser<'a> {
     /// The fault that a list goes on with neither a comma nor its end.
     fn unclosed(&self, open: Span) -> Fault {
         let fault = self.expected("`,` or `)`");
+        if *self.peek() == Token::Mark("@") {
+            return fault.help(AFTER_A_NUMBER);
+        }
         let (from, here) = (position(self.text, open.start), position(self.text, self.span().start));
         match from.line == here.line && !self.at_end() {
             true => fault,

@@ -1,6 +1,6 @@
 //! Sheets and pieces as text.
 
-use super::names::Names;
+use super::names::{Names, Used};
 use super::tree::{Form, Pattern, Piece, Rule, Sheet, Term, What};
 
 /// The names of variables that are numbered by first appearance.
@@ -11,6 +11,14 @@ pub fn range(low: u16, high: u16) -> String {
     match low == high {
         true => low.to_string(),
         false => format!("{low}..{high}"),
+    }
+}
+
+/// Numbers of a gauge from low to high, where gauge 0 needs no name: `180..190`, `180..190@roller`.
+pub fn numbers(gauge: u8, low: u16, high: u16, names: &Names) -> String {
+    match gauge {
+        0 => range(low, high),
+        _ => range(low, high) + &names.on(gauge),
     }
 }
 
@@ -63,20 +71,22 @@ fn pattern(pattern: &Pattern, names: &Names, letters: &Letters) -> String {
         }
         Form::Variable(number) => letters.show(*number),
         Form::Ranged(number, low, high) => format!("{}:{}", letters.show(*number), range(*low, *high)),
+        Form::Gauged(gauge, low, high) => range(*low, *high) + &names.on(*gauge),
     }
 }
 
-/// The ids that stand in patterns.
-fn ids(patterns: &[Pattern], to: &mut Vec<u16>) {
+/// Notes the ids and gauges that stand in patterns.
+fn note(patterns: &[Pattern], to: &mut Used) {
     for pattern in patterns {
         match &pattern.form {
-            Form::Symbol(id) => to.push(*id),
-            Form::Series(low, high) => to.extend([low, high]),
+            Form::Symbol(id) => to.ids.push(*id),
+            Form::Series(low, high) => to.ids.extend([low, high]),
             Form::Compound(id, arguments) => {
-                to.push(*id);
-                ids(arguments, to);
+                to.ids.push(*id);
+                note(arguments, to);
             }
-            _ => {}
+            Form::Gauged(gauge, ..) => to.gauges.push(u16::from(*gauge)),
+            Form::Anything | Form::Range(..) | Form::Variable(_) | Form::Ranged(..) => {}
         }
     }
 }
@@ -92,8 +102,8 @@ impl Rule {
 impl Sheet {
     /// The sheet as text, by these names, of which those that are used are declared.
     pub fn print(&self, names: &Names) -> String {
-        let mut used = Vec::new();
-        self.rules.iter().for_each(|rule| ids(&rule.patterns, &mut used));
+        let mut used = Used::default();
+        self.rules.iter().for_each(|rule| note(&rule.patterns, &mut used));
         let mut text = format!("sheet {}\n{}", self.arity, names.declarations(used));
         let width = self.rules.len().to_string().len();
         for (at, rule) in self.rules.iter().enumerate() {
@@ -112,6 +122,7 @@ impl Term {
             What::Symbol(id) => names.show(*id),
             What::Number(value) => value.to_string(),
             What::Between(low, high) => format!("{low}..{high}?"),
+            What::Gauged(gauge, value) => format!("{value}{}", names.on(*gauge)),
             What::Compound(id, arguments) => {
                 names.show(*id) + &list(arguments.iter().map(|argument| argument.print(names)))
             }
@@ -125,18 +136,18 @@ impl Piece {
         list(self.terms.iter().map(|term| term.print(names)))
     }
 
-    /// The ids that stand in it.
-    pub fn ids(&self) -> Vec<u16> {
-        fn below(terms: &[Term], to: &mut Vec<u16>) {
+    /// Notes the ids and gauges that stand in it.
+    pub fn note(&self, to: &mut Used) {
+        fn below(terms: &[Term], to: &mut Used) {
             for term in terms {
-                if let What::Symbol(id) | What::Compound(id, _) = &term.what {
-                    to.push(*id);
+                match &term.what {
+                    What::Symbol(id) | What::Compound(id, _) => to.ids.push(*id),
+                    What::Gauged(gauge, _) => to.gauges.push(u16::from(*gauge)),
+                    What::Unknown | What::Never | What::Number(_) | What::Between(..) => {}
                 }
                 below(term.arguments(), to);
             }
         }
-        let mut ids = Vec::new();
-        below(&self.terms, &mut ids);
-        ids
+        below(&self.terms, to);
     }
 }

@@ -1,8 +1,9 @@
 //! Graphs as text: nodes, cases and edges in words.
 
-use super::names::Names;
+use super::names::{Names, Used};
+use super::parse_names::declares;
 use super::places;
-use super::print::range;
+use super::print::numbers;
 use super::tree::{Case, Graph, Kind};
 
 /// So many of something, in words.
@@ -20,7 +21,7 @@ impl Case {
             Case::Symbols(low, high) if low == high => id_of_case(*low, names),
             Case::Symbols(low, high) => format!("{}..{}", id_of_case(*low, names), id_of_case(*high, names)),
             Case::Compound(id, arity) => format!("{}/{arity}", id_of_case(*id, names)),
-            Case::Numbers(low, high) => range(*low, *high),
+            Case::Numbers(gauge, low, high) => numbers(*gauge, *low, *high, names),
         }
     }
 }
@@ -28,7 +29,7 @@ impl Case {
 /// An id of a case, by its name unless a line that begins with that word is something else.
 fn id_of_case(id: u16, names: &Names) -> String {
     match names.show(id) {
-        word if ["neither", "name"].contains(&word.as_str()) => format!("#{id}"),
+        word if word == "neither" || declares(&word) => format!("#{id}"),
         name => name,
     }
 }
@@ -71,26 +72,28 @@ impl Kind {
 }
 
 impl Graph {
-    /// The ids that stand in its cases.
-    fn ids(&self) -> Vec<u16> {
-        let mut ids = Vec::new();
+    /// The ids and gauges that stand in its cases, gauge 0 apart, which is not named there.
+    fn used(&self) -> Used {
+        let mut used = Used::default();
         for node in &self.nodes {
-            if let Kind::Switch { cases, .. } = &node.kind {
-                ids.extend(cases.iter().flat_map(|(case, _)| match case {
-                    Case::Symbols(low, high) => vec![*low, *high],
-                    Case::Compound(id, _) => vec![*id],
-                    Case::Numbers(..) => Vec::new(),
-                }));
+            let Kind::Switch { cases, .. } = &node.kind else { continue };
+            for (case, _) in cases {
+                match case {
+                    Case::Symbols(low, high) => used.ids.extend([low, high]),
+                    Case::Compound(id, _) => used.ids.push(*id),
+                    Case::Numbers(0, ..) => {}
+                    Case::Numbers(gauge, ..) => used.gauges.push(u16::from(*gauge)),
+                }
             }
         }
-        ids
+        used
     }
 
     /// The graph as text, by these names, of which those that are used are declared. What is said of an
     /// execute's rule follows as a comment.
     pub fn print(&self, names: &Names, rule: impl Fn(u8) -> Option<String>) -> String {
         let (rules, nodes) = (count(usize::from(self.rules), "rule"), count(self.nodes.len(), "node"));
-        let mut text = format!("graph {}, {rules}, {nodes}\n{}", self.arity, names.declarations(self.ids()));
+        let mut text = format!("graph {}, {rules}, {nodes}\n{}", self.arity, names.declarations(self.used()));
         let digits = self.nodes.len().saturating_sub(1).to_string().len();
         for (number, node) in self.nodes.iter().enumerate() {
             text += &format!("{number:>digits$}: {}", node.kind.words());

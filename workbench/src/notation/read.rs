@@ -29,11 +29,13 @@ impl Error for Unread {}
 struct Reader<'a> {
     bytes: &'a [u8],
     at: usize,
+    /// Whether number cases have a gauge; in graphs from before gauges they have none.
+    gauges: bool,
 }
 
 impl<'a> Reader<'a> {
     fn new(bytes: &'a [u8]) -> Reader<'a> {
-        Reader { bytes, at: 0 }
+        Reader { bytes, at: 0, gauges: true }
     }
 
     /// The next so many bytes, if there are as many.
@@ -87,13 +89,14 @@ impl<'a> Reader<'a> {
             0x24 => Form::Variable(self.byte()?),
             0x25 => Form::Ranged(self.byte()?, self.wide()?, self.wide()?),
             0x26 => Form::Series(self.wide()?, self.wide()?),
+            0x27 => Form::Gauged(self.byte()?, self.wide()?, self.wide()?),
             _ => return None,
         };
         Some((form, 0))
     }
 
     fn pattern(&mut self, depth: usize) -> Result<Pattern, Unread> {
-        let ((mut form, arity), at) = self.record("a whole record of kinds 20 to 26", Reader::form)?;
+        let ((mut form, arity), at) = self.record("a whole record of kinds 20 to 27", Reader::form)?;
         if let Form::Compound(_, arguments) = &mut form {
             self.shallow(depth, at)?;
             for _ in 0..arity {
@@ -112,13 +115,14 @@ impl<'a> Reader<'a> {
             0x33 => return Some((What::Compound(self.wide()?, Vec::new()), self.byte()?)),
             0x34 => What::Between(self.wide()?, self.wide()?),
             0x35 => What::Never,
+            0x36 => What::Gauged(self.byte()?, self.wide()?),
             _ => return None,
         };
         Some((what, 0))
     }
 
     fn term(&mut self, depth: usize) -> Result<Term, Unread> {
-        let ((mut what, arity), at) = self.record("a whole record of kinds 30 to 35", Reader::what)?;
+        let ((mut what, arity), at) = self.record("a whole record of kinds 30 to 36", Reader::what)?;
         if let What::Compound(_, arguments) = &mut what {
             self.shallow(depth, at)?;
             for _ in 0..arity {
@@ -145,7 +149,8 @@ impl<'a> Reader<'a> {
         let case = match self.byte()? {
             0x44 => Case::Symbols(self.wide()?, self.wide()?),
             0x45 => Case::Compound(self.wide()?, self.byte()?),
-            0x46 => Case::Numbers(self.wide()?, self.wide()?),
+            0x46 if self.gauges => Case::Numbers(self.byte()?, self.wide()?, self.wide()?),
+            0x46 => Case::Numbers(0, self.wide()?, self.wide()?),
             _ => return None,
         };
         Some((case, self.wide()?))
@@ -202,7 +207,15 @@ impl Piece {
 impl Graph {
     /// The graph that these bytes spell.
     pub fn read(bytes: &[u8]) -> Result<Graph, Unread> {
-        let mut from = Reader::new(bytes);
+        Graph::read_from(Reader::new(bytes))
+    }
+
+    /// The graph that these bytes spell, if they are from before gauges: all its number cases are of gauge 0.
+    pub fn read_older(bytes: &[u8]) -> Result<Graph, Unread> {
+        Graph::read_from(Reader { gauges: false, ..Reader::new(bytes) })
+    }
+
+    fn read_from(mut from: Reader) -> Result<Graph, Unread> {
         let ([arity, rules, high, low], head) = from.head(0x12, "a whole 12 record")?;
         let mut nodes = Vec::new();
         for _ in 0..u16::from_be_bytes([high, low]) {

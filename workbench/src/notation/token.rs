@@ -22,7 +22,7 @@ pub enum Token {
 }
 
 /// All marks, the longer first where one begins another.
-const MARKS: [&str; 13] = ["->", "..", "(", ")", ",", ":", "=", "?", "!", "_", "/", ".", "#"];
+const MARKS: [&str; 14] = ["->", "..", "(", ")", ",", ":", "=", "?", "!", "_", "/", ".", "#", "@"];
 
 impl Token {
     /// The token as an error message names it.

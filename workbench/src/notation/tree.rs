@@ -32,10 +32,13 @@ pub enum Form {
     Symbol(u16),
     /// Every symbol with an id from low to high.
     Series(u16, u16),
+    /// A number of gauge 0 from low to high.
     Range(u16, u16),
     Compound(u16, Vec<Pattern>),
     Variable(u8),
     Ranged(u8, u16, u16),
+    /// A number of the gauge that is named, from low to high.
+    Gauged(u8, u16, u16),
 }
 
 /// A piece: its terms, one for an argument, with the part of the source that it takes.
@@ -59,18 +62,22 @@ pub enum What {
     /// A reading that will never come.
     Never,
     Symbol(u16),
+    /// A number on gauge 0.
     Number(u16),
-    /// A number known to lie between two, low and high.
+    /// A number on gauge 0 known to lie between two, low and high.
     Between(u16, u16),
     Compound(u16, Vec<Term>),
+    /// A number on the gauge that is named.
+    Gauged(u8, u16),
 }
 
 impl What {
-    /// The lowest and the highest number that it may be, if it is a number or a span.
-    pub fn numbers(&self) -> Option<(u16, u16)> {
+    /// The gauge that it is on, and the lowest and the highest number that it may be, if it is a number or a span.
+    pub fn numbers(&self) -> Option<(u8, u16, u16)> {
         match self {
-            What::Number(value) => Some((*value, *value)),
-            What::Between(low, high) => Some((*low, *high)),
+            What::Number(value) => Some((0, *value, *value)),
+            What::Between(low, high) => Some((0, *low, *high)),
+            What::Gauged(gauge, value) => Some((*gauge, *value, *value)),
             _ => None,
         }
     }
@@ -118,5 +125,6 @@ pub enum Case {
     /// A run of ids, from low to high.
     Symbols(u16, u16),
     Compound(u16, u8),
-    Numbers(u16, u16),
+    /// Numbers of a gauge, from low to high.
+    Numbers(u8, u16, u16),
 }

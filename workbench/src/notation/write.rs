@@ -37,6 +37,11 @@ impl Pattern {
                 wide(to, *low);
                 wide(to, *high);
             }
+            Form::Gauged(gauge, low, high) => {
+                to.extend([0x27, *gauge]);
+                wide(to, *low);
+                wide(to, *high);
+            }
         }
     }
 
@@ -94,6 +99,10 @@ impl Term {
                 to.push(0x33);
                 wide(to, *id);
                 to.push(arguments.len() as u8);
+            }
+            What::Gauged(gauge, value) => {
+                to.extend([0x36, *gauge]);
+                wide(to, *value);
             }
         }
     }
@@ -157,8 +166,8 @@ fn write_case(to: &mut Vec<u8>, case: Case, node: u16) {
             wide(to, id);
             to.push(arity);
         }
-        Case::Numbers(low, high) => {
-            to.push(0x46);
+        Case::Numbers(gauge, low, high) => {
+            to.extend([0x46, gauge]);
             wide(to, low);
             wide(to, high);
         }

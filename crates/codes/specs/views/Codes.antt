@@ -1,7 +1,8 @@
 -- A number for each term, but for its arguments. What stands at a place and what a place test wants are runs of such numbers, each
 -- with a lowest and a highest code. The codes of symbols, compounds and numbers ascend in this order, as the cases of a switch do.
 use Prim.Native.Nat.{ℕ, _+_, _-_, _*_, _/_, _%_, _≤_}
-use Rattle.terms.specs.Term.{Term, count, unknown, never, symbol, numbers, compound, Wide}
+use mathlib.Core.Path.{_≡_}
+use Rattle.terms.specs.Term.{Term, count, unknown, never, symbol, numbers, compound, Wide, Gauged, gaugeOf}
 use Rattle.terms.specs.RuleTests.{Want, aSymbol, aNumber, aCompound}
 
 -- The sort of a term in the highest byte, below it its id or number, or a compound's id and arity. The sorts are in the order of a
@@ -15,7 +16,7 @@ compoundCode a n = 0x2000000 + a * 256 + n
 abbrev pub numberCode : ℕ → ℕ
 numberCode a = 0x3000000 + a
 
--- The highest code that a test can want: 24 bits are kept for a number.
+-- The highest code that a test can want: a number has 24 bits, its gauge and its value.
 abbrev pub highestCode : ℕ
 highestCode = 0x3ffffff
 
@@ -67,8 +68,8 @@ wantHigh (aNumber l h) = numberCode h
 wantHigh (aCompound a n) = compoundCode a n
 
 -- What a rule of an accepted sheet can want: "Is its arity 1 to 4?", "Is low at most high?", and fields are wide, so that no two
--- sorts share a code.
+-- sorts share a code. Numbers are wanted of one gauge.
 abbrev pub SoundWant : Want → Type 0
 SoundWant (aSymbol l h) = (l ≤ h) × Wide h
-SoundWant (aNumber l h) = (l ≤ h) × Wide h
+SoundWant (aNumber l h) = (l ≤ h) × Gauged h × (gaugeOf l ≡ gaugeOf h)
 SoundWant (aCompound a n) = Wide a × (n ≤ 4)

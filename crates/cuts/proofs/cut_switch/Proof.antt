@@ -1,4 +1,4 @@
--- `cuts::cut_switch` meets its contract: the runs are those of the numbers' base, and make at most 8,385 cases.
+-- `cuts::cut_switch` meets its contract: the runs are those of the numbers' base, and make at most 18,721 cases.
 use Prim.Native.Nat.{ℕ, _≤_}
 use mathlib.Core.Path.{_≡_, ap, subst, _∙_}
 use mathlib.Core.List.{List}
@@ -28,7 +28,7 @@ returns c =
     let same : caseRuns (r .names) (runsIn runs (r .count)) ≡ switchRuns (a .live) (cutsIn (now (a .c)) (a .from)) =
     ap (λ (k : ℕ). caseRuns k (runsIn runs (r .count))) (end .1)
     ∙ ap (λ (rs : List Run). caseRuns (length (nameRuns 0x300_0000 rs)) rs) (end .0) in
-    let most = subst (λ (l : List Run). length l ≤ 8385) same (cases-most runs (r .count) (r .names) few (end .2)) in
+    let most = subst (λ (l : List Run). length l ≤ 18721) same (cases-most runs (r .count) (r .names) few (end .2)) in
     (same, most, few, end .2, end .3)
 
 pub cut-switch-spec : {M : Type 1} → statement M

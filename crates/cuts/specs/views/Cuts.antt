@@ -50,10 +50,13 @@ pub record Spot (c : List ℕ) (from count code r : ℕ) : Type 0 where
   pub passed : (k : ℕ) → k < r → cutAt c from k .code < code
   pub reached : r < count → code ≤ cutAt c from r .code
 
--- The parts of so many place tests are in the array, each with two cuts a rule at most, and no cut is at code 0.
+-- The parts of so many place tests are in the array, each with two cuts a rule at most, and each cut is at a code of 32 bits that
+-- is not 0.
 pub record Parted (rules places : ℕ) (c : List ℕ) : Type 0 where
   pub fewRules : rules ≤ 64
   pub fewPlaces : places ≤ 64
   pub room : partAt rules places ≤ length c
   pub counted : (t : ℕ) → t < places → countAt c (partAt rules t) ≤ 2 * rules
-  pub coded : (t k : ℕ) → t < places → k < countAt c (partAt rules t) → 0 < cutAt c (partAt rules t) k .code
+  pub coded
+      : (t k : ℕ) → t < places → k < countAt c (partAt rules t)
+      → (0 < cutAt c (partAt rules t) k .code) × (cutAt c (partAt rules t) k .code < 0x1_0000_0000)

@@ -28,4 +28,4 @@ abbrev pub runCase : ℕ → ℕ → Case
 runCase low high =
     cond (ltb low 0x200_0000) (symbolsCase (low % 0x1_0000) (high % 0x1_0000))
     (cond (ltb low 0x300_0000) (compoundCase (low / 256 % 0x1_0000) (low % 256))
-    (numbersCase (low % 0x1_0000) (high % 0x1_0000)))
+    (numbersCase (low % 0x100_0000) (high % 0x100_0000)))

@@ -40,8 +40,8 @@ live-wants rules live n w = (
 )
 
 -- "A switch has a case for each .. compound that a live rule wants there" (document 01), one "for a run of ids, cut .. as numbers
--- were in document 01" (document 02, request 5), and "where a live rule has a range at a switch's place" there is "one case for each
--- pair of first and last run" (request 4): at each place, for each set of live rules of an accepted sheet.
+-- were in document 01" (document 02, request 5), and on "each gauge of which a live rule has a range there" (request 7) "one case
+-- for each pair of first and last run" (request 4): at each place, for each set of live rules of an accepted sheet.
 pub switch-cases
     : (arity : ℕ) (rules : List Patterns) → All (AcceptedRule arity) rules → length rules ≤ 64 → (live n : ℕ)
     → CasesAre (liveWants rules live n)

@@ -66,10 +66,10 @@ module _ (ws : List Want) where
   abbrev pub Listed : Case → Type 0
   Listed (symbolsCase x y) = Mem (record { low = x; high = y }) idRuns
   Listed (compoundCase a n) = Mem (aCompound a n) ws
-  Listed (numbersCase x y) = Mem (record { low = x; high = y }) (numberPairs 0 65536 (rangesOf ws))
+  Listed (numbersCase x y) = Mem (record { low = x; high = y }) (numberPairs (rangesOf ws))
 
   pub listed : (c : Case) → Mem c (casesOf ws) → Listed c
   listed c m =
-      let pairs = numberPairs 0 65536 (rangesOf ws) in
+      let pairs = numberPairs (rangesOf ws) in
       all-at Listed m (all-join Listed nameCases (numberCases ws) (names-all Listed (λ r k. k) (λ a n k. k))
       (all-mapped Listed numbersIn pairs (all-from (λ (x : Range). Listed (numbersIn x)) pairs (λ x k. k))))

@@ -1,6 +1,6 @@
 -- Which edge of a switch a known term takes: that of a case which keeps exactly the wants that the term does not contradict, or
 -- neither, where it contradicts every want.
-use Prim.Native.Nat.{ℕ, _≤_, _<_}
+use Prim.Native.Nat.{ℕ, _≤_}
 use mathlib.Core.Path.{_≡_, refl, ap, sym, subst, _∙_}
 use mathlib.Core.Bool.{_&&_}
 use mathlib.Core.Logic.{_↔_, inl, inr}
@@ -8,12 +8,12 @@ use mathlib.Core.List.{List, [], _∷_, map}
 use mathlib.Core.Option.{Option}
 use native.Mathlib.Omega.{arith}
 use lib.Dec.{T, leb, eqb, eqb→eq}
-use Rattle.basics.specs.Lists.{Mem, All}
-use Rattle.basics.proofs.ListLaws.{all-at, all-from, mem-none}
-use Rattle.basics.proofs.Booleans.{both-true, same-truth}
-use Rattle.basics.proofs.Filters.{mem-right, mem-map}
-use Rattle.basics.proofs.Numbers.{eqb-swap, both-le}
-use Rattle.terms.specs.Term.{Term, Terms, count, unknown, never, symbol, numbers, compound}
+use Rattle.basics.specs.Lists.{Mem, All, anyOf}
+use Rattle.basics.proofs.ListLaws.{all-at, all-from}
+use Rattle.basics.proofs.Booleans.{both-true, same-truth, by-test, is-true}
+use Rattle.basics.proofs.Filters.{mem-right, mem-map, any-mem, mem-any}
+use Rattle.basics.proofs.Numbers.{eqb-swap, both-le, eq-true}
+use Rattle.terms.specs.Term.{Term, Terms, count, unknown, never, symbol, numbers, compound, gaugeOf}
 use Rattle.terms.specs.RuleTests.{Want, aSymbol, aNumber, aCompound, Range}
 use Rattle.terms.specs.Lookup.{found}
 use Rattle.terms.specs.Outcome.{contradicted, inside, fits}
@@ -23,20 +23,22 @@ use Rattle.terms.proofs.Unknown.{IsUnknown}
 use Rattle.terms.proofs.Outcomes.{is-open}
 use Rattle.terms.proofs.KnownTests.{holds-true}
 use Rattle.terms.proofs.Spans.{range-open-at}
+use Rattle.terms.proofs.Gauges.{one-gauge}
 use Rattle.codes.specs.views.Codes.{SoundWant}
-use Rattle.decision.specs.Runs.{numberPairs}
+use Rattle.decision.specs.Runs.{isOn, fromTo, numberPairs}
 use Rattle.decision.specs.Cases.{Case, symbolsCase, compoundCase, numbersCase, takes, isWanted}
 use Rattle.decision.specs.Cases.{seriesOf, rangesOf, numbersIn, numberCases, casesOf}
 use Rattle.decision.specs.Node.{follow}
 use Rattle.decision.specs.Edges.{caseKeeps, gatherWants}
-use Rattle.decision.proofs.Truth.{known-contradicted, open-known, open-is}
+use Rattle.decision.proofs.Truth.{known-contradicted, open-known, open-is, not-open}
 use Rattle.decision.proofs.cases.RangeRuns.{meets, meets-contains, run-between, in-run}
-use Rattle.decision.proofs.cases.FramedRuns.{InFrame}
 use Rattle.decision.proofs.cases.WantedRanges.{wanted-series, range-wanted, wanted-range}
 use Rattle.decision.proofs.cases.CaseList.{nameCases, names-all, symbols-listed, compound-listed, listed}
 use Rattle.decision.proofs.cases.Narrowest.{never-neither}
 use Rattle.decision.proofs.cases.SwitchEdges.{edgesTo, follow-case, follow-past, KeepsOpen, TakesOpen, takes-keeps}
-use Rattle.decision.proofs.cases.NumberPairs.{Followed, span-followed, numbers-follow}
+use Rattle.decision.proofs.cases.OnGauges.{OneGauge, common-gauge, gauge-listed}
+use Rattle.decision.proofs.cases.NumberPairs.{numbers-follow, none-follows, OnTheirs, on-theirs, theirs-narrowest}
+use Rattle.decision.proofs.cases.NumberPairs.{theirs-meet}
 
 -- The case that takes a compound is that compound's, and keeps the wants that are open at it.
 compound-taken : (c : Case) (b : ℕ) (ts : Terms) → T (takes c (compound b ts)) → c ≡ compoundCase b (count ts)
@@ -108,11 +110,10 @@ module _ (ws : List Want) where
       all-at (λ (c : Case). T (takes c (compound b ts)) → ⊥) (compound-listed ws a n m) untaken
       (holds-true (eqb a b && eqb n (count ts)) h))
 
-  -- The ranges that sound wants have are of wide numbers.
-  pub wants-framed : All SoundWant ws → All (InFrame 0 65536) (rangesOf ws)
-  wants-framed sound =
-      all-from (InFrame 0 65536) (rangesOf ws) (λ r m.
-      let s = all-at SoundWant (range-wanted ws r m) sound in (omega arith, s .0, s .1))
+  -- The ranges that sound wants have are each of one gauge.
+  pub wants-gauged : All SoundWant ws → All OneGauge (rangesOf ws)
+  wants-gauged sound =
+      all-from OneGauge (rangesOf ws) (λ r m. let s = all-at SoundWant (range-wanted ws r m) sound in (s .0, s .2))
 
   module _ {A : Type 0} (f : Case → A) (neither : A) where
     -- A number or span follows a number case, or neither where there is none.
@@ -121,45 +122,66 @@ module _ (ws : List Want) where
         → follow (edgesTo f (casesOf ws)) neither (numbers a b) ≡ follow (edgesTo f (numberCases ws)) neither (numbers a b)
     numbers-past a b = follow-past f neither (numbers a b) (nameCases ws) (numberCases ws) (names-untaken a b)
 
-    -- Where ranges are wanted it is the pair of the runs of its two ends, and the wants that it keeps are those open at the span.
+    -- Where ranges of its gauge are wanted it is the pair of the runs of its two ends, and the wants that it keeps are those open
+    -- at the span; "no other gauge has a case", and on another it contradicts all wants.
     span-edge
-        : (a b : ℕ) → a ≤ b → b < 65536 → (rs : List Range) → rangesOf ws ≡ rs → All (InFrame 0 65536) rs
+        : All SoundWant ws → (a b : ℕ) → a ≤ b → gaugeOf a ≡ gaugeOf b
         → TakesOpen isWanted (casesOf ws) f neither ws (numbers a b)
-    span-edge a b o wide [] none framed =
-        let nothing : (l h : ℕ) → Mem (aNumber l h) ws → ⊥ =
-        λ l h m. mem-none (subst (Mem (record { low = l; high = h })) none (wanted-range m)) in
-        inr (
-          numbers-past a b
-              ∙ ap (λ (xs : List Range). follow (edgesTo f (map numbersIn (numberPairs 0 65536 xs))) neither (numbers a b)) none,
-          against nothing,
-        )
+    span-edge sound a b o same =
+        by-test (anyOf (isOn (gaugeOf a)) rs) (λ e. inl (taken (any-mem (isOn (gaugeOf a)) rs (is-true e))))
+        (λ e. inr (neither-taken (λ r m k. subst T e (mem-any (isOn (gaugeOf a)) m (eq-true (gaugeOf (r .low)) (gaugeOf a) k)))))
       where
-        against
-            : ((l h : ℕ) → Mem (aNumber l h) ws → ⊥) → (w : Want) → Mem w ws → fits w (numbers a b) ≡ contradicted
-        against nothing (aSymbol l h) m = refl
-        against nothing (aNumber l h) m = absurd (nothing l h m)
-        against nothing (aCompound x n) m = refl
-    span-edge a b o wide (r ∷ rs) some framed =
-        let followed = span-followed 0 65536 (omega arith) r rs framed a b (omega arith) o wide in
-        let pair = followed .pair in
-        inl (
-          numbersIn pair,
-          mem-right (nameCases ws) (mem-map numbersIn
-              (subst (λ (xs : List Range). Mem pair (numberPairs 0 65536 xs)) (sym some) (followed .listed))),
-          numbers-past a b
-              ∙ ap (λ (xs : List Range). follow (edgesTo f (map numbersIn (numberPairs 0 65536 xs))) neither (numbers a b)) some
-              ∙ numbers-follow f neither a b (numberPairs 0 65536 (r ∷ rs)) pair (followed .follows),
-          keeps followed,
+        rs : List Range
+        rs = rangesOf ws
+
+        one : All OneGauge rs
+        one = wants-gauged sound
+
+        Unwanted : Type 0
+        Unwanted = (r : Range) → Mem r rs → gaugeOf (r .low) ≡ gaugeOf a → ⊥
+
+        against : Unwanted → (w : Want) → Mem w ws → fits w (numbers a b) ≡ contradicted
+        against unwanted (aSymbol l h) m = refl
+        against unwanted (aNumber l h) m =
+            let r : Range = record { low = l; high = h } in
+            not-open (inside l h a b) (λ k.
+            let c = range-open-at l h a b o .0 k in
+            unwanted r (wanted-range m)
+            (common-gauge r (record { low = a; high = b }) (all-at OneGauge (wanted-range m) one) (o, same) (c .0) (c .1)))
+        against unwanted (aCompound x n) m = refl
+
+        neither-taken
+            : Unwanted
+            → (follow (edgesTo f (casesOf ws)) neither (numbers a b) ≡ neither)
+            × ((w : Want) → Mem w ws → fits w (numbers a b) ≡ contradicted)
+        neither-taken unwanted = (
+          numbers-past a b ∙ none-follows rs one a b o same f neither unwanted,
+          against unwanted,
         )
-      where
-        keeps
-            : (k : Followed 0 65536 (omega arith) r rs framed a b) → (w : Want) → Mem w ws
-            → isOpen (fits w (numbers a b)) ≡ isWanted (numbersIn (k .pair)) w
-        keeps k (aSymbol l h) m = refl
-        keeps k (aNumber l h) m =
-            range-open l h a b (k .pair) o
-            (k .meetsSome (record { low = l; high = h }) (subst (Mem (record { low = l; high = h })) some (wanted-range m)))
-        keeps k (aCompound x n) m = refl
+
+        taken
+            : (r : Range) × Mem r rs × T (isOn (gaugeOf a) r)
+            → (c : Case) × Mem c (casesOf ws) × (follow (edgesTo f (casesOf ws)) neither (numbers a b) ≡ f c)
+            × ((w : Want) → Mem w ws → isOpen (fits w (numbers a b)) ≡ isWanted c w)
+        taken (r, m, on) =
+            let k = on-theirs rs one a b o same in
+            let pair = fromTo (k .first) (k .last) in
+            let listed = gauge-listed rs (gaugeOf a) .1 (r, m, eqb→eq (gaugeOf (r .low)) (gaugeOf a) on) in
+            let narrow = theirs-narrowest rs one a b o same k listed in (
+              numbersIn pair,
+              mem-right (nameCases ws) (mem-map numbersIn (narrow .listed)),
+              numbers-past a b ∙ numbers-follow f neither a b (numberPairs rs) pair narrow,
+              keeps k,
+            )
+          where
+            keeps
+                : (k : OnTheirs rs one a b o same) → (w : Want) → Mem w ws
+                → isOpen (fits w (numbers a b)) ≡ isWanted (numbersIn (fromTo (k .first) (k .last))) w
+            keeps k (aSymbol l h) m = refl
+            keeps k (aNumber l h) m =
+                range-open l h a b (fromTo (k .first) (k .last)) o
+                (theirs-meet rs one a b o same k (record { low = l; high = h }) (wanted-range m))
+            keeps k (aCompound x n) m = refl
 
     -- A known term takes the edge of a case that keeps exactly the wants which are open at it, or neither, and all wants are
     -- contradicted.
@@ -173,7 +195,7 @@ module _ (ws : List Want) where
           | inl r ↦ inl (r .0, r .1, r .3, symbol-open (r .0) b (r .1) (r .2))
           | inr r ↦ inr (r .1, symbol-none b (r .0))
         ]
-    edge-taken sound (numbers a b) ok k = span-edge a b (ok .0) (ok .1) (rangesOf ws) refl (wants-framed sound)
+    edge-taken sound (numbers a b) ok k = span-edge sound a b (ok .0) (one-gauge a b ok)
     edge-taken sound (compound b ts) ok k =
         elim (follow-case f neither (compound b ts) (casesOf ws)) [
           | inl r ↦

@@ -22,7 +22,7 @@ use Rattle.decision.proofs.cases.RangeOrder.{Filled}
 
 module _ (base top : ℕ) (ws : List Range) where
   -- A number of the frame is its base, its top or a cut of a range.
-  in-frame : (z : ℕ) → Mem z (frame base top ws) ↔ ((z ≡ base) ⊎ ((z ≡ top) ⊎ Mem z (cuts ws)))
+  pub in-frame : (z : ℕ) → Mem z (frame base top ws) ↔ ((z ≡ base) ⊎ ((z ≡ top) ⊎ Mem z (cuts ws)))
   in-frame z =
       let first = number-inserted base (insertBy ltb top (cuts ws)) .members z in
       let last = number-inserted top (cuts ws) .members z in (

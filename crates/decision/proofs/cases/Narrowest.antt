@@ -175,19 +175,22 @@ narrowest-is taken xs x h = go (best taken narrowerRange xs) (best-law taken nar
         let high = sym (e .1) in
         λ i. some (record { low = e .0 i; high = high i })
 
+-- The range x is the narrowest of those that contain the numbers from a to b.
+abbrev pub IsNarrowest : ℕ → ℕ → List Range → Range → Type 0
+IsNarrowest a b xs x = Best (λ (y : Range). covers y (record { low = a; high = b })) narrowerRange xs x
+
 module _ (base top : ℕ) (ws : List Range) where
   abbrev all : List Range
   all = framed base top ws
 
-  -- A number or span from a to b follows the pair of a's run and b's.
+  -- Of the pairs of runs, that of a's run and b's is the narrowest which contains the numbers from a to b.
   pub narrowest-pair
       : (r s : Range) (a b : ℕ) → Mem r all → Mem s all → Contains r a → Contains s b → a ≤ b
-      → narrowest a b (runPairs all) ≡ some (fromTo r s)
+      → IsNarrowest a b (runPairs all) (fromTo r s)
   narrowest-pair r s a b m n ha hb o =
       let filled = framed-filled base top ws in
       let ascend = framed-ascends base top ws in
-      narrowest-is (λ (x : Range). covers x (record { low = a; high = b })) (runPairs all) (fromTo r s)
-      (record {
+      record {
         listed = runs-pair all filled ascend r s m n (span-turn base top ws r s a b m n ha hb o);
         isTaken = both-le (r .low) a b (s .high) .1 (ha .0, hb .1);
         first = λ y k t narrow.
@@ -199,4 +202,4 @@ module _ (base top : ℕ) (ws : List Range) where
             let ends = ends-above all filled ascend s (p .1) b n (p .3) hb (omega (arith, c .1)) in
             elim (pair-before (r .low) (y .high) (y .low) (s .high) narrow)
             [ inl d ↦ omega arith | inr d ↦ omega (arith, d .1) ];
-      })
+      }

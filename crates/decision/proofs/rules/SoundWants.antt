@@ -1,4 +1,5 @@
--- What the rules of an accepted sheet want is sound: its ids and numbers are wide, no series or range is empty, arities are small.
+-- What the rules of an accepted sheet want is sound: its ids are wide, its numbers of one gauge, no series or range is empty,
+-- arities are small.
 use Prim.Native.Nat.{ℕ, suc, pred, _+_, _<_}
 use mathlib.Core.Path.{_≡_, refl}
 use mathlib.Core.List.{List}
@@ -8,7 +9,7 @@ use lib.ListN.{length}
 use Rattle.places.specs.Numbering.{stride}
 use Rattle.basics.specs.Lists.{All}
 use Rattle.terms.specs.Pattern.{Pattern, Patterns, pnil, pcons}
-use Rattle.terms.specs.Pattern.{anything, theSymbol, theSeries, theRange, theCompound, variable, rangedVariable}
+use Rattle.terms.specs.Pattern.{anything, theSymbol, theSeries, theRange, theGauged, theCompound, variable, rangedVariable}
 use Rattle.terms.specs.RuleTests.{Want, PlaceTest, Range, rangeTest, patternTests, patternsTests, patternsRange, placeTests}
 use Rattle.terms.specs.Accepted.{Sound, Sounds, InCommon, AcceptedRule}
 use Rattle.basics.proofs.ListLaws.{all-join, all-at}
@@ -28,7 +29,7 @@ SoundTest x = SoundWant (x .want)
 -- The test for a common part that is not empty is sound.
 range-sound : (n : ℕ) (x : Option Range) → InCommon x → WideRange x → All SoundTest (rangeTest n x)
 range-sound n none c w = tt
-range-sound n (some x) c w = ((c, w), tt)
+range-sound n (some x) c w = ((c, omega arith, omega arith), tt)
 
 module _ (rangeOf : ℕ → Option Range) (common : (v : ℕ) → InCommon (rangeOf v))
     (wide : (v : ℕ) → WideRange (rangeOf v)) where
@@ -38,7 +39,9 @@ module _ (rangeOf : ℕ → Option Range) (common : (v : ℕ) → InCommon (rang
     tests-sound anything r b s = tt
     tests-sound (theSymbol a) r b s = ((omega arith, s .1), tt)
     tests-sound (theSeries l h) r b s = ((s .1, s .2), tt)
-    tests-sound (theRange l h) r b s = ((s .1, s .2), tt)
+    tests-sound (theRange l h) r b s = ((s .1, omega (arith, s .2), omega (arith, s .1, s .2)), tt)
+    tests-sound (theGauged g l h) r b s =
+        ((omega (arith, s .1), omega (arith, s .2, s .3), omega (arith, s .1, s .2)), tt)
     tests-sound (theCompound a ps) r b s = ((s .1, s .3), all-tests-sound ps (pred r) (suc b) (s .4))
     tests-sound (variable v) r b s = range-sound b (rangeOf v) (common v) (wide v)
     tests-sound (rangedVariable v l h) r b s = range-sound b (rangeOf v) (common v) (wide v)

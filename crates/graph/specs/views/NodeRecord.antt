@@ -1,5 +1,5 @@
 -- The record of a node, and of a case, that a list of bytes begins with (document 01, "Records", "Graph"; question 22; the
--- wide count and the runs of ids of document 02, requests 4 and 5).
+-- wide count, the runs of ids and the gauges of document 02, requests 4, 5 and 7).
 use Prim.Native.Nat.{ℕ}
 use mathlib.Core.Bool.{Bool, true, false, cond}
 use mathlib.Core.List.{List}
@@ -18,6 +18,7 @@ use Rattle.graph.specs.declared.NodeHead.the-variants.{Whole, Refused}
 use Rattle.graph.specs.declared.CaseHead.{CaseHead}
 use Rattle.graph.specs.declared.CaseHead.the-variants as case
 use Rattle.records.specs.Reading.{Reading, took, refused, ask, after}
+use Rattle.terms.specs.Term.{onGauge}
 use Rattle.decision.specs.Key as key
 use Rattle.decision.specs.Cases.{symbolsCase, compoundCase, numbersCase}
 use Rattle.decision.specs.Node.{Node, CaseEdge, end, switch, pairNode}
@@ -55,8 +56,8 @@ nodeHead s =
     (cond (eqb (getD s 0 0) 0x47) (wholeNode (leb 9 (length s)) (pairRecord s))
     (Refused 22))))))
 
--- "Record 44 becomes (wide low, wide high, wide node) for a run of ids", "45 compound (wide id, arity, wide node), 46 numbers (wide
--- low, wide high, wide node)".
+-- "Record 44 becomes (wide low, wide high, wide node) for a run of ids", "45 compound (wide id, arity, wide node)", "record 46
+-- becomes (gauge, wide low, wide high, wide node)".
 abbrev pub symbolsHead : List ℕ → CaseHead
 symbolsHead s = wholeCase (leb 7 (length s)) (Symbols (wideAt s 1) (wideAt s 3) (wideAt s 5))
 
@@ -64,7 +65,7 @@ abbrev pub compoundHead : List ℕ → CaseHead
 compoundHead s = wholeCase (leb 6 (length s)) (Compound (wideAt s 1) (getD s 3 0) (wideAt s 4))
 
 abbrev pub numbersHead : List ℕ → CaseHead
-numbersHead s = wholeCase (leb 7 (length s)) (Numbers (wideAt s 1) (wideAt s 3) (wideAt s 5))
+numbersHead s = wholeCase (leb 8 (length s)) (Numbers (wideAt s 2) (wideAt s 4) (wideAt s 6) (getD s 1 0))
 
 -- "Its cases of kinds 44 to 46".
 abbrev pub caseHead : List ℕ → CaseHead
@@ -79,7 +80,7 @@ caseHead s =
 abbrev pub onCase : CaseHead → Reading (CaseEdge ℕ)
 onCase (case.Whole (Symbols l h n)) = took 7 (edge (symbolsCase l h) n)
 onCase (case.Whole (Compound a k n)) = took 6 (edge (compoundCase a k) n)
-onCase (case.Whole (Numbers l h n)) = took 7 (edge (numbersCase l h) n)
+onCase (case.Whole (Numbers l h n g)) = took 8 (edge (numbersCase (onGauge g l) (onGauge g h)) n)
 onCase (case.Refused q) = refused q
 
 abbrev pub leafOf : Leaf → key.Leaf

@@ -2,6 +2,7 @@
 use Prim.Native.Nat.{ℕ}
 use mathlib.Core.List.{List, [], _∷_}
 use Rattle.records.specs.Fields.{wideThen}
+use Rattle.terms.specs.Term.{onGauge}
 use Rattle.decision.specs.Cases.{symbolsCase, compoundCase, numbersCase}
 use Rattle.decision.specs.GraphBytes.{leafBytes, caseBytes}
 use Rattle.graph.specs.declared.NodeRecord.{NodeRecord}
@@ -18,7 +19,7 @@ nodeRecordBytes (Pair p q x y) = 0x47 ∷ wideThen p (wideThen q (wideThen x (wi
 abbrev pub caseRecordBytes : CaseRecord → List ℕ
 caseRecordBytes (Symbols l h n) = caseBytes (symbolsCase l h) n
 caseRecordBytes (Compound a k n) = caseBytes (compoundCase a k) n
-caseRecordBytes (Numbers l h n) = caseBytes (numbersCase l h) n
+caseRecordBytes (Numbers l h n g) = caseBytes (numbersCase (onGauge g l) (onGauge g h)) n
 
 -- "12 (arity, number of rules, wide node count), then nodes 0, 1, ..": what stands before the nodes.
 abbrev pub headerBytes : ℕ → ℕ → ℕ → List ℕ

@@ -38,10 +38,10 @@ abbrev pub AtMost : ℕ → Measured → Type 0
 AtMost most (Bytes n) = n ≤ most
 AtMost most TooMany = Unit
 
--- A node's record with its cases is at most so long: 9 bytes, and 7 for each case. Of at most 129 runs each is the first of at most
--- 129 cases.
+-- A node's record with its cases is at most so long: 9 bytes, and 8 for each case. Of at most 193 runs each is the first of at most
+-- 193 cases.
 abbrev pub mostLength : ℕ
-mostLength = 9 + 7 * 129 * 129
+mostLength = 9 + 8 * 193 * 193
 
 -- Keys are met after some keys, and so many bytes are measured; or the keys are more than 1,024.
 abbrev pub Met : List Key → List Key → ℕ → Measured → List ℕ → Type 0

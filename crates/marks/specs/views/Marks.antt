@@ -7,7 +7,7 @@ use lib.Dec.{eqb}
 use lib.ListN.{getD, set}
 use Rattle.masks.specs.Mask.{has, maskOf}
 use Rattle.patterns.specs.declared.PatternRecord.{PatternRecord}
-use Rattle.patterns.specs.declared.PatternRecord.the-variants.{Anything, Symbol, Range, Compound, Variable, Ranged, Series}
+use Rattle.patterns.specs.declared.PatternRecord.the-variants.{Anything, Symbol, Range, Compound, Variable, Ranged, Series, Gauged}
 use Rattle.patterns.specs.views.Note.{Note}
 use Rattle.sheet.specs.views.NoteArray.{notesIn}
 
@@ -35,6 +35,7 @@ markOf (Compound a k) m n = placed m (n .place)
 markOf (Variable v) m n = named m n
 markOf (Ranged v l h) m n = named m n
 markOf (Series l h) m n = placed m (n .place)
+markOf (Gauged g l h) m n = placed m (n .place)
 
 abbrev pub marked : Marks → Note → Marks
 marked m n = markOf (n .what) m n

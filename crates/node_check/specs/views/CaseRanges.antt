@@ -5,6 +5,7 @@ use mathlib.Core.Bool.{Bool, _&&_}
 use mathlib.Core.List.{List}
 use lib.Dec.{leb, ltb}
 use Rattle.records.specs.Reading.{Reading, took, refused}
+use Rattle.terms.specs.Term.{onGauge}
 use Rattle.codes.specs.views.Codes.{symbolCode, compoundCode, numberCode}
 use Rattle.decision.specs.Cases.{Case, symbolsCase, compoundCase, numbersCase}
 use Rattle.decision.specs.Node.{CaseEdge}
@@ -42,7 +43,7 @@ rangeTo c n bytes = codesTo (caseLow c) (caseHigh c) (caseEnd c) n bytes
 abbrev pub rangeOf : CaseRecord → CaseRange
 rangeOf (Symbols l h n) = rangeTo (symbolsCase l h) n 7
 rangeOf (Compound a k n) = rangeTo (compoundCase a k) n 6
-rangeOf (Numbers l h n) = rangeTo (numbersCase l h) n 7
+rangeOf (Numbers l h n g) = rangeTo (numbersCase (onGauge g l) (onGauge g h)) n 8
 
 -- What one pass over the cases of a switch finds: are their nodes inside, do they ascend?
 pub record CasesFound : Type 0 where

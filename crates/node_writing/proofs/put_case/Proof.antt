@@ -6,8 +6,8 @@ use Rattle.node_writing.proofs.put_case.Tie as tie
 enum-known-c : tie.Need-enum-known-c
 enum-known-c c = search needs
 
-put-run-requires : tie.Need-put-run-requires
-put-run-requires c κs = rw (c .before .before .c .given .1) at (c .before .before .before .before .before .pre)
+put-symbols-requires : tie.Need-put-symbols-requires
+put-symbols-requires c κs = rw (c .before .before .c .given .1) at (c .before .before .before .before .before .pre)
 
 enum-known-c-2 : tie.Need-enum-known-c-2
 enum-known-c-2 c = search needs
@@ -18,14 +18,14 @@ put-compound-requires c κs = rw (c .before .before .c2 .given .1) at (c .before
 enum-known-c-3 : tie.Need-enum-known-c-3
 enum-known-c-3 c = search needs
 
-put-run-requires-2 : tie.Need-put-run-requires-2
-put-run-requires-2 c κs = rw (c .before .before .c3 .given .1) at (c .before .before .before .before .before .pre)
+put-numbers-requires : tie.Need-put-numbers-requires
+put-numbers-requires c κs = rw (c .before .before .c3 .given .1) at (c .before .before .before .before .before .pre)
 
 same-length : tie.Need-same-length
 same-length c = search needs
 
 returns : tie.Need-returns
-returns c = rw (c .before .before .before .before .before .c .given .1) (c .before .before .put-run .ensures)
+returns c = rw (c .before .before .before .before .before .c .given .1) (c .before .before .put-symbols .ensures)
 
 same-length-2 : tie.Need-same-length-2
 same-length-2 c = search needs
@@ -37,18 +37,18 @@ same-length-3 : tie.Need-same-length-3
 same-length-3 c = search needs
 
 returns-3 : tie.Need-returns-3
-returns-3 c = rw (c .before .before .before .before .before .c3 .given .1) (c .before .before .put-run2 .ensures)
+returns-3 c = rw (c .before .before .before .before .before .c3 .given .1) (c .before .before .put-numbers .ensures)
 
 pub put-case-spec : {M : Type 1} → statement M
 put-case-spec =
     tie.close
     (tie.spec
     enum-known-c
-    put-run-requires
+    put-symbols-requires
     enum-known-c-2
     put-compound-requires
     enum-known-c-3
-    put-run-requires-2
+    put-numbers-requires
     same-length
     returns
     same-length-2

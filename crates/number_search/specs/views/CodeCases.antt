@@ -11,8 +11,9 @@ use Rattle.decision.specs.Node.{CaseEdge, leadsOr}
 use Rattle.decision.specs.AcceptedGraph.{CaseFields}
 use Rattle.decision.specs.views.CaseCodes.{caseLow, caseHigh}
 
--- "Record 44 becomes (wide low, wide high, ..) for a run of ids", "45 compound (wide id, arity, ..), 46 numbers (wide low, wide
--- high, ..)": a case takes the terms whose codes lie from its first to its last, and so a run of codes that lies there.
+-- "Record 44 becomes (wide low, wide high, ..) for a run of ids", "45 compound (wide id, arity, ..)", "record 46 becomes (gauge,
+-- wide low, wide high, ..)": a case takes the terms whose codes lie from its first to its last, and so a run of codes that lies
+-- there.
 abbrev pub takesCodes : Case → ℕ → ℕ → Bool
 takesCodes c low high = leb (caseLow c) low && leb high (caseHigh c)
 

@@ -5,7 +5,7 @@ use mathlib.Core.List.{List, [], _∷_, map}
 use lib.Dec.{eqb}
 use Rattle.terms.specs.RuleTests.{Occurrence, PairTest, pairsOf, pairsWith}
 use Rattle.patterns.specs.declared.PatternRecord.{PatternRecord}
-use Rattle.patterns.specs.declared.PatternRecord.the-variants.{Anything, Symbol, Range, Compound, Variable, Ranged, Series}
+use Rattle.patterns.specs.declared.PatternRecord.the-variants.{Anything, Symbol, Range, Compound, Variable, Ranged, Series, Gauged}
 use Rattle.patterns.specs.views.Note.{Note}
 use Rattle.pairs.specs.declared.Name.{Name}
 use Rattle.pairs.specs.declared.Name.the-variants.{Nameless, Of}
@@ -20,6 +20,7 @@ nameOf (Compound a n) = Nameless
 nameOf (Variable v) = Of v
 nameOf (Ranged v l h) = Of v
 nameOf (Series l h) = Nameless
+nameOf (Gauged g l h) = Nameless
 
 abbrev pub namesVariable : ℕ → PatternRecord → Bool
 namesVariable v Anything = false
@@ -29,6 +30,7 @@ namesVariable v (Compound a n) = false
 namesVariable v (Variable u) = eqb v u
 namesVariable v (Ranged u l h) = eqb v u
 namesVariable v (Series l h) = false
+namesVariable v (Gauged g l h) = false
 
 -- The variables of a rule with their places.
 abbrev pub occurrence : ℕ → Name → List Occurrence → List Occurrence

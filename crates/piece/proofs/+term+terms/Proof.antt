@@ -66,8 +66,8 @@ term-terms-requires t c κs =
 term-returns-4 : (t : ℕ) → term-lts.Need-returns-4 (term-calls t) (term-at t) term.Post
 term-returns-4 t c = stopped 4 _ _ (compound-read (c .before .before)) (c .enum-told3 .given .1)
 
-term-add-t35 : (t : ℕ) → term-lts.Need-add-t35 (term-calls t) (term-at t) term.Post
-term-add-t35 t c =
+term-add-t38 : (t : ℕ) → term-lts.Need-add-t38 (term-calls t) (term-at t) term.Post
+term-add-t38 t c =
     let m = c .before .before .before in
     omega (arith, arguments-fit m (c .before .arguments .given .1), arguments-start m .good .0 .0)
 
@@ -112,6 +112,13 @@ term-returns-11 : (t : ℕ) → term-lts.Need-returns-11 (term-calls t) (term-at
 term-returns-11 t c =
     let a = head-start (c .before .before) .args in
     by-record (a .below) (now (a .s)) (a .p) (now (a .cells)) (whole-head (c .before .before) (c .enum-told4 .given .1))
+
+term-returns-12 : (t : ℕ) → term-lts.Need-returns-12 (term-calls t) (term-at t) term.Post
+term-returns-12 t c =
+    let known = c .before .before .before .before .before in
+    let a = head-start known .args in
+    ap (λ x. took 4 (set (now (a .cells)) (a .p) x)) (c .run-of5 .ensures ∙ ap (λ k. runOf k k) (c .before .gauged-code .ensures))
+    ∙ by-record (a .below) (now (a .s)) (a .p) (now (a .cells)) (whole-head known (c .before .before .before .record5 .given .1))
 
 terms-loop-holds : (t : ℕ) → terms-lts.Need-loop-holds (terms-calls t) (terms-at t) terms.Post Inv-loop μ-loop
 terms-loop-holds t c =
@@ -184,7 +191,7 @@ pub +term+terms-spec : {M : Type 1} → statement M
     (λ c. search needs)
     (λ c. search needs)
     (term-returns-4 t)
-    (term-add-t35 t)
+    (term-add-t38 t)
     (λ c. search needs)
     (term-returns-5 t)
     (λ c κs. search needs)
@@ -195,12 +202,18 @@ pub +term+terms-spec : {M : Type 1} → statement M
     (λ c. search needs)
     (λ c. search needs)
     (λ c. search needs)
+    (λ c. search needs)
+    (λ c κs. search needs)
+    (λ c κs. search needs)
+    (λ c. search needs)
+    (λ c. search needs)
     (term-returns-6 t)
     (term-returns-7 t)
     (term-returns-8 t)
     (term-returns-9 t)
     (term-returns-10 t)
-    (term-returns-11 t))
+    (term-returns-11 t)
+    (term-returns-12 t))
     λ t. terms-lts.spec (terms-calls t)
     (terms-at t)
     terms.Post

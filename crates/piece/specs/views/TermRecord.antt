@@ -6,9 +6,9 @@ use lib.ListN.{length, getD}
 use lib.Dec.{leb, eqb}
 use Rattle.records.specs.Fields.{wideAt}
 use Rattle.records.specs.Reading.{Reading, took, refused, ask}
-use Rattle.terms.specs.Term.{Term, unknown, never, symbol, number, numbers}
+use Rattle.terms.specs.Term.{Term, onGauge, unknown, never, symbol, number, numbers}
 use Rattle.piece.specs.declared.TermRecord.{TermRecord}
-use Rattle.piece.specs.declared.TermRecord.the-variants.{Unknown, Symbol, Number, Compound, Span, Never}
+use Rattle.piece.specs.declared.TermRecord.the-variants.{Unknown, Symbol, Number, Compound, Span, Never, Gauged}
 use Rattle.piece.specs.declared.TermHead.{TermHead}
 use Rattle.piece.specs.declared.TermHead.the-variants.{Whole, Refused}
 
@@ -17,7 +17,8 @@ abbrev pub wholeIf : Bool → TermRecord → TermHead
 wholeIf true r = Whole r
 wholeIf false r = Refused 14
 
--- "14 Is each term a whole record of kinds 30 to 33?" Of records 34 and 35: "Question 14 admits it".
+-- "14 Is each term a whole record of kinds 30 to 33?" Of records 34 and 35: "Question 14 admits it"; of 36: "Questions 4, 7 and 14
+-- take the new records in".
 abbrev pub termHead : List ℕ → TermHead
 termHead s =
     cond (eqb (length s) 0) (Refused 14)
@@ -27,7 +28,8 @@ termHead s =
     (cond (eqb (getD s 0 0) 0x33) (wholeIf (leb 4 (length s)) (Compound (wideAt s 1) (getD s 3 0)))
     (cond (eqb (getD s 0 0) 0x34) (wholeIf (leb 5 (length s)) (Span (wideAt s 1) (wideAt s 3)))
     (cond (eqb (getD s 0 0) 0x35) (Whole Never)
-    (Refused 14)))))))
+    (cond (eqb (getD s 0 0) 0x36) (wholeIf (leb 4 (length s)) (Gauged (getD s 1 0) (wideAt s 2)))
+    (Refused 14))))))))
 
 -- The number of the question that a head got a no from, 0 for a whole record.
 abbrev pub headRefusal : TermHead → ℕ
@@ -42,6 +44,7 @@ onRecord compoundOf (Number a) = took 3 (number a)
 onRecord compoundOf (Compound a n) = compoundOf a n
 onRecord compoundOf (Span l h) = ask 32 (leb l h) (took 5 (numbers l h))
 onRecord compoundOf Never = took 1 never
+onRecord compoundOf (Gauged g a) = took 4 (number (onGauge g a))
 
 abbrev pub onHead : (ℕ → ℕ → Reading Term) → TermHead → Reading Term
 onHead compoundOf (Whole r) = onRecord compoundOf r

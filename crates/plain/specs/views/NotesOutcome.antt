@@ -4,11 +4,12 @@ use mathlib.Core.Bool.{Bool, true, false}
 use mathlib.Core.List.{List}
 use lib.Dec.{leb}
 use lib.ListN.{getD}
+use Rattle.terms.specs.Term.{onGauge}
 use Rattle.terms.specs.Pattern.{Patterns}
 use Rattle.terms.specs.RuleTests.{PairTest, pairsOf}
 use Rattle.terms.specs.Outcome.{Outcome, holds, _and_, together}
 use Rattle.patterns.specs.declared.PatternRecord.{PatternRecord}
-use Rattle.patterns.specs.declared.PatternRecord.the-variants.{Anything, Symbol, Range, Compound, Variable, Ranged, Series}
+use Rattle.patterns.specs.declared.PatternRecord.the-variants.{Anything, Symbol, Range, Compound, Variable, Ranged, Series, Gauged}
 use Rattle.patterns.specs.views.Note.{Note}
 use Rattle.sheet.specs.views.Noted.{ruleNotes}
 use Rattle.sheet.specs.views.NoteRanges.{lowsOf, highsOf}
@@ -30,6 +31,7 @@ flatBytes (Compound a n) = 0
 flatBytes (Variable v) = 2
 flatBytes (Ranged v l h) = 6
 flatBytes (Series l h) = 5
+flatBytes (Gauged g l h) = 6
 
 module _ (cells : List ℕ) where
   -- The test of a symbol, a series, a range or a compound at place p; a variable has its range's.
@@ -41,6 +43,7 @@ module _ (cells : List ℕ) where
   fixedOutcome p (Variable v) = holds
   fixedOutcome p (Ranged v l h) = holds
   fixedOutcome p (Series l h) = placeCells cells p (symbolCode l) (symbolCode h)
+  fixedOutcome p (Gauged g l h) = placeCells cells p (numberCode (onGauge g l)) (numberCode (onGauge g h))
 
   -- The test of a variable's common range at place p. A high end over 65,535 says that it has none.
   abbrev pub rangeOutcome : ℕ → ℕ → ℕ → Outcome
@@ -55,6 +58,7 @@ module _ (cells : List ℕ) where
   recordOutcome low high p (Variable v) = rangeOutcome p (getD low v 0) (getD high v 0)
   recordOutcome low high p (Ranged v l h) = rangeOutcome p (getD low v 0) (getD high v 0)
   recordOutcome low high p (Series l h) = placeCells cells p (symbolCode l) (symbolCode h)
+  recordOutcome low high p (Gauged g l h) = placeCells cells p (numberCode (onGauge g l)) (numberCode (onGauge g h))
 
   abbrev pub noteOutcome : List ℕ → List ℕ → Note → Outcome
   noteOutcome low high n = recordOutcome low high (n .place) (n .what)

@@ -6,9 +6,10 @@ use mathlib.Core.List.{List, [], _∷_}
 use mathlib.Core.Option.{Option, some, none}
 use lib.Dec.{ltb}
 use lib.ListN.{getD}
+use Rattle.terms.specs.Term.{onGauge}
 use Rattle.terms.specs.RuleTests.{Want, aSymbol, aNumber, aCompound, PlaceTest, at}
 use Rattle.patterns.specs.declared.PatternRecord.{PatternRecord}
-use Rattle.patterns.specs.declared.PatternRecord.the-variants.{Anything, Symbol, Range, Compound, Variable, Ranged, Series}
+use Rattle.patterns.specs.declared.PatternRecord.the-variants.{Anything, Symbol, Range, Compound, Variable, Ranged, Series, Gauged}
 use Rattle.patterns.specs.views.Note.{Note}
 use Rattle.codes.specs.views.Codes.{wantLow, wantHigh}
 use Rattle.rows.specs.declared.Wanted.{Wanted}
@@ -31,6 +32,7 @@ recordWant low high (Compound a n) = some (aCompound a n)
 recordWant low high (Variable v) = rangeWant (getD low v 0) (getD high v 0)
 recordWant low high (Ranged v l h) = rangeWant (getD low v 0) (getD high v 0)
 recordWant low high (Series l h) = some (aSymbol l h)
+recordWant low high (Gauged g l h) = some (aNumber (onGauge g l) (onGauge g h))
 
 abbrev pub testIf : ℕ → Option Want → List PlaceTest → List PlaceTest
 testIf n none tests = tests

@@ -5,7 +5,7 @@ use mathlib.Core.Path.{_≡_}
 use mathlib.Core.List.{List, [], _∷_}
 use lib.ListN.{length, drop}
 use Rattle.patterns.specs.declared.PatternRecord.{PatternRecord}
-use Rattle.patterns.specs.declared.PatternRecord.the-variants.{Anything, Symbol, Series, Range, Compound, Variable, Ranged}
+use Rattle.patterns.specs.declared.PatternRecord.the-variants.{Anything, Symbol, Series, Range, Gauged, Compound, Variable, Ranged}
 use Rattle.patterns.specs.declared.PatternHead.{PatternHead}
 use Rattle.patterns.specs.declared.PatternHead.the-variants.{Whole, Refused}
 use Rattle.patterns.specs.views.PatternRecord.{recordBytes, patternHead}
@@ -19,6 +19,7 @@ argumentsOf Anything = 0
 argumentsOf (Symbol a) = 0
 argumentsOf (Series l h) = 0
 argumentsOf (Range l h) = 0
+argumentsOf (Gauged g l h) = 0
 argumentsOf (Compound a n) = n
 argumentsOf (Variable v) = 0
 argumentsOf (Ranged v l h) = 0

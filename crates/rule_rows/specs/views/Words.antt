@@ -7,7 +7,7 @@ use mathlib.Core.List.{List, [], _∷_}
 use lib.Dec.{eqb}
 use lib.ListN.{getD, set, replicate}
 use Rattle.patterns.specs.declared.PatternRecord.{PatternRecord}
-use Rattle.patterns.specs.declared.PatternRecord.the-variants.{Anything, Symbol, Series, Range, Compound, Variable, Ranged}
+use Rattle.patterns.specs.declared.PatternRecord.the-variants.{Anything, Symbol, Series, Range, Gauged, Compound, Variable, Ranged}
 
 abbrev pub packedWord : ℕ → ℕ → ℕ → ℕ → ℕ
 packedWord number uses high low = ((number * 4 + uses) * 0x2_0000 + high) * 0x1_0000 + low
@@ -45,6 +45,7 @@ metRecord words Anything = words
 metRecord words (Symbol a) = words
 metRecord words (Series l h) = words
 metRecord words (Range l h) = words
+metRecord words (Gauged g l h) = words
 metRecord words (Compound a n) = words
 metRecord words (Variable v) = metAt words v 0 0x1_0000
 metRecord words (Ranged v l h) = metAt words v l h
@@ -73,6 +74,7 @@ numberRecord Anything x = x
 numberRecord (Symbol a) x = x
 numberRecord (Series l h) x = x
 numberRecord (Range l h) x = x
+numberRecord (Gauged g l h) x = x
 numberRecord (Compound a n) x = x
 numberRecord (Variable v) x = numberedAt v x
 numberRecord (Ranged v l h) x = numberedAt v x

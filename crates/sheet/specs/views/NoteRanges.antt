@@ -9,7 +9,7 @@ use Rattle.basics.specs.Lists.{countFrom, allBelow}
 use Rattle.terms.specs.RuleTests.{Range, commonPart}
 use Rattle.patterns.specs.declared.PatternRecord.{PatternRecord}
 use Rattle.patterns.specs.declared.PatternRecord.the-variants.{Anything, Symbol, Series, Range as RangeOf, Compound}
-use Rattle.patterns.specs.declared.PatternRecord.the-variants.{Variable, Ranged}
+use Rattle.patterns.specs.declared.PatternRecord.the-variants.{Variable, Ranged, Gauged}
 use Rattle.sheet.specs.declared.Ranges.{Ranges}
 use Rattle.patterns.specs.views.Note.{Note}
 
@@ -22,6 +22,7 @@ recordRange (Compound a n) v = none
 recordRange (Variable u) v = none
 recordRange (Ranged u l h) v = cond (eqb u v) (some (record { low = l; high = h })) none
 recordRange (Series l h) v = none
+recordRange (Gauged g l h) v = none
 
 -- "The common part of those ranges", of variable v.
 abbrev pub rangeIn : List Note → ℕ → Option Range

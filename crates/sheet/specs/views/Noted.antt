@@ -4,8 +4,8 @@ use Prim.Native.Nat.{ℕ, pred, suc, _+_}
 use mathlib.Core.List.{List, [], _∷_, _++_}
 use Rattle.places.specs.Numbering.{stride}
 use Rattle.terms.specs.Pattern.{Pattern, Patterns, countPatterns, pnil, pcons}
-use Rattle.terms.specs.Pattern.{anything, theSymbol, theSeries, theRange, theCompound, variable, rangedVariable}
-use Rattle.patterns.specs.declared.PatternRecord.the-variants.{Symbol, Range, Compound, Variable, Ranged, Series}
+use Rattle.terms.specs.Pattern.{anything, theSymbol, theSeries, theRange, theGauged, theCompound, variable, rangedVariable}
+use Rattle.patterns.specs.declared.PatternRecord.the-variants.{Symbol, Range, Compound, Variable, Ranged, Series, Gauged}
 use Rattle.patterns.specs.views.Note.{note}
 use Rattle.patterns.specs.views.Note.{Note}
 
@@ -21,6 +21,7 @@ abbrev mutual
   patternNotes (variable v) below b = note b (Variable v) ∷ []
   patternNotes (rangedVariable v l h) below b = note b (Ranged v l h) ∷ []
   patternNotes (theSeries l h) below b = note b (Series l h) ∷ []
+  patternNotes (theGauged g l h) below b = note b (Gauged g l h) ∷ []
 
   pub patternsNotes : Patterns → ℕ → ℕ → List Note
   patternsNotes pnil below b = []

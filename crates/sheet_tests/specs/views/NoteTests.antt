@@ -5,7 +5,7 @@ use mathlib.Core.List.{List, [], _∷_}
 use lib.Dec.{ltb}
 use lib.ListN.{getD}
 use Rattle.patterns.specs.declared.PatternRecord.{PatternRecord}
-use Rattle.patterns.specs.declared.PatternRecord.the-variants.{Anything, Symbol, Range, Compound, Variable, Ranged, Series}
+use Rattle.patterns.specs.declared.PatternRecord.the-variants.{Anything, Symbol, Range, Compound, Variable, Ranged, Series, Gauged}
 use Rattle.patterns.specs.views.Note.{Note}
 
 -- A record is a place test: a symbol, a series, a range, a compound, or a variable with a range.
@@ -17,6 +17,7 @@ isTested ranged (Compound a n) = true
 isTested ranged (Variable v) = ranged v
 isTested ranged (Ranged v l h) = ranged v
 isTested ranged (Series l h) = true
+isTested ranged (Gauged g l h) = true
 
 -- The places of the place tests.
 abbrev pub testedPlaces : (ℕ → Bool) → List Note → List ℕ

@@ -5,8 +5,8 @@ use mathlib.Core.List.{List, [], _∷_, _++_, map}
 use lib.Dec.{eqb, ltb}
 use lib.ListN.{getD}
 use Rattle.patterns.specs.declared.PatternRecord.{PatternRecord}
-use Rattle.patterns.specs.declared.PatternRecord.the-variants.{Anything, Symbol, Series, Range, Compound, Variable, Ranged}
-use Rattle.patterns.specs.views.PatternRecord.{seriesRecord, recordSpelling, recordsSpelling}
+use Rattle.patterns.specs.declared.PatternRecord.the-variants.{Anything, Symbol, Series, Range, Gauged, Compound, Variable, Ranged}
+use Rattle.patterns.specs.views.PatternRecord.{seriesRecord, gaugedRecord, recordSpelling, recordsSpelling}
 use Rattle.rule_rows.specs.views.Words.{wordLow, wordHigh, wordUses, wordPlace, freshWords, metRecords, Numbering, numberRecord}
 
 -- What a variable becomes, by its word.
@@ -24,6 +24,7 @@ tidyIn words Anything = Anything
 tidyIn words (Symbol a) = Symbol a
 tidyIn words (Series l h) = seriesRecord l h
 tidyIn words (Range l h) = Range l h
+tidyIn words (Gauged g l h) = gaugedRecord g l h
 tidyIn words (Compound a n) = Compound a n
 tidyIn words (Variable v) = tidyWord (getD words (wordPlace v) 0)
 tidyIn words (Ranged v l h) = tidyWord (getD words (wordPlace v) 0)

@@ -120,6 +120,12 @@ fn series(name: &'static str, rules: u16) -> Case {
     case(name, known::series_4(rules), piece_bytes(&symbols))
 }
 
+/// Nested ranges on 4 gauges, and a piece of numbers on one of them that all its rules take.
+fn gauges(name: &'static str, sheet: Vec<u8>) -> Case {
+    let numbers = vec![Term::Gauged(2, 500); sheet[1].into()];
+    case(name, sheet, piece_bytes(&numbers))
+}
+
 /// Four readings that the rule in the middle would take, one of a sensor that the machine lacks.
 fn without(count: u16) -> Vec<u8> {
     let at = count / 2;
@@ -171,6 +177,8 @@ pub fn for_graphs() -> Vec<Case> {
         open("nested ranges at 8 places", known::nested_8(32)),
         open("nested ranges at 16 places", known::nested_16(32)),
         series("32 series at 4 places", 32),
+        gauges("nested ranges on 4 gauges", known::gauges_1(32)),
+        gauges("nested ranges on 4 gauges at 8 places", known::gauges_8(32)),
         alike("28 pairs of unknowns", Term::Unknown),
         open("most nodes", known::nodes_1024()),
         open("too many nodes", known::nodes_1025()),
@@ -212,6 +220,7 @@ pub fn all() -> Vec<Case> {
         case("64 rules of 4 readings", coins(64), coin(64)),
         case("64 rules of 4 readings, spans", coins(64), spans(64)),
         series("32 series at 4 places", 32),
+        gauges("nested ranges on 4 gauges at 8 places", known::gauges_8(32)),
         case("32 equal rules of 64 places", places_64(32).bytes(), piece_bytes(&open)),
         case("64 equal rules of 64 places", places_64(64).bytes(), piece_bytes(&open)),
         case("32 equal rules of 55 pairs", pairs_64(32).bytes(), piece_bytes(&paired)),

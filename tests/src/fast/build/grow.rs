@@ -1,6 +1,6 @@
 //! The first pass: all nodes numbered breadth first, and their bytes counted.
 
-use super::super::records::{COMPOUND_BYTES, RUN_BYTES, SWITCH};
+use super::super::records::{COMPOUND_BYTES, NUMBERS_BYTES, SWITCH, SYMBOLS_BYTES};
 use super::items;
 use super::keys::{Key, Keys};
 use super::rules::Tests;
@@ -78,26 +78,28 @@ fn switch<R: Rules>(
     grown.bytes += SWITCH;
     while marked != R::Items::NONE {
         let item = items[1 + marked.lowest()];
-        if items::kind(item.code) == items::NUMBERS {
+        if items::kind(item.code) >= items::NUMBERS {
             break;
         }
         marked = marked.rest();
         let rules = item.rules & key.live;
         if rules != R::NONE {
             grown = grown.edge(tests.key(others | rules, unsettled, cover), keys, edges)?;
-            grown.bytes += if items::kind(item.code) == items::SYMBOLS { RUN_BYTES } else { COMPOUND_BYTES };
+            let is_run = items::kind(item.code) == items::SYMBOLS;
+            grown.bytes += if is_run { SYMBOLS_BYTES } else { COMPOUND_BYTES };
         }
     }
-    runs.cut(items, marked, key.live);
-    grown.bytes += RUN_BYTES * runs.cases();
     let key_with = |some: R| tests.key(others | some, unsettled, cover);
-    grown = numbers(runs, key_with, grown, keys, edges)?;
+    while runs.cut(items, &mut marked, key.live) {
+        grown.bytes += NUMBERS_BYTES * runs.cases();
+        grown = numbers(runs, key_with, grown, keys, edges)?;
+    }
     grown = grown.edge(tests.key(others, unsettled, cover), keys, edges)?;
     let unsettled = unsettled & !tests.settled[test];
     grown.edge(tests.key(key.live, unsettled, tests.cover(key.live, unsettled)), keys, edges)
 }
 
-/// Numbers the nodes that pairs of runs lead to; where the rules are those of the case before, so is the node.
+/// Numbers the nodes that pairs of runs on a gauge lead to; where the rules are those of the case before, so is the node.
 #[inline(always)]
 fn numbers<R: Rules>(
     runs: &Runs<R>,

@@ -1,7 +1,8 @@
 //! The items of a place test: what its rules want there, in the order of a switch's cases.
 //!
 //! An item is a code and a set of rules. The code of a compound is its kind, id and arity, and the set holds the
-//! rules that want it. The code of a symbol or a number says that series or ranges of rules begin or end there:
+//! rules that want it. The code of a number is its kind, gauge and value, so that one past the last number on a gauge is
+//! the first on the next. The code of a symbol or a number says that series or ranges of rules begin or end there:
 //! first the set holds those rules, then, once `run` has been over the items, the rules whose series or range holds
 //! what comes from there to the next item. The code of cell 0 is how many items there are.
 
@@ -38,13 +39,13 @@ pub fn compound(id: u16, arity: u8) -> u32 {
     COMPOUND << 24 | u32::from(id) << 8 | u32::from(arity)
 }
 
-/// The code of a number.
+/// The code of a number on its gauge.
 #[inline(always)]
-pub fn number(number: u16) -> u32 {
-    NUMBERS << 24 | u32::from(number)
+pub fn number(on_gauge: u32) -> u32 {
+    NUMBERS << 24 | on_gauge
 }
 
-/// The kind of a code.
+/// The kind of a code; that of one past all numbers is higher than theirs.
 #[inline(always)]
 pub fn kind(code: u32) -> u32 {
     code >> 24

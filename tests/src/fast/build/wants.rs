@@ -2,7 +2,7 @@
 
 use super::super::pairs::{self, pair};
 use super::super::places::{PLACES, STEP};
-use super::super::records::{self, Pattern};
+use super::super::records::{self, on_gauge, Pattern};
 use super::super::sheet::Sheet;
 use super::super::variables::Variables;
 use super::items::{self, Item};
@@ -32,8 +32,8 @@ impl<R: Rules> Wants<'_, R> {
     }
 
     #[inline(always)]
-    fn want_range(&mut self, place: usize, low: u16, high: u16) {
-        self.want_all(place, items::number(low), items::number(high));
+    fn want_range(&mut self, place: usize, gauge: u8, low: u16, high: u16) {
+        self.want_all(place, items::number(on_gauge(gauge, low)), items::number(on_gauge(gauge, high)));
     }
 
     /// Puts in what a pattern wants; gives how many bytes it has.
@@ -49,8 +49,12 @@ impl<R: Rules> Wants<'_, R> {
                 5
             }
             Some(Pattern::Range(low, high)) => {
-                self.want_range(place, low, high);
+                self.want_range(place, 0, low, high);
                 5
+            }
+            Some(Pattern::Gauged(gauge, low, high)) => {
+                self.want_range(place, gauge, low, high);
+                6
             }
             Some(Pattern::Compound(id, arity)) => {
                 self.want(place, items::compound(id, arity));
@@ -92,7 +96,7 @@ impl<R: Rules> Wants<'_, R> {
         for i in 0..count {
             let p = variables.place(number, i);
             if variables.is_ranged(number) {
-                self.want_range(usize::from(p), variables.low(number), variables.high(number));
+                self.want_range(usize::from(p), 0, variables.low(number), variables.high(number));
             }
             for j in i + 1..count {
                 let pair = pair(p, variables.place(number, j));

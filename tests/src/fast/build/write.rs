@@ -1,7 +1,7 @@
 //! The second pass: the numbered nodes written to the buffer.
 
 use super::super::records::{
-    put_wide, COMPOUND_BYTES, COMPOUND_CASE, NUMBERS_CASE, RUN_BYTES, SWITCH, SYMBOLS_CASE,
+    put_wide, COMPOUND_BYTES, COMPOUND_CASE, NUMBERS_BYTES, NUMBERS_CASE, SWITCH, SYMBOLS_BYTES, SYMBOLS_CASE,
 };
 use super::items;
 use super::keys::{Key, Keys};
@@ -94,7 +94,7 @@ fn switch<R: Rules>(
     let mut cases = 0;
     while marked != R::Items::NONE {
         let item = items[1 + marked.lowest()];
-        if items::kind(item.code) == items::NUMBERS {
+        if items::kind(item.code) >= items::NUMBERS {
             break;
         }
         marked = marked.rest();
@@ -106,18 +106,20 @@ fn switch<R: Rules>(
             cases += 1;
         }
     }
-    runs.cut(items, marked, key.live);
-    at += numbers(&mut bytes[at..], runs, others, targets);
+    while runs.cut(items, &mut marked, key.live) {
+        at += numbers(&mut bytes[at..], runs, others, targets);
+        cases += runs.cases();
+    }
     let neither = targets.next(others);
     targets.leave(key.live, targets.unsettled & !tests.settled[test]);
     let unknown = targets.next(key.live);
-    header(bytes, tests.places[test], cases + runs.cases(), neither, unknown);
+    header(bytes, tests.places[test], cases, neither, unknown);
     at
 }
 
-/// Writes the cases of pairs of runs; gives how many bytes they have.
+/// Writes the cases of pairs of runs on a gauge; gives how many bytes they have.
 fn numbers<R: Rules>(bytes: &mut [u8], runs: &Runs<R>, others: R, targets: &mut Targets<R>) -> usize {
-    let mut cases = bytes.chunks_exact_mut(RUN_BYTES);
+    let mut cases = bytes.chunks_exact_mut(NUMBERS_BYTES);
     let mut last = None;
     let mut node = 0;
     for first in 0..runs.count {
@@ -131,11 +133,11 @@ fn numbers<R: Rules>(bytes: &mut [u8], runs: &Runs<R>, others: R, targets: &mut 
             }
             let ([a, b], [c, d]) = (((runs.starts[run + 1] - 1) as u16).to_be_bytes(), node.to_be_bytes());
             if let Some(case) = cases.next() {
-                case.copy_from_slice(&[NUMBERS_CASE, low_high, low_low, a, b, c, d]);
+                case.copy_from_slice(&[NUMBERS_CASE, runs.gauge, low_high, low_low, a, b, c, d]);
             }
         }
     }
-    RUN_BYTES * runs.cases()
+    NUMBERS_BYTES * runs.cases()
 }
 
 /// Writes a switch's record, its cases apart.
@@ -169,7 +171,7 @@ fn case(bytes: &mut [u8], code: u32, last: impl Fn() -> u32, node: u16) -> usize
         put_wide(bytes, 3, last() as u16);
         put_wide(bytes, 1, code as u16);
         bytes[0] = SYMBOLS_CASE;
-        return RUN_BYTES;
+        return SYMBOLS_BYTES;
     }
     put_wide(bytes, 4, node);
     bytes[3] = code as u8;

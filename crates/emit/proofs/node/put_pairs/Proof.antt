@@ -29,9 +29,9 @@ loop-holds c =
     let s = now (a .s) in
     let keys = keysIn (now (a .keys)) in
     let runs = now (a .runs) in
-    let count = a .framed .count in
-    let all = runBytes s keys (a .asked) (unionPairs (runsFrom runs count (a .framed .names))) in
-    (refl, start .pre .1, left-start (now (a .buf)) (a .start) all all refl)
+    let count = a .all .count in
+    let whole = runBytes s keys (a .asked) (unionPairs (runsFrom runs count (a .all .first))) in
+    (refl, start .pre .1, left-start (now (a .buf)) (a .start) whole whole refl)
 
 put-row-requires : tie.Need-put-row-requires Inv-loop μ-loop
 put-row-requires c κs =
@@ -40,7 +40,7 @@ put-row-requires c κs =
     let s = now (a .s) in
     let keys = keysIn (now (a .keys)) in
     let runs = now (a .runs) in
-    let count = a .framed .count in
+    let count = a .all .count in
     let at = c .before .before .loop in
     let test = c .before .loop-test .taken in (
       start .pre .0,
@@ -66,7 +66,7 @@ loop-again c =
     let s = now (a .s) in
     let keys = keysIn (now (a .keys)) in
     let runs = now (a .runs) in
-    let count = a .framed .count in
+    let count = a .all .count in
     let at = c .before .before .before .before .before .loop in
     let test = c .before .before .before .before .loop-test .taken in (
       c .before .buf .given ∙ at .inv .0,
@@ -86,7 +86,7 @@ returns c =
     let s = now (a .s) in
     let keys = keysIn (now (a .keys)) in
     let runs = now (a .runs) in
-    let count = a .framed .count in
+    let count = a .all .count in
     let at = c .before .loop in
     left-end (start .pre .3) (at .inv .2)
     (ap (runBytes s keys (a .asked)) (pairs-none runs count (at .first) (c .loop-test .left)))

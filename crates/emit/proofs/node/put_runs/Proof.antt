@@ -3,7 +3,7 @@ use native.Mathlib.Omega.{arith}
 use denote.Ref.{now}
 use borrow.Author.Needs.{needs}
 use Rattle.cuts.specs.views.Runs.{runsIn}
-use Rattle.cuts.specs.views.CaseRuns.{unionPairs, runsFrom}
+use Rattle.cuts.specs.views.CaseRuns.{gaugePairs, runsFrom}
 use Rattle.met.specs.views.KeysMet.{keysIn}
 use Rattle.emit.specs.views.Laid.{runBytes}
 use Rattle.emit.proofs.WritingOn.{first-room, second-room, both-wrote}
@@ -21,13 +21,13 @@ put-names-requires c κs =
     let count = a .framed .count in
     let names = a .framed .names in
     let first = runBytes s keys (a .asked) (runsIn runs names) in
-    let second = runBytes s keys (a .asked) (unionPairs (runsFrom runs count names)) in
+    let second = runBytes s keys (a .asked) (gaugePairs (runsFrom runs count names)) in
     let joined = cases-bytes s keys (a .asked) runs count names (start .pre .1) in
-    let room = first-room (now (a .buf)) (a .start) first second joined (start .pre .3) in
+    let room = first-room (now (a .buf)) (a .start) first second joined (start .pre .4) in
     (start .pre .0, omega (arith, start .pre .1, start .pre .2), room)
 
-put-pairs-requires : tie.Need-put-pairs-requires
-put-pairs-requires c κs =
+put-gauges-requires : tie.Need-put-gauges-requires
+put-gauges-requires c κs =
     let start = c .before .before .before .before .before .before in
     let a = start .args in
     let s = now (a .s) in
@@ -36,11 +36,11 @@ put-pairs-requires c κs =
     let count = a .framed .count in
     let names = a .framed .names in
     let first = runBytes s keys (a .asked) (runsIn runs names) in
-    let second = runBytes s keys (a .asked) (unionPairs (runsFrom runs count names)) in
+    let second = runBytes s keys (a .asked) (gaugePairs (runsFrom runs count names)) in
     let joined = cases-bytes s keys (a .asked) runs count names (start .pre .1) in
     let names-put = c .before .before .before .put-names .ensures in
-    let room = second-room (now (a .buf)) (a .start) first second joined (start .pre .3) names-put in
-    (start .pre .0, start .pre .1, start .pre .2, room)
+    let room = second-room (now (a .buf)) (a .start) first second joined (start .pre .4) names-put in
+    (start .pre .0, start .pre .1, start .pre .2, start .pre .3, room)
 
 same-length : tie.Need-same-length
 same-length c = search needs
@@ -55,10 +55,10 @@ returns c =
     let count = a .framed .count in
     let names = a .framed .names in
     let first = runBytes s keys (a .asked) (runsIn runs names) in
-    let second = runBytes s keys (a .asked) (unionPairs (runsFrom runs count names)) in
+    let second = runBytes s keys (a .asked) (gaugePairs (runsFrom runs count names)) in
     let joined = cases-bytes s keys (a .asked) runs count names (start .pre .1) in
     let names-put = c .before .before .before .before .before .before .put-names .ensures in
-    both-wrote (now (a .buf)) (a .start) first second joined (start .pre .3) names-put (c .before .before .put-pairs .ensures)
+    both-wrote (now (a .buf)) (a .start) first second joined (start .pre .4) names-put (c .before .before .put-gauges .ensures)
 
 pub put-runs-spec : {M : Type 1} → statement M
-put-runs-spec = tie.close (tie.spec put-names-requires put-pairs-requires same-length returns)
+put-runs-spec = tie.close (tie.spec put-names-requires put-gauges-requires same-length returns)

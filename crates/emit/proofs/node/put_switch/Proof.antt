@@ -39,12 +39,15 @@ cut-switch-requires c κs =
     let room = part-room (start .pre .0 .1) (a .asked .test) (start .pre .0 .2) is in (
       (room .0, room .1, start .pre .0 .3),
       λ k h.
-          subst (λ (from : ℕ). k < countAt (now (a .c)) from → 0 < cutAt (now (a .c)) from k .code) (sym is)
-          (start .pre .0 .1 .coded (a .asked .test) k (start .pre .0 .2)) h,
+          subst
+          (λ (from : ℕ).
+          k < countAt (now (a .c)) from
+          → (0 < cutAt (now (a .c)) from k .code) × (cutAt (now (a .c)) from k .code < 0x1_0000_0000))
+          (sym is) (start .pre .0 .1 .coded (a .asked .test) k (start .pre .0 .2)) h,
     )
 
 case-count-requires : tie.Need-case-count-requires
-case-count-requires c κs = (c .cut-switch .ensures .2, c .cut-switch .ensures .3)
+case-count-requires c κs = (c .before .cut-switch .ensures .2, c .before .cut-switch .ensures .3, c .before .cut-switch .ensures .4)
 
 by-none-requires : tie.Need-by-none-requires
 by-none-requires c κs = search needs
@@ -54,7 +57,7 @@ node-of-requires c κs = search needs
 
 by-unknown-requires : tie.Need-by-unknown-requires
 by-unknown-requires c κs =
-    let start = c .before .before .before .before .before .before .before .before .before in
+    let start = c .before .before .before .before .before .before .before .before .before .before in
     omega (arith, start .pre .0 .2, start .pre .0 .1 .fewPlaces)
 
 node-of-requires-2 : tie.Need-node-of-requires-2
@@ -62,25 +65,25 @@ node-of-requires-2 c κs = search needs
 
 test-requires : tie.Need-test-requires
 test-requires c κs =
-    let start = c .before .before .before .before .before .before .before .before .before .before .before in
+    let start = c .before .before .before .before .before .before .before .before .before .before .before .before in
     omega (arith, start .pre .0 .2, start .pre .0 .1 .fewPlaces)
 
 cast-place : tie.Need-cast-place
 cast-place c = search needs
 
-cast-t23 : tie.Need-cast-t23
-cast-t23 c =
-    let cut = c .before .before .before .before .before .before .before .cut-switch in
+cast-t24 : tie.Need-cast-t24
+cast-t24 c =
+    let cut = c .before .before .before .before .before .before .before .before .cut-switch in
     let count = c .before .before .before .before .before .before .case-count in
-    let counted = count .ensures (cut .last .1 .1 .1 .0) ∙ ap (λ (l : List Run). length l) (cut .ensures .0) in
+    let counted = count .ensures ∙ ap (λ (l : List Run). length l) (cut .ensures .0) in
     omega (arith, counted, cut .ensures .1)
 
 put-node-requires : tie.Need-put-node-requires
 put-node-requires c κs =
-    let start = c .before .before .before .before .before .before .before .before .before .before .before .before .before in
-    let part = c .before .before .before .before .before .before .before .before .before .part in
-    let rules = c .before .before .before .before .before .before .before .before .before .before .rules in
-    let cut = c .before .before .before .before .before .before .before .cut-switch in
+    let start = c .before .before .before .before .before .before .before .before .before .before .before .before .before .before in
+    let part = c .before .before .before .before .before .before .before .before .before .before .part in
+    let rules = c .before .before .before .before .before .before .before .before .before .before .before .rules in
+    let cut = c .before .before .before .before .before .before .before .before .cut-switch in
     let count = c .before .before .before .before .before .before .case-count in
     let test = c .before .test in
     let node-of = c .before .before .before .before .node-of in
@@ -93,7 +96,7 @@ put-node-requires c κs =
     let cases = caseRuns (cut .result .names) (runsIn runs (cut .result .count)) in
     let keys = keysIn (now (a .keys)) in
     let joined =
-    switch-bytes (now (a .s)) keys (a .asked) (now (a .c)) (start .pre .0 .2) cases is (cut .ensures .0) (count .ensures runs)
+    switch-bytes (now (a .s)) keys (a .asked) (now (a .c)) (start .pre .0 .2) cases is (cut .ensures .0) (count .ensures)
     (test .ensures) (node-of .ensures) (by-none .ensures) (node-of2 .ensures) (by-unknown .ensures) in
     let head =
     nodeRecordBytes (Switch (test .result % 0x1_0000) (count .result) (node-of .result) (node-of2 .result)) in
@@ -102,7 +105,7 @@ put-node-requires c κs =
 
 put-runs-requires : tie.Need-put-runs-requires
 put-runs-requires c κs =
-    let early = c .before .before .before .before .before .before .before .before .before .before .before .before in
+    let early = c .before .before .before .before .before .before .before .before .before .before .before .before .before in
     let start = early .before .before .before .before .before .before in
     let part = early .before .before .part in
     let rules = early .before .before .before .rules in
@@ -119,14 +122,14 @@ put-runs-requires c κs =
     let cases = caseRuns (cut .result .names) (runsIn runs (cut .result .count)) in
     let keys = keysIn (now (a .keys)) in
     let joined =
-    switch-bytes (now (a .s)) keys (a .asked) (now (a .c)) (start .pre .0 .2) cases is (cut .ensures .0) (count .ensures runs)
+    switch-bytes (now (a .s)) keys (a .asked) (now (a .c)) (start .pre .0 .2) cases is (cut .ensures .0) (count .ensures)
     (test .ensures) (node-of .ensures) (by-none .ensures) (node-of2 .ensures) (by-unknown .ensures) in
     let head =
     nodeRecordBytes (Switch (test .result % 0x1_0000) (count .result) (node-of .result) (node-of2 .result)) in
     let tail = runBytes (now (a .s)) keys (a .asked) cases in
     let record-put = c .before .before .before .before .put-node .ensures in
     let room = second-room (now (a .buf)) (a .at) head tail joined (start .pre .1) record-put in
-    (start .pre .0 .0, cut .ensures .2, cut .ensures .3, room)
+    (start .pre .0 .0, cut .ensures .2, cut .ensures .3, cut .ensures .4, room)
 
 same-length : tie.Need-same-length
 same-length c = c .before .buf2 .given ∙ c .before .before .before .before .before .before .buf .given
@@ -134,10 +137,10 @@ same-length c = c .before .buf2 .given ∙ c .before .before .before .before .be
 returns : tie.Need-returns
 returns c =
     let early = c .before .before .before .before .before .before .before .before .before .before .before .before in
-    let start = early .before .before .before .before .before .before .before .before .before in
-    let part = early .before .before .before .before .before .part in
-    let rules = early .before .before .before .before .before .before .rules in
-    let cut = early .before .before .before .cut-switch in
+    let start = early .before .before .before .before .before .before .before .before .before .before in
+    let part = early .before .before .before .before .before .before .part in
+    let rules = early .before .before .before .before .before .before .before .rules in
+    let cut = early .before .before .before .before .cut-switch in
     let count = early .before .before .case-count in
     let test = c .before .before .before .before .before .before .before .before .before .test in
     let node-of = early .node-of in
@@ -150,7 +153,7 @@ returns c =
     let cases = caseRuns (cut .result .names) (runsIn runs (cut .result .count)) in
     let keys = keysIn (now (a .keys)) in
     let joined =
-    switch-bytes (now (a .s)) keys (a .asked) (now (a .c)) (start .pre .0 .2) cases is (cut .ensures .0) (count .ensures runs)
+    switch-bytes (now (a .s)) keys (a .asked) (now (a .c)) (start .pre .0 .2) cases is (cut .ensures .0) (count .ensures)
     (test .ensures) (node-of .ensures) (by-none .ensures) (node-of2 .ensures) (by-unknown .ensures) in
     let head =
     nodeRecordBytes (Switch (test .result % 0x1_0000) (count .result) (node-of .result) (node-of2 .result)) in
@@ -173,7 +176,7 @@ put-switch-spec =
     node-of-requires-2
     test-requires
     cast-place
-    cast-t23
+    cast-t24
     put-node-requires
     put-runs-requires
     same-length

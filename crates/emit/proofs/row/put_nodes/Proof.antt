@@ -15,7 +15,7 @@ use Rattle.emit.proofs.row.put_nodes.Tie as tie
 
 abbrev Inv-loop : tie.InvT-loop
 Inv-loop buf₀ start s c runs₀ keys at₀ i₀ buf runs at i =
-    (length buf ≡ length buf₀) × (length runs ≡ 390)
+    (length buf ≡ length buf₀) × (length runs ≡ 579)
     × Left buf₀ start (keysBytes s c (keysIn keys)) buf at (keysLeft s c keys i)
 
 abbrev μ-loop : tie.MeasureT-loop

@@ -1,11 +1,8 @@
--- `graph::record::compound_head` meets its contract: the record is whole where its bytes are there.
-use borrow.Author.Tests.{le-leb, lt-leb}
+-- `graph::record::compound_head` meets its contract.
+use borrow.Author.Tests.{le-leb}
 use borrow.Author.Needs.{needs}
 use Rattle.graph.proofs.record.compound_head.Statement.{statement}
 use Rattle.graph.proofs.record.compound_head.Tie as tie
-
-returns : tie.Need-returns
-returns c = simp (lt-leb _ _ (c .if1 .taken))
 
 shared-slice-read-wide : tie.Need-shared-slice-read-wide
 shared-slice-read-wide c = search needs
@@ -16,8 +13,8 @@ shared-slice-read-wide-2 c = search needs
 wide-requires : tie.Need-wide-requires
 wide-requires c κs = search needs
 
-shared-slice-read-t10 : tie.Need-shared-slice-read-t10
-shared-slice-read-t10 c = search needs
+shared-slice-read-t8 : tie.Need-shared-slice-read-t8
+shared-slice-read-t8 c = search needs
 
 shared-slice-read-wide-3 : tie.Need-shared-slice-read-wide-3
 shared-slice-read-wide-3 c = search needs
@@ -28,19 +25,23 @@ shared-slice-read-wide-4 c = search needs
 wide-requires-2 : tie.Need-wide-requires-2
 wide-requires-2 c κs = search needs
 
-returns-2 : tie.Need-returns-2
-returns-2 c = simp (le-leb _ _ (c .before .before .before .before .before .before .before .if1 .left), c .before .before .before .before .wide .ensures, c .wide2 .ensures)
+returns : tie.Need-returns
+returns c =
+    simp (
+      le-leb _ _ (c .before .before .before .before .before .before .before .before .pre),
+      c .before .before .before .before .wide .ensures,
+      c .wide2 .ensures,
+    )
 
 pub compound-head-spec : {M : Type 1} → statement M
 compound-head-spec =
     tie.close
     (tie.spec
-    returns
     shared-slice-read-wide
     shared-slice-read-wide-2
     wide-requires
-    shared-slice-read-t10
+    shared-slice-read-t8
     shared-slice-read-wide-3
     shared-slice-read-wide-4
     wide-requires-2
-    returns-2)
+    returns)

@@ -34,8 +34,17 @@ shared-slice-read-wide-6 c = search needs
 wide-requires-3 : tie.Need-wide-requires-3
 wide-requires-3 c κs = search needs
 
+shared-slice-read-t20 : tie.Need-shared-slice-read-t20
+shared-slice-read-t20 c = search needs
+
 returns-2 : tie.Need-returns-2
-returns-2 c = simp (le-leb _ _ (c .before .before .before .before .before .before .before .before .before .if1 .left), c .before .before .before .before .before .before .wide .ensures, c .before .before .before .wide2 .ensures, c .wide3 .ensures)
+returns-2 c =
+    simp (
+      le-leb _ _ (c .before .before .before .before .before .before .before .before .before .before .if1 .left),
+      c .before .before .before .before .before .before .before .wide .ensures,
+      c .before .before .before .before .wide2 .ensures,
+      c .before .wide3 .ensures,
+    )
 
 pub numbers-head-spec : {M : Type 1} → statement M
 numbers-head-spec =
@@ -51,4 +60,5 @@ numbers-head-spec =
     shared-slice-read-wide-5
     shared-slice-read-wide-6
     wide-requires-3
+    shared-slice-read-t20
     returns-2)

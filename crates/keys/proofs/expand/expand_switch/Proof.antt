@@ -39,15 +39,18 @@ cut-switch-requires c κs =
     let room = part-room (start .pre .1) (start .args .asked .test) (start .pre .2) is in (
       (room .0, room .1, start .pre .3),
       λ k h.
-          subst (λ (from : ℕ). k < countAt (now (start .args .c)) from → 0 < cutAt (now (start .args .c)) from k .code) (sym is)
-          (start .pre .1 .coded (start .args .asked .test) k (start .pre .2)) h,
+          subst
+          (λ (from : ℕ).
+          k < countAt (now (start .args .c)) from
+          → (0 < cutAt (now (start .args .c)) from k .code) × (cutAt (now (start .args .c)) from k .code < 0x1_0000_0000))
+          (sym is) (start .pre .1 .coded (start .args .asked .test) k (start .pre .2)) h,
     )
 
 meet-runs-requires : tie.Need-meet-runs-requires
 meet-runs-requires c κs =
     let start = c .before .before .before .before .before .before .before in
     let cut-switch = c .before .before .cut-switch in
-    (start .pre .0, cut-switch .ensures .2, cut-switch .ensures .3)
+    (start .pre .0, cut-switch .ensures .2, cut-switch .ensures .3, cut-switch .ensures .4)
 
 enum-known-met : tie.Need-enum-known-met
 enum-known-met c = search needs

@@ -18,7 +18,7 @@ use Rattle.keys.proofs.expand.meet_names.Tie as tie
 
 abbrev Inv-loop : tie.InvT-loop
 Inv-loop keys₀ s asked runs count bytes₀ k₀ keys bytes k =
-    (k ≤ count) × (bytes ≤ 7 * k) × Chained keys
+    (k ≤ count) × (bytes ≤ 8 * k) × Chained keys
     × CasesLeft (map (runEdge s asked) (runsIn runs count)) (map (runEdge s asked) (runsFrom runs count k)) (keysIn keys₀) keys
     bytes
 

@@ -12,7 +12,7 @@ use Rattle.keys.proofs.expand.meet_pairs.Tie as tie
 
 abbrev Inv-loop : tie.InvT-loop
 Inv-loop keys₀ s asked runs count bytes₀ first₀ keys bytes first =
-    (first ≤ count) × (bytes + 903 * first₀ ≤ 903 * first) × Chained keys
+    (first ≤ count) × (bytes + 1544 * first₀ ≤ 1544 * first) × Chained keys
     × CasesLeft (pairsLeft s asked runs count first₀) (pairsLeft s asked runs count first) (keysIn keys₀) keys bytes
 
 abbrev μ-loop : tie.MeasureT-loop
@@ -24,7 +24,7 @@ loop-holds c =
     let a = start .args in
     let s = now (a .s) in
     let runs = now (a .runs) in
-    let count = a .framed .count in (
+    let count = a .all .count in (
       omega (arith, start .pre .1),
       omega arith,
       start .pre .0,
@@ -46,7 +46,7 @@ returns c =
     let a = start .args in
     let s = now (a .s) in
     let runs = now (a .runs) in
-    let count = a .framed .count in
+    let count = a .all .count in
     let at = c .before .before .before .before .before .loop in
     let test = c .before .before .before .before .loop-test .taken in
     let row = c .before .before .meet-row in
@@ -54,7 +54,7 @@ returns c =
       part-many (rowEdges s (a .asked) runs count (at .first)) (pairsLeft s (a .asked) runs count (at .first + 1))
           (pairs-next s (a .asked) runs count (at .first) test) (at .inv .3)
           (row .result) (row .last .0) many (row .ensures .0),
-      (row .ensures .1 .0, many-most (903 * (count - a .framed .names)) many),
+      (row .ensures .1 .0, many-most (1544 * (count - a .all .first)) many),
     )
 
 add-bytes : tie.Need-add-bytes Inv-loop μ-loop
@@ -78,7 +78,7 @@ loop-again c =
     let a = start .args in
     let s = now (a .s) in
     let runs = now (a .runs) in
-    let count = a .framed .count in
+    let count = a .all .count in
     let at = c .before .before .before .before .before .before .loop in
     let test = c .before .before .before .before .before .loop-test .taken in
     let row = c .before .before .before .meet-row in
@@ -98,7 +98,7 @@ returns-2 c =
     let a = start .args in
     let s = now (a .s) in
     let runs = now (a .runs) in
-    let count = a .framed .count in
+    let count = a .all .count in
     let at = c .before .loop in (
       cases-end (pairs-end s (a .asked) runs count (at .first) (c .loop-test .left)) (at .inv .3),
       (at .inv .2, omega (arith, at .inv .0, at .inv .1)),

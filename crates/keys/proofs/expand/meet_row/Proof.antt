@@ -11,8 +11,6 @@ use Rattle.cuts.specs.views.Runs.{runAt}
 use Rattle.edges.specs.views.KeysBehind.{runBehind}
 use Rattle.met.specs.views.KeysMet.{meet, keysIn, Chained}
 use Rattle.keys.specs.declared.Measured.the-variants.{Bytes, TooMany}
-use Rattle.keys.specs.declared.Measured.the-variants.{Bytes, TooMany}
-use Rattle.keys.specs.declared.Measured.the-variants.{Bytes, TooMany}
 use Rattle.keys.proofs.EdgesInTurn.{CasesLeft}
 use Rattle.keys.proofs.RowsInTurn.{rowEdges, rowLeft, met-last, row-many, row-start, row-met, row-next, next-many, row-end}
 use Rattle.keys.proofs.expand.meet_row.Statement.{statement}
@@ -20,7 +18,7 @@ use Rattle.keys.proofs.expand.meet_row.Tie as tie
 
 abbrev Inv-loop : tie.InvT-loop
 Inv-loop keys₀ s asked runs first count size set₀ bytes₀ k₀ keys set bytes k =
-    (k ≤ count) × (bytes ≤ 7 * k) × Chained keys × (keysIn keys ≡ meet (keysIn keys) (runBehind s asked set))
+    (k ≤ count) × (bytes ≤ 8 * k) × Chained keys × (keysIn keys ≡ meet (keysIn keys) (runBehind s asked set))
     × CasesLeft (rowEdges s asked runs count first) (rowLeft s asked runs count first set k) (keysIn keys₀) keys bytes
 
 abbrev μ-loop : tie.MeasureT-loop

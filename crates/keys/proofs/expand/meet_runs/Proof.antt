@@ -6,7 +6,7 @@ use borrow.Author.Needs.{needs}
 use Rattle.cuts.specs.views.Runs.{runsIn}
 use Rattle.edges.specs.views.NodeIn.{runEdge}
 use Rattle.keys.proofs.EdgesInTurn.{bytes-most, most-more, first-many, then-many, both-met}
-use Rattle.keys.proofs.RowsInTurn.{pairsLeft, cases-both}
+use Rattle.keys.proofs.RowsInTurn.{gaugesLeft, cases-both}
 use Rattle.keys.proofs.expand.meet_runs.Statement.{statement}
 use Rattle.keys.proofs.expand.meet_runs.Tie as tie
 
@@ -28,7 +28,7 @@ returns c =
     let names = a .framed .names in
     let first = c .before .before .meet-names in (
       first-many (map (runEdge s (a .asked)) (runsIn runs names))
-          (pairsLeft s (a .asked) runs (a .framed .count) names)
+          (gaugesLeft s (a .asked) runs (a .framed .count) names)
           (cases-both s (a .asked) runs (a .framed .count) names (start .pre .1)) (now (a .keys)) (first .result)
           (first .last .0) (first .ensures .0) (c .enum-told .given .1),
       (
@@ -37,8 +37,8 @@ returns c =
       ),
     )
 
-meet-pairs-requires : tie.Need-meet-pairs-requires
-meet-pairs-requires c κs = search needs
+meet-gauges-requires : tie.Need-meet-gauges-requires
+meet-gauges-requires c κs = search needs
 
 enum-known-pairs : tie.Need-enum-known-pairs
 enum-known-pairs c = search needs
@@ -55,10 +55,10 @@ returns-2 c =
     let names = a .framed .names in
     let first = c .before .before .before .before .before .before .before .meet-names in
     let some = c .before .before .before .before .before .names .given .1 in
-    let second = c .before .before .meet-pairs in
+    let second = c .before .before .meet-gauges in
     let many = c .enum-told2 .given .1 in (
       then-many (map (runEdge s (a .asked)) (runsIn runs names))
-          (pairsLeft s (a .asked) runs (a .framed .count) names)
+          (gaugesLeft s (a .asked) runs (a .framed .count) names)
           (cases-both s (a .asked) runs (a .framed .count) names (start .pre .1)) (now (a .keys)) (first .result)
           (first .last .0) (first .ensures .0) some (second .result) (second .last .0)
           (second .ensures .0) many,
@@ -73,7 +73,7 @@ add-t12 c =
     let start = c .before .before .before .before .before .before .before .before .before .before in
     let first = c .before .before .before .before .before .before .before .before .meet-names in
     let few = bytes-most (c .before .before .before .before .before .before .names .given .1) (first .ensures .1 .1) in
-    let more = bytes-most (c .before .pairs .given .1) (c .before .before .before .meet-pairs .ensures .1 .1) in
+    let more = bytes-most (c .before .pairs .given .1) (c .before .before .before .meet-gauges .ensures .1 .1) in
     omega (arith, few, more, start .pre .1, start .pre .2)
 
 returns-3 : tie.Need-returns-3
@@ -85,12 +85,12 @@ returns-3 c =
     let names = a .framed .names in
     let first = c .before .before .before .before .before .before .before .before .meet-names in
     let some = c .before .before .before .before .before .before .names .given .1 in
-    let second = c .before .before .before .meet-pairs in
+    let second = c .before .before .before .meet-gauges in
     let others = c .before .pairs .given .1 in
     let few = bytes-most some (first .ensures .1 .1) in
     let more = bytes-most others (second .ensures .1 .1) in (
       both-met (map (runEdge s (a .asked)) (runsIn runs names))
-          (pairsLeft s (a .asked) runs (a .framed .count) names)
+          (gaugesLeft s (a .asked) runs (a .framed .count) names)
           (cases-both s (a .asked) runs (a .framed .count) names (start .pre .1)) (now (a .keys)) (first .result)
           (first .last .0) (first .ensures .0) some (second .result) (second .last .0)
           (second .ensures .0) others,
@@ -105,7 +105,7 @@ meet-runs-spec =
     enum-known-names
     enum-told
     returns
-    meet-pairs-requires
+    meet-gauges-requires
     enum-known-pairs
     enum-told-2
     returns-2

@@ -17,7 +17,7 @@ use Rattle.keys.proofs.grow.grow.Tie as tie
 
 abbrev Inv-loop : tie.InvT-loop
 Inv-loop keys₀ s c runs₀ bytes₀ k₀ keys runs bytes k =
-    Chained keys × (length runs ≡ 390) × (k ≤ countIn keys) × (bytes ≤ mostLength * k) × Growing s c (keysIn keys) k bytes
+    Chained keys × (length runs ≡ 579) × (k ≤ countIn keys) × (bytes ≤ mostLength * k) × Growing s c (keysIn keys) k bytes
 
 abbrev μ-loop : tie.MeasureT-loop
 μ-loop keys₀ s c runs₀ bytes₀ k₀ keys runs bytes k = 1024 - k

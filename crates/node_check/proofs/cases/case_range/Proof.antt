@@ -33,11 +33,11 @@ range-to-requires-2 c κs = search needs
 enum-known-c-3 : tie.Need-enum-known-c-3
 enum-known-c-3 c = search needs
 
-number-code-requires : tie.Need-number-code-requires
-number-code-requires c κs = search needs
+gauged-code-requires : tie.Need-gauged-code-requires
+gauged-code-requires c κs = search needs
 
-number-code-requires-2 : tie.Need-number-code-requires-2
-number-code-requires-2 c κs = search needs
+gauged-code-requires-2 : tie.Need-gauged-code-requires-2
+gauged-code-requires-2 c κs = search needs
 
 rank-of-requires-3 : tie.Need-rank-of-requires-3
 rank-of-requires-3 c κs = search needs
@@ -55,7 +55,7 @@ returns-2 c =
 
 returns-3 : tie.Need-returns-3
 returns-3 c =
-    simp (c .before .before .before .before .before .c3 .given .1, c .before .before .before .number-code .ensures, c .before .before .number-code2 .ensures, c .before .rank-of3 .ensures, c .range-to3 .ensures)
+    simp (c .before .before .before .before .before .c3 .given .1, c .before .before .before .gauged-code .ensures, c .before .before .gauged-code2 .ensures, c .before .rank-of3 .ensures, c .range-to3 .ensures)
 
 pub case-range-spec : {M : Type 1} → statement M
 case-range-spec =
@@ -71,8 +71,8 @@ case-range-spec =
     rank-of-requires-2
     range-to-requires-2
     enum-known-c-3
-    number-code-requires
-    number-code-requires-2
+    gauged-code-requires
+    gauged-code-requires-2
     rank-of-requires-3
     range-to-requires-3
     returns

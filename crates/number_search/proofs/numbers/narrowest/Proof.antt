@@ -5,7 +5,7 @@ use native.Mathlib.Omega.{arith}
 use denote.Ref.{now}
 use Rattle.number_search.proofs.WideFields.{wide-there}
 use Rattle.number_search.proofs.Halving.{row-shorter}
-use Rattle.number_search.proofs.Narrowest.{none-begun, last-begins, found-missed, found-leads}
+use Rattle.number_search.proofs.Narrowest.{none-begun, last-begins, lower-gauge, found-missed, found-leads}
 use borrow.Author.Needs.{needs}
 use Rattle.number_search.proofs.numbers.narrowest.Statement.{statement}
 use Rattle.number_search.proofs.numbers.narrowest.Tie as tie
@@ -36,6 +36,18 @@ add-rank-at c = search needs
 rank-at-requires : tie.Need-rank-at-requires
 rank-at-requires c κs = search needs
 
+returns-2 : tie.Need-returns-2
+returns-2 c =
+    let ranked = c .before in
+    let searched = ranked .before .before in
+    let start = searched .before .before in
+    let a = start .args in
+    let some : 1 ≤ searched .count-before .result = omega (arith, ranked .before .if1 .left) in
+    let begun = searched .count-before .ensures in
+    let code =
+    ap (λ (n : ℕ). n / 0x100000000) (ranked .rank-at .ensures) ∙ last-begins (start .pre) (a .low) (a .high) (a .neither) begun some in
+    lower-gauge (start .pre) (a .low) (a .high) (a .neither) begun some code (c .if2 .taken)
+
 mul-count-before-2 : tie.Need-mul-count-before-2
 mul-count-before-2 c = search needs
 
@@ -44,13 +56,14 @@ add-count-before-2 c = search needs
 
 count-before-requires-2 : tie.Need-count-before-requires-2
 count-before-requires-2 c κs =
-    let searched = c .before .before in
+    let searched = c .before .before .before in
     row-shorter (searched .before .before .pre .row) (searched .count-before .result) (searched .count-before .ensures .few)
 
-returns-2 : tie.Need-returns-2
-returns-2 c =
+returns-3 : tie.Need-returns-3
+returns-3 c =
     let found = c .before in
-    let ranked = found .before in
+    let same = found .before in
+    let ranked = same .before in
     let searched = ranked .before .before in
     let start = searched .before .before in
     let a = start .args in
@@ -58,7 +71,8 @@ returns-2 c =
     let begun = searched .count-before .ensures in
     let code =
     ap (λ (n : ℕ). n / 0x100000000) (ranked .rank-at .ensures) ∙ last-begins (start .pre) (a .low) (a .high) (a .neither) begun some in
-    found-missed (start .pre) (a .low) (a .high) (a .neither) begun some code (found .count-before2 .ensures) (c .if2 .taken)
+    found-missed (start .pre) (a .low) (a .high) (a .neither) begun some code (found .count-before2 .ensures) (same .if2 .left)
+    (c .if3 .taken)
 
 mul-at : tie.Need-mul-at
 mul-at c = search needs
@@ -81,22 +95,22 @@ shared-slice-read-wide-2 c = search needs
 wide-requires : tie.Need-wide-requires
 wide-requires c κs = search needs
 
-returns-3 : tie.Need-returns-3
-returns-3 c =
+returns-4 : tie.Need-returns-4
+returns-4 c =
     let missed = c .before .before .before in
     let found = missed .before in
-    let ranked = found .before in
+    let ranked = found .before .before in
     let searched = ranked .before .before in
     let start = searched .before .before in
     let a = start .args in
-    let s = now (a .graph) in
     let some : 1 ≤ searched .count-before .result = omega (arith, ranked .before .if1 .left) in
     let begun = searched .count-before .ensures in
     let code =
     ap (λ (n : ℕ). n / 0x100000000) (ranked .rank-at .ensures) ∙ last-begins (start .pre) (a .low) (a .high) (a .neither) begun some in
+    let s = now (a .graph) in
     found-leads (start .pre) (a .low) (a .high) (a .neither) begun some code (found .count-before2 .ensures)
-    (omega (arith, found .count-before2 .ensures .few, missed .if2 .left))
-    ∙ sym (c .wide .ensures ∙ wide-there s (a .start + found .count-before2 .result * 7) 5)
+    (omega (arith, found .count-before2 .ensures .few, missed .if3 .left))
+    ∙ sym (c .wide .ensures ∙ wide-there s (a .start + found .count-before2 .result * 8) 6)
 
 pub narrowest-spec : {M : Type 1} → statement M
 narrowest-spec =
@@ -110,10 +124,11 @@ narrowest-spec =
     mul-rank-at
     add-rank-at
     rank-at-requires
+    returns-2
     mul-count-before-2
     add-count-before-2
     count-before-requires-2
-    returns-2
+    returns-3
     mul-at
     add-at
     add-wide
@@ -121,4 +136,4 @@ narrowest-spec =
     add-wide-2
     shared-slice-read-wide-2
     wide-requires
-    returns-3)
+    returns-4)

@@ -11,7 +11,7 @@ note-code-spec =
     (tie.spec (λ c. search needs) (λ c κs. search needs) (λ c. search needs) (λ c κs. search needs)
     (λ c. search needs) (λ c κs. search needs) (λ c. search needs) (λ c. search needs) (λ c κs. search needs)
     (λ c. search needs) (λ c κs. search needs) (λ c. search needs) (λ c κs. search needs)
-    (λ c. search needs) (λ c κs. search needs)
+    (λ c. search needs) (λ c κs. search needs) (λ c. search needs) (λ c κs. search needs)
     (λ c. c .pack .ensures
     ∙ ap (recordCode (c .before .before .before .args .place)) (sym (c .before .enum-told .given .1)))
     (λ c. c .pack2 .ensures
@@ -25,4 +25,6 @@ note-code-spec =
     (λ c. c .pack6 .ensures
     ∙ ap (recordCode (c .before .before .before .before .args .place)) (sym (c .before .before .what5 .given .1)))
     (λ c. c .pack7 .ensures
-    ∙ ap (recordCode (c .before .before .before .before .args .place)) (sym (c .before .before .what6 .given .1))))
+    ∙ ap (recordCode (c .before .before .before .before .args .place)) (sym (c .before .before .what6 .given .1)))
+    (λ c. c .pack8 .ensures
+    ∙ ap (recordCode (c .before .before .before .before .args .place)) (sym (c .before .before .what7 .given .1))))

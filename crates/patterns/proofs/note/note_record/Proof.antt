@@ -38,7 +38,13 @@ returns-6 c =
 returns-7 : tie.Need-returns-7
 unfolding codeRecord
 returns-7 c =
+    simp (c .match .keys7)
+
+returns-8 : tie.Need-returns-8
+unfolding codeRecord
+returns-8 c =
     simp (
+      ne-eqb _ _ (c .match .rest .0 .0 .0 .0 .0 .0 .1),
       ne-eqb _ _ (c .match .rest .0 .0 .0 .0 .0 .1),
       ne-eqb _ _ (c .match .rest .0 .0 .0 .0 .1),
       ne-eqb _ _ (c .match .rest .0 .0 .0 .1),
@@ -50,5 +56,5 @@ returns-7 c =
 pub note-record-spec : {M : Type 1} → statement M
 note-record-spec =
     tie.close
-    (tie.spec (λ c. search needs) (λ c. search needs) (λ c. search needs) (λ c. search needs) returns returns-2
-    returns-3 returns-4 returns-5 returns-6 returns-7)
+    (tie.spec (λ c. search needs) (λ c. search needs) (λ c. search needs) (λ c. search needs) (λ c. search needs) returns returns-2
+    returns-3 returns-4 returns-5 returns-6 returns-7 returns-8)

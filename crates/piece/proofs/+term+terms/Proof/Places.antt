@@ -28,6 +28,7 @@ use Rattle.piece.proofs.RowCells.{termRow, term-stops, term-goes-on, te
 use Rattle.codes.proofs.compound_code.Reads as compound-code-reads
 use Rattle.piece.proofs.head_refusal.Reads as head-refusal-reads
 use Rattle.codes.proofs.number_code.Reads as number-code-reads
+use Rattle.codes.proofs.gauged_code.Reads as gauged-code-reads
 use Rattle.codes.proofs.run_of.Reads as run-of-reads
 use Rattle.codes.proofs.symbol_code.Reads as symbol-code-reads
 use Rattle.piece.proofs.term_head.Reads as term-head-reads
@@ -72,6 +73,8 @@ term-calls t = (
   compound-code-reads.Learnt,
   terms-below t,
   terms.Post,
+  gauged-code-reads.Asked,
+  gauged-code-reads.Learnt,
 )
 
 abbrev pub terms-calls : ℕ → terms-lts.Claims

@@ -39,11 +39,20 @@ returns-4 c =
     ∙ (λ j. placeCells cells (a .place) (c .before .before .symbol-code2 .ensures j) (c .before .symbol-code3 .ensures j))
     ∙ ap (fixedOutcome cells (a .place)) (sym (c .before .before .before .before .what4 .given .1))
 
+returns-5 : tie.Need-returns-5
+returns-5 c =
+    let a = c .before .before .before .before .before .before .args in
+    let cells = now (a .cells) in
+    c .place-outcome5 .ensures
+    ∙ (λ j. placeCells cells (a .place) (c .before .before .gauged-code .ensures j) (c .before .gauged-code2 .ensures j))
+    ∙ ap (fixedOutcome cells (a .place)) (sym (c .before .before .before .before .what5 .given .1))
+
 pub fixed-outcome-spec : {M : Type 1} → statement M
 fixed-outcome-spec =
     tie.close
     (tie.spec (λ c. search needs) (λ c κs. search needs) (λ c κs. search needs) (λ c. search needs) (λ c κs. search needs)
     (λ c κs. search needs) (λ c κs. search needs) (λ c. search needs) (λ c κs. search needs) (λ c κs. search needs)
     (λ c. search needs) (λ c κs. search needs) (λ c κs. search needs) (λ c κs. search needs) (λ c. search needs)
-    (λ c. search needs) (λ c. search needs) returns returns-2 returns-3 returns-4 (λ c. search needs)
+    (λ c κs. search needs) (λ c κs. search needs) (λ c κs. search needs) (λ c. search needs) (λ c. search needs)
+    (λ c. search needs) returns returns-2 returns-3 returns-4 returns-5 (λ c. search needs)
     (λ c. search needs) (λ c. search needs))

@@ -8,7 +8,7 @@ use types.Run.{OneOf}
 use denote.Ref.{now}
 use denote.Enum.Declared.{tagOf}
 use Rattle.patterns.specs.declared.PatternRecord.{PatternRecord}
-use Rattle.patterns.specs.declared.PatternRecord.the-variants.{Anything, Symbol, Range, Compound, Variable, Ranged, Series}
+use Rattle.patterns.specs.declared.PatternRecord.the-variants.{Anything, Symbol, Range, Compound, Variable, Ranged, Series, Gauged}
 use Rattle.patterns.specs.views.NoteCode.{Fitting}
 use Rattle.patterns.proofs.PatternRecord.{the-type}
 use Rattle.plain.specs.views.NotesOutcome.{fixedOutcome, recordOutcome}
@@ -17,14 +17,15 @@ use Rattle.plain.proofs.rule.record_outcome.Statement.{statement}
 use Rattle.plain.proofs.rule.record_outcome.Tie as tie
 
 -- A variable's tag is none of the others.
-variable-tag : (k : ℕ) → 3 < k → k < 6 → OneOf (0 ∷ 1 ∷ 2 ∷ 3 ∷ 6 ∷ []) k → ⊥
+variable-tag : (k : ℕ) → 3 < k → k < 6 → OneOf (0 ∷ 1 ∷ 2 ∷ 3 ∷ 6 ∷ 7 ∷ []) k → ⊥
 variable-tag k h l o =
     ⊎-elim (λ e. omega arith)
-    (⊎-elim (λ e. omega arith) (⊎-elim (λ e. omega arith) (⊎-elim (λ e. omega arith) (λ e. omega arith)))) o
+    (⊎-elim (λ e. omega arith)
+    (⊎-elim (λ e. omega arith) (⊎-elim (λ e. omega arith) (⊎-elim (λ e. omega arith) (λ e. omega arith))))) o
 
 -- Any other record has its own test.
 fixed-record
-    : (cells low high : List ℕ) (p : ℕ) (r : PatternRecord) → OneOf (0 ∷ 1 ∷ 2 ∷ 3 ∷ 6 ∷ []) (tagOf the-type r)
+    : (cells low high : List ℕ) (p : ℕ) (r : PatternRecord) → OneOf (0 ∷ 1 ∷ 2 ∷ 3 ∷ 6 ∷ 7 ∷ []) (tagOf the-type r)
     → fixedOutcome cells p r ≡ recordOutcome cells low high p r
 fixed-record cells low high p Anything o = refl
 fixed-record cells low high p (Symbol a) o = refl
@@ -33,6 +34,7 @@ fixed-record cells low high p (Compound a n) o = refl
 fixed-record cells low high p (Variable v) o = absurd (variable-tag 4 (omega arith) (omega arith) o)
 fixed-record cells low high p (Ranged v l h) o = absurd (variable-tag 5 (omega arith) (omega arith) o)
 fixed-record cells low high p (Series l h) o = refl
+fixed-record cells low high p (Gauged g l h) o = refl
 
 element-copy-out-range-outcome : tie.Need-element-copy-out-range-outcome
 element-copy-out-range-outcome c = subst Fitting (c .before .what .given .1) (c .before .before .before .pre .1)

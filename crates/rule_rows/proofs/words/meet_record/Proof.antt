@@ -20,6 +20,9 @@ enum-told-4 c = search needs
 enum-told-5 : tie.Need-enum-told-5
 enum-told-5 c = search needs
 
+enum-told-6 : tie.Need-enum-told-6
+enum-told-6 c = search needs
+
 enum-known-what : tie.Need-enum-known-what
 enum-known-what c = search needs
 
@@ -51,12 +54,15 @@ returns-5 : tie.Need-returns-5
 returns-5 c = search needs
 
 returns-6 : tie.Need-returns-6
-returns-6 c =
-    let words = c .before .before .before .before .before .args .words .now in
-    (c .meet-variable .ensures .0 ∙ ap (metRecord words) (sym (c .before .before .before .what .given .1)), c .meet-variable .ensures .1)
+returns-6 c = search needs
 
 returns-7 : tie.Need-returns-7
 returns-7 c =
+    let words = c .before .before .before .before .before .args .words .now in
+    (c .meet-variable .ensures .0 ∙ ap (metRecord words) (sym (c .before .before .before .what .given .1)), c .meet-variable .ensures .1)
+
+returns-8 : tie.Need-returns-8
+returns-8 c =
     let words = c .before .before .before .before .before .args .words .now in
     (c .meet-variable2 .ensures .0 ∙ ap (metRecord words) (sym (c .before .before .before .what2 .given .1)), c .meet-variable2 .ensures .1)
 
@@ -69,6 +75,7 @@ meet-record-spec =
     enum-told-3
     enum-told-4
     enum-told-5
+    enum-told-6
     enum-known-what
     meet-variable-requires
     enum-known-what-2
@@ -80,4 +87,5 @@ meet-record-spec =
     returns-4
     returns-5
     returns-6
-    returns-7)
+    returns-7
+    returns-8)

@@ -22,6 +22,9 @@ enum-told-4 c = search needs
 enum-told-5 : tie.Need-enum-told-5
 enum-told-5 c = search needs
 
+enum-told-6 : tie.Need-enum-told-6
+enum-told-6 c = search needs
+
 enum-known-what : tie.Need-enum-known-what
 enum-known-what c = search needs
 
@@ -61,11 +64,16 @@ returns-5 c =
 
 returns-6 : tie.Need-returns-6
 returns-6 c =
-    let x : Numbering = record { words = c .before .before .before .before .before .args .words .now; count = c .before .before .before .before .before .args .count } in
-    (c .number-variable .ensures .0 ∙ ap (λ (r : PatternRecord). numberRecord r x) (sym (c .before .before .before .what .given .1)), c .number-variable .ensures .1)
+    let x : Numbering = record { words = c .before .before .args .words .now; count = c .before .before .args .count } in
+    (ap (λ (r : PatternRecord). numberRecord r x) (sym (c .enum-told6 .given .1)), (c .before .before .pre .0, omega arith))
 
 returns-7 : tie.Need-returns-7
 returns-7 c =
+    let x : Numbering = record { words = c .before .before .before .before .before .args .words .now; count = c .before .before .before .before .before .args .count } in
+    (c .number-variable .ensures .0 ∙ ap (λ (r : PatternRecord). numberRecord r x) (sym (c .before .before .before .what .given .1)), c .number-variable .ensures .1)
+
+returns-8 : tie.Need-returns-8
+returns-8 c =
     let x : Numbering = record { words = c .before .before .before .before .before .args .words .now; count = c .before .before .before .before .before .args .count } in
     (c .number-variable2 .ensures .0 ∙ ap (λ (r : PatternRecord). numberRecord r x) (sym (c .before .before .before .what2 .given .1)), c .number-variable2 .ensures .1)
 
@@ -78,6 +86,7 @@ number-record-spec =
     enum-told-3
     enum-told-4
     enum-told-5
+    enum-told-6
     enum-known-what
     number-variable-requires
     enum-known-what-2
@@ -88,4 +97,5 @@ number-record-spec =
     returns-4
     returns-5
     returns-6
-    returns-7)
+    returns-7
+    returns-8)

@@ -1,7 +1,7 @@
--- `node_writing::put_run` meets its contract: the record is its fields' bytes.
+-- `node_writing::put_symbols` meets its contract: the record is its fields' bytes.
 use borrow.Author.Needs.{needs}
-use Rattle.node_writing.proofs.put_run.Statement.{statement}
-use Rattle.node_writing.proofs.put_run.Tie as tie
+use Rattle.node_writing.proofs.put_symbols.Statement.{statement}
+use Rattle.node_writing.proofs.put_symbols.Tie as tie
 
 high-requires : tie.Need-high-requires
 high-requires c κs = search needs
@@ -33,8 +33,8 @@ same-length c = search needs
 returns : tie.Need-returns
 returns c = simp (c .before .before .before .before .before .before .before .before .before .high .ensures, c .before .before .before .before .before .before .before .before .low .ensures, c .before .before .before .before .before .before .before .high2 .ensures, c .before .before .before .before .before .before .low2 .ensures, c .before .before .before .before .before .high3 .ensures, c .before .before .before .before .low3 .ensures) at (c .before .before .put .ensures)
 
-pub put-run-spec : {M : Type 1} → statement M
-put-run-spec =
+pub put-symbols-spec : {M : Type 1} → statement M
+put-symbols-spec =
     tie.close
     (tie.spec
     high-requires
