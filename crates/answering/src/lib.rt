@@ -1,4 +1,6 @@
 // The plain answer of a sheet and a piece.
+#![tactic(auto)]
+
 ghost use Rattle.std.specs.Prelude.{◌≡◌, ◌≤◌, length};
 ghost use Rattle.sheet_tests.specs.views.Starts.{StartsIn};
 ghost use Rattle.plain.specs.Plain.{piece_reading, plain_reading, plain_values, reading_values};

@@ -1,5 +1,7 @@
 // Builds the graph of a sheet in a lent buffer: its tests are read and listed, in document 01's order or in that of a table, and
 // the graph of its rules is written.
+#![tactic(auto)]
+
 ghost use Rattle.std.specs.Prelude.{◌≡◌, ◌+◌, ◌≤◌, length, take, replicate};
 ghost use Rattle.sheet_tests.specs.views.TestedPlaces.{places_in};
 ghost use Rattle.test_list.specs.views.Numbers.{number_all};

@@ -1,4 +1,6 @@
 // The number of a term, but for its arguments, and runs of such numbers.
+#![tactic(auto)]
+
 ghost use Rattle.std.specs.Prelude.{◌≡◌, ◌≤◌};
 ghost use Rattle.terms.specs.Term.{on_gauge};
 ghost use Rattle.codes.specs.views.Codes.{symbol_code, compound_code, number_code, run_of, low_of, high_of};

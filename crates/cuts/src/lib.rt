@@ -1,5 +1,7 @@
 // Where the switches of a sheet are cut (document 02, requests 4, 5 and 7): the cuts of each place test are sorted once a sheet,
 // and a switch takes those of its live rules in one pass.
+#![tactic(auto)]
+
 ghost use Rattle.std.specs.Prelude.{◌≡◌, List, [], ◌++◌, ℕ, min, max, ◌+◌, ◌*◌, ◌≤◌, ◌<◌, length};
 ghost use Rattle.std.proofs.Math.Seq.{slice};
 ghost use Rattle.records.specs.Writing.{splice};
@@ -78,14 +80,14 @@ pub fn turn(c: &mut [u64], from: usize, code: u64, bit: u64)
 }
 
 // How many runs a switch has, and how many of them begin below the base, as those of symbols and compounds do.
-#[derive(Drop)]
+#[derive(Clone, Copy)]
 pub struct Framed {
     pub count: usize,
     pub names: usize,
 }
 
 // A row of pairs: the first run of them all, and how many runs there are.
-#[derive(Drop)]
+#[derive(Clone, Copy)]
 pub struct Row {
     pub first: usize,
     pub count: usize,

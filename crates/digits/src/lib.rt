@@ -1,4 +1,6 @@
 // Numbers as decimal digits, written into the part of a lent buffer that begins at a position.
+#![tactic(auto)]
+
 ghost use Rattle.std.specs.Prelude.{◌+◌, ◌≤◌, ◌<◌, ◌≡◌, [], ◌∷◌, ◌++◌, length};
 ghost use Rattle.records.specs.Writing.{splice};
 ghost use Rattle.digits.specs.Decimal.{digit as digitOf, decimal};

@@ -1,4 +1,6 @@
 // Reads the records of nodes and of their cases.
+#![tactic(auto)]
+
 pub mod record; // the record that the input begins with
 
 pub use record::{case_head, case_refusal, node_head, node_refusal};
@@ -7,7 +9,7 @@ pub use record::{case_head, case_refusal, node_head, node_refusal};
 pub const SWITCH_BYTES: usize = 9;
 
 // A node at which a walk ends.
-#[derive(Drop)]
+#[derive(Clone, Copy)]
 pub enum Leaf {
     Fail,
     Suspend,
@@ -15,7 +17,7 @@ pub enum Leaf {
 }
 
 // A node's record. The cases of a switch follow it and are read one at a time.
-#[derive(Drop)]
+#[derive(Clone, Copy)]
 pub enum NodeRecord {
     End(Leaf),
     Switch(u16, u16, u16, u16),
@@ -23,7 +25,7 @@ pub enum NodeRecord {
 }
 
 // A case's record, with the node that it leads to, and of numbers their gauge.
-#[derive(Drop)]
+#[derive(Clone, Copy)]
 pub enum CaseRecord {
     Symbols(u16, u16, u16),
     Compound(u16, u8, u16),
@@ -31,14 +33,14 @@ pub enum CaseRecord {
 }
 
 // The node record that the input begins with, or the number of the question that it got a no from.
-#[derive(Drop)]
+#[derive(Clone, Copy)]
 pub enum NodeHead {
     Whole(NodeRecord),
     Refused(u8),
 }
 
 // The case record that the input begins with, or the number of the question that it got a no from.
-#[derive(Drop)]
+#[derive(Clone, Copy)]
 pub enum CaseHead {
     Whole(CaseRecord),
     Refused(u8),

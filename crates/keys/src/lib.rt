@@ -1,5 +1,7 @@
 // The numbering of a graph's nodes (document 01, "Nodes"): what a key's node is, the keys behind its edges, and all keys of a
 // graph.
+#![tactic(auto)]
+
 use graph::Leaf;
 
 pub mod expand; // the edges of one node
@@ -7,14 +9,14 @@ pub mod grow; // all keys of the graph, and its size
 pub mod node; // what a key's node is
 
 // What a node is: a leaf, or the test that it asks.
-#[derive(Drop)]
+#[derive(Clone, Copy)]
 pub enum Kind {
     End(Leaf),
     Ask(usize),
 }
 
 // The bytes of records, or that there are more than 1,024 keys.
-#[derive(Drop)]
+#[derive(Clone, Copy)]
 pub enum Measured {
     Bytes(usize),
     TooMany,

@@ -1,4 +1,6 @@
 // The lines of the listing, each written into the part of a lent buffer that begins at a position.
+#![tactic(auto)]
+
 ghost use Rattle.std.specs.Prelude.{◌+◌, ◌≤◌, ◌≡◌, [], ◌∷◌, ◌++◌, length};
 ghost use Rattle.records.specs.Writing.{splice};
 ghost use Rattle.plain.specs.Plain.{answer_of};

@@ -1,4 +1,6 @@
 // The listing: reads a sheet from sheet.bin and pieces from standard input, and prints a line for the sheet and for each piece.
+#![tactic(auto)]
+
 ghost use Rattle.io.specs.Counts.{IsPrefixLen};
 
 // The bytes of sheet.bin, none where it is missing or cannot be read.

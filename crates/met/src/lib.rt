@@ -1,4 +1,6 @@
 // The keys met so far, each at its node's number, and the search for one along the chain of the keys that have its hash.
+#![tactic(auto)]
+
 ghost use Rattle.std.specs.Prelude.{◌≡◌, ◌<◌, ◌≤◌, [], ◌∷◌, ◌++◌, length};
 ghost use Rattle.decision.specs.Key.{same_key};
 ghost use Rattle.decision.specs.Graph.{most_nodes};

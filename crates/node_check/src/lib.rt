@@ -1,4 +1,6 @@
 // Checks the nodes of graphs.
+#![tactic(auto)]
+
 pub mod cases; // the cases of a switch
 pub mod check; // the nodes of a graph
 pub mod kept; // the sheet's tests as they are kept
@@ -8,7 +10,7 @@ pub use check::check_nodes;
 
 // A case as a range of codes, with the number that the next case's rank must exceed, the node that it leads to and the bytes of its
 // record.
-#[derive(Drop)]
+#[derive(Clone, Copy)]
 pub struct CaseRange {
     pub first: u32,
     pub last: u32,
@@ -19,14 +21,14 @@ pub struct CaseRange {
 
 // What the cases of a switch are: so many bytes, whether all their nodes are in range, whether they ascend; or the number of the
 // question that got a no.
-#[derive(Drop)]
+#[derive(Clone, Copy)]
 pub enum CasesCheck {
     Used(usize, bool, bool),
     Refused(u8),
 }
 
 // The check of nodes: they end at this byte, or the number of the question that got a no.
-#[derive(Drop)]
+#[derive(Clone, Copy)]
 pub enum NodeCheck {
     Used(usize),
     Refused(u8),

@@ -1,4 +1,6 @@
 // The records of nodes and cases, each written into the part of a lent buffer that begins at the current end.
+#![tactic(auto)]
+
 ghost use Rattle.std.specs.Prelude.{◌+◌, ◌≤◌, ◌≡◌, [], ◌∷◌, length};
 ghost use Rattle.records.specs.Fields.{wide_then};
 ghost use Rattle.records.specs.Writing.{splice};

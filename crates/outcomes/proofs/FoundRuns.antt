@@ -17,7 +17,7 @@ use Rattle.piece.specs.views.Cells.{found_run}
 use Rattle.outcomes.specs.views.Look.{hidden_below}
 use Rattle.outcomes.specs.views.CompareCells.{is_compound, NarrowCode, NarrowRun}
 use Rattle.outcomes.proofs.Climbing.{hides_nothing}
-use Rattle.outcomes.proofs.Hidden.{is_unknown, hidden_under}
+use Rattle.outcomes.proofs.HiddenPlaces.{is_unknown, hidden_under}
 
 -- Nothing but an unknown has its run.
 pub run_unknown : (f : Found) → IfFound WellFormed f → eqb (found_run f) unknown_run ≡ is_unknown f

@@ -4,7 +4,7 @@ pub mod RunOutcomes
 pub mod Climbing
 pub mod FindWith
 pub mod Stored
-pub mod Hidden
+pub mod HiddenPlaces
 pub mod FoundRuns
 pub mod RunsCompare
 pub mod Comparing

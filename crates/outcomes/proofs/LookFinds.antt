@@ -28,7 +28,7 @@ use Rattle.outcomes.proofs.Climbing.{no_parent, has_cell, has_none}
 use Rattle.outcomes.proofs.FindWith.{find_with, finds_with, nothing, finds_is, row_composes, hiding_stays, nothing_stays, go_on}
 use Rattle.piece.proofs.StoredCells.{terms_length}
 use Rattle.outcomes.proofs.Stored.{Empty, terms_stored}
-use Rattle.outcomes.proofs.Hidden.{stores_row, first_same, hidden_under, under_hidden, or_else, or_nothing, child_found}
+use Rattle.outcomes.proofs.HiddenPlaces.{stores_row, first_same, hidden_under, under_hidden, or_else, or_nothing, child_found}
 use Rattle.outcomes.proofs.FoundRuns.{run_hidden, narrow_found}
 
 -- Nothing stands in the empty cells.

@@ -22,7 +22,7 @@ use Rattle.piece.specs.views.LaidOut.{piece_cells}
 use Rattle.outcomes.specs.views.CompareCells.{compare_at}
 use Rattle.outcomes.specs.views.CellOutcome.{runs_outcome, pair_cells}
 use Rattle.outcomes.proofs.FindWith.{find_with, nothing, finds_is, row_composes, nothing_stays, go_on}
-use Rattle.outcomes.proofs.Hidden.{Stores, shown, hidden, stores_row}
+use Rattle.outcomes.proofs.HiddenPlaces.{Stores, shown, hidden, stores_row}
 use Rattle.outcomes.proofs.FoundShallow.{ShallowFound, finds_shallow}
 use Rattle.outcomes.proofs.LookFinds.{cell_stored, look_finds}
 use Rattle.outcomes.proofs.PairCells.{one_lacking, both_there}

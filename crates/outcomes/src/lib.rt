@@ -1,4 +1,6 @@
 // What stands at the places of a piece that is laid out by place, and the outcomes of tests there.
+#![tactic(auto)]
+
 ghost use Rattle.std.specs.Prelude.{◌≡◌, suc, ◌≤◌, ◌<◌};
 ghost use Rattle.places.specs.Numbering.{stride};
 ghost use Rattle.terms.specs.Outcome.{◌and◌};
@@ -12,7 +14,7 @@ use codes::{COMPOUNDS, NEVER, NUMBERS, UNKNOWN, high_of, low_of};
 use piece::Cells;
 
 // The value of a test.
-#[derive(Drop)]
+#[derive(Clone, Copy)]
 pub enum TestOutcome {
     Holds,
     NotKnown,

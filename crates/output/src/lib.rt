@@ -1,4 +1,6 @@
 // The whole output of the listing for given bytes of sheet and input.
+#![tactic(auto)]
+
 ghost use Rattle.std.specs.Prelude.{◌≤◌, min, ◌≡◌, length};
 ghost use Rattle.io.specs.Counts.{IsPrefixLen};
 ghost use Rattle.records.specs.Writing.{splice};

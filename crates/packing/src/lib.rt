@@ -1,4 +1,6 @@
 // How each result of the library is packed into one number, the refusal's number in its lowest byte.
+#![tactic(auto)]
+
 pub mod answers; // plain answers, and walks of one piece and of many
 pub mod checks; // the checks of sheets, pieces, graphs and reading orders
 pub mod windows; // what the calls of a window hand back

@@ -1,16 +1,18 @@
 // The pairs of places that rules test for equality.
+#![tactic(auto)]
+
 pub mod kept; // pairs of places, kept ascending
 pub mod rule; // the pairs of a rule
 
 // The variable of a record, if it is one.
-#[derive(Drop)]
+#[derive(Clone, Copy)]
 pub enum Name {
     Nameless,
     Of(u8),
 }
 
 // How many pairs are kept; the last one that was put, and how many of those kept are not above it.
-#[derive(Drop)]
+#[derive(Clone, Copy)]
 pub struct Put {
     pub count: usize,
     pub next: usize,

@@ -1,5 +1,7 @@
 // The parents of all places as text, counted out by the numbering rule: from each argument to its children, and on to theirs. The
 // constant table is not read.
+#![tactic(auto)]
+
 ghost use Rattle.std.specs.Prelude.{◌+◌, ◌-◌, ◌≤◌, ◌≡◌, length};
 ghost use Rattle.places.specs.Numbering.{stride};
 ghost use Rattle.records.specs.Writing.{splice};

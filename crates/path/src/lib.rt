@@ -1,4 +1,6 @@
 // The walk from node to node.
+#![tactic(auto)]
+
 ghost use Rattle.std.specs.Prelude.{◌≤◌, ◌≡◌, length};
 ghost use Rattle.outcomes.specs.views.CompareCells.{Narrow};
 ghost use Rattle.path.specs.views.Following.{cells_end, nodes_at, ended_of, edges_of, Index};
@@ -9,7 +11,7 @@ use steps::Step;
 use steps::node::step_at;
 
 // Where following the edges ended: at a leaf, with the edges walked, or by the number of the question that got a no.
-#[derive(Drop)]
+#[derive(Clone, Copy)]
 pub enum Followed {
     Reached(Leaf, u8),
     Refused(u8),

@@ -1,4 +1,6 @@
 // The records of patterns: read, and noted as numbers.
+#![tactic(auto)]
+
 pub mod note; // notes as numbers
 pub mod record; // the record that a pattern begins with
 
@@ -6,7 +8,7 @@ pub use note::{note_code, note_place, note_record};
 pub use record::pattern_head;
 
 // A whole record of a pattern.
-#[derive(Drop)]
+#[derive(Clone, Copy)]
 pub enum PatternRecord {
     Anything,
     Symbol(u16),
@@ -19,7 +21,7 @@ pub enum PatternRecord {
 }
 
 // The record that the input begins with, or the number of the question that it got a no from.
-#[derive(Drop)]
+#[derive(Clone, Copy)]
 pub enum PatternHead {
     Whole(PatternRecord),
     Refused(u8),

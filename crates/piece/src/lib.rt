@@ -1,4 +1,6 @@
 // Reads pieces: checks their bytes and lays their terms out by place, one run of codes a place.
+#![tactic(auto)]
+
 ghost use Rattle.std.specs.Prelude.{◌≡◌, suc, ◌+◌, ◌*◌, ◌≤◌, ◌<◌, length, replicate};
 ghost use Rattle.places.specs.Numbering.{stride};
 ghost use Rattle.records.specs.Reading.{map_reading};
@@ -16,7 +18,7 @@ use codes::{NEVER, UNKNOWN, compound_code, gauged_code, number_code, run_of, sym
 pub type Cells = [u64; 680];
 
 // A whole record of a term.
-#[derive(Drop)]
+#[derive(Clone, Copy)]
 pub enum TermRecord {
     Unknown,
     Symbol(u16),
@@ -28,28 +30,28 @@ pub enum TermRecord {
 }
 
 // The record that the input begins with, or the number of the question that it got a no from.
-#[derive(Drop)]
+#[derive(Clone, Copy)]
 pub enum TermHead {
     Whole(TermRecord),
     Refused(u8),
 }
 
 // How reading terms ended: the number of bytes that they took, or the number of the question that got a no.
-#[derive(Drop)]
+#[derive(Clone, Copy)]
 pub enum Taken {
     Bytes(usize),
     Refused(u8),
 }
 
 // How reading the piece that the input begins with ended: its arity and its bytes, or the number of the question that got a no.
-#[derive(Drop)]
+#[derive(Clone, Copy)]
 pub enum Prefix {
     Read(u8, usize),
     Refused(u8),
 }
 
 // How a check of a piece ended: its arity, or the number of the question that got a no.
-#[derive(Drop)]
+#[derive(Clone, Copy)]
 pub enum PieceCheck {
     Accepted(u8),
     Refused(u8),

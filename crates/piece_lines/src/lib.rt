@@ -1,4 +1,6 @@
 // The lines of a sheet and its pieces: the sheet and its graph are read and checked once, then each piece is.
+#![tactic(auto)]
+
 ghost use Rattle.std.specs.Prelude.{ℕ, ◌+◌, ◌≤◌, ◌≡◌, length};
 ghost use Rattle.records.specs.Writing.{splice};
 ghost use Rattle.walk_all.specs.views.FirstPiece.{first_of, PieceWithin};
@@ -14,7 +16,7 @@ use walk_all::open::open_graph;
 use walk_all::{First, Opened};
 
 // What came of a piece: its bytes and the position behind its line, or the position behind the line that ends the run.
-#[derive(Drop)]
+#[derive(Clone, Copy)]
 pub enum Turn {
     More(usize, usize),
     Last(usize),

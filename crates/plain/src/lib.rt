@@ -1,8 +1,10 @@
 // What is answered, and the outcome of a rule's tests.
+#![tactic(auto)]
+
 pub mod rule; // the outcome of a rule's tests
 
 // What is answered, with the rule.
-#[derive(Drop)]
+#[derive(Clone, Copy)]
 pub enum Answer {
     Commit(u8),
     Execute(u8),
@@ -11,7 +13,7 @@ pub enum Answer {
 }
 
 // The answer, or the number of the question that got a no.
-#[derive(Drop)]
+#[derive(Clone, Copy)]
 pub enum Plain {
     Answered(Answer),
     Refused(u8),

@@ -1,4 +1,6 @@
 // The fields of records, and records written into a lent buffer.
+#![tactic(auto)]
+
 ghost use Rattle.std.specs.Prelude.{◌+◌, ◌≤◌, ◌≡◌, ◌++◌, length, drop};
 ghost use Rattle.records.specs.Fields.{high_byte, low_byte, wide_of};
 ghost use Rattle.records.specs.Writing.{splice};

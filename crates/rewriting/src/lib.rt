@@ -1,4 +1,6 @@
 // Read nodes written again: the header from what was read, then every node through the reader and the writer.
+#![tactic(auto)]
+
 pub mod copy; // read records written again
 
 ghost use Rattle.std.specs.Prelude.{◌+◌, ◌≤◌, ◌≡◌, [], ◌++◌, length, drop};
@@ -14,7 +16,7 @@ use graph_check::check::graph_header;
 use graph_check::{GraphHeader, Rewrote};
 
 // The copy of records: it ends at this byte, or the number of the question that got a no.
-#[derive(Drop)]
+#[derive(Clone, Copy)]
 pub enum Copied {
     To(usize),
     Refused(u8),

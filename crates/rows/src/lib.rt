@@ -1,5 +1,7 @@
 // The tests of a rule as a set of their numbers (document 01, "The walk": "a set of tests, test t being bit t of 64"), and what its
 // records want.
+#![tactic(auto)]
+
 pub mod wants; // what a record wants, as codes
 pub mod numbers; // the numbers of places and pairs
 pub mod row; // the tests of a rule as a set
@@ -7,7 +9,7 @@ pub mod row; // the tests of a rule as a set
 pub use row::rule_row;
 
 // What a record wants at its place, as lowest and highest code, or nothing.
-#[derive(Drop)]
+#[derive(Clone, Copy)]
 pub enum Wanted {
     Nothing,
     Codes(u32, u32),

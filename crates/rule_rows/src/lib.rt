@@ -1,4 +1,6 @@
 // The records of a rule in a row, and what is known of its variables behind them.
+#![tactic(auto)]
+
 pub mod rows; // the records of a rule, one after another
 pub mod words; // what is known of each variable of a rule
 
@@ -7,7 +9,7 @@ pub use words::{meet_row, number_record};
 
 // Where the records of a rule go on: the position of the next one, how many patterns are still to come, and how many records at
 // most.
-#[derive(Drop)]
+#[derive(Clone, Copy)]
 pub struct Row {
     pub at: usize,
     pub patterns: usize,
@@ -15,7 +17,7 @@ pub struct Row {
 }
 
 // The next record of a row and where the row goes on behind it, or its end.
-#[derive(Drop)]
+#[derive(Clone, Copy)]
 pub enum Next {
     Record(patterns::PatternRecord, Row),
     Done,

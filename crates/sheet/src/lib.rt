@@ -1,4 +1,6 @@
 // Reads sheets.
+#![tactic(auto)]
+
 pub mod record; // the record that a sheet begins with
 pub mod rule; // the patterns of a rule
 pub mod variable; // the common range of each variable of a rule
@@ -8,7 +10,7 @@ pub use rule::read_rule;
 pub use variable::ranges as variable_ranges;
 
 // The arity of a sheet and the number of its rules, or the number of the question that got a no.
-#[derive(Drop)]
+#[derive(Clone, Copy)]
 pub enum Header {
     Of(u8, u8),
     Refused(u8),
@@ -16,14 +18,14 @@ pub enum Header {
 
 // How reading went: so many bytes were used and there are so many notes now, or the number of the question that got a
 // no.
-#[derive(Drop)]
+#[derive(Clone, Copy)]
 pub enum Took {
     Used(usize, usize),
     Refused(u8),
 }
 
 // The common part of the ranges of each of the 16 variables: 0 and 65536 where it has no range.
-#[derive(Drop)]
+#[derive(Clone, Copy)]
 pub struct Ranges {
     pub low: [u16; 16],
     pub high: [u32; 16],

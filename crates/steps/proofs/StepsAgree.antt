@@ -17,7 +17,7 @@ use Rattle.codes.specs.views.Codes.{low_of, high_of, term_run, unknown_run}
 use Rattle.codes.proofs.TermRuns.{term_low_lem, term_high_lem, run_some}
 use Rattle.piece.specs.views.Cells.{found_run}
 use Rattle.piece.specs.views.LaidOut.{piece_cells}
-use Rattle.outcomes.proofs.Hidden.{is_unknown}
+use Rattle.outcomes.proofs.HiddenPlaces.{is_unknown}
 use Rattle.outcomes.proofs.FoundRuns.{run_unknown}
 use Rattle.outcomes.proofs.LookFinds.{look_finds}
 use Rattle.outcomes.proofs.PairTestsAgree.{pair_test_agrees}

@@ -1,5 +1,7 @@
 // The tables of an accepted sheet, in one lent array behind accessors: how many rules, tests and place tests there are, then a
 // plane of 64 numbers for each thing that is asked of a rule or a test.
+#![tactic(auto)]
+
 ghost use Rattle.std.specs.Prelude.{◌≡◌, ◌<◌};
 ghost use Rattle.tables.specs.views.Planes.{rules_in, tests_in, place_tests_in, test_in, row_in, column_in, under_in};
 ghost use Rattle.tables.specs.views.Planes.{before_in, first_asked_in};

@@ -1,4 +1,6 @@
 // The tests of a sheet listed in its tables: the tested places, ascending, then the kept pairs, by their numbers.
+#![tactic(auto)]
+
 pub mod numbers; // the numbers of places
 pub mod tests; // the tests in the tables
 

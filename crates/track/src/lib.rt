@@ -1,4 +1,6 @@
 // The reading order of a track drawing (document 02, request 14), written as request 1's table.
+#![tactic(auto)]
+
 pub mod front; // the places that may follow, and which of them comes next
 
 ghost use Rattle.std.specs.Prelude.{◌≤◌, ◌≡◌, length};
@@ -12,7 +14,7 @@ use front::{least_row, open_row, put_down};
 
 // What writing the order of a track drawing answers: the table's 1,360 bytes were written, or the number of the question that got
 // a no.
-#[derive(Drop)]
+#[derive(Clone, Copy)]
 pub enum Ordered {
     Written,
     Refused(u8),

@@ -1,4 +1,6 @@
 // The order in which the tests of a sheet are asked, in its tables: of each test the set of those asked before it.
+#![tactic(auto)]
+
 ghost use Rattle.std.specs.Prelude.{◌≡◌, map, ℕ, ◌≤◌, ◌<◌, length};
 ghost use Rattle.basics.specs.Lists.{All, count_from};
 ghost use Rattle.tables.specs.views.Planes.{tests_in};

@@ -1,4 +1,6 @@
 // The static library. Every call takes byte slices and hands back one number, the refusal's number in its lowest byte.
+#![tactic(auto)]
+
 mod order_calls; // the calls of a reading order
 mod walk_all_calls; // the call that walks many pieces
 mod window_calls; // the calls of a window

@@ -9,7 +9,7 @@ use Rattle.terms.proofs.WellFormed.{finds_well_formed}
 use Rattle.sheet_tests.specs.SheetTests.{Test, place, pair}
 use Rattle.codes.specs.views.Codes.{unknown_run}
 use Rattle.piece.specs.views.LaidOut.{piece_cells}
-use Rattle.outcomes.proofs.Hidden as hidden
+use Rattle.outcomes.proofs.HiddenPlaces as hidden
 use Rattle.outcomes.proofs.FoundRuns.{run_unknown}
 use Rattle.outcomes.proofs.LookFinds.{look_finds}
 use Rattle.outcomes.proofs.PairTestsAgree.{pair_test_agrees}

@@ -1,11 +1,13 @@
 // The walk over the bytes of a graph.
+#![tactic(auto)]
+
 pub mod call; // the walk of a piece over a graph
 pub mod leaf; // the answer at an execute of a rule
 
 use plain::Answer;
 
 // What a walk answers, with the edges walked and the set of tests that it waits for.
-#[derive(Drop)]
+#[derive(Clone, Copy)]
 pub struct Walk {
     pub answer: Answer,
     pub edges: u8,
@@ -13,14 +15,14 @@ pub struct Walk {
 }
 
 // The answer of a walk, or the number of the question that got a no.
-#[derive(Drop)]
+#[derive(Clone, Copy)]
 pub enum Walked {
     Answered(Walk),
     Refused(u8),
 }
 
 // What was read once of a sheet and a graph: arity, rules, pairs among the tests, and nodes, 0 while no graph was read.
-#[derive(Drop)]
+#[derive(Clone, Copy)]
 pub struct Sizes {
     pub arity: u8,
     pub rules: u8,

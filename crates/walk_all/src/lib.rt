@@ -1,4 +1,6 @@
 // Many pieces walked over a graph, for one check of sheet and graph: a result of 16 bytes for each, in a lent buffer.
+#![tactic(auto)]
+
 pub mod first_piece; // what came of the piece that the input begins with
 pub mod open; // the sheet and the graph, read once
 pub mod result; // the bytes of a result
@@ -16,14 +18,14 @@ use walk::call::walk_checked;
 use walk::{Sizes, Walk, Walked};
 
 // What was read of a sheet and a graph, or the number of the question that got a no.
-#[derive(Drop)]
+#[derive(Clone, Copy)]
 pub enum Opened {
     Ready(Sizes),
     Refused(u8),
 }
 
 // What came of the first piece: it could not be read, or its bytes and the refusal of its walk or the answer.
-#[derive(Drop)]
+#[derive(Clone, Copy)]
 pub enum First {
     Unread(u8),
     Refused(usize, u8),
@@ -32,14 +34,14 @@ pub enum First {
 
 // How many results were written and how many bytes of the input the pieces took that were read; or the number of the question
 // that got a no.
-#[derive(Drop)]
+#[derive(Clone, Copy)]
 pub enum WalkedAll {
     Walked(u32, u32),
     Refused(u8),
 }
 
 // What became of a piece: a result and so many bytes taken, the last result, or none, since its bytes are too many to count.
-#[derive(Drop)]
+#[derive(Clone, Copy)]
 pub enum Turn {
     More(usize),
     Last,

@@ -1,5 +1,7 @@
 // A window: the counts of the last 1,000 answers fed to it, in memory that the caller lends. A feed and a question take the same
 // few steps whatever was fed before: nothing is shifted, nothing counted again. The memory may hold anything; all zero is fresh.
+#![tactic(auto)]
+
 ghost use Rattle.std.specs.Prelude.{◌≡◌, ◌<◌, ◌≤◌, true, false, if◌then◌else◌, nat_eq, nat_le};
 ghost use Rattle.window.specs.LastThousand.{given, is_taken};
 ghost use Rattle.window.specs.Cells.{fresh_cells, code_of, answer_in, place_of, place_after, moved, moved_at};
@@ -11,14 +13,14 @@ ghost use Rattle.window.specs.Handed.{fed_of, words_in};
 pub type Window = [u16; 1070];
 
 // What became of an answer that was fed.
-#[derive(Drop)]
+#[derive(Clone, Copy)]
 pub enum Fed {
     Taken,
     Refused(u8),
 }
 
 // The counts of the four words.
-#[derive(Drop)]
+#[derive(Clone, Copy)]
 pub struct WordCounts {
     pub commit: u16,
     pub execute: u16,
