@@ -1,0 +1,78 @@
+-- The sheet is checked, then the piece is answered for.
+use Prim.Native.Nat.{ℕ, ◌-◌}
+use mathlib.Core.Path.{sym, ap, subst, ◌∙◌}
+use mathlib.Core.List.{List}
+use native.Mathlib.Omega.{arith}
+use lib.ListN.{length, take, drop, length-replicate}
+use Rattle.records.proofs.ByteLists.{bytes_all}
+use Rattle.records.proofs.Parts.{rest}
+use Rattle.sheet_tests.specs.CheckSheet.{sheet_check_values}
+use Rattle.sheet_tests.specs.views.Starts.{StartsIn, check_starts}
+use Rattle.accepted.specs.views.AcceptedAs.{AcceptedAs}
+use Rattle.accepted.proofs.CheckedSheets.{check_accepts, check_refuses}
+use Rattle.plain.specs.Plain.{piece_reading, reading_values}
+use Rattle.rule_by_rule.specs.views.SheetRules.{SheetRules}
+use Rattle.answering.proofs.PieceAnswers.{sheet_refused, sheet_answers}
+use Rattle.answering.proofs.RulesBehind.{sheet_rules}
+use borrow.Author.Rules.{rules}
+use Rattle.answering.proofs.plain.Goals as goal
+
+pub check_noted-checked-requires : goal.check_noted-checked-requires
+check_noted-checked-requires c = (length-replicate {A = ℕ} 680 0, length-replicate {A = ℕ} 64 0)
+
+-- Where the sheet was accepted.
+module _ (c : goal.In-Accepted) where
+  abbrev at_check : goal.After-check_noted-checked
+  at_check = c
+
+  abbrev start : goal.Start
+  start = at_check.before.before.before.before.before
+
+  abbrev known : AcceptedAs start.args.sheet.now c.checked-in-Accepted-1.given.0.0 c.checked-in-Accepted-1.given.0.1.0
+  known =
+      check_accepts start.args.sheet.now c.checked-in-Accepted-1.given.0.0 c.checked-in-Accepted-1.given.0.1.0
+      c.checked-in-Accepted-1.given.0.1.1.0
+      (sym (ap sheet_check_values c.checked-in-Accepted-1.given.1) ∙ at_check.check-noted.ensures.0)
+
+  abbrev rules
+      : let s = start.args.sheet.now in
+      SheetRules (take (length s - 3) (drop 3 s)) c.checked-in-Accepted-1.given.0.0 c.checked-in-Accepted-1.given.0.1.0
+  rules =
+      let s = start.args.sheet.now in
+      sheet_rules s (bytes_all s (λ i. omega (arith, at_check.before.before.before.before.shared-slice-known.given i))) known
+
+pub slice_bounds-answer_piece-start : goal.slice_bounds-answer_piece-start
+slice_bounds-answer_piece-start c = omega (arith, (known c).whole)
+
+pub answer_piece-requires : goal.answer_piece-requires
+answer_piece-requires c =
+    let s = (start c).args.sheet.now in
+    let told = (at_check c).check-noted.ensures.1 in
+    let starts =
+    subst (check_starts (drop 3 s) (at_check c).check-noted.new.1.1.0) c.checked-in-Accepted-1.given.1
+    told.0 in (
+      rules c,
+      told.1,
+      starts.0,
+      subst
+          (λ (l : List ℕ).
+          StartsIn c.checked-in-Accepted-1.given.0.0 l (at_check c).check-noted.new.1.1.0
+          c.checked-in-Accepted-1.given.0.1.0)
+          (sym (rest s 3)) starts.1,
+    )
+
+pub returns-in-Refused : goal.returns-in-Refused
+returns-in-Refused c =
+    let a = c.args in
+    sheet_refused a.sheet.now a.piece.now
+    (check_refuses a.sheet.now (sym (ap sheet_check_values c.checked-1.given.1) ∙ c.check_noted-checked.ensures.0))
+
+pub returns-in-Accepted : goal.returns-in-Accepted
+returns-in-Accepted c =
+    let a = (start c).args in
+    let s = a.sheet.now in
+    let p = a.piece.now in
+    let is = known c in
+    c.answer_piece.ensures (rules c)
+    ∙ ap (λ (n : ℕ). reading_values (piece_reading n is.sheet.rules p)) (sym is.arity_is)
+    ∙ sheet_answers s p is.accepted

@@ -1,0 +1,62 @@
+-- The sheet's questions, then its graph.
+use mathlib.Core.Path.{refl, ◌∙◌}
+use native.Mathlib.Omega.{arith}
+use Rattle.records.proofs.Parts.{rest}
+use Rattle.sheet_tests.proofs.Scanning.{bytes_known}
+use Rattle.accepted.proofs.FoundTests.{found_accepts, found_refuses}
+use Rattle.decision.specs.Graph.{lowest_first}
+use Rattle.order.specs.Asking.{lowest}
+use Rattle.building.proofs.SheetTables.{few_tests_lem, lowest_listed, outcome_refused, sheet_kept, outcome_kept}
+use borrow.Author.Rules.{rules}
+use Rattle.building.proofs.build.Goals as goal
+
+pub list_sheet-requires : goal.list_sheet-requires
+list_sheet-requires c =
+    let s = c.args.sheet.now in
+    let tests = c.read_tests-read.ensures in
+    let found = found_accepts s _ _ tests.0 c.read-in-Accepted-1.given.1 in
+    let few = few_tests_lem _ _ c.read-in-Accepted-1.given.1 tests.1 in
+    ((tests.1.all_words, tests.1.all_codes, few), (refl, refl))
+
+pub slice_bounds-build_listed-count : goal.slice_bounds-build_listed-count
+slice_bounds-build_listed-count c =
+    let s = c.args.sheet.now in
+    let tests = c.read_tests-read.ensures in
+    let found = found_accepts s _ _ tests.0 c.read-in-Accepted-1.given.1 in
+    omega (arith, found.read.whole)
+
+pub slice_bounds-build_listed-start : goal.slice_bounds-build_listed-start
+slice_bounds-build_listed-start c =
+    let s = c.args.sheet.now in
+    let tests = c.read_tests-read.ensures in
+    let found = found_accepts s _ _ tests.0 c.read-in-Accepted-1.given.1 in
+    omega (arith, found.read.whole)
+
+pub build_listed-requires : goal.build_listed-requires
+build_listed-requires c =
+    let s = c.args.sheet.now in
+    let tests = c.read_tests-read.ensures in
+    let found = found_accepts s _ _ tests.0 c.read-in-Accepted-1.given.1 in
+    let bytes = bytes_known s (λ i. omega (arith, c.shared_slice_known-1.given i)) in
+    let held = sheet_kept s _ _ _ _ _ found (rest s 3) bytes in
+    let few = few_tests_lem _ _ c.read-in-Accepted-1.given.1 tests.1 in
+    let list = c.list_sheet.ensures in
+    (lowest_first found.read.sheet.rules, found.read.sheet.rules, lowest_listed held tests.1.all_codes few list.1 list.0)
+
+pub returns-in-Refused : goal.returns-in-Refused
+returns-in-Refused c =
+    let s = c.args.sheet.now in
+    let tests = c.read_tests-read.ensures in
+    outcome_refused lowest s c.args.buf.now (found_refuses s _ _ tests.0 c.read-1.given.1)
+
+pub returns-in-Accepted : goal.returns-in-Accepted
+returns-in-Accepted c =
+    let s = c.args.sheet.now in
+    let tests = c.read_tests-read.ensures in
+    let found = found_accepts s _ _ tests.0 c.read-in-Accepted-1.given.1 in
+    let bytes = bytes_known s (λ i. omega (arith, c.shared_slice_known-1.given i)) in
+    let held = sheet_kept s _ _ _ _ _ found (rest s 3) bytes in
+    let few = few_tests_lem _ _ c.read-in-Accepted-1.given.1 tests.1 in
+    let list = c.list_sheet.ensures in
+    c.build_listed.ensures _ _ (lowest_listed held tests.1.all_codes few list.1 list.0)
+    ∙ outcome_kept lowest s c.args.buf.now _ _ _ _ _ found lowest_first refl

@@ -1,0 +1,115 @@
+-- The sheet's questions, those of the table, then the graph in its order.
+use Prim.Native.Nat.{ℕ, ◌<◌}
+use mathlib.Core.Path.{◌≡◌, refl, sym, ap, ◌∙◌}
+use mathlib.Core.List.{List}
+use native.Mathlib.Omega.{arith}
+use Rattle.basics.specs.Lists.{All}
+use Rattle.records.specs.Reading.{took, refused}
+use Rattle.records.proofs.Parts.{rest}
+use Rattle.sheet_tests.proofs.Scanning.{bytes_known}
+use Rattle.accepted.proofs.FoundTests.{found_accepts, found_refuses}
+use Rattle.order.specs.declared.TableCheck.{TableCheck}
+use Rattle.order.specs.declared.TableCheck.TheVariants.{Accepted, Refused}
+use Rattle.order.specs.Table.{read_table}
+use Rattle.order.specs.views.TableRead.{table_read}
+use Rattle.order.specs.Asking.{by_table}
+use Rattle.order.proofs.EveryPlace.{once_below}
+use Rattle.order.proofs.TableAsks.{Ordering, table_ordering}
+use Rattle.build.proofs.ListedTables.{listed_sizes}
+use Rattle.building.proofs.SheetTables.{few_tests_lem, lowest_listed, ordered_listed, outcome_refused, table_refused}
+use Rattle.building.proofs.SheetTables.{sheet_kept, ordered_kept}
+use borrow.Author.Rules.{rules}
+use Rattle.building.proofs.build_ordered.Goals as goal
+
+-- What is read of an accepted table, and of a refused one.
+table_taken_lem
+    : (table places : List ℕ) (r : TableCheck) → r ≡ Accepted → table_read places r ≡ read_table table
+    → read_table table ≡ took 1360 places
+table_taken_lem table places r e read = sym read ∙ ap (table_read places) e
+
+table_refuses
+    : (table places : List ℕ) (r : TableCheck) {q : ℕ} → r ≡ Refused q → table_read places r ≡ read_table table
+    → read_table table ≡ refused q
+table_refuses table places r e read = sym read ∙ ap (table_read places) e
+
+places_inside : {table places : List ℕ} → Ordering table places → All (λ (p : ℕ). p < 680) places
+places_inside {table} {places} t = once_below places t.once
+
+pub list_sheet-requires : goal.list_sheet-requires
+list_sheet-requires c =
+    let s = c.args.sheet.now in
+    let tests = c.read_tests-read.ensures in
+    let few = few_tests_lem _ _ c.read-in-Accepted-1.given.1 tests.1 in
+    ((tests.1.all_words, tests.1.all_codes, few), (refl, refl))
+
+pub by_places-requires : goal.by_places-requires
+by_places-requires c =
+    let s = c.args.sheet.now in
+    let tests = c.read_tests-read.ensures in
+    let found = found_accepts s _ _ tests.0 c.read-in-Accepted-1.given.1 in
+    let bytes = bytes_known s (λ i. omega (arith, c.shared_slice_known-1.given i)) in
+    let held = sheet_kept s _ _ _ _ _ found (rest s 3) bytes in
+    let few = few_tests_lem _ _ c.read-in-Accepted-1.given.1 tests.1 in
+    let list = c.list_sheet.ensures in
+    let read = table_taken_lem c.args.table.now _ _ c.enum_told-1.given.1 c.read_table-checked.ensures in
+    let g = lowest_listed held tests.1.all_codes few list.1 list.0 in
+    let t = table_ordering c.args.table.now _ read in
+    let known = listed_sizes g in
+    (t.size, places_inside t, known.0, known.1, known.2)
+
+pub slice_bounds-build_listed-count : goal.slice_bounds-build_listed-count
+slice_bounds-build_listed-count c =
+    let s = c.args.sheet.now in
+    let tests = c.read_tests-read.ensures in
+    let found = found_accepts s _ _ tests.0 c.read-in-Accepted-1.given.1 in
+    omega (arith, found.read.whole)
+
+pub slice_bounds-build_listed-start : goal.slice_bounds-build_listed-start
+slice_bounds-build_listed-start c =
+    let s = c.args.sheet.now in
+    let tests = c.read_tests-read.ensures in
+    let found = found_accepts s _ _ tests.0 c.read-in-Accepted-1.given.1 in
+    omega (arith, found.read.whole)
+
+pub build_listed-requires : goal.build_listed-requires
+build_listed-requires c =
+    let s = c.args.sheet.now in
+    let tests = c.read_tests-read.ensures in
+    let found = found_accepts s _ _ tests.0 c.read-in-Accepted-1.given.1 in
+    let bytes = bytes_known s (λ i. omega (arith, c.shared_slice_known-1.given i)) in
+    let held = sheet_kept s _ _ _ _ _ found (rest s 3) bytes in
+    let few = few_tests_lem _ _ c.read-in-Accepted-1.given.1 tests.1 in
+    let list = c.list_sheet.ensures in
+    let read = table_taken_lem c.args.table.now _ _ c.enum_told-1.given.1 c.read_table-checked.ensures in
+    let turned = c.by_places.ensures in
+    (_, found.read.sheet.rules, ordered_listed held tests.1.all_codes few list.1 list.0 c.args.table.now read turned)
+
+pub returns-in-Refused : goal.returns-in-Refused
+returns-in-Refused c =
+    let s = c.args.sheet.now in
+    let tests = c.read_tests-read.ensures in
+    outcome_refused (by_table c.args.table.now) s c.args.buf.now
+    (found_refuses s _ _ tests.0 c.read-1.given.1)
+
+pub returns-in-Refused-checked : goal.returns-in-Refused-checked
+returns-in-Refused-checked c =
+    let s = c.args.sheet.now in
+    let tests = c.read_tests-read.ensures in
+    let found = found_accepts s _ _ tests.0 c.read-in-Accepted-1.given.1 in
+    table_refused c.args.table.now s c.args.buf.now found.read.accepted
+    (table_refuses c.args.table.now _ _ c.checked-1.given.1 c.read_table-checked.ensures)
+
+pub returns-in-Accepted-checked : goal.returns-in-Accepted-checked
+returns-in-Accepted-checked c =
+    let s = c.args.sheet.now in
+    let tests = c.read_tests-read.ensures in
+    let found = found_accepts s _ _ tests.0 c.read-in-Accepted-1.given.1 in
+    let bytes = bytes_known s (λ i. omega (arith, c.shared_slice_known-1.given i)) in
+    let held = sheet_kept s _ _ _ _ _ found (rest s 3) bytes in
+    let few = few_tests_lem _ _ c.read-in-Accepted-1.given.1 tests.1 in
+    let list = c.list_sheet.ensures in
+    let read = table_taken_lem c.args.table.now _ _ c.enum_told-1.given.1 c.read_table-checked.ensures in
+    let turned = c.by_places.ensures in
+    c.build_listed.ensures _ _
+    (ordered_listed held tests.1.all_codes few list.1 list.0 c.args.table.now read turned)
+    ∙ ordered_kept c.args.table.now s c.args.buf.now _ _ _ _ _ found read

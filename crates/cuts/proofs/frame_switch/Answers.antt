@@ -1,0 +1,121 @@
+-- `cuts::frame_switch` meets its contract. The loop's invariant: the runs written and those before the cuts to come are the whole,
+-- and at most three for two cuts, since codes that no live rule wants are over at every second cut at most.
+use Prim.Native.Nat.{ℕ, max, ◌+◌, ◌*◌, ◌-◌, ◌≤◌, ◌<◌}
+use mathlib.Core.Path.{◌≡◌, refl, sym, ap, ◌∙◌}
+use mathlib.Core.Logic.{⊎_elim}
+use mathlib.Core.List.{[], ◌++◌, map}
+use native.Mathlib.Decide.{ℕ_discrete}
+use native.Mathlib.Omega.{arith}
+use lib.Bits.{bit_and, bit_xor, xor_zero_l}
+use lib.ListN.{length}
+use Rattle.basics.specs.Lists.{count_from}
+use Rattle.cuts.specs.views.Cuts.{count_at, cut_at, cuts_in}
+use Rattle.cuts.specs.views.Runs.{runs_in}
+use Rattle.cuts.specs.views.FramedRuns.{gap_run, gauge_first, gauge_end, framed_run, framed_from, name_runs}
+use Rattle.cuts.proofs.FramedPass.{framed_with, names_few, names_more, cut_passed, cut_ended, cut_last, gap_no_name}
+use borrow.Author.Rules.{rules}
+use Rattle.cuts.proofs.frame_switch.Goals as goal
+
+-- Twice as many runs as there are stay below three for each cut, and one less where no rule wants what comes next.
+twice
+    : (n m k set turned : ℕ) → (turned ≡ 0 → ⊥) → n + n ≤ 3 * k + 1 → (set ≡ 0 → n + n ≤ 3 * k) → m ≤ n + 2
+    → ((set ≡ 0 → ⊥) → m ≤ n + 1)
+    → (m + m ≤ 3 * (k + 1) + 1) × (bit_xor set turned ≡ 0 → m + m ≤ 3 * (k + 1))
+twice n m k set turned some most least all one =
+    elim (ℕ_discrete set 0) [
+      | yes e ↦ (
+        omega (arith, least e),
+        λ d. absurd (some (sym (xor_zero_l turned) ∙ ap (λ (s : ℕ). bit_xor s turned) (sym e) ∙ d)),
+      )
+      | no e ↦ (omega (arith, one e), λ d. omega (arith, one e))
+    ]
+
+pub loop-k-init : goal.loop-k-init
+loop-k-init c =
+    let a = c.args in
+    let e : c.wide-count.result - 0 ≡ count_at a.c.now a.from = omega arith in (
+      omega arith,
+      omega arith,
+      λ d. omega arith,
+      omega arith,
+      refl,
+      c.requires.0.2,
+      ap (λ (m : ℕ). framed_from a.base a.live 0 0 (map (cut_at a.c.now a.from) (count_from 0 m))) e,
+    )
+
+pub end_run-framed-requires : goal.end_run-framed-requires
+end_run-framed-requires c =
+    let at = c.loop-k in
+    let few = names_few c.args.base at.runs at.framed.count in
+    let code = c.requires.1 at.k (omega arith) in
+    (at.invariant.5, omega arith, omega arith, code.0, at.invariant.3, c.requires.0.3)
+
+pub loop-k-preserved : goal.loop-k-preserved
+loop-k-preserved c =
+    let a = c.args in
+    let at = c.loop-k in
+    let inv = at.invariant in
+    let count = c.wide-count.result in
+    let cuts = a.c.now in
+    let more : at.k < count = omega arith in
+    let code = (cut_at cuts a.from at.k).code in
+    let n = at.framed.count in
+    let ended = cut_ended cuts a.from count a.base a.live at.runs n at.start at.set at.k in
+    let passed = cut_passed cuts a.from count a.base a.live at.runs n at.start at.set at.k in
+    ⊎_elim
+    (λ w.
+    let end = w.3.ensures in
+    let after = w.3.last.0 in
+    let result = w.3.result in
+    let few = twice n result.count at.k at.set (bit_and (cut_at cuts a.from at.k).turns a.live)
+    w.0.taken inv.1 inv.2 end.2 end.3 in
+    rw (w.4, w.5, w.6, w.7) (
+      omega arith,
+      few.0,
+      few.1,
+      (c.requires.1 at.k (omega arith)).1,
+      names_more a.base at.framed.names result.names (runs_in at.runs at.framed.count)
+          (runs_in after result.count) (framed_run a.base at.start code at.set []) inv.4 end.1 end.0,
+      end.4,
+      sym (ended after result.count more w.0.taken end.0) ∙ inv.6,
+    ))
+    (λ w.
+    rw (w.1, w.2, w.3, w.4) (
+      omega arith,
+      omega (arith, inv.1),
+      λ d. omega (arith, inv.2 d),
+      inv.3,
+      inv.4,
+      inv.5,
+      sym (passed more w.0.left) ∙ inv.6,
+    ))
+    c.if-turned-ne0.branch
+
+pub put_gap-all-requires : goal.put_gap-all-requires
+put_gap-all-requires c =
+    let inv = c.loop-k.invariant in
+    (inv.5, omega (arith, inv.1))
+
+pub returns : goal.returns
+returns c =
+    let begins = c.higher-last.ensures in
+    let ends = c.gauge_first-end.ensures ∙ ap (λ (z : ℕ). gauge_first (z + 0xffff)) begins in
+    let a = c.args in
+    let at = c.loop-k in
+    let count = c.wide-count.result in
+    let n = at.framed.count in
+    let low = max at.start a.base in
+    let gap = gap_run low (gauge_end low) [] in
+    let after = c.put_gap-all.new.0 in
+    let written : runs_in after c.put_gap-all.result ≡ runs_in at.runs n ++ gap =
+    c.put_gap-all.ensures.0 ∙ (λ i. runs_in at.runs n ++ gap_run (begins i) (ends i) []) in
+    let last =
+    cut_last a.c.now a.from count a.base a.live at.runs n at.start at.set at.k after
+    c.put_gap-all.result (omega arith) written in
+    let none = gap_no_name a.base low (gauge_end low) (omega arith) in (
+      sym last ∙ at.invariant.6,
+      names_more a.base at.framed.names at.framed.names (runs_in at.runs n) (runs_in after c.put_gap-all.result) gap
+          at.invariant.4 (omega arith) written,
+      omega (arith, c.put_gap-all.ensures.2, at.invariant.1),
+      c.put_gap-all.ensures.3,
+    )

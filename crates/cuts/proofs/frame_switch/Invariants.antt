@@ -1,0 +1,30 @@
+-- `cuts::frame_switch` meets its contract. The loop's invariant: the runs written and those before the cuts to come are the whole,
+-- and at most three for two cuts, since codes that no live rule wants are over at every second cut at most.
+use Prim.Native.Nat.{ℕ, max, ◌+◌, ◌*◌, ◌-◌, ◌≤◌, ◌<◌}
+use mathlib.Core.Path.{◌≡◌, refl, sym, ap, ◌∙◌}
+use mathlib.Core.Logic.{⊎_elim}
+use mathlib.Core.List.{[], ◌++◌, map}
+use native.Mathlib.Decide.{ℕ_discrete}
+use native.Mathlib.Omega.{arith}
+use lib.Bits.{bit_and, bit_xor, xor_zero_l}
+use lib.ListN.{length}
+use Rattle.basics.specs.Lists.{count_from}
+use Rattle.cuts.specs.views.Cuts.{count_at, cut_at, cuts_in}
+use Rattle.cuts.specs.views.Runs.{runs_in}
+use Rattle.cuts.specs.views.FramedRuns.{gap_run, gauge_first, gauge_end, framed_run, framed_from, name_runs}
+use Rattle.cuts.proofs.FramedPass.{framed_with, names_few, names_more, cut_passed, cut_ended, cut_last, gap_no_name}
+use borrow.Author.Rules.{rules}
+use Rattle.cuts.proofs.frame_switch.Given as goal
+
+abbrev pub invariant-loop-k : goal.invariant-loop-k
+invariant-loop-k l =
+    (l.k ≤ l.count)
+    × (l.framed.count + l.framed.count ≤ 3 * l.k + 1)
+    × (l.set ≡ 0 → l.framed.count + l.framed.count ≤ 3 * l.k)
+    × (l.start < 0x1_0000_0000)
+    × (l.framed.names ≡ length (name_runs l.base (runs_in l.runs l.framed.count)))
+    × (length l.runs ≡ 579)
+    × (framed_with l.c l.from l.count l.base l.live l.runs l.framed.count l.start l.set l.k ≡ framed_from l.base l.live 0 0 (cuts_in l.c l.from))
+
+abbrev pub decreases-loop-k : goal.decreases-loop-k
+decreases-loop-k l = l.count - l.k

@@ -1,0 +1,17 @@
+-- `cuts::gauge_end` meets its contract. The loop's invariant: the runs passed are on the gauge of the first.
+use Prim.Native.Nat.{ℕ, ◌-◌, ◌≤◌, ◌<◌}
+use mathlib.Core.Path.{◌≡◌, ap, ◌∙◌}
+use mathlib.Core.Logic.{inl, inr}
+use native.Mathlib.Omega.{arith}
+use Rattle.basics.proofs.Numbers.{le_or_lt}
+use Rattle.cuts.specs.views.Runs.{run_at}
+use Rattle.cuts.specs.views.CaseRuns.{gauge_at}
+use borrow.Author.Rules.{rules}
+use Rattle.cuts.proofs.gauge_end.Given as goal
+
+abbrev pub invariant-loop-end : goal.invariant-loop-end
+invariant-loop-end l =
+    (l.k < l.end) × (l.end ≤ l.count) × ((i : ℕ) → l.k ≤ i → i < l.end → gauge_at (run_at l.runs i) ≡ l.gauge)
+
+abbrev pub decreases-loop-end : goal.decreases-loop-end
+decreases-loop-end l = l.count - l.end

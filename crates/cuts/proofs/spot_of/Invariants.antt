@@ -1,0 +1,13 @@
+-- `cuts::spot_of` meets its contract. The loop's invariant: the cuts passed are below the code.
+use Prim.Native.Nat.{ℕ, ◌-◌, ◌≤◌, ◌<◌}
+use native.Mathlib.Omega.{arith}
+use borrow.Author.Count.{below_more}
+use Rattle.cuts.specs.views.Cuts.{cut_at}
+use borrow.Author.Rules.{rules}
+use Rattle.cuts.proofs.spot_of.Given as goal
+
+abbrev pub invariant-loop-k : goal.invariant-loop-k
+invariant-loop-k l = (l.k ≤ l.count) × ((j : ℕ) → j < l.k → (cut_at l.c l.from j).code < l.code)
+
+abbrev pub decreases-loop-k : goal.decreases-loop-k
+decreases-loop-k l = l.count - l.k

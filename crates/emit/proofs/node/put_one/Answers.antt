@@ -1,0 +1,116 @@
+-- `node::put_one` meets its contract, for each kind of node.
+use Prim.Native.Nat.{◌+◌, ◌≤◌}
+use mathlib.Core.Path.{ap, ◌∙◌}
+use native.Mathlib.Omega.{arith}
+use lib.ListN.{length}
+use borrow.Author.Rules.{rules}
+use Rattle.records.specs.Writing.{splice}
+use Rattle.tables.specs.views.Planes.{place_tests_in}
+use Rattle.edges.specs.declared.Asked.{Asked}
+use Rattle.edges.specs.views.VertexKey.{key_in}
+use Rattle.met.specs.views.KeysMet.{keys_in}
+use Rattle.keys.proofs.NodeKinds.{asked_below}
+use Rattle.emit.proofs.AskedBytes.{pair_length, leaf_bytes_lem, ask_bytes_lem}
+use Rattle.emit.proofs.node.put_one.Goals as goal
+
+pub put_node-requires : goal.put_node-requires
+put_node-requires c =
+    let kind-of = c.kind_of-kind in
+    let kind = c.kind-1 in
+    let a = c.args in
+    let same =
+    leaf_bytes_lem a.s.now a.c.now (keys_in a.keys.now) (key_in a.key) kind-of.result
+    (kind-of.ensures.0 a.c.now) kind.given.0.0 kind.given.1 in
+    omega (arith, c.requires.1, ap length same)
+
+pub ask-asked-requires : goal.ask-asked-requires
+ask-asked-requires c = asked_below c.kind-in-Ask-1.given.1 c.kind_of-kind.ensures.1
+
+pub put_pair-requires : goal.put_pair-requires
+put_pair-requires c =
+    let kind-of = c.kind_of-kind in
+    let kind2 = c.kind-in-Ask-1 in
+    let ask = c.ask-asked in
+    let place-tests = c.place_tests in
+    let if1 = c.if-place_tests-t in
+    let a = c.args in
+    let known = kind-of.ensures.0 a.c.now in
+    let same =
+    ask_bytes_lem a.s.now a.c.now (keys_in a.keys.now) (key_in a.key) kind-of.result known kind2.given.1
+    ask.ensures in
+    let test = ap (λ (x : Asked). x.test) ask.ensures in
+    let below = asked_below kind2.given.1 kind-of.ensures.1 in
+    let past : place_tests_in a.s.now ≤ ask.result.test = omega (arith, test, place-tests.ensures, if1.true) in
+    let size = pair_length a.s.now (keys_in a.keys.now) ask.result a.c.now past in
+    (c.requires.0.0, past, omega (arith, test, below), omega (arith, c.requires.1, ap length same, size))
+
+pub shape_of-buf-then-place_tests-t : goal.shape_of-buf-then-place_tests-t
+shape_of-buf-then-place_tests-t c = c.buf-then-place_tests-t-1.given
+
+pub returns-then-place_tests-t : goal.returns-then-place_tests-t
+returns-then-place_tests-t c =
+    let kind-of = c.kind_of-kind in
+    let kind2 = c.kind-in-Ask-1 in
+    let ask = c.ask-asked in
+    let put-pair = c.put_pair in
+    let a = c.args in
+    let known = kind-of.ensures.0 a.c.now in
+    let same =
+    ask_bytes_lem a.s.now a.c.now (keys_in a.keys.now) (key_in a.key) kind-of.result known kind2.given.1
+    ask.ensures in
+    let put = put-pair.ensures a.c.now in
+    ((put.0 ∙ ap (λ l. a.at + length l) same, put.1 ∙ ap (splice a.buf.now a.at) same), c.requires.0.2)
+
+pub put_switch-requires : goal.put_switch-requires
+put_switch-requires c =
+    let kind-of = c.kind_of-kind in
+    let kind2 = c.kind-in-Ask-1 in
+    let ask = c.ask-asked in
+    let place-tests = c.place_tests in
+    let if1 = c.if-place_tests-t in
+    let a = c.args in
+    let known = kind-of.ensures.0 a.c.now in
+    let same =
+    ask_bytes_lem a.s.now a.c.now (keys_in a.keys.now) (key_in a.key) kind-of.result known kind2.given.1
+    ask.ensures in
+    let test = ap (λ (x : Asked). x.test) ask.ensures in (
+      (
+        c.requires.0.0,
+        c.requires.0.1,
+        omega (arith, test, place-tests.ensures, if1.false),
+        c.requires.0.2,
+      ),
+      omega (arith, c.requires.1, ap length same),
+    )
+
+pub shape_of-buf-in-End : goal.shape_of-buf-in-End
+shape_of-buf-in-End c = c.buf-1.given
+
+pub returns-in-End : goal.returns-in-End
+returns-in-End c =
+    let put-node = c.put_node in
+    let kind-of = c.kind_of-kind in
+    let kind = c.kind-1 in
+    let a = c.args in
+    let put = put-node.ensures in
+    let same =
+    leaf_bytes_lem a.s.now a.c.now (keys_in a.keys.now) (key_in a.key) kind-of.result
+    (kind-of.ensures.0 a.c.now) kind.given.0.0 kind.given.1 in
+    ((put.0 ∙ ap (λ l. a.at + length l) same, put.1 ∙ ap (splice a.buf.now a.at) same), c.requires.0.2)
+
+pub shape_of-buf-else-place_tests-t : goal.shape_of-buf-else-place_tests-t
+shape_of-buf-else-place_tests-t c = c.buf-in-Ask-1.given
+
+pub returns-else-place_tests-t : goal.returns-else-place_tests-t
+returns-else-place_tests-t c =
+    let kind-of = c.kind_of-kind in
+    let kind2 = c.kind-in-Ask-1 in
+    let ask = c.ask-asked in
+    let put-switch = c.put_switch in
+    let a = c.args in
+    let known = kind-of.ensures.0 a.c.now in
+    let same =
+    ask_bytes_lem a.s.now a.c.now (keys_in a.keys.now) (key_in a.key) kind-of.result known kind2.given.1
+    ask.ensures in
+    let put = put-switch.ensures in
+    ((put.0.0 ∙ ap (λ l. a.at + length l) same, put.0.1 ∙ ap (splice a.buf.now a.at) same), put.1)

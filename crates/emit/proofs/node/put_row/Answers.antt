@@ -1,0 +1,105 @@
+-- `node::put_row` meets its contract. The loop's invariant: the pairs from last run k on are left to be written, and the node is
+-- that of the union so far.
+use Prim.Native.Nat.{ℕ, ◌+◌, ◌-◌, ◌≤◌}
+use mathlib.Core.Path.{◌≡◌, refl, sym, ap, ◌∙◌}
+use mathlib.Core.Logic.{⊎_elim}
+use native.Mathlib.Omega.{arith}
+use lib.Bits.{bit_or}
+use lib.ListN.{length}
+use borrow.Author.Rules.{rules}
+use Rattle.graph.specs.views.WriteNode.{case_record_bytes}
+use Rattle.cuts.specs.views.Runs.{Run, run_at}
+use Rattle.cuts.specs.views.CaseRuns.{union_row, runs_from, pairs_row}
+use Rattle.cuts.proofs.CaseRuns.{row_begun, row_some, row_none}
+use Rattle.edges.specs.views.KeysBehind.{run_behind}
+use Rattle.met.specs.views.KeysMet.{key_number, keys_in}
+use Rattle.emit.specs.views.Laid.{run_bytes}
+use Rattle.emit.proofs.WritingOn.{Left, left_start, left_room, left_next, left_end}
+use Rattle.emit.proofs.AskedBytes.{case_next}
+use Rattle.emit.proofs.node.put_row.Goals as goal
+
+pub loop-k-init : goal.loop-k-init
+loop-k-init c =
+    let a = c.args in
+    let s = a.s.now in
+    let keys = keys_in a.keys.now in
+    let runs = a.runs.now in
+    let count = a.row.count in
+    let low = (run_at runs a.row.first).low in
+    let set = (run_at runs a.row.first).set in
+    let by-run = c.by_run in
+    let node_of_lem = c.node_of-node in (
+      refl,
+      omega (arith, c.requires.1),
+      node_of_lem.ensures ∙ ap (key_number keys) by-run.ensures,
+      left_start a.buf.now a.start (run_bytes s keys a.asked (pairs_row runs count a.row.first))
+          (run_bytes s keys a.asked (union_row low set (runs_from runs count a.row.first)))
+          (ap (run_bytes s keys a.asked) (row_begun runs count a.row.first c.requires.1)),
+    )
+
+pub put_case-at-requires : goal.put_case-at-requires
+put_case-at-requires c =
+    let a = c.args in
+    let s = a.s.now in
+    let keys = keys_in a.keys.now in
+    let runs = a.runs.now in
+    let count = a.row.count in
+    let low = (run_at runs a.row.first).low in
+    let at = c.loop-k in
+    let case = c.case_record in
+    let more = bit_or at.set (run_at runs at.k).set in
+    let test = c.loop-k-test.true in
+    let if1 = c.if-more-set in
+    let node_is : if1.node ≡ key_number keys (run_behind s a.asked more) =
+    ⊎_elim (λ w. w.3 ∙ w.2.ensures ∙ ap (key_number keys) w.1.ensures)
+    (λ w. w.1 ∙ at.invariant.2 ∙ ap (λ (set : ℕ). key_number keys (run_behind s a.asked set)) (sym w.0.left)) if1.branch in
+    let run : Run = record { low = low; high = (run_at runs at.k).high; set = more } in
+    let next = case_next s keys a.asked run (row_some runs count low at.set at.k test) case.result
+    case.ensures node_is in
+    left_room c.requires.3 at.invariant.3 (case_record_bytes case.result)
+    (run_bytes s keys a.asked (union_row low more (runs_from runs count (at.k + 1)))) next
+
+pub loop-k-smaller : goal.loop-k-smaller
+loop-k-smaller c = omega (arith, c.loop-k-test.true)
+
+pub loop-k-preserved : goal.loop-k-preserved
+loop-k-preserved c =
+    let a = c.args in
+    let s = a.s.now in
+    let keys = keys_in a.keys.now in
+    let runs = a.runs.now in
+    let count = a.row.count in
+    let low = (run_at runs a.row.first).low in
+    let at = c.loop-k in
+    let case = c.case_record in
+    let more = bit_or at.set (run_at runs at.k).set in
+    let test = c.loop-k-test.true in
+    let if1 = c.if-more-set in
+    let node_is : if1.node ≡ key_number keys (run_behind s a.asked more) =
+    ⊎_elim (λ w. w.3 ∙ w.2.ensures ∙ ap (key_number keys) w.1.ensures)
+    (λ w. w.1 ∙ at.invariant.2 ∙ ap (λ (set : ℕ). key_number keys (run_behind s a.asked set)) (sym w.0.left)) if1.branch in
+    let run : Run = record { low = low; high = (run_at runs at.k).high; set = more } in
+    let next = case_next s keys a.asked run (row_some runs count low at.set at.k test) case.result
+    case.ensures node_is in (
+      c.buf-1.given ∙ at.invariant.0,
+      omega (arith, test),
+      node_is,
+      left_next c.requires.3 at.invariant.3 (case_record_bytes case.result)
+          (run_bytes s keys a.asked (union_row low more (runs_from runs count (at.k + 1)))) next
+          c.put_case-at.ensures,
+    )
+
+pub shape_of-buf : goal.shape_of-buf
+shape_of-buf c = c.loop-k.invariant.0
+
+pub returns : goal.returns
+returns c =
+    let a = c.args in
+    let s = a.s.now in
+    let keys = keys_in a.keys.now in
+    let runs = a.runs.now in
+    let count = a.row.count in
+    let low = (run_at runs a.row.first).low in
+    let at = c.loop-k in
+    left_end c.requires.3 at.invariant.3
+    (ap (run_bytes s keys a.asked) (row_none runs count low at.set at.k c.loop-k-test.false))

@@ -1,0 +1,28 @@
+-- `node::put_row` meets its contract. The loop's invariant: the pairs from last run k on are left to be written, and the node is
+-- that of the union so far.
+use Prim.Native.Nat.{ℕ, ◌+◌, ◌-◌, ◌≤◌}
+use mathlib.Core.Path.{◌≡◌, refl, sym, ap, ◌∙◌}
+use mathlib.Core.Logic.{⊎_elim}
+use native.Mathlib.Omega.{arith}
+use lib.Bits.{bit_or}
+use lib.ListN.{length}
+use borrow.Author.Rules.{rules}
+use Rattle.graph.specs.views.WriteNode.{case_record_bytes}
+use Rattle.cuts.specs.views.Runs.{Run, run_at}
+use Rattle.cuts.specs.views.CaseRuns.{union_row, runs_from, pairs_row}
+use Rattle.cuts.proofs.CaseRuns.{row_begun, row_some, row_none}
+use Rattle.edges.specs.views.KeysBehind.{run_behind}
+use Rattle.met.specs.views.KeysMet.{key_number, keys_in}
+use Rattle.emit.specs.views.Laid.{run_bytes}
+use Rattle.emit.proofs.WritingOn.{Left, left_start, left_room, left_next, left_end}
+use Rattle.emit.proofs.AskedBytes.{case_next}
+use Rattle.emit.proofs.node.put_row.Given as goal
+
+abbrev pub invariant-loop-k : goal.invariant-loop-k
+invariant-loop-k l =
+    (length l.buf ≡ length l.initial.buf) × (l.k ≤ l.count) × (l.node ≡ key_number (keys_in l.keys) (run_behind l.s l.asked l.set))
+    × Left l.initial.buf l.start (run_bytes l.s (keys_in l.keys) l.asked (pairs_row l.runs l.count l.first)) l.buf l.at
+    (run_bytes l.s (keys_in l.keys) l.asked (union_row (run_at l.runs l.first).low l.set (runs_from l.runs l.count l.k)))
+
+abbrev pub decreases-loop-k : goal.decreases-loop-k
+decreases-loop-k l = l.count - l.k

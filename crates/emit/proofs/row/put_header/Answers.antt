@@ -1,0 +1,13 @@
+-- `row::put_header` meets its contract.
+use borrow.Author.Rules.{rules}
+use Rattle.emit.proofs.row.put_header.Goals as goal
+
+pub shape_of-buf : goal.shape_of-buf
+shape_of-buf c = c.buf-1.given
+
+pub returns : goal.returns
+returns c =
+    let high = c.high in
+    let low = c.low in
+    let put = c.put in
+    simp (high.ensures, low.ensures) at put.ensures

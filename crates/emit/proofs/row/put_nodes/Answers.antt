@@ -1,0 +1,89 @@
+-- `row::put_nodes` meets its contract. The loop's invariant: the nodes of the keys from a number on are left to be written.
+use Prim.Native.Nat.{◌+◌, ◌-◌}
+use mathlib.Core.Path.{◌≡◌, refl, ◌∙◌}
+use native.Mathlib.Omega.{arith}
+use lib.ListN.{length}
+use borrow.Author.Rules.{rules}
+use Rattle.edges.specs.views.VertexKey.{key_in}
+use Rattle.met.specs.views.KeysMet.{count_in, keys_in}
+use Rattle.emit.specs.views.Laid.{key_bytes, keys_bytes}
+use Rattle.emit.proofs.WritingOn.{Left, left_start, left_room, left_next, left_end}
+use Rattle.emit.proofs.InTurn.{keys_left, keys_first, keys_next, keys_last}
+use Rattle.emit.proofs.row.put_nodes.Goals as goal
+
+pub loop-i-init : goal.loop-i-init
+loop-i-init c =
+    let a = c.args in
+    let s = a.s.now in
+    let cuts = a.c.now in
+    let keys = a.keys.now in (
+      refl,
+      c.requires.0.2,
+      left_start a.buf.now a.start (keys_bytes s cuts (keys_in keys)) (keys_left s cuts keys 0) (keys_first s cuts keys),
+    )
+
+pub key_at-requires : goal.key_at-requires
+key_at-requires c =
+    let count = c.count in
+    let if1 = c.loop-i-test in
+    omega (arith, count.ensures, if1.true, c.requires.0.0.few)
+
+pub put_one-at-requires : goal.put_one-at-requires
+put_one-at-requires c =
+    let at = c.loop-i in
+    let key = c.key_at in
+    let count = c.count in
+    let if1 = c.loop-i-test in
+    let a = c.args in
+    let s = a.s.now in
+    let cuts = a.c.now in
+    let keys = a.keys.now in
+    let next = keys_next s cuts keys at.i key.ensures (omega (arith, count.ensures, if1.true)) in (
+      (c.requires.0.0, c.requires.0.1, at.invariant.1),
+      left_room c.requires.1 at.invariant.2 (key_bytes s cuts (keys_in keys) (key_in key.result))
+          (keys_left s cuts keys (at.i + 1)) next,
+    )
+
+pub overflow_add-i : goal.overflow_add-i
+overflow_add-i c =
+    let count = c.count in
+    let if1 = c.loop-i-test in
+    omega (arith, count.ensures, if1.true, c.requires.0.0.few)
+
+pub loop-i-smaller : goal.loop-i-smaller
+loop-i-smaller c =
+    let count = c.count in
+    let if1 = c.loop-i-test in
+    omega (arith, count.ensures, if1.true)
+
+pub loop-i-preserved : goal.loop-i-preserved
+loop-i-preserved c =
+    let at = c.loop-i in
+    let key = c.key_at in
+    let put_one = c.put_one-at in
+    let count = c.count in
+    let if1 = c.loop-i-test in
+    let buf = c.buf-1 in
+    let a = c.args in
+    let put = put_one.ensures in
+    let s = a.s.now in
+    let cuts = a.c.now in
+    let keys = a.keys.now in
+    let next = keys_next s cuts keys at.i key.ensures (omega (arith, count.ensures, if1.true)) in (
+      buf.given ∙ at.invariant.0,
+      put.1,
+      left_next c.requires.1 at.invariant.2 (key_bytes s cuts (keys_in keys) (key_in key.result))
+          (keys_left s cuts keys (at.i + 1)) next put.0,
+    )
+
+pub shape_of-buf : goal.shape_of-buf
+shape_of-buf c = c.loop-i.invariant.0
+
+pub returns : goal.returns
+returns c =
+    let at = c.loop-i in
+    let count = c.count in
+    let if1 = c.loop-i-test in
+    let a = c.args in
+    left_end c.requires.1 at.invariant.2
+    (keys_last a.s.now a.c.now a.keys.now at.i (omega (arith, count.ensures, if1.false)))

@@ -1,0 +1,20 @@
+-- `row::put_nodes` meets its contract. The loop's invariant: the nodes of the keys from a number on are left to be written.
+use Prim.Native.Nat.{◌+◌, ◌-◌}
+use mathlib.Core.Path.{◌≡◌, refl, ◌∙◌}
+use native.Mathlib.Omega.{arith}
+use lib.ListN.{length}
+use borrow.Author.Rules.{rules}
+use Rattle.edges.specs.views.VertexKey.{key_in}
+use Rattle.met.specs.views.KeysMet.{count_in, keys_in}
+use Rattle.emit.specs.views.Laid.{key_bytes, keys_bytes}
+use Rattle.emit.proofs.WritingOn.{Left, left_start, left_room, left_next, left_end}
+use Rattle.emit.proofs.InTurn.{keys_left, keys_first, keys_next, keys_last}
+use Rattle.emit.proofs.row.put_nodes.Given as goal
+
+abbrev pub invariant-loop-i : goal.invariant-loop-i
+invariant-loop-i l =
+    (length l.buf ≡ length l.initial.buf) × (length l.runs ≡ 579)
+    × Left l.initial.buf l.start (keys_bytes l.s l.c (keys_in l.keys)) l.buf l.at (keys_left l.s l.c l.keys l.i)
+
+abbrev pub decreases-loop-i : goal.decreases-loop-i
+decreases-loop-i l = count_in l.keys - l.i

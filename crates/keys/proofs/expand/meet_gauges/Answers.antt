@@ -1,0 +1,76 @@
+-- `expand::meet_gauges` meets its contract. The loop's invariant: the pairs of the gauges from run `first` on are still to come.
+use Prim.Native.Nat.{◌+◌, ◌-◌, ◌*◌, ◌≤◌}
+use mathlib.Core.Path.{refl}
+use native.Mathlib.Omega.{arith}
+use borrow.Author.Rules.{rules}
+use Rattle.met.specs.views.KeysMet.{keys_in, Chained}
+use Rattle.keys.proofs.EdgesInTurn.{bytes_most, many_most, CasesLeft, cases_start, cases_end, part_met, part_many}
+use Rattle.keys.proofs.RowsInTurn.{pairs_left, gauges_left, gauges_next, gauges_end}
+use Rattle.keys.proofs.expand.meet_gauges.Goals as goal
+
+pub loop-first-init : goal.loop-first-init
+loop-first-init c = (c.requires.1, omega arith, c.requires.0, cases_start refl c.args.keys.now)
+
+pub gauge_end-end-requires : goal.gauge_end-end-requires
+gauge_end-end-requires c = (c.loop-first-test.true, c.requires.2, c.requires.3)
+
+pub meet_pairs-met-requires : goal.meet_pairs-met-requires
+meet_pairs-met-requires c =
+    let one = c.gauge_end-end.ensures in
+    (c.loop-first.invariant.2, omega (arith, one.some), omega (arith, one.within, c.requires.2))
+
+pub returns-in_default : goal.returns-in_default
+returns-in_default c =
+    let a = c.args in
+    let s = a.s.now in
+    let runs = a.runs.now in
+    let count = a.framed.count in
+    let at = c.loop-first in
+    let end = c.gauge_end-end in
+    let pairs = c.meet_pairs-met in
+    let many = c.enum_told-1.given.1 in (
+      part_many (pairs_left s a.asked runs end.result at.first) (gauges_left s a.asked runs count end.result)
+          (gauges_next s a.asked runs count at.first end.result end.ensures) at.invariant.3
+          pairs.result pairs.new.0 many pairs.ensures.0,
+      (pairs.ensures.1.0, many_most (1544 * (count - a.framed.names)) many),
+    )
+
+pub overflow_add-bytes : goal.overflow_add-bytes
+overflow_add-bytes c =
+    let one = c.gauge_end-end.ensures in
+    let at = c.loop-first in
+    let few = bytes_most c.met-1.given.1 c.meet_pairs-met.ensures.1.1 in
+    omega (arith, few, at.invariant.0, at.invariant.1, one.some, one.within, c.requires.2)
+
+pub loop-first-smaller : goal.loop-first-smaller
+loop-first-smaller c =
+    let one = c.gauge_end-end.ensures in
+    omega (arith, one.some, one.within)
+
+pub loop-first-preserved : goal.loop-first-preserved
+loop-first-preserved c =
+    let a = c.args in
+    let s = a.s.now in
+    let runs = a.runs.now in
+    let count = a.framed.count in
+    let at = c.loop-first in
+    let end = c.gauge_end-end in
+    let one = end.ensures in
+    let pairs = c.meet_pairs-met in
+    let some = c.met-1.given.1 in
+    let few = bytes_most some pairs.ensures.1.1 in (
+      one.within,
+      omega (arith, few, at.invariant.1, one.some),
+      pairs.ensures.1.0,
+      part_met (pairs_left s a.asked runs end.result at.first) (gauges_left s a.asked runs count end.result)
+          (gauges_next s a.asked runs count at.first end.result one) at.invariant.3
+          pairs.result pairs.new.0 some pairs.ensures.0,
+    )
+
+pub returns : goal.returns
+returns c =
+    let a = c.args in
+    let at = c.loop-first in (
+      cases_end (gauges_end a.s.now a.asked a.runs.now a.framed.count at.first c.loop-first-test.false) at.invariant.3,
+      (at.invariant.2, omega (arith, at.invariant.0, at.invariant.1)),
+    )

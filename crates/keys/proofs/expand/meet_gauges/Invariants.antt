@@ -1,0 +1,18 @@
+-- `expand::meet_gauges` meets its contract. The loop's invariant: the pairs of the gauges from run `first` on are still to come.
+use Prim.Native.Nat.{◌+◌, ◌-◌, ◌*◌, ◌≤◌}
+use mathlib.Core.Path.{refl}
+use native.Mathlib.Omega.{arith}
+use borrow.Author.Rules.{rules}
+use Rattle.met.specs.views.KeysMet.{keys_in, Chained}
+use Rattle.keys.proofs.EdgesInTurn.{bytes_most, many_most, CasesLeft, cases_start, cases_end, part_met, part_many}
+use Rattle.keys.proofs.RowsInTurn.{pairs_left, gauges_left, gauges_next, gauges_end}
+use Rattle.keys.proofs.expand.meet_gauges.Given as goal
+
+abbrev pub invariant-loop-first : goal.invariant-loop-first
+invariant-loop-first l =
+    (l.first ≤ l.framed.count) × (l.bytes + 1544 * l.initial.first ≤ 1544 * l.first) × Chained l.keys
+    × CasesLeft (gauges_left l.s l.asked l.runs l.framed.count l.initial.first) (gauges_left l.s l.asked l.runs l.framed.count l.first) (keys_in l.initial.keys)
+    l.keys l.bytes
+
+abbrev pub decreases-loop-first : goal.decreases-loop-first
+decreases-loop-first l = l.framed.count - l.first

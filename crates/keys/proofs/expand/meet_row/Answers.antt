@@ -1,0 +1,132 @@
+-- `expand::meet_row` meets its contract. The loop's invariant: the pairs from last run k on are still to come, and the key behind
+-- the union so far is met.
+use Prim.Native.Nat.{ℕ, ◌-◌, ◌*◌, ◌≤◌}
+use mathlib.Core.Path.{◌≡◌, sym, ap, ◌∙◌}
+use mathlib.Core.Logic.{⊎_elim}
+use native.Mathlib.Omega.{arith}
+use lib.Bits.{bit_or}
+use borrow.Author.Rules.{rules}
+use Rattle.cuts.specs.views.Runs.{run_at}
+use Rattle.edges.specs.views.KeysBehind.{run_behind}
+use Rattle.met.specs.views.KeysMet.{meet, keys_in, Chained}
+use Rattle.keys.specs.declared.Measured.TheVariants.{Bytes, TooMany}
+use Rattle.keys.proofs.EdgesInTurn.{CasesLeft}
+use Rattle.keys.proofs.RowsInTurn.{row_edges, row_left, met_last, row_many, row_start, row_met, row_next, next_many, row_end}
+use Rattle.keys.proofs.expand.meet_row.Goals as goal
+
+pub meet-requires : goal.meet-requires
+meet-requires c = c.requires.0
+
+pub returns-then-meet-ge1024 : goal.returns-then-meet-ge1024
+returns-then-meet-ge1024 c =
+    let a = c.args in
+    let s = a.s.now in
+    let runs = a.runs.now in
+    let count = a.row.count in
+    let first = a.row.first in
+    let behind = c.by_run.ensures in
+    let met = c.meet in (
+      row_many s a.asked runs count first c.requires.1 a.keys.now met.new.0 behind
+          (met.ensures.0.1 c.if-meet-ge1024.true),
+      (met.ensures.1, tt),
+    )
+
+pub loop-k-init : goal.loop-k-init
+loop-k-init c =
+    let a = c.args in
+    let s = a.s.now in
+    let runs = a.runs.now in
+    let count = a.row.count in
+    let first = a.row.first in
+    let behind = c.by_run.ensures in
+    let met = c.meet in
+    let same = met.ensures.0.0 c.if-meet-ge1024.false ∙ ap (meet (keys_in a.keys.now)) behind in (
+      omega (arith, c.requires.1),
+      omega arith,
+      met.ensures.1,
+      met_last (keys_in a.keys.now) (run_behind s a.asked (run_at runs first).set) met.new.0 same,
+      row_start s a.asked runs count first c.requires.1 met.new.0,
+    )
+
+pub meet-requires-then-more-set : goal.meet-requires-then-more-set
+meet-requires-then-more-set c = c.loop-k.invariant.2
+
+pub returns-then-meet-ge1024-2 : goal.returns-then-meet-ge1024-2
+returns-then-meet-ge1024-2 c =
+    let a = c.args in
+    let s = a.s.now in
+    let runs = a.runs.now in
+    let count = a.row.count in
+    let first = a.row.first in
+    let behind = c.by_run.ensures in
+    let met = c.meet in
+    let one = met.ensures.0.0 c.if-meet-ge1024.false in
+    let at = c.loop-k in
+    let test = c.loop-k-test.true in
+    let behind2 = c.by_run-then-more-set.ensures in
+    let next = c.meet-then-more-set in (
+      row_met s a.asked runs count first c.requires.1 a.keys.now met.new.0 behind one TooMany
+          next.new.0
+          (next_many s a.asked runs count first at.set at.k at.invariant.4 next.new.0 test behind2
+          (next.ensures.0.1 c.if-meet-ge1024-2.true)),
+      (next.ensures.1, tt),
+    )
+
+pub overflow_add-bytes : goal.overflow_add-bytes
+overflow_add-bytes c =
+    let size = c.case_length-size.ensures in
+    let at = c.loop-k in
+    let test = c.loop-k-test.true in
+    omega (arith, at.invariant.0, at.invariant.1, test, size.1, c.requires.2)
+
+pub loop-k-smaller : goal.loop-k-smaller
+loop-k-smaller c = omega (arith, c.loop-k-test.true)
+
+pub loop-k-preserved : goal.loop-k-preserved
+loop-k-preserved c =
+    let a = c.args in
+    let s = a.s.now in
+    let runs = a.runs.now in
+    let count = a.row.count in
+    let first = a.row.first in
+    let at = c.loop-k in
+    let test = c.loop-k-test.true in
+    let size = c.case_length-size.ensures in
+    let more = bit_or at.set (run_at runs at.k).set in
+    ⊎_elim
+    (λ w.
+    let same = w.3.ensures.0.0 w.4.left ∙ ap (meet (keys_in at.keys)) w.2.ensures in
+    rw w.5 (
+      omega (arith, test),
+      omega (arith, at.invariant.1, size.1),
+      w.3.ensures.1,
+      met_last (keys_in at.keys) (run_behind s a.asked more) w.3.last.0 same,
+      row_next s a.asked runs count first at.set at.k at.invariant.4 test same (size.0 _),
+    ))
+    (λ w.
+    let same = at.invariant.3 ∙ ap (λ (set : ℕ). meet (keys_in at.keys) (run_behind s a.asked set)) (sym w.0.left) in
+    rw w.1 (
+      omega (arith, test),
+      omega (arith, at.invariant.1, size.1),
+      at.invariant.2,
+      same,
+      row_next s a.asked runs count first at.set at.k at.invariant.4 test same (size.0 _),
+    ))
+    c.if-more-set.branch
+
+pub returns : goal.returns
+returns c =
+    let a = c.args in
+    let s = a.s.now in
+    let runs = a.runs.now in
+    let count = a.row.count in
+    let first = a.row.first in
+    let behind = c.by_run.ensures in
+    let met = c.meet in
+    let one = met.ensures.0.0 c.if-meet-ge1024.false in
+    let at = c.loop-k in (
+      row_met s a.asked runs count first c.requires.1 a.keys.now met.new.0 behind one
+          (Bytes at.bytes) at.keys
+          (row_end s a.asked runs count first at.set at.k at.invariant.4 c.loop-k-test.false),
+      (at.invariant.2, omega (arith, at.invariant.0, at.invariant.1, c.requires.2)),
+    )

@@ -1,0 +1,44 @@
+-- `expand::meet_two` meets its contract.
+use mathlib.Core.Path.{refl}
+use mathlib.Core.List.{[], ◌∷◌}
+use native.Mathlib.Omega.{arith}
+use borrow.Author.Rules.{rules}
+use Rattle.edges.specs.views.VertexKey.{key_in}
+use Rattle.met.specs.views.KeysMet.{keys_in}
+use Rattle.keys.proofs.EdgesInTurn.{one_many, second_many, second_met}
+use Rattle.keys.proofs.expand.meet_two.Goals as goal
+
+pub returns-then-meet-ge1024 : goal.returns-then-meet-ge1024
+returns-then-meet-ge1024 c =
+    let a = c.args in
+    let first = c.meet.ensures in (
+      one_many (keys_in a.keys.now) (key_in a.first) (key_in a.second ∷ []) (first.0.1 c.if-meet-ge1024.true),
+      (first.1, tt),
+    )
+
+pub meet-requires-2 : goal.meet-requires-2
+meet-requires-2 c = c.meet.ensures.1
+
+pub returns-then-meet-ge1024-2 : goal.returns-then-meet-ge1024-2
+returns-then-meet-ge1024-2 c =
+    let a = c.args in
+    let first = c.meet.ensures in
+    let second = c.meet-2.ensures in (
+      second_many (keys_in a.keys.now) c.meet.new.0 (key_in a.first) (key_in a.second)
+          (first.0.0 c.if-meet-ge1024.false) (second.0.1 c.if-meet-ge1024-2.true),
+      (second.1, tt),
+    )
+
+pub returns : goal.returns
+returns c =
+    let a = c.args in
+    let first = c.meet.ensures in
+    let second = c.meet-2.ensures in (
+      (
+        second_met (keys_in a.keys.now) c.meet.new.0 c.meet-2.new.0
+            (key_in a.first) (key_in a.second) (first.0.0 c.if-meet-ge1024.false)
+            (second.0.0 c.if-meet-ge1024-2.false),
+        refl,
+      ),
+      (second.1, omega arith),
+    )

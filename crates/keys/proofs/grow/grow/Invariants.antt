@@ -1,0 +1,21 @@
+-- `grow::grow` meets its contract. The loop's invariant: what is left to look at from the keys met gives all.
+use Prim.Native.Nat.{◌-◌, ◌*◌, ◌≤◌, ◌<◌}
+use mathlib.Core.Path.{◌≡◌, refl}
+use native.Mathlib.Omega.{arith}
+use lib.ListN.{length}
+use borrow.Author.Rules.{rules}
+use Rattle.edges.specs.views.VertexKey.{key_in}
+use Rattle.met.specs.views.KeysMet.{count_in, keys_in, Chained}
+use Rattle.met.proofs.Chains.{zeros_chained}
+use Rattle.met.proofs.Meeting.{new_number_lem}
+use Rattle.keys.specs.views.Expanded.{most_length}
+use Rattle.keys.proofs.EdgesInTurn.{bytes_most, many_most}
+use Rattle.keys.proofs.GrowingKeys.{Growing, root_added, growing_start, grown_all, grown_turn, grown_many}
+use Rattle.keys.proofs.grow.grow.Given as goal
+
+abbrev pub invariant-loop-k : goal.invariant-loop-k
+invariant-loop-k l =
+    Chained l.keys × (length l.runs ≡ 579) × (l.k ≤ count_in l.keys) × (l.bytes ≤ most_length * l.k) × Growing l.s l.c (keys_in l.keys) l.k l.bytes
+
+abbrev pub decreases-loop-k : goal.decreases-loop-k
+decreases-loop-k l = 1024 - l.k

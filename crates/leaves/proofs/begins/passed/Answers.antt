@@ -1,0 +1,10 @@
+-- `passed` meets its contract.
+use borrow.Author.Tests.{eq-eqb, ne_eqb}
+use borrow.Author.Rules.{rules}
+use Rattle.leaves.proofs.begins.passed.Goals as goal
+
+pub returns-then-begin-eq0 : goal.returns-then-begin-eq0
+returns-then-begin-eq0 c = simp (eq-eqb _ _ c.if-begin-eq0.true)
+
+pub returns : goal.returns
+returns c = simp (ne_eqb _ _ c.if-begin-eq0.false)

@@ -1,0 +1,16 @@
+-- The patterns of a rule are a row from place 0 on.
+use mathlib.Core.Path.{refl}
+use native.Mathlib.Omega.{arith}
+use Rattle.records.proofs.Parts.{rest_length}
+use Rattle.sheet.proofs.Rows.{part_read}
+use Rattle.marks.specs.views.Marks.{marked}
+use borrow.Author.Rules.{rules}
+use Rattle.marks.proofs.rule.read_marks.Goals as goal
+
+pub returns : goal.returns
+returns c =
+    let a = c.args in
+    let s = a.s.now in (
+      part_read marked 3 a.arity 0 s c.patterns.ensures.0 refl refl,
+      omega (arith, c.patterns.ensures.1, rest_length s 0),
+    )

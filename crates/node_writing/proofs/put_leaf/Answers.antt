@@ -1,0 +1,21 @@
+-- `node_writing::put_leaf` meets its contract, for each leaf.
+use borrow.Author.Rules.{rules}
+use Rattle.node_writing.proofs.put_leaf.Goals as goal
+
+pub put-requires : goal.put-requires
+put-requires c = rw c.enum_told-1.given.1 at c.requires
+
+pub put-requires-in-Suspend : goal.put-requires-in-Suspend
+put-requires-in-Suspend c = rw c.enum_told-in-Suspend-1.given.1 at c.requires
+
+pub put-requires-in-Execute : goal.put-requires-in-Execute
+put-requires-in-Execute c = rw c.leaf-1.given.1 at c.requires
+
+pub returns-in-Fail : goal.returns-in-Fail
+returns-in-Fail c = rw c.enum_told-1.given.1 c.put.ensures
+
+pub returns-in-Suspend : goal.returns-in-Suspend
+returns-in-Suspend c = rw c.enum_told-in-Suspend-1.given.1 c.put-in-Suspend.ensures
+
+pub returns-in-Execute : goal.returns-in-Execute
+returns-in-Execute c = rw c.leaf-1.given.1 c.put-in-Execute.ensures

@@ -1,0 +1,15 @@
+-- The bytes that a writer says it wrote, packed.
+use mathlib.Core.Path.{sym, subst}
+use Rattle.graph_check.specs.declared.Rewrote.{Rewrote}
+use Rattle.graph_check.specs.Rewritten.{left_by}
+use Rattle.packing.specs.Packed.{Packs, written_fields}
+use borrow.Author.Rules.{rules}
+use Rattle.packing.proofs.writers.pack_rewrote.Goals as goal
+
+pub returns-in-Written : goal.returns-in-Written
+returns-in-Written c =
+    λ buffer. subst (λ (x : Rewrote). Packs c.pack_wide.result (written_fields (left_by x buffer))) (sym c.written-1.given.1) c.pack_wide.ensures
+
+pub returns-in-Refused : goal.returns-in-Refused
+returns-in-Refused c =
+    λ buffer. subst (λ (x : Rewrote). Packs c.pack_wide-in-Refused.result (written_fields (left_by x buffer))) (sym c.written-in-Refused-1.given.1) c.pack_wide-in-Refused.ensures

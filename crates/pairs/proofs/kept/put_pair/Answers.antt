@@ -1,0 +1,59 @@
+-- A pair more: too many stay too many, one that is there stays once, and any other is put where it belongs.
+use mathlib.Core.Logic.{⊎_elim}
+use native.Mathlib.Omega.{arith}
+use Rattle.pairs.proofs.KeptLists.{keep_many, keep_there, keep_here, slot_low}
+use Rattle.pairs.proofs.PutPairs.{start_passed, put_there, put_here}
+use borrow.Author.Rules.{rules}
+use Rattle.pairs.proofs.kept.put_pair.Goals as goal
+
+pub returns-then-put-gt64 : goal.returns-then-put-gt64
+returns-then-put-gt64 c =
+    (keep_many c.args.codes.now c.args.put.count c.args.code c.if-put-gt64.true, c.requires)
+
+pub position-at-requires : goal.position-at-requires
+position-at-requires c =
+    let from = start_passed c.args.codes.now c.args.put c.args.code c.requires c.passed_by.ensures in
+    (from.0, omega arith, c.requires.all_codes, from.1)
+
+pub returns-then-codes-at : goal.returns-then-codes-at
+returns-then-codes-at c =
+    let a = c.args in
+    let position = c.position-at in
+    let if2 = c.if-at-n in (
+      keep_there a.codes.now a.put.count a.code (omega arith) (omega (arith, c.requires.all_codes))
+          position.result position.ensures if2.true c.if-codes-at.true,
+      put_there a.codes.now a.put.count a.code (omega arith) c.requires.all_codes position.result
+          position.ensures if2.true c.if-codes-at.true,
+    )
+
+pub insert_at-requires : goal.insert_at-requires
+insert_at-requires c =
+    let a = c.args in
+    let position = c.position-at in (
+      slot_low a.codes.now a.put.count a.code (omega arith) (omega (arith, c.requires.all_codes)) position.result
+          position.ensures,
+      omega arith,
+      c.requires.all_codes,
+    )
+
+pub overflow_add-result-3 : goal.overflow_add-result-3
+overflow_add-result-3 c =
+    let a = c.args in
+    omega (
+      arith,
+      slot_low a.codes.now a.put.count a.code (omega arith) (omega (arith, c.requires.all_codes))
+          c.position-at.result c.position-at.ensures,
+    )
+
+pub returns : goal.returns
+returns c =
+    let a = c.args in
+    let position = c.position-at in
+    let if2 = c.if-at-n in (
+      keep_here a.codes.now a.put.count a.code (omega arith) (omega (arith, c.requires.all_codes)) position.result
+          position.ensures c.insert_at.new.0 (omega (arith, c.insert_at.ensures.1))
+          (⊎_elim (λ w l. w.2.left) (λ w l. absurd (omega (arith, w.left))) if2.branch)
+          c.insert_at.ensures.0,
+      put_here a.codes.now a.put.count a.code (omega arith) c.requires.all_codes position.result
+          position.ensures c.insert_at.new.0 c.insert_at.ensures.1 c.insert_at.ensures.0,
+    )

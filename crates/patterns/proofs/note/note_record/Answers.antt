@@ -1,0 +1,53 @@
+-- The record of a note, by the kind that its number holds.
+use borrow.Author.Tests.{ne_eqb}
+use Rattle.patterns.specs.views.NoteCode.{code_record}
+use borrow.Author.Rules.{rules}
+use Rattle.patterns.proofs.note.note_record.Goals as goal
+
+pub returns-in-1 : goal.returns-in-1
+unfolding code_record
+returns-in-1 c =
+    simp c.in-1.keys1
+
+pub returns-in-2 : goal.returns-in-2
+unfolding code_record
+returns-in-2 c =
+    simp c.in-1.keys2
+
+pub returns-in-3 : goal.returns-in-3
+unfolding code_record
+returns-in-3 c =
+    simp c.in-1.keys3
+
+pub returns-in-4 : goal.returns-in-4
+unfolding code_record
+returns-in-4 c =
+    simp c.in-1.keys4
+
+pub returns-in-5 : goal.returns-in-5
+unfolding code_record
+returns-in-5 c =
+    simp c.in-1.keys5
+
+pub returns-in-6 : goal.returns-in-6
+unfolding code_record
+returns-in-6 c =
+    simp c.in-1.keys6
+
+pub returns-in-7 : goal.returns-in-7
+unfolding code_record
+returns-in-7 c =
+    simp c.in-1.keys7
+
+pub returns-in_default : goal.returns-in_default
+unfolding code_record
+returns-in_default c =
+    simp (
+      ne_eqb _ _ c.in-1.rest.0.0.0.0.0.0.1,
+      ne_eqb _ _ c.in-1.rest.0.0.0.0.0.1,
+      ne_eqb _ _ c.in-1.rest.0.0.0.0.1,
+      ne_eqb _ _ c.in-1.rest.0.0.0.1,
+      ne_eqb _ _ c.in-1.rest.0.0.1,
+      ne_eqb _ _ c.in-1.rest.0.1,
+      ne_eqb _ _ c.in-1.rest.1,
+    )

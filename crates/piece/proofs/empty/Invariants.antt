@@ -1,0 +1,14 @@
+-- `empty` meets its contract: the cells of one argument after another are emptied, and from there on they were empty.
+use Prim.Native.Nat.{◌*◌, ◌-◌, ◌≤◌}
+use mathlib.Core.Path.{◌∙◌}
+use native.Mathlib.Omega.{arith}
+use borrow.Author.Rules.{rules}
+use Rattle.piece.specs.views.Emptied.{Emptied}
+use Rattle.piece.proofs.Emptying.{emptied_none, emptied_more, emptied_to, emptied_all, argument_still}
+use Rattle.piece.proofs.empty.Given as goal
+
+abbrev pub invariant-loop-a : goal.invariant-loop-a
+invariant-loop-a l = (l.a ≤ 8) × Emptied 0 (85 * l.a) l.initial.cells l.cells
+
+abbrev pub decreases-loop-a : goal.decreases-loop-a
+decreases-loop-a l = 8 - l.a

@@ -1,0 +1,78 @@
+-- `read_prefix` meets its contract: the record that the piece begins with, then its terms read into empty cells.
+use Prim.Native.Nat.{ℕ, ◌+◌, ◌≤◌}
+use mathlib.Core.Path.{◌≡◌, ap, ap₂, sym, ◌∙◌}
+use mathlib.Core.List.{List}
+use native.Mathlib.Omega.{arith}
+use lib.ListN.{length}
+use borrow.Author.Rules.{rules}
+use Rattle.records.specs.Reading.{Reading, map_reading, after}
+use Rattle.records.proofs.Parts.{rest, rest_length}
+use Rattle.piece.specs.declared.Taken.{Taken}
+use Rattle.piece.specs.declared.Taken.TheVariants.{Bytes}
+use Rattle.piece.specs.ReadPiece.{read_prefix}
+use Rattle.piece.specs.views.LaidOut.{LaidOut, took_cells, terms_cells, lay_out, prefix_bytes}
+use Rattle.piece.proofs.TermCells.{terms_fit}
+use Rattle.piece.proofs.PiecesRead.{ArityRead, arity_known, arity_refused, terms_laid}
+use Rattle.piece.proofs.read_prefix.Goals as goal
+
+-- Where the arity is known.
+module _ (c : goal.In-Read) where
+  abbrev bytes : List ℕ
+  bytes = c.args.s.now
+
+  abbrev arity : ℕ
+  arity = c.head-1.given.0.0
+
+  known : ArityRead bytes c.head-1.given.0.1.0 arity
+  known =
+      arity_known bytes c.piece_head-head.result c.piece_head-head.ensures
+      c.head-1.given.1
+
+-- Where the terms were read or refused.
+module _ (c : goal.After-terms-taken) where
+  abbrev start : goal.In-Read
+  start = c
+
+  abbrev laid : Taken → Reading LaidOut
+  laid r =
+      after 2 (λ cells. record { arity = arity start; cells = cells }) (took_cells c.terms-taken.new.1.1.1.1.0 r)
+
+  laid_out : laid c.terms-taken.result ≡ map_reading lay_out (read_prefix (bytes start))
+  laid_out =
+      let head = start.before.before.before.piece-head in
+      terms_laid (bytes start) head.result head.ensures start.before.head.given.1
+      (c.terms-taken.ensures ∙ ap₂ (terms_cells 3 (arity start) 0) c.empty.ensures (rest (bytes start) 2))
+
+  within : {b : ℕ} → c.terms-taken.result ≡ Bytes b → 2 + b ≤ length (bytes start)
+  within told =
+      let fits = terms_fit 3 _ _ 0 _ _ c.terms-taken.result c.terms-taken.ensures told in
+      omega (arith, fits, rest_length (bytes start) 2, (known start).there)
+
+pub returns-in_default : goal.returns-in_default
+returns-in_default c =
+    let told = c.enum_told-1.given.1 in (
+      arity_refused c.args.s.now c.piece_head-head.result c.piece_head-head.ensures told _,
+      omega (arith, ap prefix_bytes told),
+    )
+
+pub slice_bounds-terms-count : goal.slice_bounds-terms-count
+slice_bounds-terms-count c = omega (arith, (known c).there)
+
+pub slice_bounds-terms-start : goal.slice_bounds-terms-start
+slice_bounds-terms-start c = omega (arith, (known c).there)
+
+pub terms-taken-requires : goal.terms-taken-requires
+terms-taken-requires c = omega (arith, (known c).most)
+
+pub overflow_add-result : goal.overflow_add-result
+overflow_add-result c =
+    omega (arith, within c c.taken-1.given.1, (start c).before.before.before.before.before.well_formed.0.0)
+
+pub returns-in-Bytes : goal.returns-in-Bytes
+returns-in-Bytes c =
+    let told = c.taken-1.given.1 in
+    (ap (laid c) (sym told) ∙ laid_out c, within c told)
+
+pub returns-in-Refused : goal.returns-in-Refused
+returns-in-Refused c =
+    (ap (laid c) (sym c.taken-in-Refused-taken-1.given.1) ∙ laid_out c, omega arith)

@@ -1,0 +1,27 @@
+-- A loop over the later notes: what is gathered and what is left make up all pairs of the place.
+use Prim.Native.Nat.{ℕ, ◌+◌, ◌-◌, ◌≤◌}
+use mathlib.Core.Path.{◌≡◌, refl, sym, ap, ◌∙◌}
+use mathlib.Core.Logic.{⊎_elim}
+use native.Mathlib.Omega.{arith}
+use lib.ListN.{length, get_or, drop}
+use Rattle.terms.specs.RuleTests.{both, pairs_with}
+use Rattle.terms.specs.Outcome.{Outcome, ◌and◌, together}
+use Rattle.patterns.specs.views.NoteCode.{code_place}
+use Rattle.sheet.specs.views.NoteArray.{notes_in}
+use Rattle.pairs.specs.views.NoteVariables.{names_variable, notes_variables, Placed}
+use Rattle.pairs.proofs.NoteRows.{notes_each}
+use Rattle.outcomes.specs.views.CellOutcome.{outcome_of, pair_cells}
+use Rattle.plain.specs.views.NotesOutcome.{pair_test_cells}
+use Rattle.plain.proofs.Gathering.{gathered_more, gathered_all}
+use Rattle.plain.proofs.NoteTurns.{named_turn, other_turn, no_pair}
+use borrow.Author.Rules.{rules}
+use Rattle.plain.proofs.rule.pairs_with.Given as goal
+
+abbrev pub invariant-loop-j : goal.invariant-loop-j
+invariant-loop-j l =
+    (l.j ≤ l.n)
+    × (◌and◌ (outcome_of l.outcome) (together (pair_test_cells l.cells) (pairs_with l.place l.v (notes_variables (drop l.j (notes_in l.notes l.n)))))
+    ≡ together (pair_test_cells l.cells) (pairs_with l.place l.v (notes_variables (drop l.from (notes_in l.notes l.n)))))
+
+abbrev pub decreases-loop-j : goal.decreases-loop-j
+decreases-loop-j l = l.n - l.j

@@ -1,0 +1,73 @@
+-- A loop over the notes: the place tests of those passed are in the set.
+use Prim.Native.Nat.{ℕ, ◌+◌, ◌-◌, ◌≤◌}
+use mathlib.Core.Path.{◌≡◌, refl, sym, ap, ◌∙◌, subst}
+use mathlib.Core.Logic.{⊎_elim}
+use native.Mathlib.Omega.{arith}
+use lib.ListN.{length, get_or, drop}
+use Rattle.patterns.specs.declared.PatternRecord.{PatternRecord}
+use Rattle.patterns.specs.views.NoteCode.{Fitting}
+use Rattle.sheet.specs.views.NoteArray.{notes_in}
+use Rattle.patterns.proofs.NoteCodes.{code_fits}
+use Rattle.pairs.specs.views.NoteVariables.{Placed}
+use Rattle.pairs.proofs.NoteRows.{notes_each}
+use Rattle.rows.specs.views.Wants.{record_want, notes_tests, wanted_codes}
+use Rattle.rows.specs.views.Row.{with_test, with_tests, place_numbers}
+use Rattle.rows.proofs.NotesWanted.{want_here, wanted_some, wanted_none}
+use Rattle.rows.proofs.RowTurns.{places_from, places_turn, places_skip, places_end}
+use borrow.Author.Rules.{rules}
+use Rattle.rows.proofs.row.places_row.Goals as goal
+
+pub loop-i-init : goal.loop-i-init
+loop-i-init c = (omega arith, refl)
+
+pub record_wanted-wanted-requires : goal.record_wanted-wanted-requires
+record_wanted-wanted-requires c =
+    let notes = c.args.notes.now in
+    subst Fitting (sym c.note_record.ensures) (code_fits (get_or notes c.loop-i.i 0))
+
+pub place_number-requires : goal.place_number-requires
+place_number-requires c =
+    let turn = c.loop-i in
+    let notes = c.args.notes.now in
+    let placed = notes_each notes c.args.n (omega arith) Placed turn.i c.requires.2 (omega arith) in
+    (omega (arith, c.note_place.ensures), c.requires.3)
+
+pub loop-i-preserved : goal.loop-i-preserved
+loop-i-preserved c =
+    let turn = c.loop-i in
+    let a = c.args in
+    let notes = a.notes.now in
+    let numbers = a.numbers.now in
+    let low = a.ranges.low in
+    let high = a.ranges.high in
+    let within : a.n ≤ length notes = omega (arith, c.requires) in
+    let i = turn.i in
+    let what = c.note_record.ensures in
+    let want = c.record_wanted-wanted.ensures ∙ ap (λ (r : PatternRecord). wanted_codes (record_want low high r)) what in
+    ⊎_elim
+    (λ w.
+    let (v, is, least, most) = wanted_some (want_here low high notes a.n within i) (sym w.1.given.1 ∙ want) in
+    let t = w.3.ensures.0 ∙ ap (λ (p : ℕ). get_or numbers p 0) w.2.ensures in (
+      omega arith,
+      ap (places_from low high notes a.n within i numbers (i + 1)) (w.5 ∙ w.4.ensures ∙ ap (with_test turn.row) t)
+          ∙ places_turn low high notes a.n within i numbers (omega arith) v is turn.row
+          ∙ turn.invariant.1,
+    ))
+    (λ w.
+    let is = wanted_none (want_here low high notes a.n within i) (sym w.1.given.1 ∙ want) in (
+      omega arith,
+      ap (places_from low high notes a.n within i numbers (i + 1)) w.2
+          ∙ places_skip low high notes a.n within i numbers (omega arith) is turn.row
+          ∙ turn.invariant.1,
+    ))
+    c.in-Codes.branch
+
+pub returns : goal.returns
+returns c =
+    let turn = c.loop-i in
+    let a = c.args in
+    let notes = a.notes.now in
+    let within : a.n ≤ length notes = omega (arith, c.requires) in
+    sym
+    (places_end a.ranges.low a.ranges.high notes a.n within turn.i a.numbers.now (omega arith) turn.row)
+    ∙ turn.invariant.1

@@ -1,0 +1,83 @@
+-- A loop over the arguments: those passed hold or are not known, and the others follow them.
+use Prim.Native.Nat.{ℕ, ◌+◌, ◌-◌, ◌≤◌}
+use mathlib.Core.Path.{◌≡◌, sym, ap, subst, ◌∙◌}
+use native.Mathlib.Omega.{arith}
+use lib.Dec.{T}
+use lib.ListN.{length, drop}
+use Rattle.records.specs.Reading.{took}
+use Rattle.records.proofs.Parts.{rest, rest_length}
+use Rattle.terms.specs.Pattern.{Patterns}
+use Rattle.sheet.specs.ReadSheet.{read_patterns}
+use Rattle.patterns.specs.declared.PatternHead.TheVariants.{Whole}
+use Rattle.patterns.specs.views.PatternRecord.{pattern_head}
+use Rattle.patterns.proofs.Heads.{head_whole}
+use Rattle.outcomes.specs.views.CellOutcome.{outcome_of}
+use Rattle.plain.specs.views.NotesOutcome.{flat_bytes}
+use Rattle.rule_by_rule.proofs.FlatArguments.{Left, flat_there, left_all, left_out, left_next}
+use borrow.Author.Rules.{rules}
+use Rattle.rule_by_rule.proofs.flat.is_out.Goals as goal
+
+pub loop-i-init : goal.loop-i-init
+loop-i-init c =
+    let a = c.args in (omega arith, omega arith, λ b rule read. left_all a.arity a.s.now read)
+
+-- Where a record was read.
+module _ (c : goal.In-Whole) where
+  abbrev at_loop : goal.At-loop-i
+  at_loop = c
+
+  abbrev start : goal.Start
+  start = at_loop.before.before
+
+  head : pattern_head (drop at_loop.loop.at start.args.s.now) ≡ Whole c.head-1.given.0.0
+  head =
+      sym (ap pattern_head (rest start.args.s.now at_loop.loop.at))
+      ∙ sym c.pattern_head-head.ensures
+      ∙ c.head-1.given.1
+
+  bytes_there : at_loop.loop.at + flat_bytes c.head-1.given.0.0 ≤ length start.args.s.now
+  bytes_there =
+      let s = start.args.s.now in
+      let at = at_loop.loop.at in
+      omega (
+        arith,
+        flat_there c.head-1.given.0.0,
+        head_whole (drop at s) head,
+        ap length (sym (rest s at)) ∙ rest_length s at,
+        at_loop.loop.inv.1,
+      )
+
+pub fixed_outcome-one-requires : goal.fixed_outcome-one-requires
+fixed_outcome-one-requires c = omega arith
+
+pub returns-in_default : goal.returns-in_default
+returns-in_default c = λ e. absurd (subst T (sym e) tt)
+
+pub returns-in-Contradicted : goal.returns-in-Contradicted
+returns-in-Contradicted c =
+    let a = (start c).args in
+    λ e b rule read.
+    left_out ((at_loop c).loop.invariant.2 b rule read) (omega arith) (head c) a.cells.now
+    (sym c.fixed_outcome-one.ensures ∙ ap outcome_of c.enum_told-in-Contradicted-1.given.1)
+
+pub returns-then-bytes-eq0 : goal.returns-then-bytes-eq0
+returns-then-bytes-eq0 c = λ e. absurd (subst T (sym e) tt)
+
+pub overflow_add-at : goal.overflow_add-at
+overflow_add-at c =
+    omega (arith, c.flat_length-bytes.ensures, bytes_there c, (start c).well_formed.0.0)
+
+pub loop-i-preserved : goal.loop-i-preserved
+loop-i-preserved c =
+    let bytes = c.flat_length-bytes.ensures in
+    let turn = (at_loop c).loop in (
+      omega arith,
+      omega (arith, bytes, bytes_there c),
+      λ b rule read.
+          subst (λ (k : ℕ). Left (start c).args.arity (start c).args.s.now rule (turn.i + 1) (turn.at + k))
+          (sym bytes)
+          (left_next (turn.inv.2 b rule read) (omega arith) (head c) (λ none. c.if-bytes-eq0.false (bytes ∙ none))),
+    )
+
+pub returns : goal.returns
+returns c = λ e. absurd (subst T (sym e) tt)

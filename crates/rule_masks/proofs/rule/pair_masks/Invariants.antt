@@ -1,0 +1,24 @@
+-- A loop over the notes: the pairs of those passed are made.
+use Prim.Native.Nat.{ℕ, ◌+◌, ◌-◌, ◌≤◌}
+use mathlib.Core.Path.{◌≡◌, refl, sym, ap, ◌∙◌}
+use mathlib.Core.Logic.{⊎_elim}
+use native.Mathlib.Omega.{arith}
+use lib.ListN.{length, drop}
+use Rattle.sheet.specs.views.NoteArray.{notes_in}
+use Rattle.pairs.specs.views.NoteVariables.{name_of, notes_codes, Placed}
+use Rattle.pairs.proofs.NoteRows.{notes_each}
+use Rattle.rule_masks.specs.declared.Masks.{Masks}
+use Rattle.rule_masks.specs.views.Kept.{listed_tests}
+use Rattle.rule_masks.specs.views.RuleMasks.{after_pairs}
+use Rattle.rule_masks.proofs.MadeTurns.{with_from, pairs_from, pairs_named, pairs_nameless, pairs_end}
+use borrow.Author.Rules.{rules}
+use Rattle.rule_masks.proofs.rule.pair_masks.Given as goal
+
+abbrev pub invariant-loop-i : goal.invariant-loop-i
+invariant-loop-i l =
+    (l.i ≤ l.n)
+    × (after_pairs (listed_tests l.kept) l.cells (notes_codes (drop l.i (notes_in l.notes l.n))) l.all
+    ≡ after_pairs (listed_tests l.kept) l.cells (notes_codes (notes_in l.notes l.n)) l.initial.all)
+
+abbrev pub decreases-loop-i : goal.decreases-loop-i
+decreases-loop-i l = l.n - l.i

@@ -1,0 +1,64 @@
+-- A loop over the later notes: the pairs with those passed are made.
+use Prim.Native.Nat.{ℕ, ◌+◌, ◌-◌, ◌≤◌}
+use mathlib.Core.Path.{◌≡◌, refl, sym, ap, ◌∙◌}
+use mathlib.Core.Logic.{⊎_elim}
+use native.Mathlib.Omega.{arith}
+use lib.ListN.{length, drop}
+use Rattle.sheet.specs.views.NoteArray.{notes_in}
+use Rattle.pairs.specs.views.KeptPairs.{pair_code}
+use Rattle.pairs.specs.views.NoteVariables.{names_variable, codes_with, Placed}
+use Rattle.pairs.proofs.NoteRows.{notes_each}
+use Rattle.rule_masks.specs.views.Kept.{listed_tests}
+use Rattle.rule_masks.specs.views.RuleMasks.{pair_made, with_made, after_pairs}
+use Rattle.rule_masks.proofs.MadeTurns.{with_from, with_yes, with_no, with_end}
+use borrow.Author.Rules.{rules}
+use Rattle.rule_masks.proofs.rule.pairs_with.Goals as goal
+
+pub loop-j-init : goal.loop-j-init
+loop-j-init c = (c.requires.0, refl)
+
+pub with_pair-all-requires : goal.with_pair-all-requires
+with_pair-all-requires c =
+    let turn = c.loop-j in
+    let notes = c.args.notes.now in
+    let placed = notes_each notes c.args.n (omega arith) Placed turn.j c.requires.4 (omega arith) in
+    (c.requires.5, c.requires.6, c.requires.2, omega (arith, c.note_place.ensures))
+
+pub loop-j-preserved : goal.loop-j-preserved
+loop-j-preserved c =
+    let turn = c.loop-j in
+    let a = c.args in
+    let notes = a.notes.now in
+    let cells = a.cells.now in
+    let tests = listed_tests a.kept.now in
+    let p = a.spot.place in
+    let v = a.spot.name in
+    let within : a.n ≤ length notes = omega (arith, c.requires) in
+    let j = turn.j in
+    let test = ap (names_variable v) (sym c.note_record.ensures) ∙ sym c.is_named.ensures in
+    ⊎_elim
+    (λ w.
+    let put = w.2.ensures ∙ ap (λ (q : ℕ). with_made tests turn.all (pair_made cells (pair_code p q))) w.1.ensures in (
+      omega arith,
+      ap (with_from tests cells notes a.n within j p v (j + 1)) (w.3 ∙ put)
+          ∙ with_yes tests cells notes a.n within j p v (omega arith) (test ∙ w.0.taken) turn.all
+          ∙ turn.invariant.1,
+    ))
+    (λ w. (
+      omega arith,
+      ap (with_from tests cells notes a.n within j p v (j + 1)) w.1
+          ∙ with_no tests cells notes a.n within j p v (omega arith) (test ∙ w.0.left) turn.all
+          ∙ turn.invariant.1,
+    ))
+    c.if-is_named.branch
+
+pub returns : goal.returns
+returns c =
+    let turn = c.loop-j in
+    let a = c.args in
+    let notes = a.notes.now in
+    let within : a.n ≤ length notes = omega (arith, c.requires) in
+    sym
+    (with_end (listed_tests a.kept.now) a.cells.now notes a.n within turn.j a.spot.place a.spot.name
+    (omega arith) turn.all)
+    ∙ turn.invariant.1

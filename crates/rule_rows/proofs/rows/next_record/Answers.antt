@@ -1,0 +1,43 @@
+-- The head of what is left, and what follows it.
+use Prim.Native.Nat.{◌≤◌}
+use mathlib.Core.Path.{sym, ◌∙◌}
+use native.Mathlib.Omega.{arith}
+use Rattle.rule_rows.proofs.NextRecords.{ends_last, ends_cut, record_there, goes_next, goes_on}
+use borrow.Author.Rules.{rules}
+use Rattle.rule_rows.proofs.rows.next_record.Goals as goal
+
+pub returns-then-fewer-eq0 : goal.returns-then-fewer-eq0
+returns-then-fewer-eq0 c =
+    (ends_last c.args.s.now c.args.row (sym c.fewer.ensures ∙ c.if-fewer-eq0.true), tt)
+
+pub returns-in_default : goal.returns-in_default
+returns-in_default c =
+    (ends_cut c.args.s.now c.args.row c.pattern_head-head.ensures c.enum_told-1.given.1, tt)
+
+pub overflow_add-result : goal.overflow_add-result
+overflow_add-result c =
+    omega (
+      arith,
+      record_there c.args.s.now c.args.row c.pattern_head-head.ensures c.head-1.given.1
+          c.record_length.ensures c.requires,
+    )
+
+pub overflow_sub-result : goal.overflow_sub-result
+overflow_sub-result c =
+    omega (arith, c.if-fewer-eq0.false, c.fewer.ensures)
+
+pub overflow_sub-result-2 : goal.overflow_sub-result-2
+overflow_sub-result-2 c =
+    omega (arith, c.if-fewer-eq0.false, c.fewer.ensures)
+
+pub returns : goal.returns
+returns c =
+    let s = c.args.s.now in
+    let row = c.args.row in
+    let is = c.pattern_head-head.ensures in
+    let e = c.head-1.given.1 in
+    let size = c.record_length.ensures in
+    let more = c.arguments.ensures.0 in
+    let most : 1 ≤ row.most = omega (arith, c.if-fewer-eq0.false, c.fewer.ensures) in
+    let patterns : 1 ≤ row.patterns = omega (arith, c.if-fewer-eq0.false, c.fewer.ensures) in
+    (goes_next s row is e size more most patterns, goes_on s row is e size more most patterns c.requires c.arguments.ensures.1)

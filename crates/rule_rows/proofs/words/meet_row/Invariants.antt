@@ -1,0 +1,19 @@
+-- A loop over the records: what is known, with the records left, is what is known at the end.
+use mathlib.Core.Path.{◌≡◌, refl, sym, ap, ◌∙◌}
+use Prim.Native.Nat.{ℕ}
+use mathlib.Core.List.{List}
+use lib.ListN.{length}
+use native.Mathlib.Omega.{arith}
+use Rattle.rule_rows.proofs.NextRecords.{goes, ends, behind_it}
+use Rattle.rule_rows.specs.views.Row.{records_from, Going}
+use Rattle.rule_rows.specs.views.Words.{met_records}
+use borrow.Author.Rules.{rules}
+use Rattle.rule_rows.proofs.words.meet_row.Given as goal
+
+abbrev pub invariant-loop-what : goal.invariant-loop-what
+invariant-loop-what l =
+    Going l.s l.row × (length l.words ≡ 16) × (met_records l.words (records_from l.s l.row) ≡ met_records l.initial.words (records_from l.s l.initial.row))
+
+abbrev pub decreases-loop-what : goal.decreases-loop-what
+decreases-loop-what l =
+    l.row.most

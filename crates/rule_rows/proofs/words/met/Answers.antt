@@ -1,0 +1,7 @@
+-- The parts are taken out, met, and put together again.
+use Rattle.rule_rows.proofs.WordLaws.{met_is}
+use borrow.Author.Rules.{rules}
+use Rattle.rule_rows.proofs.words.met.Goals as goal
+
+pub returns : goal.returns
+returns c = met_is c.args.word c.args.low c.args.high c.smaller-uses.ensures c.smaller-most.ensures c.larger-least.ensures

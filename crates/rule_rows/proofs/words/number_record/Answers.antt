@@ -1,0 +1,47 @@
+-- Only a variable's record counts.
+use mathlib.Core.Path.{sym, ap, ◌∙◌}
+use native.Mathlib.Omega.{arith}
+use Rattle.patterns.specs.declared.PatternRecord.{PatternRecord}
+use Rattle.rule_rows.specs.views.Words.{Numbering, number_record}
+use borrow.Author.Rules.{rules}
+use Rattle.rule_rows.proofs.words.number_record.Goals as goal
+
+pub returns-in-Anything : goal.returns-in-Anything
+returns-in-Anything c =
+    let x : Numbering = record { words = c.args.words.now; count = c.args.count } in
+    (ap (λ (r : PatternRecord). number_record r x) (sym c.enum_told-1.given.1), (c.requires.0, omega arith))
+
+pub returns-in-Symbol : goal.returns-in-Symbol
+returns-in-Symbol c =
+    let x : Numbering = record { words = c.args.words.now; count = c.args.count } in
+    (ap (λ (r : PatternRecord). number_record r x) (sym c.enum_told-in-Symbol-1.given.1), (c.requires.0, omega arith))
+
+pub returns-in-Series : goal.returns-in-Series
+returns-in-Series c =
+    let x : Numbering = record { words = c.args.words.now; count = c.args.count } in
+    (ap (λ (r : PatternRecord). number_record r x) (sym c.enum_told-in-Series-1.given.1), (c.requires.0, omega arith))
+
+pub returns-in-Range : goal.returns-in-Range
+returns-in-Range c =
+    let x : Numbering = record { words = c.args.words.now; count = c.args.count } in
+    (ap (λ (r : PatternRecord). number_record r x) (sym c.enum_told-in-Range-1.given.1), (c.requires.0, omega arith))
+
+pub returns-in-Gauged : goal.returns-in-Gauged
+returns-in-Gauged c =
+    let x : Numbering = record { words = c.args.words.now; count = c.args.count } in
+    (ap (λ (r : PatternRecord). number_record r x) (sym c.enum_told-in-Gauged-1.given.1), (c.requires.0, omega arith))
+
+pub returns-in-Compound : goal.returns-in-Compound
+returns-in-Compound c =
+    let x : Numbering = record { words = c.args.words.now; count = c.args.count } in
+    (ap (λ (r : PatternRecord). number_record r x) (sym c.enum_told-in-Compound-1.given.1), (c.requires.0, omega arith))
+
+pub returns-in-Variable : goal.returns-in-Variable
+returns-in-Variable c =
+    let x : Numbering = record { words = c.args.words.now; count = c.args.count } in
+    (c.number_variable.ensures.0 ∙ ap (λ (r : PatternRecord). number_record r x) (sym c.what-1.given.1), c.number_variable.ensures.1)
+
+pub returns-in-Ranged : goal.returns-in-Ranged
+returns-in-Ranged c =
+    let x : Numbering = record { words = c.args.words.now; count = c.args.count } in
+    (c.number_variable-in-Ranged.ensures.0 ∙ ap (λ (r : PatternRecord). number_record r x) (sym c.what-in-Ranged-1.given.1), c.number_variable-in-Ranged.ensures.1)

@@ -1,0 +1,13 @@
+-- A place test, by the kind of the record.
+use mathlib.Core.Path.{sym, ap, ◌∙◌}
+use Rattle.sheet_tests.specs.views.NoteTests.{is_tested, has_range}
+use borrow.Author.Rules.{rules}
+use Rattle.sheet_tests.proofs.rule.is_tested.Goals as goal
+
+pub returns-in-Variable : goal.returns-in-Variable
+returns-in-Variable c =
+    c.has_range.ensures ∙ ap (is_tested (has_range c.args.high.now)) (sym c.what-1.given.1)
+
+pub returns-in-Ranged : goal.returns-in-Ranged
+returns-in-Ranged c =
+    c.has_range-in-Ranged.ensures ∙ ap (is_tested (has_range c.args.high.now)) (sym c.what-in-Ranged-1.given.1)

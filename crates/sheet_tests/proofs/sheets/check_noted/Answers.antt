@@ -1,0 +1,51 @@
+-- The tests are read, then counted.
+use mathlib.Core.Path.{refl}
+use lib.ListN.{drop}
+use native.Mathlib.Omega.{arith}
+use Rattle.sheet_tests.proofs.Starting.{starts_tests}
+use Rattle.sheet_tests.specs.CheckSheet.{accept_sheet}
+use Rattle.sheet_tests.proofs.Checking.{read_counted, check_no, check_yes}
+use borrow.Author.Rules.{rules}
+use Rattle.sheet_tests.proofs.sheets.check_noted.Goals as goal
+
+pub tests_noted-read-requires : goal.tests_noted-read-requires
+tests_noted-read-requires c =
+    let pre = c.requires in
+    (refl, refl, pre.0, pre.1)
+
+pub overflow_add-result : goal.overflow_add-result
+overflow_add-result c =
+    let tests-noted = c.tests_noted-read in
+    let words = tests-noted.new.1.0 in
+    let codes = tests-noted.new.1.1.0 in
+    omega (arith, (read_counted words codes c.read-in-Accepted-1.given.1 tests-noted.ensures.1.0).1)
+
+pub overflow_cast-result : goal.overflow_cast-result
+overflow_cast-result c =
+    let tests-noted = c.tests_noted-read in
+    let words = tests-noted.new.1.0 in
+    let codes = tests-noted.new.1.1.0 in
+    omega (arith, (read_counted words codes c.read-in-Accepted-1.given.1 tests-noted.ensures.1.0).1)
+
+pub returns-in-Refused : goal.returns-in-Refused
+returns-in-Refused c =
+    let tests-noted = c.tests_noted-read in
+    let words = tests-noted.new.1.0 in
+    let codes = tests-noted.new.1.1.0 in (
+      check_no words codes (accept_sheet c.args.s.now) c.read-1.given.1 tests-noted.ensures.0,
+      (tt, tests-noted.ensures.1.1.1),
+    )
+
+pub returns-in-Accepted : goal.returns-in-Accepted
+returns-in-Accepted c =
+    let tests-noted = c.tests_noted-read in
+    let words = tests-noted.new.1.0 in
+    let codes = tests-noted.new.1.1.0 in (
+      check_yes words codes c.read-in-Accepted-1.given.1 tests-noted.ensures.1.0 (accept_sheet c.args.s.now)
+          tests-noted.ensures.0,
+      (
+        starts_tests (drop 3 c.args.s.now) tests-noted.new.1.1.1.1.0 _ _ _ _ c.read-in-Accepted-1.given.1
+            tests-noted.ensures.1.1.0,
+        tests-noted.ensures.1.1.1,
+      ),
+    )

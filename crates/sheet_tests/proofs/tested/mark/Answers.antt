@@ -1,0 +1,14 @@
+-- The set with the place is the list of places with it.
+use mathlib.Core.Path.{refl, ap, ◌∙◌}
+use native.Mathlib.Omega.{arith}
+use Rattle.sheet_tests.specs.views.TestedPlaces.{places_in}
+use Rattle.sheet_tests.proofs.PlaceSets.{mark_is}
+use borrow.Author.Rules.{rules}
+use Rattle.sheet_tests.proofs.tested.mark.Goals as goal
+
+pub returns : goal.returns
+returns c =
+    (
+      ap places_in c.mark.ensures.0 ∙ mark_is c.args.words.now c.args.place _ (omega arith) refl,
+      c.mark.ensures.1,
+    )

@@ -1,0 +1,18 @@
+-- A loop over the words: the places of those passed are listed.
+use Prim.Native.Nat.{ℕ, ◌+◌, ◌*◌, ◌-◌, ◌≤◌}
+use mathlib.Core.Path.{◌≡◌, refl, ap, ◌∙◌}
+use mathlib.Core.List.{List, ◌++◌, map}
+use native.Mathlib.Omega.{arith}
+use lib.ListN.{length, take, get_or}
+use borrow.Author.Rules.{rules}
+use Rattle.masks.specs.Mask.{members}
+use Rattle.sheet_tests.proofs.PlaceSets.{places_below, places_next, places_all, places_below_few}
+use Rattle.test_list.proofs.WordPlaces.{places_to, places_word, places_part, places_whole}
+use Rattle.test_list.proofs.list_places.Given as goal
+
+abbrev pub invariant-loop-i : goal.invariant-loop-i
+invariant-loop-i l =
+    (l.i ≤ 11) × (length l.places ≡ 64) × (l.count ≡ places_below l.words l.i) × (take l.count l.places ≡ places_to l.words l.i)
+
+abbrev pub decreases-loop-i : goal.decreases-loop-i
+decreases-loop-i l = 11 - l.i

@@ -1,0 +1,18 @@
+-- A loop over the listed places: those passed have their numbers.
+use Prim.Native.Nat.{ℕ, ◌+◌, ◌-◌, ◌≤◌}
+use mathlib.Core.Path.{◌≡◌, refl, sym, ap, ◌∙◌}
+use mathlib.Core.Logic.{⊎_elim}
+use native.Mathlib.Omega.{arith}
+use lib.ListN.{length, take, drop, set, length-set}
+use Rattle.test_list.specs.views.Numbers.{number_all}
+use Rattle.test_list.proofs.PlaceNumbers.{number_turn, number_skip, number_end}
+use borrow.Author.Rules.{rules}
+use Rattle.test_list.proofs.numbers.number_places.Given as goal
+
+abbrev pub invariant-loop-t : goal.invariant-loop-t
+invariant-loop-t l =
+    (l.t ≤ l.count) × (length l.numbers ≡ 680)
+    × (number_all (drop l.t (take l.count l.places)) l.t l.numbers ≡ number_all (take l.count l.places) 0 l.initial.numbers)
+
+abbrev pub decreases-loop-t : goal.decreases-loop-t
+decreases-loop-t l = l.count - l.t

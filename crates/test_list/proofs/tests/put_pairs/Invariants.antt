@@ -1,0 +1,15 @@
+-- A loop over the pairs: those passed are written down.
+use Prim.Native.Nat.{◌+◌, ◌-◌}
+use mathlib.Core.Path.{◌≡◌, refl, sym, ◌∙◌}
+use native.Mathlib.Omega.{arith}
+use lib.ListN.{length, take}
+use lib.Seq.{length-take-le, get_or-take}
+use Rattle.test_list.proofs.PutLists.{Putting, putting_start, putting_turn, putting_done}
+use borrow.Author.Rules.{rules}
+use Rattle.test_list.proofs.tests.put_pairs.Given as goal
+
+abbrev pub invariant-loop-t : goal.invariant-loop-t
+invariant-loop-t l = Putting (4 + l.count) (take l.pairs l.codes) l.initial.s l.s l.t
+
+abbrev pub decreases-loop-t : goal.decreases-loop-t
+decreases-loop-t l = l.pairs - l.t

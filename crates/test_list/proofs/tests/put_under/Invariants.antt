@@ -1,0 +1,20 @@
+-- A loop over the place tests: what an unknown at those passed settles is written down.
+use Prim.Native.Nat.{ℕ, ◌-◌, ◌<◌}
+use mathlib.Core.Path.{◌≡◌, refl, sym, ap, ◌∙◌}
+use mathlib.Core.List.{List, map}
+use native.Mathlib.Omega.{arith}
+use lib.ListN.{length, get_or, length-map}
+use Rattle.basics.specs.Lists.{count_from}
+use Rattle.basics.proofs.Counting.{count_length}
+use Rattle.tables.specs.views.Planes.{place_tests_in}
+use Rattle.test_list.specs.views.Tests.{settled_below, under_put}
+use Rattle.test_list.proofs.PutLists.{Putting, putting_start, putting_turn, putting_done, row_at}
+use Rattle.test_list.proofs.SameTests.{same_counted, same_settled}
+use borrow.Author.Rules.{rules}
+use Rattle.test_list.proofs.tests.put_under.Given as goal
+
+abbrev pub invariant-loop-t : goal.invariant-loop-t
+invariant-loop-t l = Putting 196 (sets l.initial.s) l.initial.s l.s l.t
+
+abbrev pub decreases-loop-t : goal.decreases-loop-t
+decreases-loop-t l = place_tests_in l.initial.s - l.t

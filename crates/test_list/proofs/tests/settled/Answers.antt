@@ -1,0 +1,63 @@
+-- A loop over the place tests from t on: of those passed, the settled ones are in the set.
+use Prim.Native.Nat.{◌-◌, ◌≤◌}
+use mathlib.Core.Path.{◌≡◌, ◌∙◌}
+use mathlib.Core.Logic.{⊎_elim}
+use native.Mathlib.Omega.{arith}
+use Rattle.masks.specs.Mask.{mask_of}
+use Rattle.masks.proofs.Loops.{turn_yes, turn_no, turns_done}
+use Rattle.tables.specs.views.Planes.{place_tests_in}
+use Rattle.test_list.specs.views.Tests.{is_settled, settled_below}
+use Rattle.test_list.proofs.SettledTests.{settled_start, settled_here}
+use borrow.Author.Rules.{rules}
+use Rattle.test_list.proofs.tests.settled.Goals as goal
+
+pub test-requires : goal.test-requires
+test-requires c = omega (arith, c.requires.0.few, c.requires.0.places)
+
+pub loop-u-init : goal.loop-u-init
+loop-u-init c =
+    (omega arith, omega arith, settled_start c.args.s.now c.args.t)
+
+pub test-requires-in-loop-u : goal.test-requires-in-loop-u
+test-requires-in-loop-u c =
+    let pre = c.requires.0 in
+    omega (arith, c.place_tests-count.ensures, pre.few, pre.places)
+
+pub overflow_shl-all : goal.overflow_shl-all
+overflow_shl-all c =
+    let pre = c.requires.0 in
+    omega (arith, c.place_tests-count.ensures, pre.few, pre.places)
+
+pub loop-u-smaller : goal.loop-u-smaller
+loop-u-smaller c = omega (arith, c.place_tests-count.ensures)
+
+pub loop-u-preserved : goal.loop-u-preserved
+loop-u-preserved c =
+    let turn = c.loop-u in
+    let s = c.args.s.now in
+    let t = c.args.t in
+    let count = c.place_tests-count.ensures in
+    let few = c.requires.0.few in
+    let places = c.requires.0.places in
+    let test =
+    settled_here s t turn.u turn.invariant.0 c.test.ensures c.below_end-end.ensures c.test-in-loop-u.ensures
+    c.is_inside.ensures in
+    ⊎_elim
+    (λ w. (
+      omega arith,
+      omega (arith, count),
+      w.1 ∙ turn_yes 64 turn.u (is_settled s t) turn.invariant.2 (omega (arith, count)) (test ∙ w.0.taken),
+    ))
+    (λ w. (
+      omega arith,
+      omega (arith, count),
+      w.1 ∙ turn_no turn.u (is_settled s t) turn.invariant.2 (test ∙ w.0.left),
+    ))
+    c.if-is_inside.branch
+
+pub returns : goal.returns
+unfolding settled_below
+returns c =
+    let turn = c.loop-u in
+    turns_done (place_tests_in c.args.s.now) turn.u (is_settled c.args.s.now c.args.t) turn.invariant.2
+    (omega (arith, c.place_tests-count.ensures))

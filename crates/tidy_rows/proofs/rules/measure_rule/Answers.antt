@@ -1,0 +1,70 @@
+-- A loop over the records: what is measured, with what is left, is the whole.
+use mathlib.Core.Path.{◌≡◌, refl, ap, ◌∙◌}
+use Prim.Native.Nat.{◌+◌, ◌*◌, ◌≤◌}
+use lib.ListN.{length}
+use native.Mathlib.Omega.{arith}
+use Rattle.rule_rows.proofs.NextRecords.{goes, ends, behind_it}
+use Rattle.tidy_rows.proofs.RowSteps.{few_bytes, end_from, size_from, ends_here, nothing_left, ends_same, size_next}
+use Rattle.rule_rows.specs.views.Row.{Going}
+use Rattle.tidy_rows.specs.views.TidyRow.{tidy_in}
+use Rattle.patterns.specs.views.PatternRecord.{record_bytes}
+use borrow.Author.Rules.{rules}
+use Rattle.tidy_rows.proofs.rules.measure_rule.Goals as goal
+
+pub loop-what-init : goal.loop-what-init
+loop-what-init c = (c.requires.0, omega (arith, c.requires.1), refl, omega arith)
+
+pub next_record-next-requires : goal.next_record-next-requires
+next_record-next-requires c = c.loop-what.invariant.0
+
+pub returns-in_default : goal.returns-in_default
+returns-in_default c =
+    let s = c.args.s.now in
+    let words = c.args.words.now in
+    let row = c.loop-what.row in
+    let inv = c.loop-what.invariant in
+    let read = c.next_record-next.ensures in
+    let none = ends s row read.0 c.enum_told-1.given.1 in
+    let from = ends_here s row none ∙ inv.2 in
+    let to : c.loop-what.size ≡ size_from words s c.args.start = omega (arith, inv.3, ap length (nothing_left s row none words)) in
+    ((λ j. record { from = from j; to = to j }), (inv.0.inside, omega (arith, inv.1)))
+
+pub tidy_record-requires : goal.tidy_record-requires
+tidy_record-requires c = c.requires.2
+
+pub overflow_add-size : goal.overflow_add-size
+overflow_add-size c =
+    let s = c.args.s.now in
+    let words = c.args.words.now in
+    let row = c.loop-what.row in
+    let inv = c.loop-what.invariant in
+    let read = c.next_record-next.ensures in
+    let whole = goes s row read.0 c.next-1.given.1 in
+    let on = behind_it s row read.0 read.1 c.next-1.given.1 in
+    let what = c.next-1.given.0.0 in
+    let more = c.next-1.given.0.1.0 in
+    let size = c.record_length-size.ensures ∙ ap record_bytes c.tidy_record.ensures in
+    omega (arith, size, few_bytes (tidy_in words what), inv.1)
+
+pub loop-what-smaller : goal.loop-what-smaller
+loop-what-smaller c =
+    let s = c.args.s.now in
+    let words = c.args.words.now in
+    let row = c.loop-what.row in
+    let inv = c.loop-what.invariant in
+    let read = c.next_record-next.ensures in
+    omega (arith, (behind_it s row read.0 read.1 c.next-1.given.1).1)
+
+pub loop-what-preserved : goal.loop-what-preserved
+loop-what-preserved c =
+    let s = c.args.s.now in
+    let words = c.args.words.now in
+    let row = c.loop-what.row in
+    let inv = c.loop-what.invariant in
+    let read = c.next_record-next.ensures in
+    let whole = goes s row read.0 c.next-1.given.1 in
+    let on = behind_it s row read.0 read.1 c.next-1.given.1 in
+    let what = c.next-1.given.0.0 in
+    let more = c.next-1.given.0.1.0 in
+    let size = c.record_length-size.ensures ∙ ap record_bytes c.tidy_record.ensures in
+    (on.0, omega (arith, on.1, inv.1, size, few_bytes (tidy_in words what)), ends_same s row more whole on.2 ∙ inv.2, omega (arith, size, size_next s row more whole words, inv.3))

@@ -1,0 +1,29 @@
+-- A loop over the records: what is left, written behind what was written, makes the whole.
+use mathlib.Core.Path.{◌≡◌, refl, sym, ap, ◌∙◌}
+use Prim.Native.Nat.{◌+◌, ◌≤◌}
+use lib.ListN.{length, length-append}
+use native.Mathlib.Omega.{arith}
+use Rattle.records.specs.Writing.{splice}
+use Rattle.records.proofs.Writing.{splice_none}
+use Rattle.patterns.specs.declared.PatternRecord.{PatternRecord}
+use Rattle.patterns.specs.views.PatternRecord.{record_spelling}
+use Rattle.rule_rows.specs.views.Row.{records_from, Going}
+use Rattle.rule_rows.specs.views.Words.{Numbering}
+use Rattle.tidy_rows.specs.views.TidyRow.{tidy_in, tidy_onward}
+use Rattle.rule_rows.proofs.NextRecords.{goes, ends, behind_it}
+use Rattle.tidy_rows.proofs.RowSteps.{end_from, ends_here, nothing_onward, ends_same, onward_next, Written-next}
+use borrow.Author.Rules.{rules}
+use Rattle.tidy_rows.proofs.rules.put_rule.Given as goal
+
+abbrev pub invariant-loop-what : goal.invariant-loop-what
+invariant-loop-what l =
+    Going l.s l.row × (l.count + l.row.most ≤ 680) × (length l.words ≡ 16) × (length l.buf ≡ length l.initial.buf)
+    × (end_from l.s l.row ≡ end_from l.s l.initial.row)
+    × (l.end + length (tidy_onward (record { l.words = l.words; l.count = l.count }) (records_from l.s l.row))
+    ≡ l.to + length (tidy_onward (record { l.words = l.initial.words; l.count = 0 }) (records_from l.s l.initial.row)))
+    × (splice l.buf l.end (tidy_onward (record { l.words = l.words; l.count = l.count }) (records_from l.s l.row))
+    ≡ splice l.initial.buf l.to (tidy_onward (record { l.words = l.initial.words; l.count = 0 }) (records_from l.s l.initial.row)))
+
+abbrev pub decreases-loop-what : goal.decreases-loop-what
+decreases-loop-what l =
+    l.row.most

@@ -1,0 +1,98 @@
+-- The sheet's questions, then 31; then the header and the rules are written.
+use mathlib.Core.Path.{sym, ap, ◌∙◌}
+use lib.ListN.{length, drop}
+use borrow.Author.Tests.{leb-true, leb-false, not-true, not-false}
+use native.Mathlib.Omega.{arith}
+use Prim.Native.Nat.{◌+◌, ◌≤◌}
+use Rattle.records.proofs.ByteLists.{bytes_all}
+use Rattle.sheet_tests.specs.CheckSheet.{sheet_check_values}
+use Rattle.accepted.proofs.CheckedSheets.{check_refuses}
+use Rattle.tidying.specs.views.TidyRows.{tidy_rows}
+use Rattle.tidying.proofs.RowBounds.{rows_few}
+use Rattle.tidying.proofs.TidiedSheets.{tidy_refused, sheet_whole, tidy_large, tidy_written}
+use borrow.Author.Rules.{rules}
+use Rattle.tidying.proofs.sheets.tidy.Goals as goal
+
+pub fits-requires : goal.fits-requires
+fits-requires c =
+    let s = c.args.sheet.now in
+    let buffer = c.args.buffer.now in
+    let bytes = bytes_all s (λ i. omega (arith, c.shared_slice_known-1.given i)) in
+    let checked = c.checked-in-Accepted-1.given in
+    let told = sym (ap sheet_check_values checked.1) ∙ c.check_sheet-checked.ensures in
+    let a = checked.0.0 in
+    let n = checked.0.1.0 in
+    let t = checked.0.1.1.0 in
+    sheet_whole s bytes a n t told
+
+pub returns-then-not-fits : goal.returns-then-not-fits
+returns-then-not-fits c =
+    let s = c.args.sheet.now in
+    let buffer = c.args.buffer.now in
+    let bytes = bytes_all s (λ i. omega (arith, c.shared_slice_known-1.given i)) in
+    let checked = c.checked-in-Accepted-1.given in
+    let told = sym (ap sheet_check_values checked.1) ∙ c.check_sheet-checked.ensures in
+    let a = checked.0.0 in
+    let n = checked.0.1.0 in
+    let t = checked.0.1.1.0 in
+    let rows = tidy_rows a n (drop 3 s) in
+    tidy_large s bytes a n t told buffer (leb-false (3 + length rows) (length buffer) (sym c.fits2.ensures ∙ not-true _ c.if-not-fits.true))
+
+pub put-start-requires : goal.put-start-requires
+put-start-requires c =
+    let s = c.args.sheet.now in
+    let buffer = c.args.buffer.now in
+    let bytes = bytes_all s (λ i. omega (arith, c.shared_slice_known-1.given i)) in
+    let checked = c.checked-in-Accepted-1.given in
+    let told = sym (ap sheet_check_values checked.1) ∙ c.check_sheet-checked.ensures in
+    let a = checked.0.0 in
+    let n = checked.0.1.0 in
+    let t = checked.0.1.1.0 in
+    let rows = tidy_rows a n (drop 3 s) in
+    let room : 3 + length rows ≤ length buffer = leb-true (3 + length rows) (length buffer) (sym c.fits2.ensures ∙ not-false _ c.if-not-fits.false) in
+    omega (arith, room)
+
+pub put_rules-end-requires : goal.put_rules-end-requires
+put_rules-end-requires c =
+    let s = c.args.sheet.now in
+    let buffer = c.args.buffer.now in
+    let bytes = bytes_all s (λ i. omega (arith, c.shared_slice_known-1.given i)) in
+    let checked = c.checked-in-Accepted-1.given in
+    let told = sym (ap sheet_check_values checked.1) ∙ c.check_sheet-checked.ensures in
+    let a = checked.0.0 in
+    let n = checked.0.1.0 in
+    let t = checked.0.1.1.0 in
+    let rows = tidy_rows a n (drop 3 s) in
+    let room : 3 + length rows ≤ length buffer = leb-true (3 + length rows) (length buffer) (sym c.fits2.ensures ∙ not-false _ c.if-not-fits.false) in
+    (sheet_whole s bytes a n t told, omega (arith, c.put-start.ensures.0, c.buffer-1.given, room))
+
+pub overflow_cast-result : goal.overflow_cast-result
+overflow_cast-result c =
+    let s = c.args.sheet.now in
+    let buffer = c.args.buffer.now in
+    let bytes = bytes_all s (λ i. omega (arith, c.shared_slice_known-1.given i)) in
+    let checked = c.checked-in-Accepted-1.given in
+    let told = sym (ap sheet_check_values checked.1) ∙ c.check_sheet-checked.ensures in
+    let a = checked.0.0 in
+    let n = checked.0.1.0 in
+    let t = checked.0.1.1.0 in
+    omega (arith, c.put-start.ensures.0, c.put_rules-end.ensures.0, rows_few a n (drop 3 s))
+
+pub returns-in-Refused : goal.returns-in-Refused
+returns-in-Refused c =
+    let s = c.args.sheet.now in
+    tidy_refused s c.args.buffer.now (check_refuses s (sym (ap sheet_check_values c.checked-1.given.1) ∙ c.check_sheet-checked.ensures))
+
+pub returns-else-not-fits : goal.returns-else-not-fits
+returns-else-not-fits c =
+    let s = c.args.sheet.now in
+    let buffer = c.args.buffer.now in
+    let bytes = bytes_all s (λ i. omega (arith, c.shared_slice_known-1.given i)) in
+    let checked = c.checked-in-Accepted-1.given in
+    let told = sym (ap sheet_check_values checked.1) ∙ c.check_sheet-checked.ensures in
+    let a = checked.0.0 in
+    let n = checked.0.1.0 in
+    let t = checked.0.1.1.0 in
+    let rows = tidy_rows a n (drop 3 s) in
+    let room : 3 + length rows ≤ length buffer = leb-true (3 + length rows) (length buffer) (sym c.fits2.ensures ∙ not-false _ c.if-not-fits.false) in
+    tidy_written s bytes a n t told buffer room c.put-start.ensures.0 c.put-start.ensures.1 c.put_rules-end.ensures.0 c.put_rules-end.ensures.1

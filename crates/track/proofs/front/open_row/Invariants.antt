@@ -1,0 +1,14 @@
+-- `track::front::open_row` meets its contract: the places of the row passed have their keys.
+use Prim.Native.Nat.{ℕ, ◌+◌, ◌*◌, ◌-◌, ◌≤◌, ◌<◌}
+use mathlib.Core.Path.{◌≡◌, subst, ◌∙◌, ap}
+use native.Mathlib.Omega.{arith}
+use borrow.Author.Rules.{rules}
+use Rattle.track.specs.views.Front.{Opened}
+use Rattle.track.proofs.Rows.{row_next, opened_none, opened_more}
+use Rattle.track.proofs.front.open_row.Given as goal
+
+abbrev pub invariant-loop-i : goal.invariant-loop-i
+invariant-loop-i l = (l.i ≤ l.n) × (l.q ≡ l.from + l.i * l.step) × Opened l.positions l.from l.step l.i l.initial.keys l.keys
+
+abbrev pub decreases-loop-i : goal.decreases-loop-i
+decreases-loop-i l = l.n - l.i

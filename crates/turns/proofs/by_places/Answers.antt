@@ -1,0 +1,69 @@
+-- A loop over the places: those passed have asked their tests.
+use Prim.Native.Nat.{ℕ, ◌-◌, ◌<◌}
+use mathlib.Core.Path.{◌≡◌, sym, ◌∙◌}
+use mathlib.Core.List.{List}
+use mathlib.Core.Logic.{⊎_elim}
+use native.Mathlib.Omega.{arith}
+use lib.ListN.{length, get_or}
+use Rattle.basics.specs.Lists.{All}
+use Rattle.basics.proofs.ListLaws.{all_at}
+use Rattle.basics.proofs.Positions.{mem_at}
+use Rattle.turns.specs.views.Turned.{with_asked}
+use Rattle.turns.proofs.Turning.{Turning, turning_start, turning_asks, turning_stays, turning_done}
+use borrow.Author.Rules.{rules}
+use Rattle.turns.proofs.by_places.Goals as goal
+
+-- Each place of the list is below 680.
+place_inside : (places : List ℕ) → All (λ (p : ℕ). p < 680) places → (i : ℕ) → i < length places → {p : ℕ} → p ≡ get_or places i 0 → p < 680
+place_inside places all i inside e = omega (arith, e, all_at (λ (p : ℕ). p < 680) (mem_at 0 places i inside) all)
+
+pub loop-i-init : goal.loop-i-init
+loop-i-init c = turning_start c.args.numbers.now c.args.places.now c.args.s.now
+
+pub bounds-numbers-p : goal.bounds-numbers-p
+bounds-numbers-p c =
+    let inside = c.loop-i-test.true in
+    place_inside c.args.places.now c.requires.1 _ (omega (arith, c.requires.0, inside)) c.wide-p.ensures
+
+pub is_test_of-requires : goal.is_test_of-requires
+is_test_of-requires c =
+    omega (arith, c.number-t.ensures, c.requires.3 c.wide-p.result)
+
+pub overflow_add-s : goal.overflow_add-s
+overflow_add-s c = omega (arith, c.number-t.ensures, c.requires.3 c.wide-p.result)
+
+pub offset_bounds-s-t : goal.offset_bounds-s-t
+offset_bounds-s-t c = omega (arith, c.number-t.ensures, c.requires.3 c.wide-p.result)
+
+pub bounds-s-t : goal.bounds-s-t
+bounds-s-t c = omega (arith, c.number-t.ensures, c.requires.3 c.wide-p.result)
+
+pub insert-asked-requires : goal.insert-asked-requires
+insert-asked-requires c = omega (arith, c.number-t.ensures, c.requires.3 c.wide-p.result)
+
+pub loop-i-preserved : goal.loop-i-preserved
+unfolding with_asked
+loop-i-preserved c =
+    let turn = c.loop-i in
+    let inside = c.loop-i-test.true in
+    let numbers = c.args.numbers.now in
+    let places = c.args.places.now in
+    let p = c.wide-p.result in
+    let t = c.number-t.result in
+    let short : turn.i < length places = omega (arith, c.requires.0, inside) in
+    ⊎_elim
+    (λ w.
+    turning_asks numbers places c.args.s.now turn.s turn.asked turn.i p t turn.invariant short
+    c.wide-p.ensures c.number-t.ensures
+    (sym c.is_test_of.ensures ∙ w.0.taken) w.2 (w.3 ∙ w.1.ensures))
+    (λ w.
+    turning_stays numbers places c.args.s.now turn.s turn.asked turn.i p t turn.invariant short
+    c.wide-p.ensures c.number-t.ensures
+    (sym c.is_test_of.ensures ∙ w.0.left) w.1 w.2)
+    c.if-is_test_of.branch
+
+pub returns : goal.returns
+returns c =
+    let turn = c.loop-i in
+    turning_done c.args.numbers.now c.args.places.now c.args.s.now turn.s turn.asked turn.i
+    turn.invariant (omega (arith, c.requires.0, c.loop-i-test.false))

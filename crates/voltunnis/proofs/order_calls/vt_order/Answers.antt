@@ -1,0 +1,12 @@
+-- The values of the call, packed, and the buffer that it leaves.
+use mathlib.Core.Path.{ap, subst, ◌∙◌}
+use Rattle.records.specs.Written.{Result}
+use Rattle.packing.specs.Packed.{Packs, written_fields}
+use Rattle.voltunnis.proofs.LeftBuffers.{ordered_buffer}
+use borrow.Author.Rules.{rules}
+use Rattle.voltunnis.proofs.order_calls.vt_order.Goals as goal
+
+pub returns : goal.returns
+returns c =
+    let r = c.order in
+    (subst (λ (x : Result). Packs c.pack_ordered.result (written_fields x)) r.ensures (c.pack_ordered.ensures _), ordered_buffer r.result _ ∙ ap (λ (x : Result). x.buffer) r.ensures)

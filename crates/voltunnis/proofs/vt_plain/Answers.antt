@@ -1,0 +1,10 @@
+-- The values of the answer, packed.
+use mathlib.Core.Path.{subst}
+use Rattle.plain.specs.Plain.{PlainValues}
+use Rattle.packing.specs.Packed.{Packs, plain_fields}
+use borrow.Author.Rules.{rules}
+use Rattle.voltunnis.proofs.vt_plain.Goals as goal
+
+pub returns : goal.returns
+returns c =
+    subst (λ (x : PlainValues). Packs c.pack_plain.result (plain_fields x)) c.plain.ensures c.pack_plain.ensures

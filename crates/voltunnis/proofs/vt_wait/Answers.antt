@@ -1,0 +1,9 @@
+-- The wait list of the walk.
+use mathlib.Core.Path.{ap, ◌∙◌}
+use Rattle.walk.specs.Walking.{WalkValues}
+use borrow.Author.Rules.{rules}
+use Rattle.voltunnis.proofs.vt_wait.Goals as goal
+
+pub returns : goal.returns
+returns c =
+    c.waits.ensures ∙ ap (λ (x : WalkValues). x.waits) c.walk.ensures

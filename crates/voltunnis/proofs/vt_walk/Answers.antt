@@ -1,0 +1,10 @@
+-- The values of the walk, packed.
+use mathlib.Core.Path.{subst}
+use Rattle.walk.specs.Walking.{WalkValues}
+use Rattle.packing.specs.Packed.{Packs, walk_fields}
+use borrow.Author.Rules.{rules}
+use Rattle.voltunnis.proofs.vt_walk.Goals as goal
+
+pub returns : goal.returns
+returns c =
+    subst (λ (x : WalkValues). Packs c.pack_walked.result (walk_fields x)) c.walk.ensures c.pack_walked.ensures

@@ -1,0 +1,13 @@
+-- The refusal's number, and the cells that the feed leaves.
+use mathlib.Core.Path.{ap, ◌∙◌}
+use Rattle.window.specs.LastThousand.{given}
+use Rattle.window.specs.Handed.{refusal_in}
+use Rattle.window.proofs.Steps.{fed_refusal}
+use borrow.Author.Rules.{rules}
+use Rattle.voltunnis.proofs.window_calls.vt_window_feed.Goals as goal
+
+pub returns : goal.returns
+returns c =
+    let a = c.args in
+    let fed = c.feed.ensures in
+    (c.fed_refusal.ensures ∙ ap refusal_in fed.0 ∙ fed_refusal (given a.word a.rule), fed.1)

@@ -1,0 +1,17 @@
+-- `waiting::open::open_waits` meets its contract: a loop over the tests met that builds the set.
+use Prim.Native.Nat.{ℕ, ◌-◌, ◌≤◌}
+use mathlib.Core.Path.{◌≡◌, ap, ◌∙◌}
+use native.Mathlib.Omega.{arith}
+use lib.ListN.{take}
+use Rattle.rule_masks.specs.views.Kept.{listed_tests}
+use Rattle.waiting.specs.views.OpenTests.{met_waits}
+use Rattle.waiting.proofs.MetTests.{met_none, met_at_lem, met_turn}
+use borrow.Author.Rules.{rules}
+use Rattle.waiting.proofs.open.open_waits.Given as goal
+
+abbrev pub invariant-loop-i : goal.invariant-loop-i
+invariant-loop-i l =
+    (l.i ≤ l.edges) × (l.set ≡ met_waits (listed_tests l.kept) l.cells (take l.i l.met))
+
+abbrev pub decreases-loop-i : goal.decreases-loop-i
+decreases-loop-i l = l.edges - l.i

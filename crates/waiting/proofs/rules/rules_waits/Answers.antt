@@ -1,0 +1,113 @@
+-- `waiting::rules::rules_waits` meets its contract: the rules that are left, added to the set so far, give the whole.
+use Prim.Native.Nat.{◌+◌, ◌-◌, ◌≤◌}
+use mathlib.Core.Path.{◌≡◌, ap, ◌∙◌}
+use native.Mathlib.Omega.{arith}
+use lib.ListN.{length, take}
+use Rattle.sheet_tests.proofs.Scanning.{bytes_known, rule_read_lem, rule_refused}
+use Rattle.rule_masks.specs.views.RuleMasks.{notes_masks}
+use Rattle.rule_masks.specs.declared.Masks.{Masks}
+use Rattle.rule_masks.specs.views.Kept.{listed_tests}
+use Rattle.waiting.specs.views.SpanTests.{with_rule}
+use Rattle.waiting.proofs.RulesAdded.{Adding, adding_starts, adding_done, adding_there, adding_more}
+use borrow.Author.Rules.{rules}
+use Rattle.waiting.proofs.rules.rules_waits.Goals as goal
+
+pub loop-i-init : goal.loop-i-init
+loop-i-init c =
+    let a = c.args in
+    let tests = listed_tests a.kept.now in
+    let front = take a.edges a.numbers.now in (
+      omega arith,
+      c.requires.0.2,
+      adding_starts tests a.cells.now front a.s.now a.shape.arity a.shape.rules c.requires.0.1,
+    )
+
+pub slice_bounds-read_rule-count : goal.slice_bounds-read_rule-count
+slice_bounds-read_rule-count c =
+    c.loop-i.invariant.2.there
+
+pub slice_bounds-read_rule-start : goal.slice_bounds-read_rule-start
+slice_bounds-read_rule-start c =
+    c.loop-i.invariant.2.there
+
+pub read_rule-read-requires : goal.read_rule-read-requires
+read_rule-read-requires c =
+    (c.requires.0.0, c.loop-i.invariant.1)
+
+pub returns-in_default : goal.returns-in_default
+returns-in_default c =
+    let a = c.args in
+    let tests = listed_tests a.kept.now in
+    let front = take a.edges a.numbers.now in
+    let loop = c.loop-i in
+    let call = c.read_rule-read in
+    let refused =
+    rule_refused a.shape.arity loop.at a.s.now call.new.1.1.0 call.result call.ensures.0
+    c.enum_told-1.given.1 in
+    absurd
+    (adding_there tests a.cells.now front a.s.now a.shape.arity a.shape.rules loop.invariant.2
+    c.loop-i-test.true refused)
+
+pub rule_masks-requires : goal.rule_masks-requires
+rule_masks-requires c =
+    let a = c.args in
+    let s = a.s.now in
+    let loop = c.loop-i in
+    let call = c.read_rule-read in
+    let bytes =
+    bytes_known s (λ k. omega (arith, c.shared_slice_known-1.given k)) in
+    let rule =
+    rule_read_lem a.shape.arity loop.at s call.new.1.1.0 call.result call.ensures.0 c.requires.0.0 bytes
+    c.read-1.given.1 call.ensures.1 in
+    (rule.made, call.ensures.1.entries, rule.placed, c.requires.0.3, c.requires.0.4)
+
+pub with_rule-set-requires : goal.with_rule-set-requires
+with_rule-set-requires c =
+    c.requires.1
+
+pub overflow_add-at : goal.overflow_add-at
+overflow_add-at c =
+    let a = c.args in
+    let s = a.s.now in
+    let loop = c.loop-i in
+    let call = c.read_rule-read in
+    let bytes =
+    bytes_known s (λ k. omega (arith, c.shared_slice_known-1.given k)) in
+    let rule =
+    rule_read_lem a.shape.arity loop.at s call.new.1.1.0 call.result call.ensures.0 c.requires.0.0 bytes
+    c.read-1.given.1 call.ensures.1 in
+    omega (arith, rule.used, loop.invariant.2.there)
+
+pub loop-i-preserved : goal.loop-i-preserved
+loop-i-preserved c =
+    let a = c.args in
+    let s = a.s.now in
+    let loop = c.loop-i in
+    let call = c.read_rule-read in
+    let bytes =
+    bytes_known s (λ k. omega (arith, c.shared_slice_known-1.given k)) in
+    let rule =
+    rule_read_lem a.shape.arity loop.at s call.new.1.1.0 call.result call.ensures.0 c.requires.0.0 bytes
+    c.read-1.given.1 call.ensures.1 in
+    let tests = listed_tests a.kept.now in
+    let cells = a.cells.now in
+    let front = take a.edges a.numbers.now in
+    let masks = c.rule_masks.ensures ∙ ap (notes_masks tests cells) rule.noted in
+    let inside : loop.at + c.read-1.given.0.0 ≤ length s =
+    omega (arith, rule.used, loop.invariant.2.there) in (
+      omega (arith, c.loop-i-test.true),
+      call.ensures.1.entries,
+      adding_more tests cells front s a.shape.arity a.shape.rules loop.invariant.2
+          c.loop-i-test.true rule.read inside
+          (c.with_rule-set.ensures ∙ ap (λ (m : Masks). with_rule m front loop.set) masks),
+    )
+
+pub returns : goal.returns
+returns c =
+    let a = c.args in
+    let tests = listed_tests a.kept.now in
+    let front = take a.edges a.numbers.now in (
+      adding_done tests a.cells.now front a.s.now a.shape.arity a.shape.rules c.loop-i.invariant.2
+          c.loop-i-test.false,
+      c.loop-i.invariant.1,
+    )

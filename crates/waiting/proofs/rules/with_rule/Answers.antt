@@ -1,0 +1,75 @@
+-- `waiting::rules::with_rule` meets its contract: the tests that are left, added to the set so far, give the whole.
+use Prim.Native.Nat.{ℕ, ◌-◌, ◌≤◌, ◌<◌}
+use mathlib.Core.Bool.{true, false}
+use mathlib.Core.List.{List}
+use mathlib.Core.Logic.{⊎_elim}
+use mathlib.Core.Path.{◌≡◌, sym, ap, ◌∙◌}
+use native.Mathlib.Omega.{arith}
+use lib.ListN.{length, take, drop}
+use Rattle.masks.specs.Mask.{has}
+use Rattle.waiting.specs.views.SpanTests.{with_rule}
+use Rattle.waiting.proofs.AlongTests.{front_done, front_at_lem, rule_out, rule_on}
+use borrow.Author.Rules.{rules}
+use Rattle.waiting.proofs.rules.with_rule.Goals as goal
+
+pub has-requires : goal.has-requires
+has-requires c =
+    let a = c.args in
+    let loop = c.loop-i in
+    let room : a.edges ≤ length a.numbers.now = omega (arith, c.requires.0, c.requires.1) in
+    let few =
+    front_at_lem a.numbers.now a.edges room loop.i
+    c.loop-i-test.true (λ (t : ℕ). t < 64) c.requires.2 in
+    omega (arith, c.wide-t.ensures, few)
+
+pub returns-then-has : goal.returns-then-has
+returns-then-has c =
+    let a = c.args in
+    let loop = c.loop-i in
+    let room : a.edges ≤ length a.numbers.now = omega (arith, c.requires.0, c.requires.1) in
+    rule_out a.numbers.now a.edges room loop.i c.loop-i-test.true a.masks
+    loop.all c.wide-t.ensures (sym c.has.ensures ∙ c.if-has.true)
+    ∙ loop.invariant.1
+
+pub has-requires-in-loop-i : goal.has-requires-in-loop-i
+has-requires-in-loop-i c =
+    let a = c.args in
+    let loop = c.loop-i in
+    let room : a.edges ≤ length a.numbers.now = omega (arith, c.requires.0, c.requires.1) in
+    let few =
+    front_at_lem a.numbers.now a.edges room loop.i
+    c.loop-i-test.true (λ (t : ℕ). t < 64) c.requires.2 in
+    omega (arith, c.wide-t.ensures, few)
+
+pub insert-all-requires : goal.insert-all-requires
+insert-all-requires c =
+    let a = c.args in
+    let loop = c.loop-i in
+    let room : a.edges ≤ length a.numbers.now = omega (arith, c.requires.0, c.requires.1) in
+    let few =
+    front_at_lem a.numbers.now a.edges room loop.i
+    c.loop-i-test.true (λ (t : ℕ). t < 64) c.requires.2 in
+    omega (arith, c.wide-t.ensures, few)
+
+pub loop-i-preserved : goal.loop-i-preserved
+loop-i-preserved c =
+    let a = c.args in
+    let loop = c.loop-i in
+    let room : a.edges ≤ length a.numbers.now = omega (arith, c.requires.0, c.requires.1) in
+    let on =
+    rule_on a.numbers.now a.edges room loop.i
+    c.loop-i-test.true a.masks loop.all
+    c.wide-t.ensures
+    (sym c.has.ensures ∙ c.if-has.false) in
+    ⊎_elim
+    (λ w. (omega arith, on true (sym c.has-in-loop-i.ensures ∙ w.0.taken) _ (w.2 ∙ w.1.ensures) ∙ loop.invariant.1))
+    (λ w. (omega arith, on false (sym c.has-in-loop-i.ensures ∙ w.0.left) _ w.1 ∙ loop.invariant.1))
+    c.if-has-2.branch
+
+pub returns : goal.returns
+returns c =
+    let a = c.args in
+    let loop = c.loop-i in
+    let room : a.edges ≤ length a.numbers.now = omega (arith, c.requires.0, c.requires.1) in
+    let none = front_done a.numbers.now a.edges room loop.i (omega arith) in
+    sym (ap (λ (l : List ℕ). with_rule a.masks l loop.all) none) ∙ loop.invariant.1

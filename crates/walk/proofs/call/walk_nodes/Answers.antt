@@ -1,0 +1,111 @@
+-- `walk::call::walk_nodes` meets its contract: the walk is refused on the way, or answered at its leaf.
+use Prim.Native.Nat.{ℕ}
+use mathlib.Core.List.{[]}
+use mathlib.Core.Path.{sym, ap, subst, ◌∙◌}
+use native.Mathlib.Omega.{arith}
+use lib.ListN.{take, length-replicate}
+use Rattle.records.specs.Reading.{took}
+use Rattle.terms.specs.Answer as answers
+use Rattle.sheet.specs.ReadSheet.{read_rules}
+use Rattle.graph.specs.declared.Leaf.{Leaf}
+use Rattle.graph.specs.views.NodeRecord.{leaf_of}
+use Rattle.graph.specs.views.Rewriting.{read_or}
+use Rattle.path.specs.views.Following.{reached, nodes_at, ended_of, edges_of}
+use Rattle.rule_masks.specs.views.Kept.{listed_tests}
+use Rattle.walk.specs.views.LeafWalks.{LeafIn, end_walk}
+use Rattle.walk.proofs.LeafRules.{reached_leaf, reached_kept}
+use borrow.Author.Rules.{rules}
+use Rattle.walk.proofs.call.walk_nodes.Goals as goal
+
+pub follow_path-followed-requires : goal.follow_path-followed-requires
+follow_path-followed-requires c =
+    let pre = c.requires.0 in
+    ((pre.1, pre.0, length-replicate {A = ℕ} 64 0), c.requires.1.index)
+
+pub suspend_waits-requires : goal.suspend_waits-requires
+suspend_waits-requires c =
+    let a = c.args in
+    let pre = c.requires.0 in
+    let ready = c.requires.1 in
+    let tests = listed_tests a.kept.now in
+    let cells = a.cells.now in
+    let sizes = a.sizes in
+    let call = c.follow_path-followed in
+    let ends = sym (ap (ended_of c.follow_path-followed.new.1.1.1.1.0) c.followed-in-Reached-1.given.1) ∙ c.follow_path-followed.ensures.0 in (
+      (ready.few_arguments, ready.rules_read, pre.3, ready.listed, pre.1),
+      (
+        call.ensures.1.0,
+        omega (arith, call.ensures.1.1, ap edges_of c.followed-in-Reached-1.given.1),
+        reached_kept tests (nodes_at a.graph.now a.starts.now sizes.nodes) ready.asked cells ends,
+      ),
+    )
+
+pub at_execute-requires : goal.at_execute-requires
+at_execute-requires c =
+    let a = c.args in
+    let pre = c.requires.0 in
+    let ready = c.requires.1 in
+    let tests = listed_tests a.kept.now in
+    let cells = a.cells.now in
+    let sizes = a.sizes in
+    let ends = sym (ap (ended_of c.follow_path-followed.new.1.1.1.1.0) c.followed-in-Reached-1.given.1) ∙ c.follow_path-followed.ensures.0 in
+    let inside =
+    subst (λ (l : Leaf). LeafIn sizes.rules (leaf_of l)) c.leaf-1.given.1
+    (reached_leaf sizes.rules (nodes_at a.graph.now a.starts.now sizes.nodes) cells ready.leaves ends) in (
+      record { few_arguments = ready.few_arguments; from_one = inside.0; inside = inside.1; rules_read = ready.rules_read },
+      pre.1,
+      ready.listed.counted,
+      pre.2,
+      pre.3,
+    )
+
+pub returns-in-Refused : goal.returns-in-Refused
+returns-in-Refused c =
+    let a = c.args in
+    let pre = c.requires.0 in
+    let ready = c.requires.1 in
+    let tests = listed_tests a.kept.now in
+    let cells = a.cells.now in
+    let sizes = a.sizes in (
+      ap (end_walk (read_or [] (read_rules sizes.arity sizes.rules a.s.now)) tests cells) (sym (ap (ended_of c.follow_path-followed.new.1.1.1.1.0) c.followed-1.given.1) ∙ c.follow_path-followed.ensures.0),
+      pre.3,
+    )
+
+pub returns-in-Fail : goal.returns-in-Fail
+returns-in-Fail c =
+    let a = c.args in
+    let pre = c.requires.0 in
+    let ready = c.requires.1 in
+    let tests = listed_tests a.kept.now in
+    let cells = a.cells.now in
+    let sizes = a.sizes in
+    let ends = sym (ap (ended_of c.follow_path-followed.new.1.1.1.1.0) c.followed-in-Reached-1.given.1) ∙ c.follow_path-followed.ensures.0 in
+    (ap (end_walk (read_or [] (read_rules sizes.arity sizes.rules a.s.now)) tests cells) (ap (λ (l : Leaf). reached (leaf_of l) c.followed-in-Reached-1.given.0.1.0 (take c.followed-in-Reached-1.given.0.1.0 c.follow_path-followed.new.1.1.1.1.0)) (sym c.enum_told-1.given.1) ∙ ends), pre.3)
+
+pub returns-in-Suspend : goal.returns-in-Suspend
+returns-in-Suspend c =
+    let a = c.args in
+    let pre = c.requires.0 in
+    let ready = c.requires.1 in
+    let tests = listed_tests a.kept.now in
+    let cells = a.cells.now in
+    let sizes = a.sizes in
+    let ends = sym (ap (ended_of c.follow_path-followed.new.1.1.1.1.0) c.followed-in-Reached-1.given.1) ∙ c.follow_path-followed.ensures.0 in (
+      ap (λ (w : ℕ). took 0 (record { answer = answers.suspend; edges = c.followed-in-Reached-1.given.0.1.0; waits = w })) c.suspend_waits.ensures.0
+          ∙ ap (end_walk (read_or [] (read_rules sizes.arity sizes.rules a.s.now)) tests cells) (ap (λ (l : Leaf). reached (leaf_of l) c.followed-in-Reached-1.given.0.1.0 (take c.followed-in-Reached-1.given.0.1.0 c.follow_path-followed.new.1.1.1.1.0)) (sym c.enum_told-in-Suspend-1.given.1) ∙ ends),
+      c.suspend_waits.ensures.1,
+    )
+
+pub returns-in-Execute : goal.returns-in-Execute
+returns-in-Execute c =
+    let a = c.args in
+    let pre = c.requires.0 in
+    let ready = c.requires.1 in
+    let tests = listed_tests a.kept.now in
+    let cells = a.cells.now in
+    let sizes = a.sizes in
+    let ends = sym (ap (ended_of c.follow_path-followed.new.1.1.1.1.0) c.followed-in-Reached-1.given.1) ∙ c.follow_path-followed.ensures.0 in (
+      c.at_execute.ensures.0
+          ∙ ap (end_walk (read_or [] (read_rules sizes.arity sizes.rules a.s.now)) tests cells) (ap (λ (l : Leaf). reached (leaf_of l) c.followed-in-Reached-1.given.0.1.0 (take c.followed-in-Reached-1.given.0.1.0 c.follow_path-followed.new.1.1.1.1.0)) (sym c.leaf-1.given.1) ∙ ends),
+      c.at_execute.ensures.1,
+    )

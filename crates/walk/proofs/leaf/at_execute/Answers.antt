@@ -1,0 +1,62 @@
+-- `walk::leaf::at_execute` meets its contract: the notes of the rule, and the answer by them.
+use Prim.Native.Nat.{ℕ}
+use mathlib.Core.List.{List}
+use mathlib.Core.Path.{sym, ap, subst, ◌∙◌}
+use native.Mathlib.Omega.{arith}
+use Rattle.basics.specs.Lists.{All}
+use Rattle.records.specs.Reading.{took}
+use Rattle.patterns.specs.views.Note.{Note}
+use Rattle.sheet.specs.views.NoteArray.{notes_in}
+use Rattle.pairs.specs.views.NoteVariables.{Placed}
+use Rattle.steps.proofs.HandedBack.{same_thing, something}
+use Rattle.rule_masks.specs.views.Kept.{listed_tests}
+use Rattle.leaves.specs.views.Seeking.{BeginAt}
+use Rattle.leaves.specs.views.TakenNotes.{taken_notes, notes_taken}
+use Rattle.rule_masks.specs.views.RuleMasks.{notes_masks}
+use Rattle.leaves.specs.views.LeafAnswers.{RuleEnd, executed_by}
+use Rattle.walk.specs.views.LeafWalks.{walk_after}
+use borrow.Author.Rules.{rules}
+use Rattle.walk.proofs.leaf.at_execute.Goals as goal
+
+pub begin_of-begin-requires : goal.begin_of-begin-requires
+begin_of-begin-requires c = c.requires.0.from_one
+
+pub notes_at-taken-requires : goal.notes_at-taken-requires
+notes_at-taken-requires c =
+    let a = c.args in
+    let pre = c.requires in
+    let begin =
+    subst (BeginAt a.s.now a.sizes.arity a.sizes.rules a.rule) (sym c.begin_of-begin.ensures)
+    (pre.3 a.rule pre.0.from_one pre.0.inside) in
+    ((pre.0, pre.4), begin)
+
+pub returns-in-Refused : goal.returns-in-Refused
+returns-in-Refused c =
+    let call = c.notes_at-taken in (
+      absurd (something (sym (ap (taken_notes call.new.1.1.1.1.1.0) c.taken-1.given.1) ∙ call.ensures.0)),
+      call.ensures.1.1,
+    )
+
+pub at_rule-end-requires : goal.at_rule-end-requires
+at_rule-end-requires c =
+    let call = c.notes_at-taken in
+    let few = call.ensures.1 in
+    let told = ap notes_taken c.taken-in-Used-1.given.1 in
+    let pre = c.requires in (
+      omega (arith, few.0, told),
+      few.1,
+      subst (λ (n : ℕ). All Placed (notes_in call.new.1.1.1.1.1.0 n)) told few.2,
+      pre.2,
+      pre.1,
+    )
+
+pub returns : goal.returns
+returns c =
+    let a = c.args in
+    let call = c.notes_at-taken in
+    let noted = same_thing (sym (ap (taken_notes call.new.1.1.1.1.1.0) c.taken-in-Used-1.given.1) ∙ call.ensures.0) in (
+      ap (λ (e : RuleEnd). took 0 (walk_after a.edges e))
+          (c.at_rule-end.ensures
+          ∙ ap (λ (l : List Note). executed_by a.rule (notes_masks (listed_tests a.kept.now) a.cells.now l)) noted),
+      call.ensures.1.1,
+    )
