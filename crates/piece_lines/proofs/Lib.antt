@@ -3,3 +3,4 @@ pub mod PieceLines
 pub mod Progress
 pub mod Turns
 pub mod SheetLine
+mod PutBuiltPlaces

@@ -99,6 +99,9 @@ never_no_filling (put_unknown h) = h
 pub never_from : {P : Term → Type 0} (t : Term) → Puts P t never → (t ≡ unknown) ⊎ (t ≡ never)
 never_from unknown p = inl refl
 never_from never p = inr refl
+never_from {P = P} (symbol _) p = elim p [ ]
+never_from {P = P} (numbers _ _) p = elim p [ ]
+never_from {P = P} (compound _ _) p = elim p [ ]
 
 pub never_itself : {P : Term → Type 0} {g : Term} → Puts P never g → g ≡ never
 never_itself put_never = refl
@@ -107,6 +110,10 @@ never_itself put_never = refl
 pub has_filling : (piece : Terms) → WellFormeds piece → (filled : Terms) × Filling piece filled
 has_filling piece ok = (fill_all_with piece (symbol 0), fill_all_with_lem piece (symbol 0) ok zero_ground)
 
+-- What a compound is filled in with, its arguments are filled in with.
+arguments_put : {P : Term → Type 0} {a b : ℕ} {ts gs : Terms} → Puts P (compound a ts) (compound b gs) → Putss P ts gs
+arguments_put (put_compound ws) = ws
+
 mutual
   -- Filling in more, with ordinary terms only and nothing left to fill in, is filling,
   further_fills : {t g : Term} → Known g → Puts WellFormed t g → Puts Ordinary t g → Fills t g
@@ -114,7 +121,7 @@ mutual
   further_fills h put_never w = put_never
   further_fills h put_symbol w = put_symbol
   further_fills h (put_numbers x y z ok) w = put_numbers x y z (h, ok.1)
-  further_fills h (put_compound fs) (put_compound ws) = put_compound (all_further_fill h fs ws)
+  further_fills h (put_compound fs) w = put_compound (all_further_fill h fs (arguments_put w))
 
   all_further_fill : {ts gs : Terms} → Knowns gs → Putss WellFormed ts gs → Putss Ordinary ts gs → Filling ts gs
   all_further_fill h put_nil w = put_nil
@@ -162,7 +169,7 @@ mutual
   fills_through put_symbol w f = f
   fills_through (put_numbers {a = a} {b = b} x y z ok) w (put_numbers {c = c} {d = d} k l m h) =
       put_numbers {a = a} {b = b} {c = c} {d = d} (omega arith) l (omega arith) h
-  fills_through (put_compound fs) (put_compound ws) (put_compound gs) = put_compound (filling_through fs ws gs)
+  fills_through (put_compound fs) w (put_compound gs) = put_compound (filling_through fs (arguments_put w) gs)
 
   pub filling_through
       : {piece further filled : Terms} → FilledFurther piece further → Putss Ordinary piece further → Filling further filled

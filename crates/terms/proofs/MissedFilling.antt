@@ -7,7 +7,7 @@ use mathlib.Core.Bool.{◌&&◌}
 use mathlib.Core.Logic.{inl, inr}
 use native.Mathlib.Omega.{arith}
 use lib.Dec.{leb, eqb}
-use Rattle.terms.specs.Term.{Term, Terms, count, unknown, symbol, number, numbers, compound}
+use Rattle.terms.specs.Term.{Term, Terms, count, unknown, symbol, number, numbers, compound, never}
 use Rattle.terms.specs.Pattern.{Patterns}
 use Rattle.terms.specs.RuleTests.{Want, a_symbol, a_number, a_compound, PlaceTest, PairTest, place_tests, pair_tests}
 use Rattle.terms.specs.Lookup.{Found, lacking, found, find, term_at}
@@ -75,6 +75,7 @@ module _ (piece : Terms) (ok : WellFormeds piece) (n : ℕ) where
   missed_at : (w : Want) (y : Found) → term_at piece n ≡ y → NotKnown (at_place (fits w) y) → Missed w
   missed_at w lacking e k = absurd k
   missed_at w (found unknown) e k = unknown_missed w (subst IsUnknown (sym e) tt)
+  missed_at w (found never) e k = absurd k
   missed_at (a_symbol l h) (found (symbol b)) e k = absurd (known_decided (leb l b && leb b h) k)
   missed_at (a_symbol l h) (found (numbers b c)) e k = absurd k
   missed_at (a_symbol l h) (found (compound b ts)) e k = absurd k

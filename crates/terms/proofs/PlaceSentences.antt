@@ -11,7 +11,7 @@ use Rattle.basics.specs.Lists.{Mem}
 use Rattle.basics.proofs.Booleans.{both_true, true_both}
 use Rattle.basics.proofs.ListLaws.{all_at, mem_cases, mem_none}
 use Rattle.basics.proofs.Numbers.{eq_true}
-use Rattle.terms.specs.Term.{Term, Terms, count, unknown, symbol, numbers, compound}
+use Rattle.terms.specs.Term.{Term, Terms, count, unknown, symbol, numbers, compound, never}
 use Rattle.terms.specs.Pattern.{Patterns, count_patterns}
 use Rattle.terms.specs.RuleTests.{Want, a_symbol, a_number, a_compound, PlaceTest, patterns_range, place_tests}
 use Rattle.terms.specs.Lookup.{lacking, term_at}
@@ -36,6 +36,7 @@ pub data Wanted : Want → Term → Type 0 where
 -- at a span wholly inside it",
 pub fits_wanted : (w : Want) (t : Term) → Holds (fits w t) → Wanted w t
 fits_wanted w unknown h = absurd h
+fits_wanted w never h = absurd h
 fits_wanted (a_symbol l k) (symbol a) h = let s = (series_holds_at l k a).0 h in in_series s.0 s.1
 fits_wanted (a_symbol l k) (numbers a b) h = absurd h
 fits_wanted (a_symbol l k) (compound b ts) h = absurd h
@@ -64,6 +65,7 @@ pub data Unsure : Want → Term → Type 0 where
 -- "it is not known at an unknown", and a range's test at such a span,
 fits_unsure : (w : Want) (t : Term) → NotKnown (fits w t) → Unsure w t
 fits_unsure w unknown n = at_unknown
+fits_unsure w never n = absurd n
 fits_unsure (a_symbol l h) (symbol a) n = absurd (known_decided (leb l a && leb a h) n)
 fits_unsure (a_symbol l h) (numbers a b) n = absurd n
 fits_unsure (a_symbol l h) (compound b ts) n = absurd n

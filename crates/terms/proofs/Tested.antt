@@ -10,7 +10,7 @@ use native.Mathlib.Omega.{arith}
 use lib.Dec.{eqb, eqb→eq}
 use Rattle.places.specs.Numbering.{stride}
 use Rattle.basics.specs.Lists.{Mem, All}
-use Rattle.terms.specs.Term.{Term, Terms, count, unknown, symbol, numbers, compound, nil, cons}
+use Rattle.terms.specs.Term.{Term, Terms, count, unknown, symbol, numbers, compound, nil, cons, never}
 use Rattle.terms.specs.Pattern.{Pattern, Patterns, count_patterns, anything, the_symbol, the_series, the_range, the_gauged, the_compound, variable, ranged_variable, pnil, pcons}
 use Rattle.terms.specs.RuleTests.{a_compound, PlaceTest, at, PairTest, Occurrence, Range, patterns_range, range_test}
 use Rattle.terms.specs.RuleTests.{pattern_tests, patterns_tests, pattern_variables, patterns_variables}
@@ -69,6 +69,7 @@ module _ (range_of : ℕ → Option Range) (look : ℕ → Found) (Listed : Plac
       : (a n : ℕ) (t : Term) (r b : ℕ) → 1 ≤ r → n ≤ 4 → Shows look t r b → Open (fits (a_compound a n) t)
       → (us : Terms) × (count us ≡ n) × Showss look us (pred r) (suc b)
   shown_below a n unknown r b deep few shown o = (unknowns n, count_unknowns n, shows_unknown look n r b deep few shown)
+  shown_below a n never r b deep few shown o = absurd o
   shown_below a n (symbol c) r b deep few shown o = absurd o
   shown_below a n (numbers c d) r b deep few shown o = absurd o
   shown_below a n (compound c us) r b deep few shown o =

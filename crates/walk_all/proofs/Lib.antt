@@ -9,3 +9,4 @@ pub mod Progress
 pub mod FewResults
 pub mod EachResult
 pub mod GoesOn
+mod WalkAllPlaces

@@ -15,11 +15,9 @@ use Rattle.piece_lines.proofs.Progress.{at_start, at_end_lem, at_refusal, at_pie
 use Rattle.piece_lines.proofs.SheetLine.{graph_opened}
 use Rattle.piece_lines.proofs.Turns.{told_last, Told-more, more_read}
 use borrow.Author.Rules.{rules}
-use Rattle.piece_lines.proofs.put_built.Proof.Places.{Inv-loop, μ-loop, ready, input, reply, room, all_printed, around, pieces}
-use Rattle.piece_lines.proofs.put_built.Proof.Places.{cells, piece_bytes_lem, prefix_told, joined, read, state, put_told, turn_told, turn_within}
+use Rattle.piece_lines.proofs.PutBuiltPlaces.{Inv-loop, μ-loop, ready, input, reply, room, all_printed, around, pieces}
+use Rattle.piece_lines.proofs.PutBuiltPlaces.{cells, piece_bytes_lem, prefix_told, joined, read, state, put_told, turn_told, turn_within}
 use Rattle.piece_lines.proofs.put_built.Goals as goal
-
-mod Places
 
 pub open_graph-opened-requires : goal.open_graph-opened-requires
 open_graph-opened-requires c = (length-replicate {A = ℕ} 1024 0, length-replicate {A = ℕ} 680 0, refl)

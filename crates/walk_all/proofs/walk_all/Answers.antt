@@ -16,12 +16,10 @@ use Rattle.walk_all.proofs.Pieces.{pieces_roomless, pieces_none}
 use Rattle.walk_all.proofs.Progress.{at_start, at_last, at_piece, all_refused}
 use Rattle.walk_all.proofs.Turns.{told_full, told_last, Told-more}
 use borrow.Author.Rules.{rules}
-use Rattle.walk_all.proofs.walk_all.Proof.Places.{Inv-loop, μ-loop, ready, pieces, buffer, reply, room, n, from, few, all_done, ended}
-use Rattle.walk_all.proofs.walk_all.Proof.Places.{turn_start, input, cells_read, input_bytes, prefix_told, read, state, left, more, first, fits}
-use Rattle.walk_all.proofs.walk_all.Proof.Places.{turn_test, turn_told, inside, used_next, notes_there}
+use Rattle.walk_all.proofs.WalkAllPlaces.{Inv-loop, μ-loop, ready, pieces, buffer, reply, room, n, from, few, all_done, ended}
+use Rattle.walk_all.proofs.WalkAllPlaces.{turn_start, input, cells_read, input_bytes, prefix_told, read, state, left, more, first, fits}
+use Rattle.walk_all.proofs.WalkAllPlaces.{turn_test, turn_told, inside, used_next, notes_there}
 use Rattle.walk_all.proofs.walk_all.Goals as goal
-
-mod Places
 
 pub loop-n-init : goal.loop-n-init
 loop-n-init c =
