@@ -12,10 +12,10 @@ use Rattle.answering.proofs.answer_piece.Goals as goal
 pub returns-then-n-arity : goal.returns-then-n-arity
 returns-then-n-arity c =
     let a = c.args in
-    let p = a.p.now in
+    let p = c.args.p.now in
     let cells = c.read_piece-read.new.1.0 in
     let bytes = bytes_all p (λ i. omega (arith, c.shared_slice_known-2-1.given i)) in
-    let r = reader_accepted p cells c.read_piece-read.result c.read_piece-read.ensures c.read-in-Accepted-1.given.1 bytes in
+    let r = reader_accepted p cells c.read_piece-read.result c.read_piece-read.ensures c.in-Accepted.is bytes in
     λ k. arities_differ a.arity k.rules p r.read (λ e. c.if-n-arity.true (sym r.arity_is ∙ e))
 
 pub answer_rules-requires : goal.answer_rules-requires
@@ -25,24 +25,24 @@ answer_rules-requires c =
     let read-piece = c.read_piece-read in
     let r =
     reader_accepted p read-piece.new.1.0 read-piece.result read-piece.ensures
-    c.read-in-Accepted-1.given.1 bytes in
+    c.in-Accepted.is bytes in
     (c.requires.0, c.requires.1, read_narrow r, c.requires.2, c.requires.3)
 
 pub returns-in-Refused : goal.returns-in-Refused
 returns-in-Refused c =
     let a = c.args in
-    let p = a.p.now in
+    let p = c.args.p.now in
     let cells = c.read_piece-read.new.1.0 in
     λ k.
-    piece_refused a.arity k.rules p (reader_refused p cells c.read_piece-read.result c.read_piece-read.ensures c.read-1.given.1)
+    piece_refused a.arity k.rules p (reader_refused p cells c.read_piece-read.result c.read_piece-read.ensures c.in-Refused.is)
 
 pub returns-else-n-arity : goal.returns-else-n-arity
 returns-else-n-arity c =
     let a = c.args in
-    let p = a.p.now in
+    let p = c.args.p.now in
     let cells = c.read_piece-read.new.1.0 in
     let bytes = bytes_all p (λ i. omega (arith, c.shared_slice_known-2-1.given i)) in
-    let r = reader_accepted p cells c.read_piece-read.result c.read_piece-read.ensures c.read-in-Accepted-1.given.1 bytes in
+    let r = reader_accepted p cells c.read_piece-read.result c.read_piece-read.ensures c.in-Accepted.is bytes in
     let same = c.if-n-arity.false in
     let ok = subst (λ (n : ℕ). AcceptedPiece n r.piece.terms) same r.accepted in
     λ k.

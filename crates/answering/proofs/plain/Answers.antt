@@ -23,41 +23,41 @@ check_noted-checked-requires c = (length-replicate {A = ℕ} 680 0, length-repli
 -- Where the sheet was accepted.
 module _ (c : goal.In-Accepted) where
   abbrev at_check : goal.After-check_noted-checked
-  at_check = c
+  at_check = c.«After-check_noted-checked»
 
   abbrev start : goal.Start
   start = at_check.before.before.before.before.before
 
-  abbrev known : AcceptedAs start.args.sheet.now c.checked-in-Accepted-1.given.0.0 c.checked-in-Accepted-1.given.0.1.0
+  abbrev known : AcceptedAs start.args.sheet.now c.in-Accepted.arity c.in-Accepted.count
   known =
-      check_accepts start.args.sheet.now c.checked-in-Accepted-1.given.0.0 c.checked-in-Accepted-1.given.0.1.0
-      c.checked-in-Accepted-1.given.0.1.1.0
-      (sym (ap sheet_check_values c.checked-in-Accepted-1.given.1) ∙ at_check.check-noted.ensures.0)
+      check_accepts start.args.sheet.now c.in-Accepted.arity c.in-Accepted.count
+      c.in-Accepted.field-2
+      (sym (ap sheet_check_values c.in-Accepted.is) ∙ at_check.check-noted.ensures.0)
 
   abbrev rules
       : let s = start.args.sheet.now in
-      SheetRules (take (length s - 3) (drop 3 s)) c.checked-in-Accepted-1.given.0.0 c.checked-in-Accepted-1.given.0.1.0
+      SheetRules (take (length s - 3) (drop 3 s)) c.in-Accepted.arity c.in-Accepted.count
   rules =
       let s = start.args.sheet.now in
       sheet_rules s (bytes_all s (λ i. omega (arith, at_check.before.before.before.before.shared-slice-known.given i))) known
 
 pub slice_bounds-answer_piece-start : goal.slice_bounds-answer_piece-start
-slice_bounds-answer_piece-start c = omega (arith, (known c).whole)
+slice_bounds-answer_piece-start c = omega (arith, (known (goal.at.slice_bounds-answer_piece-start c).In-Accepted).whole)
 
 pub answer_piece-requires : goal.answer_piece-requires
 answer_piece-requires c =
-    let s = (start c).args.sheet.now in
-    let told = (at_check c).check-noted.ensures.1 in
+    let s = (start (goal.at.answer_piece-requires c).In-Accepted).args.sheet.now in
+    let told = (at_check (goal.at.answer_piece-requires c).In-Accepted).check-noted.ensures.1 in
     let starts =
-    subst (check_starts (drop 3 s) (at_check c).check-noted.new.1.1.0) c.checked-in-Accepted-1.given.1
+    subst (check_starts (drop 3 s) (at_check (goal.at.answer_piece-requires c).In-Accepted).check-noted.new.1.1.0) c.in-Accepted.is
     told.0 in (
-      rules c,
+      rules (goal.at.answer_piece-requires c).In-Accepted,
       told.1,
       starts.0,
       subst
           (λ (l : List ℕ).
-          StartsIn c.checked-in-Accepted-1.given.0.0 l (at_check c).check-noted.new.1.1.0
-          c.checked-in-Accepted-1.given.0.1.0)
+          StartsIn c.in-Accepted.arity l (at_check (goal.at.answer_piece-requires c).In-Accepted).check-noted.new.1.1.0
+          c.in-Accepted.count)
           (sym (rest s 3)) starts.1,
     )
 
@@ -65,14 +65,14 @@ pub returns-in-Refused : goal.returns-in-Refused
 returns-in-Refused c =
     let a = c.args in
     sheet_refused a.sheet.now a.piece.now
-    (check_refuses a.sheet.now (sym (ap sheet_check_values c.checked-1.given.1) ∙ c.check_noted-checked.ensures.0))
+    (check_refuses a.sheet.now (sym (ap sheet_check_values c.in-Refused.is) ∙ c.check_noted-checked.ensures.result_value))
 
 pub returns-in-Accepted : goal.returns-in-Accepted
 returns-in-Accepted c =
-    let a = (start c).args in
+    let a = (start (goal.at.returns-in-Accepted c).In-Accepted).args in
     let s = a.sheet.now in
     let p = a.piece.now in
-    let is = known c in
-    c.answer_piece.ensures (rules c)
+    let is = known (goal.at.returns-in-Accepted c).In-Accepted in
+    c.answer_piece.ensures (rules (goal.at.returns-in-Accepted c).In-Accepted)
     ∙ ap (λ (n : ℕ). reading_values (piece_reading n is.sheet.rules p)) (sym is.arity_is)
     ∙ sheet_answers s p is.accepted

@@ -14,49 +14,51 @@ pub list_sheet-requires : goal.list_sheet-requires
 list_sheet-requires c =
     let s = c.args.sheet.now in
     let tests = c.read_tests-read.ensures in
-    let found = found_accepts s _ _ tests.0 c.read-in-Accepted-1.given.1 in
-    let few = few_tests_lem _ _ c.read-in-Accepted-1.given.1 tests.1 in
-    ((tests.1.all_words, tests.1.all_codes, few), (refl, refl))
+    let found = found_accepts s _ _ tests.result_after c.in-Accepted.is in
+    let few = few_tests_lem _ _ c.in-Accepted.is tests.held in record {
+      words_len = (tests.held.all_words, tests.held.all_codes, few);
+      s_value = (refl, refl);
+    }
 
 pub slice_bounds-build_listed-count : goal.slice_bounds-build_listed-count
 slice_bounds-build_listed-count c =
     let s = c.args.sheet.now in
     let tests = c.read_tests-read.ensures in
-    let found = found_accepts s _ _ tests.0 c.read-in-Accepted-1.given.1 in
+    let found = found_accepts s _ _ tests.result_after c.in-Accepted.is in
     omega (arith, found.read.whole)
 
 pub slice_bounds-build_listed-start : goal.slice_bounds-build_listed-start
 slice_bounds-build_listed-start c =
     let s = c.args.sheet.now in
     let tests = c.read_tests-read.ensures in
-    let found = found_accepts s _ _ tests.0 c.read-in-Accepted-1.given.1 in
+    let found = found_accepts s _ _ tests.result_after c.in-Accepted.is in
     omega (arith, found.read.whole)
 
 pub build_listed-requires : goal.build_listed-requires
 build_listed-requires c =
     let s = c.args.sheet.now in
     let tests = c.read_tests-read.ensures in
-    let found = found_accepts s _ _ tests.0 c.read-in-Accepted-1.given.1 in
+    let found = found_accepts s _ _ tests.result_after c.in-Accepted.is in
     let bytes = bytes_known s (λ i. omega (arith, c.shared_slice_known-1.given i)) in
     let held = sheet_kept s _ _ _ _ _ found (rest s 3) bytes in
-    let few = few_tests_lem _ _ c.read-in-Accepted-1.given.1 tests.1 in
+    let few = few_tests_lem _ _ c.in-Accepted.is tests.held in
     let list = c.list_sheet.ensures in
-    (lowest_first found.read.sheet.rules, found.read.sheet.rules, lowest_listed held tests.1.all_codes few list.1 list.0)
+    (lowest_first found.read.sheet.rules, found.read.sheet.rules, lowest_listed held tests.held.all_codes few list.numbers_after list.s_after)
 
 pub returns-in-Refused : goal.returns-in-Refused
 returns-in-Refused c =
     let s = c.args.sheet.now in
     let tests = c.read_tests-read.ensures in
-    outcome_refused lowest s c.args.buf.now (found_refuses s _ _ tests.0 c.read-1.given.1)
+    outcome_refused lowest s c.args.buf.now (found_refuses s _ _ tests.result_after c.in-Refused.is)
 
 pub returns-in-Accepted : goal.returns-in-Accepted
 returns-in-Accepted c =
     let s = c.args.sheet.now in
     let tests = c.read_tests-read.ensures in
-    let found = found_accepts s _ _ tests.0 c.read-in-Accepted-1.given.1 in
+    let found = found_accepts s _ _ tests.result_after c.in-Accepted.is in
     let bytes = bytes_known s (λ i. omega (arith, c.shared_slice_known-1.given i)) in
     let held = sheet_kept s _ _ _ _ _ found (rest s 3) bytes in
-    let few = few_tests_lem _ _ c.read-in-Accepted-1.given.1 tests.1 in
+    let few = few_tests_lem _ _ c.in-Accepted.is tests.held in
     let list = c.list_sheet.ensures in
-    c.build_listed.ensures _ _ (lowest_listed held tests.1.all_codes few list.1 list.0)
+    c.build_listed.ensures _ _ (lowest_listed held tests.held.all_codes few list.numbers_after list.s_after)
     ∙ outcome_kept lowest s c.args.buf.now _ _ _ _ _ found lowest_first refl

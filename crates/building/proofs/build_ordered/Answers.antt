@@ -39,20 +39,22 @@ pub list_sheet-requires : goal.list_sheet-requires
 list_sheet-requires c =
     let s = c.args.sheet.now in
     let tests = c.read_tests-read.ensures in
-    let few = few_tests_lem _ _ c.read-in-Accepted-1.given.1 tests.1 in
-    ((tests.1.all_words, tests.1.all_codes, few), (refl, refl))
+    let few = few_tests_lem _ _ c.in-Accepted.is tests.held in record {
+      words_len = (tests.held.all_words, tests.held.all_codes, few);
+      s_value = (refl, refl);
+    }
 
 pub by_places-requires : goal.by_places-requires
 by_places-requires c =
     let s = c.args.sheet.now in
     let tests = c.read_tests-read.ensures in
-    let found = found_accepts s _ _ tests.0 c.read-in-Accepted-1.given.1 in
+    let found = found_accepts s _ _ tests.result_after c.in-Accepted.is in
     let bytes = bytes_known s (λ i. omega (arith, c.shared_slice_known-1.given i)) in
     let held = sheet_kept s _ _ _ _ _ found (rest s 3) bytes in
-    let few = few_tests_lem _ _ c.read-in-Accepted-1.given.1 tests.1 in
+    let few = few_tests_lem _ _ c.in-Accepted.is tests.held in
     let list = c.list_sheet.ensures in
-    let read = table_taken_lem c.args.table.now _ _ c.enum_told-1.given.1 c.read_table-checked.ensures in
-    let g = lowest_listed held tests.1.all_codes few list.1 list.0 in
+    let read = table_taken_lem c.args.table.now _ _ c.in-Accepted-checked.is c.read_table-checked.ensures in
+    let g = lowest_listed held tests.held.all_codes few list.numbers_after list.s_after in
     let t = table_ordering c.args.table.now _ read in
     let known = listed_sizes g in
     (t.size, places_inside t, known.0, known.1, known.2)
@@ -61,55 +63,55 @@ pub slice_bounds-build_listed-count : goal.slice_bounds-build_listed-count
 slice_bounds-build_listed-count c =
     let s = c.args.sheet.now in
     let tests = c.read_tests-read.ensures in
-    let found = found_accepts s _ _ tests.0 c.read-in-Accepted-1.given.1 in
+    let found = found_accepts s _ _ tests.result_after c.in-Accepted.is in
     omega (arith, found.read.whole)
 
 pub slice_bounds-build_listed-start : goal.slice_bounds-build_listed-start
 slice_bounds-build_listed-start c =
     let s = c.args.sheet.now in
     let tests = c.read_tests-read.ensures in
-    let found = found_accepts s _ _ tests.0 c.read-in-Accepted-1.given.1 in
+    let found = found_accepts s _ _ tests.result_after c.in-Accepted.is in
     omega (arith, found.read.whole)
 
 pub build_listed-requires : goal.build_listed-requires
 build_listed-requires c =
     let s = c.args.sheet.now in
     let tests = c.read_tests-read.ensures in
-    let found = found_accepts s _ _ tests.0 c.read-in-Accepted-1.given.1 in
+    let found = found_accepts s _ _ tests.result_after c.in-Accepted.is in
     let bytes = bytes_known s (λ i. omega (arith, c.shared_slice_known-1.given i)) in
     let held = sheet_kept s _ _ _ _ _ found (rest s 3) bytes in
-    let few = few_tests_lem _ _ c.read-in-Accepted-1.given.1 tests.1 in
+    let few = few_tests_lem _ _ c.in-Accepted.is tests.held in
     let list = c.list_sheet.ensures in
-    let read = table_taken_lem c.args.table.now _ _ c.enum_told-1.given.1 c.read_table-checked.ensures in
+    let read = table_taken_lem c.args.table.now _ _ c.in-Accepted-checked.is c.read_table-checked.ensures in
     let turned = c.by_places.ensures in
-    (_, found.read.sheet.rules, ordered_listed held tests.1.all_codes few list.1 list.0 c.args.table.now read turned)
+    (_, found.read.sheet.rules, ordered_listed held tests.held.all_codes few list.numbers_after list.s_after c.args.table.now read turned)
 
 pub returns-in-Refused : goal.returns-in-Refused
 returns-in-Refused c =
     let s = c.args.sheet.now in
     let tests = c.read_tests-read.ensures in
     outcome_refused (by_table c.args.table.now) s c.args.buf.now
-    (found_refuses s _ _ tests.0 c.read-1.given.1)
+    (found_refuses s _ _ tests.result_after c.in-Refused.is)
 
 pub returns-in-Refused-checked : goal.returns-in-Refused-checked
 returns-in-Refused-checked c =
     let s = c.args.sheet.now in
     let tests = c.read_tests-read.ensures in
-    let found = found_accepts s _ _ tests.0 c.read-in-Accepted-1.given.1 in
+    let found = found_accepts s _ _ tests.result_after c.in-Accepted.is in
     table_refused c.args.table.now s c.args.buf.now found.read.accepted
-    (table_refuses c.args.table.now _ _ c.checked-1.given.1 c.read_table-checked.ensures)
+    (table_refuses c.args.table.now _ _ c.in-Refused-checked.is c.read_table-checked.ensures)
 
 pub returns-in-Accepted-checked : goal.returns-in-Accepted-checked
 returns-in-Accepted-checked c =
     let s = c.args.sheet.now in
     let tests = c.read_tests-read.ensures in
-    let found = found_accepts s _ _ tests.0 c.read-in-Accepted-1.given.1 in
+    let found = found_accepts s _ _ tests.result_after c.in-Accepted.is in
     let bytes = bytes_known s (λ i. omega (arith, c.shared_slice_known-1.given i)) in
     let held = sheet_kept s _ _ _ _ _ found (rest s 3) bytes in
-    let few = few_tests_lem _ _ c.read-in-Accepted-1.given.1 tests.1 in
+    let few = few_tests_lem _ _ c.in-Accepted.is tests.held in
     let list = c.list_sheet.ensures in
-    let read = table_taken_lem c.args.table.now _ _ c.enum_told-1.given.1 c.read_table-checked.ensures in
+    let read = table_taken_lem c.args.table.now _ _ c.in-Accepted-checked.is c.read_table-checked.ensures in
     let turned = c.by_places.ensures in
     c.build_listed.ensures _ _
-    (ordered_listed held tests.1.all_codes few list.1 list.0 c.args.table.now read turned)
+    (ordered_listed held tests.held.all_codes few list.numbers_after list.s_after c.args.table.now read turned)
     ∙ ordered_kept c.args.table.now s c.args.buf.now _ _ _ _ _ found read

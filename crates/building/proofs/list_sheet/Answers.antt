@@ -23,21 +23,21 @@ long s x e = length-set s 0 x ∙ ap length e ∙ length-replicate {A = ℕ} 324
 pub list_tests-requires : goal.list_tests-requires
 list_tests-requires c =
     let pre = c.requires in (
-      pre.0.0,
-      pre.0.1,
-      pre.0.2,
-      long c.args.s.now c.args.rules pre.1.0,
-      ap length pre.1.1 ∙ length-replicate {A = ℕ} 680 0,
+      pre.words_len.0,
+      pre.words_len.1,
+      pre.words_len.2,
+      long c.args.s.now c.args.rules pre.s_value.0,
+      ap length pre.s_value.1 ∙ length-replicate {A = ℕ} 680 0,
     )
 
 pub lowest_first-requires : goal.lowest_first-requires
 lowest_first-requires c =
     let a = c.args in
     let pre = c.requires in
-    let many = length-take-le a.pairs a.codes.now (omega (arith, pre.0.1, pre.0.2)) in
-    let counted = subst Counted (sym c.list_tests.ensures.0)
+    let many = length-take-le a.pairs a.codes.now (omega (arith, pre.words_len.1, pre.words_len.2)) in
+    let counted = subst Counted (sym c.list_tests.ensures.s_after)
     (under_counted (places_in a.words.now) (take a.pairs a.codes.now) (set a.s.now 0 a.rules)
-    (long a.s.now a.rules pre.1.0) (omega (arith, many, pre.0.2))) in
+    (long a.s.now a.rules pre.s_value.0) (omega (arith, many, pre.words_len.2))) in
     (counted.entries, counted.few)
 
 pub returns : goal.returns
@@ -45,11 +45,11 @@ unfolding tests_for
 returns c =
     let a = c.args in
     let pre = c.requires in
-    let listed = c.list_tests.ensures in (
-      c.lowest_first.ensures
+    let listed = c.list_tests.ensures in record {
+      s_after = c.lowest_first.ensures
           ∙ ap (λ (s : List ℕ). put_all 260 (map lower_tests (count_from 0 (tests_in s))) s)
-          (listed.0
+          (listed.s_after
           ∙ ap (λ (s : List ℕ). under_put (tests_put (places_in a.words.now) (take a.pairs a.codes.now) (set s 0 a.rules)))
-          pre.1.0),
-      listed.1 ∙ ap (number_all (places_in a.words.now) 0) pre.1.1,
-    )
+          pre.s_value.0);
+      numbers_after = listed.numbers_after ∙ ap (number_all (places_in a.words.now) 0) pre.s_value.1;
+    }

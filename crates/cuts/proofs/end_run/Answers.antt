@@ -14,8 +14,8 @@ returns-then-set-eq0 c =
     let from = c.higher-from.ensures in
     let end = c.gauge_first-end.ensures ∙ ap (λ (z : ℕ). gauge_first (z + 0xffff)) from in
     ended_gaps a.base a.start a.next a.set a.runs.now a.done.count a.done.names
-    c.higher-from.result c.lower.result c.higher.result c.put_gap-m.new.0
-    c.put_gap.new.0
+    c.higher-from.result c.lower.result c.higher.result c.put_gap-m.new.runs
+    c.put_gap.new.runs
     c.put_gap-m.result c.put_gap.result c.if-set-eq0.true from
     (c.lower.ensures ∙ ap (min a.next) end)
     (c.higher.ensures ∙ (λ i. max (end i) (c.gauge_first.ensures i)))

@@ -39,7 +39,7 @@ loop-k-init c =
       λ d. omega arith,
       omega arith,
       refl,
-      c.requires.0.2,
+      c.requires.from_in_bounds.2,
       ap (λ (m : ℕ). framed_from a.base a.live 0 0 (map (cut_at a.c.now a.from) (count_from 0 m))) e,
     )
 
@@ -47,19 +47,19 @@ pub end_run-framed-requires : goal.end_run-framed-requires
 end_run-framed-requires c =
     let at = c.loop-k in
     let few = names_few c.args.base at.runs at.framed.count in
-    let code = c.requires.1 at.k (omega arith) in
-    (at.invariant.5, omega arith, omega arith, code.0, at.invariant.3, c.requires.0.3)
+    let code = c.requires.by_index at.k (omega arith) in
+    (at.invariant.5, omega arith, omega arith, code.0, at.invariant.3, c.requires.from_in_bounds.3)
 
 pub loop-k-preserved : goal.loop-k-preserved
 loop-k-preserved c =
     let a = c.args in
     let at = c.loop-k in
-    let inv = at.invariant in
+    let inv = c.loop-k.invariant in
     let count = c.wide-count.result in
-    let cuts = a.c.now in
+    let cuts = c.args.c.now in
     let more : at.k < count = omega arith in
     let code = (cut_at cuts a.from at.k).code in
-    let n = at.framed.count in
+    let n = c.loop-k.framed.count in
     let ended = cut_ended cuts a.from count a.base a.live at.runs n at.start at.set at.k in
     let passed = cut_passed cuts a.from count a.base a.live at.runs n at.start at.set at.k in
     ⊎_elim
@@ -73,7 +73,7 @@ loop-k-preserved c =
       omega arith,
       few.0,
       few.1,
-      (c.requires.1 at.k (omega arith)).1,
+      (c.requires.by_index at.k (omega arith)).1,
       names_more a.base at.framed.names result.names (runs_in at.runs at.framed.count)
           (runs_in after result.count) (framed_run a.base at.start code at.set []) inv.4 end.1 end.0,
       end.4,
@@ -103,10 +103,10 @@ returns c =
     let a = c.args in
     let at = c.loop-k in
     let count = c.wide-count.result in
-    let n = at.framed.count in
+    let n = c.loop-k.framed.count in
     let low = max at.start a.base in
     let gap = gap_run low (gauge_end low) [] in
-    let after = c.put_gap-all.new.0 in
+    let after = c.put_gap-all.new.runs in
     let written : runs_in after c.put_gap-all.result ≡ runs_in at.runs n ++ gap =
     c.put_gap-all.ensures.0 ∙ (λ i. runs_in at.runs n ++ gap_run (begins i) (ends i) []) in
     let last =

@@ -18,7 +18,7 @@ pub loop-k-preserved : goal.loop-k-preserved
 loop-k-preserved c =
     let a = c.args in
     let at = c.loop-k in
-    let inv = at.invariant in (
+    let inv = c.loop-k.invariant in (
       omega arith,
       omega arith,
       length-set at.c (at.k + 1) _ ∙ inv.2,

@@ -12,9 +12,9 @@ use Rattle.cuts.proofs.turn.Goals as goal
 pub returns-then-c-at : goal.returns-then-c-at
 returns-then-c-at c =
     let a = c.args in
-    let k = c.spot_of_lem.result in
-    let counted = c.wide-count.ensures in
-    let spot = subst (λ (n : ℕ). Spot a.c.now a.from n a.code k) counted c.spot_of_lem.ensures in
+    let k = c.spot_of-k.result in
+    let counted = c.wide.ensures in
+    let spot = subst (λ (n : ℕ). Spot a.c.now a.from n a.code k) counted c.spot_of-k.ensures in
     turn_there a.c.now a.from a.code a.bit k spot c.requires (omega arith) c.if-c-at.true
 
 pub bounds-c-at-3 : goal.bounds-c-at-3
@@ -26,9 +26,9 @@ bounds-c-from-2 c = simp length-set (omega arith)
 pub returns : goal.returns
 returns c =
     let a = c.args in
-    let k = c.spot_of_lem.result in
-    let counted = c.wide-count.ensures in
-    let spot = subst (λ (n : ℕ). Spot a.c.now a.from n a.code k) counted c.spot_of_lem.ensures in
+    let k = c.spot_of-k.result in
+    let counted = c.wide.ensures in
+    let spot = subst (λ (n : ℕ). Spot a.c.now a.from n a.code k) counted c.spot_of-k.ensures in
     let missing : k < count_at a.c.now a.from → (cut_at a.c.now a.from k).code ≡ a.code → ⊥ =
     ⊎_elim (λ w l d. w.2.left d) (λ w l d. absurd (omega (arith, w.left))) c.if-k-count.branch in
     rw (c.move_up.ensures, counted)

@@ -49,30 +49,30 @@ module _ (c : goal.After-rule_of-rule) where
 pub put_number-first-requires : goal.put_number-first-requires
 put_number-first-requires c =
     let a = c.args in
-    fits_1 a.buf.now a.at (parts c) (room c)
+    fits_1 a.buf.now a.at (parts (goal.at.put_number-first-requires c).After-rule_of-rule) (room (goal.at.put_number-first-requires c).After-rule_of-rule)
 
 pub put_word-second-requires : goal.put_word-second-requires
 put_word-second-requires c =
     let a = c.args in
-    fits_2 a.buf.now a.at (parts c) (room c)
+    fits_2 a.buf.now a.at (parts (goal.at.put_word-second-requires c).After-rule_of-rule) (room (goal.at.put_word-second-requires c).After-rule_of-rule)
     c.put_number-first.ensures
 
 pub put_number-third-requires : goal.put_number-third-requires
 put_number-third-requires c =
     let a = c.args in
-    fits_3 a.buf.now a.at (parts c) (room c)
+    fits_3 a.buf.now a.at (parts (goal.at.put_number-third-requires c).After-rule_of-rule) (room (goal.at.put_number-third-requires c).After-rule_of-rule)
     c.put_number-first.ensures c.put_word-second.ensures
 
 pub put_number-fourth-requires : goal.put_number-fourth-requires
 put_number-fourth-requires c =
     let a = c.args in
-    fits_4 a.buf.now a.at (parts c) (room c)
+    fits_4 a.buf.now a.at (parts (goal.at.put_number-fourth-requires c).After-rule_of-rule) (room (goal.at.put_number-fourth-requires c).After-rule_of-rule)
     c.put_number-first.ensures c.put_word-second.ensures c.put_number-third.ensures
 
 pub put_waits-requires : goal.put_waits-requires
 put_waits-requires c =
     let a = c.args in
-    fits_5 a.buf.now a.at (parts c) (room c)
+    fits_5 a.buf.now a.at (parts (goal.at.put_waits-requires c).After-rule_of-rule) (room (goal.at.put_waits-requires c).After-rule_of-rule)
     c.put_number-first.ensures c.put_word-second.ensures c.put_number-third.ensures
     c.put_number-fourth.ensures
 
@@ -80,8 +80,10 @@ pub returns : goal.returns
 returns c =
     let a = c.args in
     let all =
-    wrote_as a.buf.now a.at (sym (apart c))
-    (wrote_five a.buf.now a.at (parts c) (room c)
+    wrote_as a.buf.now a.at (sym (apart (goal.at.returns c).After-rule_of-rule))
+    (wrote_five a.buf.now a.at (parts (goal.at.returns c).After-rule_of-rule) (room (goal.at.returns c).After-rule_of-rule)
     c.put_number-first.ensures c.put_word-second.ensures c.put_number-third.ensures
-    c.put_number-fourth.ensures c.put_waits.ensures) in
-    (all, line_ends a.at _ 44 (size c) all.0)
+    c.put_number-fourth.ensures c.put_waits.ensures) in record {
+      value = all;
+      upper_bound = line_ends a.at _ 44 (size (goal.at.returns c).After-rule_of-rule) all.0;
+    }

@@ -6,7 +6,7 @@ use Rattle.met.proofs.add.Goals as goal
 pub returns : goal.returns
 returns c =
     let a = c.args in
-    let t = a.t.now in
+    let t = c.args.t.now in
     let chained = c.requires.0 in
     let n = c.count-n in
     let h = c.hash-h in

@@ -3,19 +3,19 @@ use borrow.Author.Rules.{rules}
 use Rattle.node_writing.proofs.put_case.Goals as goal
 
 pub put_symbols-requires : goal.put_symbols-requires
-put_symbols-requires c = rw c.c-1.given.1 at c.requires
+put_symbols-requires c = rw c.in-Symbols.is at c.requires
 
 pub put_compound-requires : goal.put_compound-requires
-put_compound-requires c = rw c.c-in-Compound-1.given.1 at c.requires
+put_compound-requires c = rw c.in-Compound.is at c.requires
 
 pub put_numbers-requires : goal.put_numbers-requires
-put_numbers-requires c = rw c.c-in-Numbers-1.given.1 at c.requires
+put_numbers-requires c = rw c.in-Numbers.is at c.requires
 
 pub returns-in-Symbols : goal.returns-in-Symbols
-returns-in-Symbols c = rw c.c-1.given.1 c.put_symbols.ensures
+returns-in-Symbols c = rw c.in-Symbols.is c.put_symbols.ensures
 
 pub returns-in-Compound : goal.returns-in-Compound
-returns-in-Compound c = rw c.c-in-Compound-1.given.1 c.put_compound.ensures
+returns-in-Compound c = rw c.in-Compound.is c.put_compound.ensures
 
 pub returns-in-Numbers : goal.returns-in-Numbers
-returns-in-Numbers c = rw c.c-in-Numbers-1.given.1 c.put_numbers.ensures
+returns-in-Numbers c = rw c.in-Numbers.is c.put_numbers.ensures

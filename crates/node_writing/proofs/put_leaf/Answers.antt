@@ -3,19 +3,19 @@ use borrow.Author.Rules.{rules}
 use Rattle.node_writing.proofs.put_leaf.Goals as goal
 
 pub put-requires : goal.put-requires
-put-requires c = rw c.enum_told-1.given.1 at c.requires
+put-requires c = rw c.in-Fail.is at c.requires
 
 pub put-requires-in-Suspend : goal.put-requires-in-Suspend
-put-requires-in-Suspend c = rw c.enum_told-in-Suspend-1.given.1 at c.requires
+put-requires-in-Suspend c = rw c.in-Suspend.is at c.requires
 
 pub put-requires-in-Execute : goal.put-requires-in-Execute
-put-requires-in-Execute c = rw c.leaf-1.given.1 at c.requires
+put-requires-in-Execute c = rw c.in-Execute.is at c.requires
 
 pub returns-in-Fail : goal.returns-in-Fail
-returns-in-Fail c = rw c.enum_told-1.given.1 c.put.ensures
+returns-in-Fail c = rw c.in-Fail.is c.put.ensures
 
 pub returns-in-Suspend : goal.returns-in-Suspend
-returns-in-Suspend c = rw c.enum_told-in-Suspend-1.given.1 c.put-in-Suspend.ensures
+returns-in-Suspend c = rw c.in-Suspend.is c.put-in-Suspend.ensures
 
 pub returns-in-Execute : goal.returns-in-Execute
-returns-in-Execute c = rw c.leaf-1.given.1 c.put-in-Execute.ensures
+returns-in-Execute c = rw c.in-Execute.is c.put-in-Execute.ensures

@@ -20,8 +20,8 @@ pub returns-then-holds_never : goal.returns-then-holds_never
 returns-then-holds_never c =
     ap beside_unknown
     (sym
-    (one_of (first c) (second c)
-    (⊎_elim (λ w. inl (sym c.holds_never.ensures ∙ w.taken)) (λ w. inr (sym w.1.ensures ∙ w.2.taken)) c.if-holds_never.branch)))
+    (one_of (first (goal.at.returns-then-holds_never c).After-holds_never) (second (goal.at.returns-then-holds_never c).After-holds_never)
+    (⊎_elim (λ w. inl (sym c.holds_never.ensures ∙ w.taken)) (λ w. inr (sym w.1.ensures ∙ w.2.taken)) c.then-holds_never.branch)))
 
 pub returns : goal.returns
 returns c =

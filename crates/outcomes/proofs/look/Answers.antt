@@ -28,9 +28,9 @@ nearest-above-requires c =
 pub returns-then-above-eq-UNKNOWN : goal.returns-then-above-eq-UNKNOWN
 returns-then-above-eq-UNKNOWN c =
     sym
-    (above_decides c
-    ∙ hides_itself (above c) (⊎_elim (λ w. inl w.taken) (λ w. inr w.1.taken) c.if-above-eq-UNKNOWN.branch))
+    (above_decides (goal.at.returns-then-above-eq-UNKNOWN c).After-nearest-above
+    ∙ hides_itself (above (goal.at.returns-then-above-eq-UNKNOWN c).After-nearest-above) (⊎_elim (λ w. inl w.taken) (λ w. inr w.1.taken) c.then-above-eq-UNKNOWN.branch))
 
 pub returns : goal.returns
 returns c =
-    sym (above_decides c ∙ hides_nothing (above c) c.if-above-eq-UNKNOWN.false c.if-above-eq-NEVER.false)
+    sym (above_decides (goal.at.returns c).After-nearest-above ∙ hides_nothing (above (goal.at.returns c).After-nearest-above) c.if-above-eq-UNKNOWN.false c.if-above-eq-NEVER.false)

@@ -14,7 +14,7 @@ use Rattle.outcomes.proofs.pair_outcome.Goals as goal
 -- Where both places were looked at: how their terms compare, and that the runs decide.
 module _ (c : goal.After-look-b) where
   abbrev start : goal.Start
-  start = c
+  start = c.«Start»
 
   abbrev compared : ℕ → ℕ → Outcome
   compared x y =
@@ -29,22 +29,22 @@ module _ (c : goal.After-look-b) where
 pub returns-then-a-eq0 : goal.returns-then-a-eq0
 returns-then-a-eq0 c =
     one_lacking c.look-a.result c.look-b.result _
-    (⊎_elim (λ w. inl w.taken) (λ w. inr w.1.taken) c.if-a-eq0.branch)
-    ∙ runs_decide c
+    (⊎_elim (λ w. inl w.taken) (λ w. inr w.1.taken) c.then-a-eq0.branch)
+    ∙ runs_decide (goal.at.returns-then-a-eq0 c).After-look-b
 
 pub overflow_sub-depth : goal.overflow_sub-depth
 overflow_sub-depth c =
-    let levels = levels_below (start c).args.p c.depth.result c.depth.ensures in
+    let levels = levels_below (start (goal.at.overflow_sub-depth c).After-look-b).args.p c.depth.result c.depth.ensures in
     omega arith
 
 pub overflow_sub-depth-2 : goal.overflow_sub-depth-2
 overflow_sub-depth-2 c =
-    let levels = levels_below (start c).args.q c.depth-2.result c.depth-2.ensures in
+    let levels = levels_below (start (goal.at.overflow_sub-depth-2 c).After-look-b).args.q c.depth-2.result c.depth-2.ensures in
     omega arith
 
 pub compare-requires : goal.compare-requires
 compare-requires c =
-    let m = start c in
+    let m = start (goal.at.compare-requires c).After-look-b in
     let depth = c.depth in
     let depth-other = c.depth-2 in (
       place_inside m.args.p depth.result depth.ensures (search rules),
@@ -56,10 +56,10 @@ compare-requires c =
 
 pub returns : goal.returns
 returns c =
-    let a = (start c).args in
+    let a = (start (goal.at.returns c).After-look-b).args in
     let levels = levels_below a.p c.depth.result c.depth.ensures in
     let levels-other = levels_below a.q c.depth-2.result c.depth-2.ensures in
     c.compare.ensures
     ∙ ap₂ (λ k l. compare_at a.cells.now k l a.p a.q c.look-a.result c.look-b.result) levels.2
     levels-other.2
-    ∙ sym (both_there c.look-a.result c.look-b.result _ c.if-a-eq0.false c.if-b-eq0.false) ∙ runs_decide c
+    ∙ sym (both_there c.look-a.result c.look-b.result _ c.if-a-eq0.false c.if-b-eq0.false) ∙ runs_decide (goal.at.returns c).After-look-b

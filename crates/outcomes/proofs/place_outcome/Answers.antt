@@ -12,7 +12,7 @@ use Rattle.outcomes.proofs.place_outcome.Goals as goal
 -- Where the ends of the run are known, they decide.
 module _ (c : goal.After-high_of-y) where
   abbrev start : goal.Start
-  start = c
+  start = c.«Start»
 
   abbrev x : ℕ
   x = c.low_of-x.result
@@ -29,19 +29,19 @@ module _ (c : goal.After-high_of-y) where
 
 pub returns-then-y-high : goal.returns-then-y-high
 returns-then-y-high c =
-    let a = (start c).args in
-    sym (inside_holds a.low a.high (x c) (y c) c.if-low-x.true (leb-true _ _ c.if-y-high.true)) ∙ ends_decide c
+    let a = (start (goal.at.returns-then-y-high c).After-high_of-y).args in
+    sym (inside_holds a.low a.high (x (goal.at.returns-then-y-high c).After-high_of-y) (y (goal.at.returns-then-y-high c).After-high_of-y) c.if-low-x.true (leb-true _ _ c.if-y-high.true)) ∙ ends_decide (goal.at.returns-then-y-high c).After-high_of-y
 
 pub returns-then-y-low : goal.returns-then-y-low
 returns-then-y-low c =
-    let a = (start c).args in
-    let out = ⊎_elim (λ w. inr (leb-false _ _ w.1.left)) (λ w. inl w.left) c.if-low-x.branch in
-    let apart = ⊎_elim (λ w. inl w.taken) (λ w. inr (ltb-true _ _ w.1.taken)) c.if-y-low.branch in
-    sym (outside_contradicted a.low a.high (x c) (y c) out apart) ∙ ends_decide c
+    let a = (start (goal.at.returns-then-y-low c).After-high_of-y).args in
+    let out = ⊎_elim (λ w. inr (leb-false _ _ w.1.left)) (λ w. inl w.left) c.else-low-x.branch in
+    let apart = ⊎_elim (λ w. inl w.taken) (λ w. inr (ltb-true _ _ w.1.taken)) c.then-y-low.branch in
+    sym (outside_contradicted a.low a.high (x (goal.at.returns-then-y-low c).After-high_of-y) (y (goal.at.returns-then-y-low c).After-high_of-y) out apart) ∙ ends_decide (goal.at.returns-then-y-low c).After-high_of-y
 
 pub returns : goal.returns
 returns c =
-    let a = (start c).args in
-    let out = ⊎_elim (λ w. inr (leb-false _ _ w.1.left)) (λ w. inl w.left) c.if-low-x.branch in
-    sym (partly_not_known a.low a.high (x c) (y c) out c.if-y-low.false (ltb-false _ _ c.if-high-x.false))
-    ∙ ends_decide c
+    let a = (start (goal.at.returns c).After-high_of-y).args in
+    let out = ⊎_elim (λ w. inr (leb-false _ _ w.1.left)) (λ w. inl w.left) c.else-low-x.branch in
+    sym (partly_not_known a.low a.high (x (goal.at.returns c).After-high_of-y) (y (goal.at.returns c).After-high_of-y) out c.if-y-low.false (ltb-false _ _ c.if-high-x.false))
+    ∙ ends_decide (goal.at.returns c).After-high_of-y

@@ -24,16 +24,16 @@ use Rattle.output.proofs.listing.Goals as goal
 -- Where the graph was built: its bytes are in the buffer, and the lines after it are the output.
 module _ (c : goal.In-Written) where
   abbrev build_place : goal.After-build-built
-  build_place = c
+  build_place = c.«After-build-built»
 
   abbrev start : goal.Start
   start = build_place.before.before.before.before.before.before.before.before
 
   abbrev nodes : ℕ
-  nodes = c.built-in-Written-1.given.0.0
+  nodes = c.in-Written.nodes
 
   abbrev bytes : ℕ
-  bytes = c.built-in-Written-1.given.0.1.0
+  bytes = c.in-Written.bytes
 
   abbrev sheet : List ℕ
   sheet = take build_place.before.before.before.before.cut.result start.args.sheet.now
@@ -45,7 +45,7 @@ module _ (c : goal.In-Written) where
   graph = build_place.build.last.1.0
 
   is_built_lem : outcome (Written nodes bytes) graph ≡ build_outcome sheet empty_graph
-  is_built_lem = sym (ap (λ r. outcome r graph) c.built-in-Written-1.given.1) ∙ build_place.build.ensures
+  is_built_lem = sym (ap (λ r. outcome r graph) c.in-Written.is) ∙ build_place.build.ensures
 
   are_bytes : All IsByte sheet
   are_bytes =
@@ -64,53 +64,59 @@ module _ (c : goal.In-Written) where
       let kept : length graph ≡ most_bytes = search rules in omega (arith, built_fits sheet empty_graph is_built_lem, length-replicate {A = ℕ} most_bytes 0, kept)
 
 pub slice_bounds-build-end : goal.slice_bounds-build-end
-slice_bounds-build-end c = cut_length c.args.sheet.now most_bytes c.cut-sheet_end.ensures
+slice_bounds-build-end c = cut_length c.args.sheet.now most_bytes c.cut.ensures
 
 pub put_refused-requires : goal.put_refused-requires
 put_refused-requires c = omega (arith, c.requires)
 
 pub slice_bounds-put_built-end : goal.slice_bounds-put_built-end
 slice_bounds-put_built-end c =
-    cut_length (start c).args.sheet.now most_bytes c.cut-sheet_end.ensures
+    cut_length (start (goal.at.slice_bounds-put_built-end c).In-Written-2).args.sheet.now most_bytes c.cut.ensures
 
 pub slice_bounds-graph-end : goal.slice_bounds-graph-end
-slice_bounds-graph-end c = graph_fits c
+slice_bounds-graph-end c = graph_fits (goal.at.slice_bounds-graph-end c).In-Written-2
 
 pub slice_bounds-put_built-end-in-Written : goal.slice_bounds-put_built-end-in-Written
 slice_bounds-put_built-end-in-Written c =
-    sym (length-take-le (bytes c) (graph c) (graph_fits c))
+    sym (length-take-le (bytes (goal.at.slice_bounds-put_built-end-in-Written c).In-Written-2) (graph (goal.at.slice_bounds-put_built-end-in-Written c).In-Written-2) (graph_fits (goal.at.slice_bounds-put_built-end-in-Written c).In-Written-2))
 
 pub slice_bounds-put_built-end-in-Written-2 : goal.slice_bounds-put_built-end-in-Written-2
 slice_bounds-put_built-end-in-Written-2 c =
-    cut_length (start c).args.input.now most_bytes c.cut-input_end.ensures
+    cut_length (start (goal.at.slice_bounds-put_built-end-in-Written-2 c).In-Written-1).args.input.now most_bytes c.cut2.ensures
 
 pub put_built-requires : goal.put_built-requires
-put_built-requires c =
-    (accepted c, (cut_most (start c).args.input.now most_bytes c.cut-input_end.ensures, omega (arith, (start c).requires)))
+put_built-requires c = record {
+      graph_for = accepted (goal.at.put_built-requires c).In-Written-1;
+      input_len_bound = (cut_most (start (goal.at.put_built-requires c).In-Written-1).args.input.now most_bytes c.cut2.ensures, omega (arith, (start (goal.at.put_built-requires c).In-Written-1).requires));
+    }
 
 pub returns-in-Refused : goal.returns-in-Refused
 returns-in-Refused c =
     let a = c.args in
-    let sheet = take c.cut-sheet_end.result a.sheet.now in
-    let input = take c.cut-input_end.result a.input.now in
+    let sheet = take c.cut.result a.sheet.now in
+    let input = take c.cut2.result a.input.now in
     let told =
-    sym (ap (λ r. outcome r c.build-built.new.1.0) c.built-1.given.1) ∙ c.build-built.ensures in
+    sym (ap (λ r. outcome r c.build-built.new.1.0) c.in-Refused.is) ∙ c.build-built.ensures in
     let is =
     built_refused sheet input _ told
-    ∙ cut_both a.sheet.now a.input.now c.cut-sheet_end.ensures c.cut-input_end.ensures in
+    ∙ cut_both a.sheet.now a.input.now c.cut.ensures c.cut2.ensures in
     let all =
     from_start a.out.now (listing_bytes a.sheet.now a.input.now)
-    (wrote_as a.out.now 0 is c.Put-refused.ensures.0) in
-    (all, counted a.out.now (listing_bytes a.sheet.now a.input.now) all)
+    (wrote_as a.out.now 0 is c.Put-refused.ensures.0) in record {
+      value = all;
+      prefix_len = counted a.out.now (listing_bytes a.sheet.now a.input.now) all;
+    }
 
 pub returns-in-Written : goal.returns-in-Written
 returns-in-Written c =
-    let a = (start c).args in
-    let cut2-place = (build_place c).before.before.before in
+    let a = (start (goal.at.returns-in-Written c).In-Written-1).args in
+    let cut2-place = (build_place (goal.at.returns-in-Written c).In-Written-1).before.before.before in
     let is =
-    after_build c
+    after_build (goal.at.returns-in-Written c).In-Written-1
     ∙ cut_both a.sheet.now a.input.now cut2-place.before.cut.ensures cut2-place.cut2.ensures in
     let call = c.put_built.ensures in
     let long = call.0 ∙ ap length is in
-    let written = call.1 ∙ ap (splice a.out.now 0) is in
-    ((long, written), counted a.out.now (listing_bytes a.sheet.now a.input.now) (long, written))
+    let written = call.1 ∙ ap (splice a.out.now 0) is in record {
+      value = (long, written);
+      prefix_len = counted a.out.now (listing_bytes a.sheet.now a.input.now) (long, written);
+    }

@@ -15,19 +15,19 @@ own
 own c = let size = c.requires.1 in emptied_own c.args.cells.now (omega arith)
 
 pub returns-then-cells-p-eq0 : goal.returns-then-cells-p-eq0
-returns-then-cells-p-eq0 c = emptied_flat 21 (omega arith) (own c) c.requires.2 c.if-cells-p-eq0.true
+returns-then-cells-p-eq0 c = emptied_flat 21 (omega arith) (own (goal.at.returns-then-cells-p-eq0 c).After-way_told-1) c.requires.2 c.if-cells-p-eq0.true
 
 pub loop-place-init : goal.loop-place-init
 loop-place-init c =
-    (omega arith, omega arith, (own c).size ∙ c.requires.1, emptied_none (c.args.p + 1) _)
+    (omega arith, omega arith, (own (goal.at.loop-place-init c).After-way_told-1).size ∙ c.requires.1, emptied_none (c.args.p + 1) _)
 
 pub loop-place-preserved : goal.loop-place-preserved
 loop-place-preserved c =
     let inv = c.loop-place.invariant in
-    let size = inv.2 in
+    let size = c.loop-place.invariant.2 in
     (omega arith, omega arith, size, emptied_next inv.3 inv.0 (omega arith))
 
 pub returns : goal.returns
 returns c =
     let inv = c.loop-place.invariant in
-    emptied_to (emptied_more (own c) (omega arith) inv.3 inv.0) (omega arith)
+    emptied_to (emptied_more (own (goal.at.returns c).After-way_told-1) (omega arith) inv.3 inv.0) (omega arith)

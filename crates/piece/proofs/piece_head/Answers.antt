@@ -14,7 +14,7 @@ returns-then-s-ne17 c = simp (le-leb _ _ c.if-s-lt2.false, ne_eqb _ _ c.if-s-ne1
 pub returns-then-arity-lt1 : goal.returns-then-arity-lt1
 returns-then-arity-lt1 c =
     wrong_arity c.args.s.now c.if-s-lt2.false c.if-s-ne17.false
-    (⊎_elim (λ w. inl w.taken) (λ w. inr (ltb-true _ _ w.1.taken)) c.if-arity-lt1.branch)
+    (⊎_elim (λ w. inl w.taken) (λ w. inr (ltb-true _ _ w.1.taken)) c.then-arity-lt1.branch)
 
 pub returns : goal.returns
 returns c =

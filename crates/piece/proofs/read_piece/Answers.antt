@@ -8,14 +8,14 @@ use Rattle.piece.proofs.read_piece.Goals as goal
 pub returns-then-bytes-s : goal.returns-then-bytes-s
 returns-then-bytes-s c =
     bytes_left c.args.s.now c.read_prefix-prefix.result c.read_prefix-prefix.new.1.0
-    c.read_prefix-prefix.ensures.0 c.prefix-1.given.1 c.if-bytes-s.true
+    c.read_prefix-prefix.ensures.0 c.in-Read.is c.if-bytes-s.true
 
 pub returns-else-bytes-s : goal.returns-else-bytes-s
 returns-else-bytes-s c =
     piece_took_lem c.args.s.now c.read_prefix-prefix.result c.read_prefix-prefix.new.1.0
-    c.read_prefix-prefix.ensures.0 c.prefix-1.given.1 c.if-bytes-s.false
+    c.read_prefix-prefix.ensures.0 c.in-Read.is c.if-bytes-s.false
 
 pub returns-in-Refused : goal.returns-in-Refused
 returns-in-Refused c =
     piece_refused c.args.s.now c.read_prefix-prefix.result c.read_prefix-prefix.new.1.0
-    c.read_prefix-prefix.ensures.0 c.prefix-in-Refused-1.given.1
+    c.read_prefix-prefix.ensures.0 c.in-Refused.is

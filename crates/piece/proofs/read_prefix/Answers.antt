@@ -21,17 +21,17 @@ module _ (c : goal.In-Read) where
   bytes = c.args.s.now
 
   abbrev arity : ℕ
-  arity = c.head-1.given.0.0
+  arity = c.in-Read.arity
 
-  known : ArityRead bytes c.head-1.given.0.1.0 arity
+  known : ArityRead bytes c.in-Read.field-1 arity
   known =
       arity_known bytes c.piece_head-head.result c.piece_head-head.ensures
-      c.head-1.given.1
+      c.in-Read.is
 
 -- Where the terms were read or refused.
 module _ (c : goal.After-terms-taken) where
   abbrev start : goal.In-Read
-  start = c
+  start = c.«In-Read»
 
   abbrev laid : Taken → Reading LaidOut
   laid r =
@@ -50,29 +50,29 @@ module _ (c : goal.After-terms-taken) where
 
 pub returns-in_default : goal.returns-in_default
 returns-in_default c =
-    let told = c.enum_told-1.given.1 in (
+    let told = c.in_default.is in (
       arity_refused c.args.s.now c.piece_head-head.result c.piece_head-head.ensures told _,
       omega (arith, ap prefix_bytes told),
     )
 
 pub slice_bounds-terms-count : goal.slice_bounds-terms-count
-slice_bounds-terms-count c = omega (arith, (known c).there)
+slice_bounds-terms-count c = omega (arith, (known (goal.at.slice_bounds-terms-count c).In-Read).there)
 
 pub slice_bounds-terms-start : goal.slice_bounds-terms-start
-slice_bounds-terms-start c = omega (arith, (known c).there)
+slice_bounds-terms-start c = omega (arith, (known (goal.at.slice_bounds-terms-start c).In-Read).there)
 
 pub terms-taken-requires : goal.terms-taken-requires
-terms-taken-requires c = omega (arith, (known c).most)
+terms-taken-requires c = omega (arith, (known (goal.at.terms-taken-requires c).In-Read).most)
 
 pub overflow_add-result : goal.overflow_add-result
 overflow_add-result c =
-    omega (arith, within c c.taken-1.given.1, (start c).before.before.before.before.before.well_formed.0.0)
+    omega (arith, within (goal.at.overflow_add-result c).After-terms-taken c.in-Bytes.is, (start (goal.at.overflow_add-result c).After-terms-taken).before.before.before.before.before.well_formed.0.0)
 
 pub returns-in-Bytes : goal.returns-in-Bytes
 returns-in-Bytes c =
-    let told = c.taken-1.given.1 in
-    (ap (laid c) (sym told) ∙ laid_out c, within c told)
+    let told = c.in-Bytes.is in
+    (ap (laid (goal.at.returns-in-Bytes c).After-terms-taken) (sym told) ∙ laid_out (goal.at.returns-in-Bytes c).After-terms-taken, within (goal.at.returns-in-Bytes c).After-terms-taken told)
 
 pub returns-in-Refused : goal.returns-in-Refused
 returns-in-Refused c =
-    (ap (laid c) (sym c.taken-in-Refused-taken-1.given.1) ∙ laid_out c, omega arith)
+    (ap (laid (goal.at.returns-in-Refused c).After-terms-taken) (sym c.in-Refused.is) ∙ laid_out (goal.at.returns-in-Refused c).After-terms-taken, omega arith)

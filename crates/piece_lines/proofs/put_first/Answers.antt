@@ -20,23 +20,23 @@ put_piece_line-end-requires c = c.requires
 pub returns-in-Unread : goal.returns-in-Unread
 returns-in-Unread c =
     let a = c.args in
-    let call = c.Put-refused in (
-      turned_last a.out.now a.at a.number call.ensures.0 (ap (λ (x : First). answered (first_of x)) c.first-1.given.1),
-      λ bytes w. omega (arith, call.ensures.1),
-    )
+    let call = c.Put-refused in record {
+      out_after = turned_last a.out.now a.at a.number call.ensures.0 (ap (λ (x : First). answered (first_of x)) c.in-Unread.is);
+      by_index = λ bytes w. omega (arith, call.ensures.1);
+    }
 
 pub returns-in-Refused : goal.returns-in-Refused
 returns-in-Refused c =
     let a = c.args in
-    let call = c.put_refused-in-Refused in (
-      turned_last a.out.now a.at a.number call.ensures.0 (ap (λ (x : First). answered (first_of x)) c.first-in-Refused-1.given.1),
-      λ bytes w. omega (arith, call.ensures.1),
-    )
+    let call = c.put_refused-in-Refused in record {
+      out_after = turned_last a.out.now a.at a.number call.ensures.value (ap (λ (x : First). answered (first_of x)) c.in-Refused.is);
+      by_index = λ bytes w. omega (arith, call.ensures.upper_bound);
+    }
 
 pub returns-in-Answered : goal.returns-in-Answered
 returns-in-Answered c =
     let a = c.args in
-    let call = c.put_piece_line-end in (
-      Turned-more a.out.now a.at a.number call.ensures.0 (ap (λ (x : First). answered (first_of x)) c.first-in-Answered-1.given.1),
-      λ bytes w. let inside = subst (PieceWithin bytes) c.first-in-Answered-1.given.1 w in (inside.0, inside.1, call.ensures.1),
-    )
+    let call = c.put_piece_line-end in record {
+      out_after = Turned-more a.out.now a.at a.number call.ensures.value (ap (λ (x : First). answered (first_of x)) c.in-Answered.is);
+      by_index = λ bytes w. let inside = subst (PieceWithin bytes) c.in-Answered.is w in (inside.0, inside.1, call.ensures.upper_bound);
+    }

@@ -8,4 +8,4 @@ pub returns : goal.returns
 returns c =
     let a = c.args in
     let part = c.copy_in in
-    (refl, placed a.buf.now a.at a.bytes.now part.new.0 part.ensures)
+    (refl, placed a.buf.now a.at a.bytes.now part.new.buf part.ensures)

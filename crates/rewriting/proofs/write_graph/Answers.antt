@@ -18,7 +18,7 @@ put-at-requires c = omega (arith, c.requires.0, c.requires.1)
 pub copy_nodes-requires : goal.copy_nodes-requires
 copy_nodes-requires c =
     let a = c.args in
-    let g = a.g.now in
+    let g = c.args.g.now in
     let at : c.put-at.result ≡ 5 = c.put-at.ensures.0 in (
       omega (arith, at, c.requires.0),
       omega (arith, c.buffer-1.given, c.requires.1),
@@ -28,7 +28,7 @@ copy_nodes-requires c =
 pub returns : goal.returns
 returns c =
     let a = c.args in
-    let g = a.g.now in
+    let g = c.args.g.now in
     let at : c.put-at.result ≡ 5 = c.put-at.ensures.0 in
     let first = header_bytes a.arity a.rules a.nodes in
     let nodes : ℕ → List ℕ = λ n. nodes_bytes (read_or [] (read_records a.nodes (drop n g))) in

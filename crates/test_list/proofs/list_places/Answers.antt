@@ -27,15 +27,15 @@ loop-i-preserved c =
     let listed = c.list_word-count.ensures in
     let more = map (λ (j : ℕ). 64 * turn.i + j) (members 64 (get_or words turn.i 0)) in (
       omega arith,
-      listed.1.1,
-      omega (arith, listed.1.0, turn.invariant.2, places_next words turn.i),
-      listed.0 ∙ ap (λ (t : List ℕ). t ++ more) turn.invariant.3 ∙ places_word words turn.i,
+      listed.value.1,
+      omega (arith, listed.value.0, turn.invariant.2, places_next words turn.i),
+      listed.places_after ∙ ap (λ (t : List ℕ). t ++ more) turn.invariant.3 ∙ places_word words turn.i,
     )
 
 pub returns : goal.returns
 returns c =
     let turn = c.loop-i in
-    let words = c.args.words.now in (
-      turn.invariant.3 ∙ places_whole words turn.i (omega arith),
-      (turn.invariant.2 ∙ places_all words turn.i (omega arith), turn.invariant.1),
-    )
+    let words = c.args.words.now in record {
+      places_after = turn.invariant.3 ∙ places_whole words turn.i (omega arith);
+      value = (turn.invariant.2 ∙ places_all words turn.i (omega arith), turn.invariant.1);
+    }

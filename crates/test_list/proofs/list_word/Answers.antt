@@ -37,5 +37,7 @@ loop-left-preserved c =
 
 pub returns : goal.returns
 returns c =
-    let turn = c.loop-left in
-    (listing_done turn.invariant c.loop-left-test.false, (listing_number turn.invariant c.loop-left-test.false, turn.invariant.entries))
+    let turn = c.loop-left in record {
+      places_after = listing_done turn.invariant c.loop-left-test.false;
+      value = (listing_number turn.invariant c.loop-left-test.false, turn.invariant.entries);
+    }

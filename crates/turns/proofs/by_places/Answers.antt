@@ -27,13 +27,13 @@ bounds-numbers-p c =
 
 pub is_test_of-requires : goal.is_test_of-requires
 is_test_of-requires c =
-    omega (arith, c.number-t.ensures, c.requires.3 c.wide-p.result)
+    omega (arith, c.number.ensures, c.requires.3 c.wide-p.result)
 
 pub overflow_add-s : goal.overflow_add-s
-overflow_add-s c = omega (arith, c.number-t.ensures, c.requires.3 c.wide-p.result)
+overflow_add-s c = omega (arith, c.number.ensures, c.requires.3 c.wide-p.result)
 
 pub offset_bounds-s-t : goal.offset_bounds-s-t
-offset_bounds-s-t c = omega (arith, c.number-t.ensures, c.requires.3 c.wide-p.result)
+offset_bounds-s-t c = omega (arith, c.number.ensures, c.requires.3 c.wide-p.result)
 
 pub bounds-s-t : goal.bounds-s-t
 bounds-s-t c = omega (arith, c.number-t.ensures, c.requires.3 c.wide-p.result)
@@ -49,16 +49,16 @@ loop-i-preserved c =
     let numbers = c.args.numbers.now in
     let places = c.args.places.now in
     let p = c.wide-p.result in
-    let t = c.number-t.result in
+    let t = c.number.result in
     let short : turn.i < length places = omega (arith, c.requires.0, inside) in
     ⊎_elim
     (λ w.
     turning_asks numbers places c.args.s.now turn.s turn.asked turn.i p t turn.invariant short
-    c.wide-p.ensures c.number-t.ensures
+    c.wide-p.ensures c.number.ensures
     (sym c.is_test_of.ensures ∙ w.0.taken) w.2 (w.3 ∙ w.1.ensures))
     (λ w.
     turning_stays numbers places c.args.s.now turn.s turn.asked turn.i p t turn.invariant short
-    c.wide-p.ensures c.number-t.ensures
+    c.wide-p.ensures c.number.ensures
     (sym c.is_test_of.ensures ∙ w.0.left) w.1 w.2)
     c.if-is_test_of.branch
 

@@ -21,6 +21,7 @@ use Rattle.walk_all.proofs.WalkAllPlaces.{turn_start, input, cells_read, input_b
 use Rattle.walk_all.proofs.WalkAllPlaces.{turn_test, turn_told, inside, used_next, notes_there}
 use Rattle.walk_all.proofs.walk_all.Goals as goal
 
+
 pub loop-n-init : goal.loop-n-init
 loop-n-init c =
     let a = c.args in (
@@ -35,100 +36,100 @@ loop-n-init c =
     )
 
 pub overflow_cast-result : goal.overflow_cast-result
-overflow_cast-result c = omega (arith, c.loop-n.invariant.0, c.loop-n.invariant.2, (few c).0)
+overflow_cast-result c = omega (arith, c.loop-n.invariant.0, c.loop-n.invariant.2, (few (goal.at.overflow_cast-result c).At-loop-n).0)
 
 pub overflow_cast-result-then-from-pieces : goal.overflow_cast-result-then-from-pieces
-overflow_cast-result-then-from-pieces c = omega (arith, c.loop-n.invariant.0, c.loop-n.invariant.2, (few c).0)
+overflow_cast-result-then-from-pieces c = omega (arith, c.loop-n.invariant.0, c.loop-n.invariant.2, (few (goal.at.overflow_cast-result-then-from-pieces c).At-loop-n).0)
 
 pub returns-then-from-pieces : goal.returns-then-from-pieces
 returns-then-from-pieces c =
-    ended c
-    (pieces_none (room c - n c) (most_taken - from c) (drop (from c) (pieces c))
-    (omega (arith, c.if-from-pieces.true, length-drop (from c) (pieces c))))
+    ended (goal.at.returns-then-from-pieces c).At-loop-n
+    (pieces_none (room (goal.at.returns-then-from-pieces c).At-loop-n - n (goal.at.returns-then-from-pieces c).At-loop-n) (most_taken - from (goal.at.returns-then-from-pieces c).At-loop-n) (drop (from (goal.at.returns-then-from-pieces c).At-loop-n) (pieces (goal.at.returns-then-from-pieces c).At-loop-n))
+    (omega (arith, c.if-from-pieces.true, length-drop (from (goal.at.returns-then-from-pieces c).At-loop-n) (pieces (goal.at.returns-then-from-pieces c).At-loop-n))))
 
 pub read_prefix-prefix-requires : goal.read_prefix-prefix-requires
 read_prefix-prefix-requires c = let inv = c.loop-n.invariant in (inv.6, inv.7)
 
 pub walk_checked-walked-requires : goal.walk_checked-walked-requires
 walk_checked-walked-requires c =
-    let known = (ready (turn_start c).before.before.before).known in (
-      (
+    let known = (ready (turn_start (goal.at.walk_checked-walked-requires c).After-read_prefix-prefix).before.before.before).known in record {
+      starts_len = (
         known.all_starts,
-        some_piece (input c) (cells_read c) (input_bytes c) c.read_prefix-prefix.result _ (prefix_told c)
+        some_piece (input (goal.at.walk_checked-walked-requires c).After-read_prefix-prefix) (cells_read (goal.at.walk_checked-walked-requires c).After-read_prefix-prefix) (input_bytes (goal.at.walk_checked-walked-requires c).After-read_prefix-prefix) c.read_prefix-prefix.result _ (prefix_told (goal.at.walk_checked-walked-requires c).After-read_prefix-prefix)
             (sym c.has_arity.ensures ∙ c.if-has_arity.true),
         known.begins,
-        (turn_start c).loop.invariant.5,
-      ),
-      known.checked,
-    )
+        (turn_start (goal.at.walk_checked-walked-requires c).After-read_prefix-prefix).loop.invariant.5,
+      );
+      checked = known.checked;
+    }
 
 pub put_first-turn-requires : goal.put_first-turn-requires
 put_first-turn-requires c =
-    let state = turn_start c in
+    let state = turn_start (goal.at.put_first-turn-requires c).After-read_prefix-prefix in
     omega (arith, state.loop.inv.3, (few state).1, c.loop-n-test.true)
 
 pub overflow_cast-result-in-Full : goal.overflow_cast-result-in-Full
-overflow_cast-result-in-Full c = let now = state c in omega (arith, now.loop.inv.0, now.loop.inv.2, (few now).0, turn_test c)
+overflow_cast-result-in-Full c = let now = state (goal.at.overflow_cast-result-in-Full c).After-slice_known-in-loop-n-1 in omega (arith, now.loop.inv.0, now.loop.inv.2, (few now).0, turn_test (goal.at.overflow_cast-result-in-Full c).After-slice_known-in-loop-n-1)
 
 pub overflow_cast-result-in-Full-2 : goal.overflow_cast-result-in-Full-2
-overflow_cast-result-in-Full-2 c = let now = state c in omega (arith, now.loop.inv.0, now.loop.inv.2, (few now).0, turn_test c)
+overflow_cast-result-in-Full-2 c = let now = state (goal.at.overflow_cast-result-in-Full-2 c).After-slice_known-in-loop-n-1 in omega (arith, now.loop.inv.0, now.loop.inv.2, (few now).0, turn_test (goal.at.overflow_cast-result-in-Full-2 c).After-slice_known-in-loop-n-1)
 
 pub returns-in-Full : goal.returns-in-Full
 returns-in-Full c =
-    let now = state c in
+    let now = state (goal.at.returns-in-Full c).After-slice_known-in-loop-n-1 in
     let loop = now.loop in
-    let (none, same) = told_full (reply now) (input (read c)) loop.results (16 * loop.n) (left c) (more c) (turn_told c c.enum_told-1.given.1) in
-    ap (λ (l : List ℕ). left_by (Walked (n now) (from now)) l) same ∙ ended now (first c ∙ none)
+    let (none, same) = told_full (reply now) (input (read (goal.at.returns-in-Full c).After-slice_known-in-loop-n-1)) loop.results (16 * loop.n) (left (goal.at.returns-in-Full c).After-slice_known-in-loop-n-1) (more (goal.at.returns-in-Full c).After-slice_known-in-loop-n-1) (turn_told (goal.at.returns-in-Full c).After-slice_known-in-loop-n-1 c.in-Full.is) in
+    ap (λ (l : List ℕ). left_by (Walked (n now) (from now)) l) same ∙ ended now (first (goal.at.returns-in-Full c).After-slice_known-in-loop-n-1 ∙ none)
 
 pub overflow_add-result : goal.overflow_add-result
-overflow_add-result c = let now = state c in omega (arith, now.loop.inv.0, now.loop.inv.2, (few now).0, turn_test c)
+overflow_add-result c = let now = state (goal.at.overflow_add-result c).After-slice_known-in-loop-n-1 in omega (arith, now.loop.inv.0, now.loop.inv.2, (few now).0, turn_test (goal.at.overflow_add-result c).After-slice_known-in-loop-n-1)
 
 pub overflow_cast-result-in-Last : goal.overflow_cast-result-in-Last
-overflow_cast-result-in-Last c = let now = state c in omega (arith, now.loop.inv.0, now.loop.inv.2, (few now).0, turn_test c)
+overflow_cast-result-in-Last c = let now = state (goal.at.overflow_cast-result-in-Last c).After-slice_known-in-loop-n-1 in omega (arith, now.loop.inv.0, now.loop.inv.2, (few now).0, turn_test (goal.at.overflow_cast-result-in-Last c).After-slice_known-in-loop-n-1)
 
 pub overflow_cast-result-in-Last-2 : goal.overflow_cast-result-in-Last-2
-overflow_cast-result-in-Last-2 c = let now = state c in omega (arith, now.loop.inv.0, now.loop.inv.2, (few now).0, turn_test c)
+overflow_cast-result-in-Last-2 c = let now = state (goal.at.overflow_cast-result-in-Last-2 c).After-slice_known-in-loop-n-1 in omega (arith, now.loop.inv.0, now.loop.inv.2, (few now).0, turn_test (goal.at.overflow_cast-result-in-Last-2 c).After-slice_known-in-loop-n-1)
 
 pub returns-in-Last : goal.returns-in-Last
 returns-in-Last c =
-    let now = state c in
+    let now = state (goal.at.returns-in-Last c).After-slice_known-in-loop-n-1 in
     let loop = now.loop in
-    let (q, last, wrote) = told_last (reply now) (input (read c)) loop.results (16 * loop.n) (left c) (more c) (turn_told c c.enum_told-in-Last-1.given.1) in
-    at_last (reply now) (pieces now) (buffer now) (room now) loop.inv.4 (fits c) (first c ∙ last) wrote ∙ all_done now
+    let (q, last, wrote) = told_last (reply now) (input (read (goal.at.returns-in-Last c).After-slice_known-in-loop-n-1)) loop.results (16 * loop.n) (left (goal.at.returns-in-Last c).After-slice_known-in-loop-n-1) (more (goal.at.returns-in-Last c).After-slice_known-in-loop-n-1) (turn_told (goal.at.returns-in-Last c).After-slice_known-in-loop-n-1 c.in-Last.is) in
+    at_last (reply now) (pieces now) (buffer now) (room now) loop.inv.4 (fits (goal.at.returns-in-Last c).After-slice_known-in-loop-n-1) (first (goal.at.returns-in-Last c).After-slice_known-in-loop-n-1 ∙ last) wrote ∙ all_done now
 
 pub overflow_add-from : goal.overflow_add-from
-overflow_add-from c = omega (arith, (inside c).1)
+overflow_add-from c = omega (arith, (inside (goal.at.overflow_add-from c).In-More-2).1)
 
 pub loop-n-preserved : goal.loop-n-preserved
 loop-n-preserved c =
-    let now = state c in
+    let now = state (goal.at.loop-n-preserved c).After-slice_known-in-loop-n-1 in
     let loop = now.loop in
-    let (next, may, wrote) = Told-more (reply now) (input (read c)) loop.results (16 * loop.n) (left c) (more c) (turn_told c c.turn-1.given.1) in
+    let (next, may, wrote) = Told-more (reply now) (input (read (goal.at.loop-n-preserved c).After-slice_known-in-loop-n-1)) loop.results (16 * loop.n) (left (goal.at.loop-n-preserved c).After-slice_known-in-loop-n-1) (more (goal.at.loop-n-preserved c).After-slice_known-in-loop-n-1) (turn_told (goal.at.loop-n-preserved c).After-slice_known-in-loop-n-1 c.in-More.is) in
     let used = sym c.used_by-used.ensures in (
-      omega (arith, turn_test c),
-      (inside c).0,
-      (inside c).1,
+      omega (arith, turn_test (goal.at.loop-n-preserved c).After-slice_known-in-loop-n-1),
+      (inside (goal.at.loop-n-preserved c).In-More-2).0,
+      (inside (goal.at.loop-n-preserved c).In-More-2).1,
       search rules,
-      at_piece (reply now) (pieces now) (buffer now) (room now) loop.inv.4 (fits c) (first c ∙ next) wrote,
-      notes_there c,
-      subst (λ (k : ℕ). k ≤ 680) used (used_next c).0,
-      subst (λ (k : ℕ). UsedTo k (cells_read (read c))) used (used_next c).1,
+      at_piece (reply now) (pieces now) (buffer now) (room now) loop.inv.4 (fits (goal.at.loop-n-preserved c).After-slice_known-in-loop-n-1) (first (goal.at.loop-n-preserved c).After-slice_known-in-loop-n-1 ∙ next) wrote,
+      notes_there (goal.at.loop-n-preserved c).In-More-2,
+      subst (λ (k : ℕ). k ≤ 680) used (used_next (goal.at.loop-n-preserved c).In-More-2).0,
+      subst (λ (k : ℕ). UsedTo k (cells_read (read (goal.at.loop-n-preserved c).After-slice_known-in-loop-n-1))) used (used_next (goal.at.loop-n-preserved c).In-More-2).1,
     )
 
 pub overflow_cast-result-in-Ready : goal.overflow_cast-result-in-Ready
-overflow_cast-result-in-Ready c = omega (arith, c.loop-n.invariant.0, c.loop-n.invariant.2, (few c).0)
+overflow_cast-result-in-Ready c = omega (arith, c.loop-n.invariant.0, c.loop-n.invariant.2, (few (goal.at.overflow_cast-result-in-Ready c).At-loop-n).0)
 
 pub overflow_cast-result-in-Ready-2 : goal.overflow_cast-result-in-Ready-2
-overflow_cast-result-in-Ready-2 c = omega (arith, c.loop-n.invariant.0, c.loop-n.invariant.2, (few c).0)
+overflow_cast-result-in-Ready-2 c = omega (arith, c.loop-n.invariant.0, c.loop-n.invariant.2, (few (goal.at.overflow_cast-result-in-Ready-2 c).At-loop-n).0)
 
 pub returns-in-Refused : goal.returns-in-Refused
 returns-in-Refused c =
     let a = c.args in
     all_refused a.sheet.now a.graph.now a.pieces.now a.results.now
-    (subst (OpenedAs _ _ _ _) c.opened-1.given.1 c.open_graph-opened.ensures.0)
+    (subst (OpenedAs _ _ _ _) c.in-Refused.is c.open_graph-opened.ensures.0)
 
 pub returns-after-loop-n : goal.returns-after-loop-n
 returns-after-loop-n c =
-    ended c
-    (pieces_roomless (room c - n c) (most_taken - from c) (drop (from c) (pieces c))
+    ended (goal.at.returns-after-loop-n c).At-loop-n
+    (pieces_roomless (room (goal.at.returns-after-loop-n c).At-loop-n - n (goal.at.returns-after-loop-n c).At-loop-n) (most_taken - from (goal.at.returns-after-loop-n c).At-loop-n) (drop (from (goal.at.returns-after-loop-n c).At-loop-n) (pieces (goal.at.returns-after-loop-n c).At-loop-n))
     (omega (arith, c.loop-n-test.false)))

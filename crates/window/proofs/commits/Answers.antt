@@ -14,4 +14,4 @@ returns c =
     ⊎_elim
     (λ w. commits_above a.rule a.window.now (leb-false _ _ w.1.left) w.0.taken)
     (λ w. commits_below a.rule a.window.now w.left)
-    c.if-rule-ge1.branch
+    c.else-rule-ge1.branch

@@ -7,7 +7,7 @@ use Rattle.window.proofs.is_taken.Goals as goal
 pub returns-then-word-lt1 : goal.returns-then-word-lt1
 returns-then-word-lt1 c =
     let a = c.args in
-    let none : (a.word < 1) ⊎ (4 < a.word) = ⊎_elim (λ w. inl w.taken) (λ w. inr (ltb-true 4 a.word w.1.taken)) c.if-word-lt1.branch in
+    let none : (a.word < 1) ⊎ (4 < a.word) = ⊎_elim (λ w. inl w.taken) (λ w. inr (ltb-true 4 a.word w.1.taken)) c.then-word-lt1.branch in
     sym (no_word a.word a.rule none)
 
 pub returns-then-least-rule : goal.returns-then-least-rule

@@ -5,4 +5,4 @@ use Rattle.window.proofs.store.Goals as goal
 
 pub returns : goal.returns
 unfolding stored
-returns c = rw (c.code_of_lem.ensures, c.place_after.ensures)
+returns c = rw (c.code_of.ensures, c.place_after.ensures)

@@ -10,39 +10,41 @@ returns-in_default c =
     let a = c.args in
     let grow = c.grow-grown in
     built_many a.arity (rules_in a.s.now) a.s.now a.c.now a.buf.now
-    (grown_none a.s.now a.c.now grow.new.0 _ grow.ensures.0 c.enum_told-1.given.1)
+    (grown_none a.s.now a.c.now grow.new.keys _ grow.ensures.grown c.in_default.is)
 
 pub overflow_add-bytes : goal.overflow_add-bytes
-overflow_add-bytes c = omega (arith, grown_most _ _ c.grow-grown.ensures.1.1 c.grown-1.given.1)
+overflow_add-bytes c = omega (arith, grown_most _ _ c.grow-grown.ensures.chained.1 c.in-Bytes.is)
 
 pub returns-then-buf-bytes : goal.returns-then-buf-bytes
 returns-then-buf-bytes c =
     let a = c.args in
     let grow = c.grow-grown in
-    let t = grow.new.0 in
-    let met = c.grown-1.given.1 in
-    let some = grown_some a.s.now a.c.now t _ grow.ensures.0 met in
+    let t = c.grow-grown.new.keys in
+    let met = c.in-Bytes.is in
+    let some = grown_some a.s.now a.c.now t _ grow.ensures.grown met in
     built_short a.arity (rules_in a.s.now) a.s.now a.c.now a.buf.now t _ some.0 some.1 c.if-buf-bytes.true
 
 pub put_graph-end-requires : goal.put_graph-end-requires
 put_graph-end-requires c =
     let a = c.args in
     let grow = c.grow-grown in
-    let t = grow.new.0 in
-    let met = c.grown-1.given.1 in
-    let some = grown_some a.s.now a.c.now t _ grow.ensures.0 met in
+    let t = c.grow-grown.new.keys in
+    let met = c.in-Bytes.is in
+    let some = grown_some a.s.now a.c.now t _ grow.ensures.grown met in
     let size =
-    graph_size a.arity (rules_in a.s.now) a.s.now a.c.now a.buf.now t _ some.0 some.1 in
-    ((grow.ensures.1.0, c.requires, grow.ensures.1.2), omega (arith, size, c.if-buf-bytes.false))
+    graph_size a.arity (rules_in a.s.now) a.s.now a.c.now a.buf.now t _ some.0 some.1 in record {
+      chained = (grow.ensures.chained.0, c.requires, grow.ensures.chained.2);
+      room = omega (arith, size, c.if-buf-bytes.false);
+    }
 
 pub overflow_cast-result-2 : goal.overflow_cast-result-2
 overflow_cast-result-2 c =
     let a = c.args in
     let grow = c.grow-grown in
-    let t = grow.new.0 in
-    let met = c.grown-1.given.1 in
-    let some = grown_some a.s.now a.c.now t _ grow.ensures.0 met in
-    let most = grown_most _ _ grow.ensures.1.1 met in
+    let t = c.grow-grown.new.keys in
+    let met = c.in-Bytes.is in
+    let some = grown_some a.s.now a.c.now t _ grow.ensures.grown met in
+    let most = grown_most _ _ grow.ensures.chained.1 met in
     let size =
     graph_size a.arity (rules_in a.s.now) a.s.now a.c.now a.buf.now t _ some.0 some.1 in
     omega (arith, size, c.put_graph-end.ensures.0)
@@ -51,9 +53,9 @@ pub returns : goal.returns
 returns c =
     let a = c.args in
     let grow = c.grow-grown in
-    let t = grow.new.0 in
-    let met = c.grown-1.given.1 in
-    let some = grown_some a.s.now a.c.now t _ grow.ensures.0 met in
+    let t = c.grow-grown.new.keys in
+    let met = c.in-Bytes.is in
+    let some = grown_some a.s.now a.c.now t _ grow.ensures.grown met in
     let fits = c.if-buf-bytes.false in
     built_whole a.arity (rules_in a.s.now) a.s.now a.c.now a.buf.now t _ some.0 some.1
     _ _ _ fits c.count.ensures c.put_graph-end.ensures

@@ -21,7 +21,7 @@ use Rattle.compiled.proofs.cut.cut_rule.Goals as goal
 pub loop-k-init : goal.loop-k-init
 loop-k-init c =
     let a = c.args in
-    (omega arith, left_start a.numbers.now a.rules a.i a.ranges.low a.ranges.high (notes_in a.notes.now a.n) a.c.now c.requires.1)
+    (omega arith, left_start a.numbers.now a.rules a.i a.ranges.low a.ranges.high (notes_in a.notes.now a.n) a.c.now c.requires.turns_fit)
 
 pub record_wanted-wanted-requires : goal.record_wanted-wanted-requires
 record_wanted-wanted-requires c =
@@ -32,42 +32,42 @@ pub place_number-requires : goal.place_number-requires
 place_number-requires c =
     let turn = c.loop-k in
     let notes = c.args.notes.now in
-    let placed = notes_each notes c.args.n (omega arith) Placed turn.k c.requires.0.2 (omega arith) in
-    (omega (arith, c.note_place.ensures), c.requires.0.3)
+    let placed = notes_each notes c.args.n (omega arith) Placed turn.k c.requires.n_bound.2 (omega arith) in
+    (omega (arith, c.note_place.ensures), c.requires.n_bound.3)
 
 pub part-from-requires : goal.part-from-requires
 part-from-requires c =
-    let pre = c.requires.0 in
+    let pre = c.requires.n_bound in
     (omega (arith, pre.4, pre.5), omega (arith, c.place_number.ensures.1))
 
 pub turn_rule-requires : goal.turn_rule-requires
 turn_rule-requires c =
     let turn = c.loop-k in
     let a = c.args in
-    let notes = a.notes.now in
-    let low = a.ranges.low in
-    let high = a.ranges.high in
-    let within : a.n ≤ length notes = omega (arith, c.requires.0) in
+    let notes = c.args.notes.now in
+    let low = c.args.ranges.low in
+    let high = c.args.ranges.high in
+    let within : a.n ≤ length notes = omega (arith, c.requires.n_bound) in
     let next = notes_next notes a.n within turn.k (omega arith) in
     let want =
     c.record_wanted-wanted.ensures
     ∙ ap (λ (r : PatternRecord). wanted_codes (record_want low high r)) c.note_record.ensures in
-    let (v, is, least, most) = wanted_some (record_want low high (note_of (get_or notes turn.k 0)).what) (sym c.wanted-1.given.1 ∙ want) in
+    let (v, is, least, most) = wanted_some (record_want low high (note_of (get_or notes turn.k 0)).what) (sym c.in-Codes.is ∙ want) in
     let spot = c.place_number.ensures.0 ∙ ap (λ (p : ℕ). get_or a.numbers.now p 0) c.note_place.ensures in
     let from = c.part-from.ensures ∙ ap (part_at a.rules) spot in (
       subst (λ (x : ℕ). x + 5 + 2 * count_at turn.c x ≤ length turn.c) (sym from)
           (left_room a.numbers.now a.rules a.i low high (notes_in notes a.n) a.c.now turn.c _ _ (note_of (get_or notes turn.k 0)) next turn.invariant.1 v is),
-      c.requires.0.5,
+      c.requires.n_bound.5,
     )
 
 pub loop-k-preserved : goal.loop-k-preserved
 loop-k-preserved c =
     let turn = c.loop-k in
     let a = c.args in
-    let notes = a.notes.now in
-    let low = a.ranges.low in
-    let high = a.ranges.high in
-    let within : a.n ≤ length notes = omega (arith, c.requires.0) in
+    let notes = c.args.notes.now in
+    let low = c.args.ranges.low in
+    let high = c.args.ranges.high in
+    let within : a.n ≤ length notes = omega (arith, c.requires.n_bound) in
     let next = notes_next notes a.n within turn.k (omega arith) in
     let note = note_of (get_or notes turn.k 0) in
     let want =
@@ -87,7 +87,7 @@ loop-k-preserved c =
     (λ w.
     let is = wanted_none (record_want low high note.what) (sym w.1.given.1 ∙ want) in
     (omega arith, left_none a.numbers.now a.rules a.i low high (notes_in notes a.n) a.c.now turn.c _ _ note next turn.invariant.1 is w.2))
-    c.in-Codes.branch
+    c.match-wanted.branch
 
 pub shape_of-c : goal.shape_of-c
 shape_of-c c = c.loop-k.invariant.1.long
@@ -96,8 +96,8 @@ pub returns : goal.returns
 returns c =
     let turn = c.loop-k in
     let a = c.args in
-    let notes = a.notes.now in
-    let within : a.n ≤ length notes = omega (arith, c.requires.0) in
-    let low = a.ranges.low in
-    let high = a.ranges.high in
+    let notes = c.args.notes.now in
+    let within : a.n ≤ length notes = omega (arith, c.requires.n_bound) in
+    let low = c.args.ranges.low in
+    let high = c.args.ranges.high in
     left_done a.numbers.now a.rules a.i low high (notes_in notes a.n) a.c.now turn.c _ (notes_end notes a.n within turn.k (omega arith)) turn.invariant.1

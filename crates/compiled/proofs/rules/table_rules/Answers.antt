@@ -31,13 +31,13 @@ shape_of-c-in-Refused c =
     (c.loop-i.invariant.3 order all g).filled.long
 
 pub returns-in-Refused : goal.returns-in-Refused
-returns-in-Refused c order all g =
+returns-in-Refused c = λ order all g.
     let turn = c.loop-i in
     let a = c.args in
-    let s = a.b.now in
+    let s = c.args.b.now in
     let read = c.read_rule-read in
-    let notes = read.new.1.1.0 in
-    let none = rule_refused a.arity turn.at s notes read.result read.ensures.0 c.enum_told-1.given.1 in
+    let notes = c.read_rule-read.new.1.1.0 in
+    let none = rule_refused a.arity turn.at s notes read.result read.ensures.result_after c.in-Refused.is in
     tabling_refused a.arity s a.numbers.now a.s.now a.c.now turn.i turn.at turn.s turn.c turn.invariant.3 order all g
     (omega (arith, c.loop-i-test.true, c.rules-rules.ensures)) none
 
@@ -45,43 +45,43 @@ pub table_rule-requires : goal.table_rule-requires
 table_rule-requires c =
     let turn = c.loop-i in
     let a = c.args in
-    let s = a.b.now in
+    let s = c.args.b.now in
     let read = c.read_rule-read in
-    let notes = read.new.1.1.0 in
-    let known = c.shared_slice_known-1.given in
+    let notes = c.read_rule-read.new.1.1.0 in
+    let known = c.shared-slice-known.given in
     let bytes = bytes_known s (λ i. omega (arith, known i)) in
     let (order, all, g) = c.requires in
     let rule =
-    rule_read_lem a.arity turn.at s notes read.result read.ensures.0 g.arguments bytes c.read-1.given.1
-    read.ensures.1 in
+    rule_read_lem a.arity turn.at s notes read.result read.ensures.result_after g.arguments bytes c.in-Used.is
+    read.ensures.took_within in
     let inside : turn.i < rules_in a.s.now = omega (arith, c.loop-i-test.true, c.rules-rules.ensures) in
     let filled = (turn.invariant.3 order all g).filled in
-    let own = tabling_rule a.arity s a.numbers.now a.s.now a.c.now turn.i turn.at turn.s turn.c turn.invariant.3 order all g inside rule.rule rule.read in (
-      (
+    let own = tabling_rule a.arity s a.numbers.now a.s.now a.c.now turn.i turn.at turn.s turn.c turn.invariant.3 order all g inside rule.rule rule.read in record {
+      n_bound = (
         rule.made,
-        read.ensures.1.entries,
+        read.ensures.took_within.entries,
         rule.placed,
         numbers_small a.arity all g.arguments g.accepted a.numbers.now a.s.now g.listed,
         omega (arith, g.few_rules),
         filled_counted g turn.i turn.s turn.c filled,
         omega (arith, filled.same 0 (inl (omega arith)), g.few_rules),
-      ),
-      filled_fits g turn.i turn.s turn.c filled inside _ (rule.noted ∙ ap rule_notes own),
-    )
+      );
+      turns_fit = filled_fits g turn.i turn.s turn.c filled inside _ (rule.noted ∙ ap rule_notes own);
+    }
 
 pub overflow_add-at : goal.overflow_add-at
 overflow_add-at c =
     let turn = c.loop-i in
     let a = c.args in
-    let s = a.b.now in
+    let s = c.args.b.now in
     let read = c.read_rule-read in
-    let notes = read.new.1.1.0 in
-    let known = c.shared_slice_known-1.given in
+    let notes = c.read_rule-read.new.1.1.0 in
+    let known = c.shared-slice-known.given in
     let bytes = bytes_known s (λ i. omega (arith, known i)) in
     let (order, all, g) = c.requires in
     let rule =
-    rule_read_lem a.arity turn.at s notes read.result read.ensures.0 g.arguments bytes c.read-1.given.1
-    read.ensures.1 in
+    rule_read_lem a.arity turn.at s notes read.result read.ensures.result_after g.arguments bytes c.in-Used.is
+    read.ensures.took_within in
     omega (arith, rule.used)
 
 pub loop-i-smaller : goal.loop-i-smaller
@@ -91,25 +91,25 @@ pub loop-i-preserved : goal.loop-i-preserved
 loop-i-preserved c =
     let turn = c.loop-i in
     let a = c.args in
-    let s = a.b.now in
+    let s = c.args.b.now in
     let read = c.read_rule-read in
-    let notes = read.new.1.1.0 in
-    let known = c.shared_slice_known-1.given in
+    let notes = c.read_rule-read.new.1.1.0 in
+    let known = c.shared-slice-known.given in
     let bytes = bytes_known s (λ i. omega (arith, known i)) in
     let (order, all, g) = c.requires in
     let rule =
-    rule_read_lem a.arity turn.at s notes read.result read.ensures.0 g.arguments bytes c.read-1.given.1
-    read.ensures.1 in
+    rule_read_lem a.arity turn.at s notes read.result read.ensures.result_after g.arguments bytes c.in-Used.is
+    read.ensures.took_within in
     let inside : turn.i < rules_in a.s.now = omega (arith, c.loop-i-test.true, c.rules-rules.ensures) in
     let put = c.table_rule.ensures in (
       omega arith,
       omega (arith, rule.used),
-      read.ensures.1.entries,
+      read.ensures.took_within.entries,
       λ order' all' g'.
           tabling_turn a.arity s a.numbers.now a.s.now a.c.now turn.i turn.at turn.s turn.c turn.invariant.3 order' all' g' inside rule.rule rule.read
           (filled_turn g' turn.i turn.s turn.c (turn.invariant.3 order' all' g').filled inside _
           (rule.noted ∙ ap rule_notes (tabling_rule a.arity s a.numbers.now a.s.now a.c.now turn.i turn.at turn.s turn.c turn.invariant.3 order' all' g' inside rule.rule rule.read))
-          put.0 put.1),
+          put.columned put.c_after),
     )
 
 pub shape_of-c : goal.shape_of-c
@@ -118,9 +118,9 @@ shape_of-c c =
     (c.loop-i.invariant.3 order all g).filled.long
 
 pub returns : goal.returns
-returns c order all g =
+returns c = λ order all g.
     let turn = c.loop-i in
     let a = c.args in
-    let s = a.b.now in
+    let s = c.args.b.now in
     tabling_end a.arity s a.numbers.now a.s.now a.c.now turn.i turn.at turn.s turn.c turn.invariant.3 order all g
     (omega (arith, c.loop-i-test.false, turn.invariant.0, c.rules-rules.ensures))

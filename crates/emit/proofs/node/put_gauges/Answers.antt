@@ -14,7 +14,7 @@ use Rattle.emit.proofs.node.put_gauges.Goals as goal
 pub loop-first-init : goal.loop-first-init
 loop-first-init c =
     let a = c.args in
-    let runs = a.runs.now in
+    let runs = c.args.runs.now in
     let pairs = gauge_pairs (runs_from runs a.framed.count a.framed.names) in
     let whole = run_bytes a.s.now (keys_in a.keys.now) a.asked pairs in
     (refl, c.requires.1, left_start a.buf.now a.start whole whole refl)
@@ -25,13 +25,13 @@ gauge_end-end-requires c = (c.loop-first-test.true, c.requires.2, c.requires.3)
 pub put_pairs-at-requires : goal.put_pairs-at-requires
 put_pairs-at-requires c =
     let a = c.args in
-    let s = a.s.now in
+    let s = c.args.s.now in
     let keys = keys_in a.keys.now in
-    let runs = a.runs.now in
-    let count = a.framed.count in
+    let runs = c.args.runs.now in
+    let count = c.args.framed.count in
     let at = c.loop-first in
     let end = c.gauge_end-end in
-    let one = end.ensures in (
+    let one = c.gauge_end-end.ensures in (
       c.requires.0,
       omega (arith, one.some),
       omega (arith, one.within, c.requires.2),
@@ -48,10 +48,10 @@ loop-first-smaller c =
 pub loop-first-preserved : goal.loop-first-preserved
 loop-first-preserved c =
     let a = c.args in
-    let s = a.s.now in
+    let s = c.args.s.now in
     let keys = keys_in a.keys.now in
-    let runs = a.runs.now in
-    let count = a.framed.count in
+    let runs = c.args.runs.now in
+    let count = c.args.framed.count in
     let at = c.loop-first in
     let end = c.gauge_end-end in (
       c.buf-1.given ∙ at.invariant.0,

@@ -17,9 +17,9 @@ use Rattle.emit.proofs.node.put_names.Goals as goal
 pub loop-k-init : goal.loop-k-init
 loop-k-init c =
     let a = c.args in
-    let s = a.s.now in
+    let s = c.args.s.now in
     let keys = keys_in a.keys.now in
-    let runs = a.runs.now in (
+    let runs = c.args.runs.now in (
       refl,
       omega arith,
       left_start a.buf.now a.start (run_bytes s keys a.asked (runs_in runs a.count))
@@ -34,9 +34,9 @@ put_case-at-requires c =
     let node_of_lem = c.node_of-node in
     let by-run = c.by_run in
     let a = c.args in
-    let s = a.s.now in
+    let s = c.args.s.now in
     let keys = keys_in a.keys.now in
-    let runs = a.runs.now in
+    let runs = c.args.runs.now in
     left_room c.requires.2 at.invariant.2 (case_record_bytes case.result)
     (run_bytes s keys a.asked (runs_from runs a.count (at.k + 1)))
     (case_next s keys a.asked (run_at runs at.k) (from_some runs a.count at.k loop-test.true) case.result
@@ -57,9 +57,9 @@ loop-k-preserved c =
     let by-run = c.by_run in
     let put-case = c.put_case-at in
     let a = c.args in
-    let s = a.s.now in
+    let s = c.args.s.now in
     let keys = keys_in a.keys.now in
-    let runs = a.runs.now in (
+    let runs = c.args.runs.now in (
       buf.given ∙ at.invariant.0,
       omega (arith, loop-test.true),
       left_next c.requires.2 at.invariant.2 (case_record_bytes case.result)

@@ -20,11 +20,11 @@ put_node-requires c =
     let a = c.args in
     let same =
     leaf_bytes_lem a.s.now a.c.now (keys_in a.keys.now) (key_in a.key) kind-of.result
-    (kind-of.ensures.0 a.c.now) kind.given.0.0 kind.given.1 in
-    omega (arith, c.requires.1, ap length same)
+    (kind-of.ensures.by_index a.c.now) c.in-End.leaf c.in-End.is in
+    omega (arith, c.requires.room, ap length same)
 
 pub ask-asked-requires : goal.ask-asked-requires
-ask-asked-requires c = asked_below c.kind-in-Ask-1.given.1 c.kind_of-kind.ensures.1
+ask-asked-requires c = asked_below c.in-Ask.is c.kind_of-kind.ensures.below
 
 pub put_pair-requires : goal.put_pair-requires
 put_pair-requires c =
@@ -34,15 +34,15 @@ put_pair-requires c =
     let place-tests = c.place_tests in
     let if1 = c.if-place_tests-t in
     let a = c.args in
-    let known = kind-of.ensures.0 a.c.now in
+    let known = kind-of.ensures.by_index a.c.now in
     let same =
-    ask_bytes_lem a.s.now a.c.now (keys_in a.keys.now) (key_in a.key) kind-of.result known kind2.given.1
+    ask_bytes_lem a.s.now a.c.now (keys_in a.keys.now) (key_in a.key) kind-of.result known c.in-Ask.is
     ask.ensures in
     let test = ap (λ (x : Asked). x.test) ask.ensures in
-    let below = asked_below kind2.given.1 kind-of.ensures.1 in
+    let below = asked_below c.in-Ask.is kind-of.ensures.below in
     let past : place_tests_in a.s.now ≤ ask.result.test = omega (arith, test, place-tests.ensures, if1.true) in
     let size = pair_length a.s.now (keys_in a.keys.now) ask.result a.c.now past in
-    (c.requires.0.0, past, omega (arith, test, below), omega (arith, c.requires.1, ap length same, size))
+    (c.requires.chained.0, past, omega (arith, test, below), omega (arith, c.requires.room, ap length same, size))
 
 pub shape_of-buf-then-place_tests-t : goal.shape_of-buf-then-place_tests-t
 shape_of-buf-then-place_tests-t c = c.buf-then-place_tests-t-1.given
@@ -54,12 +54,14 @@ returns-then-place_tests-t c =
     let ask = c.ask-asked in
     let put-pair = c.put_pair in
     let a = c.args in
-    let known = kind-of.ensures.0 a.c.now in
+    let known = kind-of.ensures.by_index a.c.now in
     let same =
-    ask_bytes_lem a.s.now a.c.now (keys_in a.keys.now) (key_in a.key) kind-of.result known kind2.given.1
+    ask_bytes_lem a.s.now a.c.now (keys_in a.keys.now) (key_in a.key) kind-of.result known c.in-Ask.is
     ask.ensures in
-    let put = put-pair.ensures a.c.now in
-    ((put.0 ∙ ap (λ l. a.at + length l) same, put.1 ∙ ap (splice a.buf.now a.at) same), c.requires.0.2)
+    let put = put-pair.ensures a.c.now in record {
+      wrote = (put.0 ∙ ap (λ l. a.at + length l) same, put.1 ∙ ap (splice a.buf.now a.at) same);
+      runs_len = c.requires.chained.2;
+    }
 
 pub put_switch-requires : goal.put_switch-requires
 put_switch-requires c =
@@ -69,19 +71,19 @@ put_switch-requires c =
     let place-tests = c.place_tests in
     let if1 = c.if-place_tests-t in
     let a = c.args in
-    let known = kind-of.ensures.0 a.c.now in
+    let known = kind-of.ensures.by_index a.c.now in
     let same =
-    ask_bytes_lem a.s.now a.c.now (keys_in a.keys.now) (key_in a.key) kind-of.result known kind2.given.1
+    ask_bytes_lem a.s.now a.c.now (keys_in a.keys.now) (key_in a.key) kind-of.result known c.in-Ask.is
     ask.ensures in
-    let test = ap (λ (x : Asked). x.test) ask.ensures in (
-      (
-        c.requires.0.0,
-        c.requires.0.1,
+    let test = ap (λ (x : Asked). x.test) ask.ensures in record {
+      chained = (
+        c.requires.chained.0,
+        c.requires.chained.1,
         omega (arith, test, place-tests.ensures, if1.false),
-        c.requires.0.2,
-      ),
-      omega (arith, c.requires.1, ap length same),
-    )
+        c.requires.chained.2,
+      );
+      room = omega (arith, c.requires.room, ap length same);
+    }
 
 pub shape_of-buf-in-End : goal.shape_of-buf-in-End
 shape_of-buf-in-End c = c.buf-1.given
@@ -92,11 +94,13 @@ returns-in-End c =
     let kind-of = c.kind_of-kind in
     let kind = c.kind-1 in
     let a = c.args in
-    let put = put-node.ensures in
+    let put = c.put_node.ensures in
     let same =
     leaf_bytes_lem a.s.now a.c.now (keys_in a.keys.now) (key_in a.key) kind-of.result
-    (kind-of.ensures.0 a.c.now) kind.given.0.0 kind.given.1 in
-    ((put.0 ∙ ap (λ l. a.at + length l) same, put.1 ∙ ap (splice a.buf.now a.at) same), c.requires.0.2)
+    (kind-of.ensures.by_index a.c.now) c.in-End.leaf c.in-End.is in record {
+      wrote = (put.0 ∙ ap (λ l. a.at + length l) same, put.1 ∙ ap (splice a.buf.now a.at) same);
+      runs_len = c.requires.chained.2;
+    }
 
 pub shape_of-buf-else-place_tests-t : goal.shape_of-buf-else-place_tests-t
 shape_of-buf-else-place_tests-t c = c.buf-in-Ask-1.given
@@ -108,9 +112,11 @@ returns-else-place_tests-t c =
     let ask = c.ask-asked in
     let put-switch = c.put_switch in
     let a = c.args in
-    let known = kind-of.ensures.0 a.c.now in
+    let known = kind-of.ensures.by_index a.c.now in
     let same =
-    ask_bytes_lem a.s.now a.c.now (keys_in a.keys.now) (key_in a.key) kind-of.result known kind2.given.1
+    ask_bytes_lem a.s.now a.c.now (keys_in a.keys.now) (key_in a.key) kind-of.result known c.in-Ask.is
     ask.ensures in
-    let put = put-switch.ensures in
-    ((put.0.0 ∙ ap (λ l. a.at + length l) same, put.0.1 ∙ ap (splice a.buf.now a.at) same), put.1)
+    let put = c.put_switch.ensures in record {
+      wrote = (put.wrote.0 ∙ ap (λ l. a.at + length l) same, put.wrote.1 ∙ ap (splice a.buf.now a.at) same);
+      runs_len = put.runs_len;
+    }

@@ -14,20 +14,20 @@ use Rattle.emit.proofs.node.put_pairs.Goals as goal
 pub loop-first-init : goal.loop-first-init
 loop-first-init c =
     let a = c.args in
-    let s = a.s.now in
+    let s = c.args.s.now in
     let keys = keys_in a.keys.now in
-    let runs = a.runs.now in
-    let count = a.all.count in
+    let runs = c.args.runs.now in
+    let count = c.args.all.count in
     let whole = run_bytes s keys a.asked (union_pairs (runs_from runs count a.all.first)) in
     (refl, c.requires.1, left_start a.buf.now a.start whole whole refl)
 
 pub put_row-at-requires : goal.put_row-at-requires
 put_row-at-requires c =
     let a = c.args in
-    let s = a.s.now in
+    let s = c.args.s.now in
     let keys = keys_in a.keys.now in
-    let runs = a.runs.now in
-    let count = a.all.count in
+    let runs = c.args.runs.now in
+    let count = c.args.all.count in
     let at = c.loop-first in
     let test = c.loop-first-test.true in (
       c.requires.0,
@@ -48,10 +48,10 @@ loop-first-smaller c = omega (arith, c.loop-first-test.true)
 pub loop-first-preserved : goal.loop-first-preserved
 loop-first-preserved c =
     let a = c.args in
-    let s = a.s.now in
+    let s = c.args.s.now in
     let keys = keys_in a.keys.now in
-    let runs = a.runs.now in
-    let count = a.all.count in
+    let runs = c.args.runs.now in
+    let count = c.args.all.count in
     let at = c.loop-first in
     let test = c.loop-first-test.true in (
       c.buf-1.given ∙ at.invariant.0,
@@ -67,10 +67,10 @@ shape_of-buf c = c.loop-first.invariant.0
 pub returns : goal.returns
 returns c =
     let a = c.args in
-    let s = a.s.now in
+    let s = c.args.s.now in
     let keys = keys_in a.keys.now in
-    let runs = a.runs.now in
-    let count = a.all.count in
+    let runs = c.args.runs.now in
+    let count = c.args.all.count in
     let at = c.loop-first in
     left_end c.requires.3 at.invariant.2
     (ap (run_bytes s keys a.asked) (pairs_none runs count at.first c.loop-first-test.false))

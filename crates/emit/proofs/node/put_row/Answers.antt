@@ -21,10 +21,10 @@ use Rattle.emit.proofs.node.put_row.Goals as goal
 pub loop-k-init : goal.loop-k-init
 loop-k-init c =
     let a = c.args in
-    let s = a.s.now in
+    let s = c.args.s.now in
     let keys = keys_in a.keys.now in
-    let runs = a.runs.now in
-    let count = a.row.count in
+    let runs = c.args.runs.now in
+    let count = c.args.row.count in
     let low = (run_at runs a.row.first).low in
     let set = (run_at runs a.row.first).set in
     let by-run = c.by_run in
@@ -40,10 +40,10 @@ loop-k-init c =
 pub put_case-at-requires : goal.put_case-at-requires
 put_case-at-requires c =
     let a = c.args in
-    let s = a.s.now in
+    let s = c.args.s.now in
     let keys = keys_in a.keys.now in
-    let runs = a.runs.now in
-    let count = a.row.count in
+    let runs = c.args.runs.now in
+    let count = c.args.row.count in
     let low = (run_at runs a.row.first).low in
     let at = c.loop-k in
     let case = c.case_record in
@@ -65,10 +65,10 @@ loop-k-smaller c = omega (arith, c.loop-k-test.true)
 pub loop-k-preserved : goal.loop-k-preserved
 loop-k-preserved c =
     let a = c.args in
-    let s = a.s.now in
+    let s = c.args.s.now in
     let keys = keys_in a.keys.now in
-    let runs = a.runs.now in
-    let count = a.row.count in
+    let runs = c.args.runs.now in
+    let count = c.args.row.count in
     let low = (run_at runs a.row.first).low in
     let at = c.loop-k in
     let case = c.case_record in
@@ -95,10 +95,10 @@ shape_of-buf c = c.loop-k.invariant.0
 pub returns : goal.returns
 returns c =
     let a = c.args in
-    let s = a.s.now in
+    let s = c.args.s.now in
     let keys = keys_in a.keys.now in
-    let runs = a.runs.now in
-    let count = a.row.count in
+    let runs = c.args.runs.now in
+    let count = c.args.row.count in
     let low = (run_at runs a.row.first).low in
     let at = c.loop-k in
     left_end c.requires.3 at.invariant.3

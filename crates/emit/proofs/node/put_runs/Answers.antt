@@ -12,11 +12,11 @@ use Rattle.emit.proofs.node.put_runs.Goals as goal
 pub put_names-at-requires : goal.put_names-at-requires
 put_names-at-requires c =
     let a = c.args in
-    let s = a.s.now in
+    let s = c.args.s.now in
     let keys = keys_in a.keys.now in
-    let runs = a.runs.now in
-    let count = a.framed.count in
-    let names = a.framed.names in
+    let runs = c.args.runs.now in
+    let count = c.args.framed.count in
+    let names = c.args.framed.names in
     let first = run_bytes s keys a.asked (runs_in runs names) in
     let second = run_bytes s keys a.asked (gauge_pairs (runs_from runs count names)) in
     let joined = cases_bytes_lem s keys a.asked runs count names c.requires.1 in
@@ -26,11 +26,11 @@ put_names-at-requires c =
 pub put_gauges-requires : goal.put_gauges-requires
 put_gauges-requires c =
     let a = c.args in
-    let s = a.s.now in
+    let s = c.args.s.now in
     let keys = keys_in a.keys.now in
-    let runs = a.runs.now in
-    let count = a.framed.count in
-    let names = a.framed.names in
+    let runs = c.args.runs.now in
+    let count = c.args.framed.count in
+    let names = c.args.framed.names in
     let first = run_bytes s keys a.asked (runs_in runs names) in
     let second = run_bytes s keys a.asked (gauge_pairs (runs_from runs count names)) in
     let joined = cases_bytes_lem s keys a.asked runs count names c.requires.1 in
@@ -41,11 +41,11 @@ put_gauges-requires c =
 pub returns : goal.returns
 returns c =
     let a = c.args in
-    let s = a.s.now in
+    let s = c.args.s.now in
     let keys = keys_in a.keys.now in
-    let runs = a.runs.now in
-    let count = a.framed.count in
-    let names = a.framed.names in
+    let runs = c.args.runs.now in
+    let count = c.args.framed.count in
+    let names = c.args.framed.names in
     let first = run_bytes s keys a.asked (runs_in runs names) in
     let second = run_bytes s keys a.asked (gauge_pairs (runs_from runs count names)) in
     let joined = cases_bytes_lem s keys a.asked runs count names c.requires.1 in

@@ -15,9 +15,9 @@ returns c =
     let put-header = c.put_header-at in
     let put-nodes = c.put_nodes in
     let a = c.args in
-    let s = a.s.now in
-    let cuts = a.c.now in
-    let keys = a.keys.now in
+    let s = c.args.s.now in
+    let cuts = c.args.c.now in
+    let keys = c.args.keys.now in
     both_wrote a.buf.now 0 (header_bytes a.arity rules.result count.result) (keys_bytes s cuts (keys_in keys))
-    (graph_joined s cuts keys a.arity (rules_in s) rules.ensures count.ensures) c.requires.1 put-header.ensures
+    (graph_joined s cuts keys a.arity (rules_in s) rules.ensures count.ensures) c.requires.room put-header.ensures
     put-nodes.ensures

@@ -14,11 +14,11 @@ use Rattle.emit.proofs.row.put_nodes.Goals as goal
 pub loop-i-init : goal.loop-i-init
 loop-i-init c =
     let a = c.args in
-    let s = a.s.now in
-    let cuts = a.c.now in
-    let keys = a.keys.now in (
+    let s = c.args.s.now in
+    let cuts = c.args.c.now in
+    let keys = c.args.keys.now in (
       refl,
-      c.requires.0.2,
+      c.requires.chained.2,
       left_start a.buf.now a.start (keys_bytes s cuts (keys_in keys)) (keys_left s cuts keys 0) (keys_first s cuts keys),
     )
 
@@ -26,7 +26,7 @@ pub key_at-requires : goal.key_at-requires
 key_at-requires c =
     let count = c.count in
     let if1 = c.loop-i-test in
-    omega (arith, count.ensures, if1.true, c.requires.0.0.few)
+    omega (arith, count.ensures, if1.true, c.requires.chained.0.few)
 
 pub put_one-at-requires : goal.put_one-at-requires
 put_one-at-requires c =
@@ -35,20 +35,20 @@ put_one-at-requires c =
     let count = c.count in
     let if1 = c.loop-i-test in
     let a = c.args in
-    let s = a.s.now in
-    let cuts = a.c.now in
-    let keys = a.keys.now in
-    let next = keys_next s cuts keys at.i key.ensures (omega (arith, count.ensures, if1.true)) in (
-      (c.requires.0.0, c.requires.0.1, at.invariant.1),
-      left_room c.requires.1 at.invariant.2 (key_bytes s cuts (keys_in keys) (key_in key.result))
-          (keys_left s cuts keys (at.i + 1)) next,
-    )
+    let s = c.args.s.now in
+    let cuts = c.args.c.now in
+    let keys = c.args.keys.now in
+    let next = keys_next s cuts keys at.i key.ensures (omega (arith, count.ensures, if1.true)) in record {
+      chained = (c.requires.chained.0, c.requires.chained.1, at.invariant.1);
+      room = left_room c.requires.room at.invariant.2 (key_bytes s cuts (keys_in keys) (key_in key.result))
+          (keys_left s cuts keys (at.i + 1)) next;
+    }
 
 pub overflow_add-i : goal.overflow_add-i
 overflow_add-i c =
     let count = c.count in
     let if1 = c.loop-i-test in
-    omega (arith, count.ensures, if1.true, c.requires.0.0.few)
+    omega (arith, count.ensures, if1.true, c.requires.chained.0.few)
 
 pub loop-i-smaller : goal.loop-i-smaller
 loop-i-smaller c =
@@ -65,15 +65,15 @@ loop-i-preserved c =
     let if1 = c.loop-i-test in
     let buf = c.buf-1 in
     let a = c.args in
-    let put = put_one.ensures in
-    let s = a.s.now in
-    let cuts = a.c.now in
-    let keys = a.keys.now in
+    let put = c.put_one-at.ensures in
+    let s = c.args.s.now in
+    let cuts = c.args.c.now in
+    let keys = c.args.keys.now in
     let next = keys_next s cuts keys at.i key.ensures (omega (arith, count.ensures, if1.true)) in (
       buf.given ∙ at.invariant.0,
-      put.1,
-      left_next c.requires.1 at.invariant.2 (key_bytes s cuts (keys_in keys) (key_in key.result))
-          (keys_left s cuts keys (at.i + 1)) next put.0,
+      put.runs_len,
+      left_next c.requires.room at.invariant.2 (key_bytes s cuts (keys_in keys) (key_in key.result))
+          (keys_left s cuts keys (at.i + 1)) next put.wrote,
     )
 
 pub shape_of-buf : goal.shape_of-buf
@@ -85,5 +85,5 @@ returns c =
     let count = c.count in
     let if1 = c.loop-i-test in
     let a = c.args in
-    left_end c.requires.1 at.invariant.2
+    left_end c.requires.room at.invariant.2
     (keys_last a.s.now a.c.now a.keys.now at.i (omega (arith, count.ensures, if1.false)))

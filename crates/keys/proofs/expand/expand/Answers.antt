@@ -14,7 +14,7 @@ pub key_at-key-requires : goal.key_at-key-requires
 key_at-key-requires c = omega (arith, c.requires.1, c.requires.0.few)
 
 pub ask-asked-requires : goal.ask-asked-requires
-ask-asked-requires c = asked_below c.kind-in-Ask-1.given.1 c.kind_of-kind.ensures.1
+ask-asked-requires c = asked_below c.in-Ask.is c.kind_of-kind.ensures.below
 
 pub expand_pair-requires : goal.expand_pair-requires
 expand_pair-requires c =
@@ -33,12 +33,12 @@ returns-then-place_tests-t c =
     let ask = c.ask-asked in
     let a = c.args in
     let node =
-    node_asks a.s.now a.c.now kind-of.result key_at_lem.ensures (kind-of.ensures.0 a.c.now)
-    kind2.given.1 ask.ensures in (
-      subst (λ (n : Node Key). EdgesMet n (keys_in a.keys.now) met.result met.new.0) (sym node)
-          (met.ensures.0 a.c.now),
-      (met.ensures.1.0, met.ensures.1.1, c.requires.3),
-    )
+    node_asks a.s.now a.c.now kind-of.result key_at_lem.ensures (kind-of.ensures.by_index a.c.now)
+    c.in-Ask.is ask.ensures in record {
+      edges_met = subst (λ (n : Node Key). EdgesMet n (keys_in a.keys.now) met.result met.new.keys) (sym node)
+          (met.ensures.by_index a.c.now);
+      chained = (met.ensures.chained.0, met.ensures.chained.1, c.requires.3);
+    }
 
 pub expand_switch-requires : goal.expand_switch-requires
 expand_switch-requires c =
@@ -55,11 +55,11 @@ returns-in-End c =
     let key_at_lem = c.key_at-key in
     let kind = c.kind-1 in
     let a = c.args in
-    let size = leaf-length.ensures in (
-      leaf_met a.s.now a.c.now kind-of.result key_at_lem.ensures (kind-of.ensures.0 a.c.now)
-          a.keys.now kind.given.1 size.0,
-      (c.requires.0, omega (arith, size.1), c.requires.3),
-    )
+    let size = c.leaf_length.ensures in record {
+      edges_met = leaf_met a.s.now a.c.now kind-of.result key_at_lem.ensures (kind-of.ensures.by_index a.c.now)
+          a.keys.now c.in-End.is size.0;
+      chained = (c.requires.0, omega (arith, size.1), c.requires.3);
+    }
 
 pub returns-else-place_tests-t : goal.returns-else-place_tests-t
 returns-else-place_tests-t c =
@@ -70,8 +70,8 @@ returns-else-place_tests-t c =
     let ask = c.ask-asked in
     let a = c.args in
     let node =
-    node_asks a.s.now a.c.now kind-of.result key_at_lem.ensures (kind-of.ensures.0 a.c.now)
-    kind2.given.1 ask.ensures in (
-      subst (λ (n : Node Key). EdgesMet n (keys_in a.keys.now) met.result met.new.0) (sym node) met.ensures.0,
-      met.ensures.1,
-    )
+    node_asks a.s.now a.c.now kind-of.result key_at_lem.ensures (kind-of.ensures.by_index a.c.now)
+    c.in-Ask.is ask.ensures in record {
+      edges_met = subst (λ (n : Node Key). EdgesMet n (keys_in a.keys.now) met.result met.new.keys) (sym node) met.ensures.edges_met;
+      chained = met.ensures.chained;
+    }

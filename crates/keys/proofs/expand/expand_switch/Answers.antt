@@ -29,40 +29,40 @@ cut_switch-framed-requires c =
     let part = c.part in
     let rules = c.rules in
     let is = part.ensures ∙ ap (λ (n : ℕ). part_at n c.args.asked.test) rules.ensures in
-    let room = part_room c.requires.1 c.args.asked.test c.requires.2 is in (
-      (room.0, room.1, c.requires.3),
-      λ k h.
+    let room = part_room c.requires.1 c.args.asked.test c.requires.2 is in record {
+      from_in_bounds = (room.0, room.1, c.requires.3);
+      by_index = λ k h.
           subst
           (λ (from : ℕ).
           k < count_at c.args.c.now from
           → (0 < (cut_at c.args.c.now from k).code) × ((cut_at c.args.c.now from k).code < 0x1_0000_0000))
-          (sym is) (c.requires.1.coded c.args.asked.test k c.requires.2) h,
-    )
+          (sym is) (c.requires.1.coded c.args.asked.test k c.requires.2) h;
+    }
 
 pub meet_runs-met-requires : goal.meet_runs-met-requires
 meet_runs-met-requires c =
-    let cut-switch = c.cut_switch-framed in
+    let cut-switch = c.cut-switch in
     (c.requires.0, cut-switch.ensures.2, cut-switch.ensures.3, cut-switch.ensures.4)
 
 pub returns-in_default : goal.returns-in_default
 returns-in_default c =
     let part = c.part in
     let rules = c.rules in
-    let cut = c.cut_switch-framed in
+    let cut = c.cut-switch in
     let cases = c.meet_runs-met in
     let enum_told = c.enum_told-1 in
     let a = c.args in
     let is = part.ensures ∙ ap (λ (n : ℕ). part_at n a.asked.test) rules.ensures in
-    let runs = cut.new.1.1.1.0 in
+    let runs = c.cut-switch.new.1.1.1.0 in
     let cases_of = case_runs cut.result.names (runs_in runs cut.result.count) in
     let node = switch_is a.s.now a.c.now a.asked c.requires.2 cases_of is cut.ensures.0 in
     let many = switch_many (test_in a.s.now a.asked.test % 0x1_0000)
     (map (run_edge a.s.now a.asked) cases_of) (keys_in a.keys.now)
-    (none_behind a.s.now a.asked) (unknown_behind a.s.now a.asked) cases.result cases.new.0
-    enum_told.given.1 cases.ensures.0 in (
-      subst (λ (n : Node Key). EdgesMet n (keys_in a.keys.now) cases.result cases.new.0) (sym node) many,
-      (cases.ensures.1.0, most_more cases.result (omega arith) cases.ensures.1.1, cut.ensures.4),
-    )
+    (none_behind a.s.now a.asked) (unknown_behind a.s.now a.asked) cases.result cases.new.keys
+    c.in_default.is cases.ensures.cases_met in record {
+      edges_met = subst (λ (n : Node Key). EdgesMet n (keys_in a.keys.now) cases.result cases.new.keys) (sym node) many;
+      chained = (cases.ensures.chained.0, most_more cases.result (omega arith) cases.ensures.chained.1, cut.ensures.4);
+    }
 
 pub by_unknown-unknown-requires : goal.by_unknown-unknown-requires
 by_unknown-unknown-requires c =
@@ -72,17 +72,17 @@ pub overflow_add-bytes : goal.overflow_add-bytes
 overflow_add-bytes c =
     let met = c.met-1 in
     let meet-runs = c.meet_runs-met in
-    let few = bytes_most met.given.1 meet-runs.ensures.1.1 in
+    let few = bytes_most c.in-Bytes.is meet-runs.ensures.chained.1 in
     omega (arith, few)
 
 pub meet_two-requires : goal.meet_two-requires
-meet_two-requires c = c.meet_runs-met.ensures.1.0
+meet_two-requires c = c.meet_runs-met.ensures.chained.0
 
 pub returns : goal.returns
 returns c =
     let part = c.part in
     let rules = c.rules in
-    let cut = c.cut_switch-framed in
+    let cut = c.cut-switch in
     let cases = c.meet_runs-met in
     let last = c.meet_two in
     let met = c.met-1 in
@@ -90,19 +90,19 @@ returns c =
     let by_unknown_lem = c.by_unknown-unknown in
     let a = c.args in
     let is = part.ensures ∙ ap (λ (n : ℕ). part_at n a.asked.test) rules.ensures in
-    let few = bytes_most met.given.1 cases.ensures.1.1 in
-    let runs = cut.new.1.1.1.0 in
+    let few = bytes_most c.in-Bytes.is cases.ensures.chained.1 in
+    let runs = c.cut-switch.new.1.1.1.0 in
     let cases_of = case_runs cut.result.names (runs_in runs cut.result.count) in
     let node = switch_is a.s.now a.c.now a.asked c.requires.2 cases_of is cut.ensures.0 in
     let all = switch_met (test_in a.s.now a.asked.test % 0x1_0000)
     (map (run_edge a.s.now a.asked) cases_of) (keys_in a.keys.now)
-    (none_behind a.s.now a.asked) (unknown_behind a.s.now a.asked) cases.result cases.new.0
-    met.given.1 cases.ensures.0 last.result last.new.0 by_none_lem.ensures
-    by_unknown_lem.ensures last.ensures.0 in (
-      subst (λ (n : Node Key). EdgesMet n (keys_in a.keys.now) last.result last.new.0) (sym node) all,
-      (
-        last.ensures.1.0,
-        most_more last.result (omega (arith, few)) last.ensures.1.1,
+    (none_behind a.s.now a.asked) (unknown_behind a.s.now a.asked) cases.result cases.new.keys
+    c.in-Bytes.is cases.ensures.cases_met last.result last.new.keys by_none_lem.ensures
+    by_unknown_lem.ensures last.ensures.met in record {
+      edges_met = subst (λ (n : Node Key). EdgesMet n (keys_in a.keys.now) last.result last.new.keys) (sym node) all;
+      chained = (
+        last.ensures.chained.0,
+        most_more last.result (omega (arith, few)) last.ensures.chained.1,
         cut.ensures.4,
-      ),
-    )
+      );
+    }

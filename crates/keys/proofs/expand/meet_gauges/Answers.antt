@@ -22,24 +22,24 @@ meet_pairs-met-requires c =
 pub returns-in_default : goal.returns-in_default
 returns-in_default c =
     let a = c.args in
-    let s = a.s.now in
-    let runs = a.runs.now in
-    let count = a.framed.count in
+    let s = c.args.s.now in
+    let runs = c.args.runs.now in
+    let count = c.args.framed.count in
     let at = c.loop-first in
     let end = c.gauge_end-end in
     let pairs = c.meet_pairs-met in
-    let many = c.enum_told-1.given.1 in (
-      part_many (pairs_left s a.asked runs end.result at.first) (gauges_left s a.asked runs count end.result)
+    let many = c.in_default.is in record {
+      cases_met = part_many (pairs_left s a.asked runs end.result at.first) (gauges_left s a.asked runs count end.result)
           (gauges_next s a.asked runs count at.first end.result end.ensures) at.invariant.3
-          pairs.result pairs.new.0 many pairs.ensures.0,
-      (pairs.ensures.1.0, many_most (1544 * (count - a.framed.names)) many),
-    )
+          pairs.result pairs.new.keys many pairs.ensures.cases_met;
+      chained = (pairs.ensures.chained.0, many_most (1544 * (count - a.framed.names)) many);
+    }
 
 pub overflow_add-bytes : goal.overflow_add-bytes
 overflow_add-bytes c =
     let one = c.gauge_end-end.ensures in
     let at = c.loop-first in
-    let few = bytes_most c.met-1.given.1 c.meet_pairs-met.ensures.1.1 in
+    let few = bytes_most c.in-Bytes.is c.meet_pairs-met.ensures.chained.1 in
     omega (arith, few, at.invariant.0, at.invariant.1, one.some, one.within, c.requires.2)
 
 pub loop-first-smaller : goal.loop-first-smaller
@@ -50,27 +50,27 @@ loop-first-smaller c =
 pub loop-first-preserved : goal.loop-first-preserved
 loop-first-preserved c =
     let a = c.args in
-    let s = a.s.now in
-    let runs = a.runs.now in
-    let count = a.framed.count in
+    let s = c.args.s.now in
+    let runs = c.args.runs.now in
+    let count = c.args.framed.count in
     let at = c.loop-first in
     let end = c.gauge_end-end in
-    let one = end.ensures in
+    let one = c.gauge_end-end.ensures in
     let pairs = c.meet_pairs-met in
-    let some = c.met-1.given.1 in
-    let few = bytes_most some pairs.ensures.1.1 in (
+    let some = c.in-Bytes.is in
+    let few = bytes_most some pairs.ensures.chained.1 in (
       one.within,
       omega (arith, few, at.invariant.1, one.some),
-      pairs.ensures.1.0,
+      pairs.ensures.chained.0,
       part_met (pairs_left s a.asked runs end.result at.first) (gauges_left s a.asked runs count end.result)
           (gauges_next s a.asked runs count at.first end.result one) at.invariant.3
-          pairs.result pairs.new.0 some pairs.ensures.0,
+          pairs.result pairs.new.keys some pairs.ensures.cases_met,
     )
 
 pub returns : goal.returns
 returns c =
     let a = c.args in
-    let at = c.loop-first in (
-      cases_end (gauges_end a.s.now a.asked a.runs.now a.framed.count at.first c.loop-first-test.false) at.invariant.3,
-      (at.invariant.2, omega (arith, at.invariant.0, at.invariant.1)),
-    )
+    let at = c.loop-first in record {
+      cases_met = cases_end (gauges_end a.s.now a.asked a.runs.now a.framed.count at.first c.loop-first-test.false) at.invariant.3;
+      chained = (at.invariant.2, omega (arith, at.invariant.0, at.invariant.1));
+    }

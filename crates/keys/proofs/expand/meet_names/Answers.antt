@@ -32,12 +32,12 @@ returns-then-meet-ge1024 c =
     let test = c.loop-k-test.true in
     let a = c.args in
     let behind = c.by_run.ensures in
-    let met = c.meet.ensures in (
-      cases_many (run_edge a.s.now a.asked (run_at a.runs.now at.k))
+    let met = c.meet.ensures in record {
+      cases_met = cases_many (run_edge a.s.now a.asked (run_at a.runs.now at.k))
           (ap (map (run_edge a.s.now a.asked)) (from_some a.runs.now a.count at.k test)) at.invariant.3
-          (omega (arith, met.0.1 c.if-meet-ge1024.true, ap (λ (key : Key). length (meet (keys_in at.keys) key)) behind)),
-      (met.1, tt),
-    )
+          (omega (arith, met.t_after.1 c.if-meet-ge1024.true, ap (λ (key : Key). length (meet (keys_in at.keys) key)) behind));
+      chained = (met.chained, tt);
+    }
 
 pub overflow_add-bytes : goal.overflow_add-bytes
 overflow_add-bytes c =
@@ -58,19 +58,19 @@ loop-k-preserved c =
     let met = c.meet.ensures in (
       omega (arith, test),
       omega (arith, at.invariant.1, c.case_length-bytes.ensures.1),
-      met.1,
+      met.chained,
       cases_next (run_edge a.s.now a.asked (run_at a.runs.now at.k))
           (ap (map (run_edge a.s.now a.asked)) (from_some a.runs.now a.count at.k test)) at.invariant.3
-          (met.0.0 c.if-meet-ge1024.false ∙ ap (λ (key : Key). meet (keys_in at.keys) key) behind)
+          (met.t_after.0 c.if-meet-ge1024.false ∙ ap (λ (key : Key). meet (keys_in at.keys) key) behind)
           (c.case_length-bytes.ensures.0 _),
     )
 
 pub returns : goal.returns
 returns c =
     let at = c.loop-k in
-    let a = c.args in (
-      cases_end
+    let a = c.args in record {
+      cases_met = cases_end
           (ap (map (run_edge a.s.now a.asked)) (from_none a.runs.now a.count at.k c.loop-k-test.false))
-          at.invariant.3,
-      (at.invariant.2, omega (arith, at.invariant.0, at.invariant.1)),
-    )
+          at.invariant.3;
+      chained = (at.invariant.2, omega (arith, at.invariant.0, at.invariant.1));
+    }

@@ -11,9 +11,9 @@ use Rattle.keys.proofs.expand.meet_pairs.Goals as goal
 pub loop-first-init : goal.loop-first-init
 loop-first-init c =
     let a = c.args in
-    let s = a.s.now in
-    let runs = a.runs.now in
-    let count = a.all.count in (
+    let s = c.args.s.now in
+    let runs = c.args.runs.now in
+    let count = c.args.all.count in (
       omega (arith, c.requires.1),
       omega arith,
       c.requires.0,
@@ -26,23 +26,23 @@ meet_row-met-requires c = (c.loop-first.invariant.2, c.loop-first-test.true, c.r
 pub returns-in_default : goal.returns-in_default
 returns-in_default c =
     let a = c.args in
-    let s = a.s.now in
-    let runs = a.runs.now in
-    let count = a.all.count in
+    let s = c.args.s.now in
+    let runs = c.args.runs.now in
+    let count = c.args.all.count in
     let at = c.loop-first in
     let test = c.loop-first-test.true in
     let row = c.meet_row-met in
-    let many = c.enum_told-1.given.1 in (
-      part_many (row_edges s a.asked runs count at.first) (pairs_left s a.asked runs count (at.first + 1))
+    let many = c.in_default.is in record {
+      cases_met = part_many (row_edges s a.asked runs count at.first) (pairs_left s a.asked runs count (at.first + 1))
           (pairs_next s a.asked runs count at.first test) at.invariant.3
-          row.result row.new.0 many row.ensures.0,
-      (row.ensures.1.0, many_most (1544 * (count - a.all.first)) many),
-    )
+          row.result row.new.keys many row.ensures.cases_met;
+      chained = (row.ensures.chained.0, many_most (1544 * (count - a.all.first)) many);
+    }
 
 pub overflow_add-bytes : goal.overflow_add-bytes
 overflow_add-bytes c =
     let at = c.loop-first in
-    let few = bytes_most c.met-1.given.1 c.meet_row-met.ensures.1.1 in
+    let few = bytes_most c.in-Bytes.is c.meet_row-met.ensures.chained.1 in
     omega (arith, few, at.invariant.0, at.invariant.1, c.requires.2)
 
 pub overflow_add-first : goal.overflow_add-first
@@ -55,29 +55,29 @@ loop-first-smaller c = omega (arith, c.loop-first-test.true)
 pub loop-first-preserved : goal.loop-first-preserved
 loop-first-preserved c =
     let a = c.args in
-    let s = a.s.now in
-    let runs = a.runs.now in
-    let count = a.all.count in
+    let s = c.args.s.now in
+    let runs = c.args.runs.now in
+    let count = c.args.all.count in
     let at = c.loop-first in
     let test = c.loop-first-test.true in
     let row = c.meet_row-met in
-    let some = c.met-1.given.1 in
-    let few = bytes_most some row.ensures.1.1 in (
+    let some = c.in-Bytes.is in
+    let few = bytes_most some row.ensures.chained.1 in (
       omega (arith, test),
       omega (arith, few, at.invariant.1),
-      row.ensures.1.0,
+      row.ensures.chained.0,
       part_met (row_edges s a.asked runs count at.first) (pairs_left s a.asked runs count (at.first + 1))
           (pairs_next s a.asked runs count at.first test) at.invariant.3
-          row.result row.new.0 some row.ensures.0,
+          row.result row.new.keys some row.ensures.cases_met,
     )
 
 pub returns : goal.returns
 returns c =
     let a = c.args in
-    let s = a.s.now in
-    let runs = a.runs.now in
-    let count = a.all.count in
-    let at = c.loop-first in (
-      cases_end (pairs_end s a.asked runs count at.first c.loop-first-test.false) at.invariant.3,
-      (at.invariant.2, omega (arith, at.invariant.0, at.invariant.1)),
-    )
+    let s = c.args.s.now in
+    let runs = c.args.runs.now in
+    let count = c.args.all.count in
+    let at = c.loop-first in record {
+      cases_met = cases_end (pairs_end s a.asked runs count at.first c.loop-first-test.false) at.invariant.3;
+      chained = (at.invariant.2, omega (arith, at.invariant.0, at.invariant.1));
+    }

@@ -20,32 +20,32 @@ meet-requires c = c.requires.0
 pub returns-then-meet-ge1024 : goal.returns-then-meet-ge1024
 returns-then-meet-ge1024 c =
     let a = c.args in
-    let s = a.s.now in
-    let runs = a.runs.now in
-    let count = a.row.count in
-    let first = a.row.first in
+    let s = c.args.s.now in
+    let runs = c.args.runs.now in
+    let count = c.args.row.count in
+    let first = c.args.row.first in
     let behind = c.by_run.ensures in
-    let met = c.meet in (
-      row_many s a.asked runs count first c.requires.1 a.keys.now met.new.0 behind
-          (met.ensures.0.1 c.if-meet-ge1024.true),
-      (met.ensures.1, tt),
-    )
+    let met = c.meet in record {
+      cases_met = row_many s a.asked runs count first c.requires.1 a.keys.now met.new.t behind
+          (met.ensures.t_after.1 c.if-meet-ge1024.true);
+      chained = (met.ensures.chained, tt);
+    }
 
 pub loop-k-init : goal.loop-k-init
 loop-k-init c =
     let a = c.args in
-    let s = a.s.now in
-    let runs = a.runs.now in
-    let count = a.row.count in
-    let first = a.row.first in
+    let s = c.args.s.now in
+    let runs = c.args.runs.now in
+    let count = c.args.row.count in
+    let first = c.args.row.first in
     let behind = c.by_run.ensures in
     let met = c.meet in
-    let same = met.ensures.0.0 c.if-meet-ge1024.false ∙ ap (meet (keys_in a.keys.now)) behind in (
+    let same = met.ensures.t_after.0 c.if-meet-ge1024.false ∙ ap (meet (keys_in a.keys.now)) behind in (
       omega (arith, c.requires.1),
       omega arith,
-      met.ensures.1,
-      met_last (keys_in a.keys.now) (run_behind s a.asked (run_at runs first).set) met.new.0 same,
-      row_start s a.asked runs count first c.requires.1 met.new.0,
+      met.ensures.chained,
+      met_last (keys_in a.keys.now) (run_behind s a.asked (run_at runs first).set) met.new.t same,
+      row_start s a.asked runs count first c.requires.1 met.new.t,
     )
 
 pub meet-requires-then-more-set : goal.meet-requires-then-more-set
@@ -54,23 +54,23 @@ meet-requires-then-more-set c = c.loop-k.invariant.2
 pub returns-then-meet-ge1024-2 : goal.returns-then-meet-ge1024-2
 returns-then-meet-ge1024-2 c =
     let a = c.args in
-    let s = a.s.now in
-    let runs = a.runs.now in
-    let count = a.row.count in
-    let first = a.row.first in
+    let s = c.args.s.now in
+    let runs = c.args.runs.now in
+    let count = c.args.row.count in
+    let first = c.args.row.first in
     let behind = c.by_run.ensures in
     let met = c.meet in
-    let one = met.ensures.0.0 c.if-meet-ge1024.false in
+    let one = met.ensures.t_after.0 c.if-meet-ge1024.false in
     let at = c.loop-k in
     let test = c.loop-k-test.true in
     let behind2 = c.by_run-then-more-set.ensures in
-    let next = c.meet-then-more-set in (
-      row_met s a.asked runs count first c.requires.1 a.keys.now met.new.0 behind one TooMany
-          next.new.0
-          (next_many s a.asked runs count first at.set at.k at.invariant.4 next.new.0 test behind2
-          (next.ensures.0.1 c.if-meet-ge1024-2.true)),
-      (next.ensures.1, tt),
-    )
+    let next = c.meet-then-more-set in record {
+      cases_met = row_met s a.asked runs count first c.requires.1 a.keys.now met.new.t behind one TooMany
+          next.new.t
+          (next_many s a.asked runs count first at.set at.k at.invariant.4 next.new.t test behind2
+          (next.ensures.t_after.1 c.if-meet-ge1024-2.true));
+      chained = (next.ensures.chained, tt);
+    }
 
 pub overflow_add-bytes : goal.overflow_add-bytes
 overflow_add-bytes c =
@@ -85,10 +85,10 @@ loop-k-smaller c = omega (arith, c.loop-k-test.true)
 pub loop-k-preserved : goal.loop-k-preserved
 loop-k-preserved c =
     let a = c.args in
-    let s = a.s.now in
-    let runs = a.runs.now in
-    let count = a.row.count in
-    let first = a.row.first in
+    let s = c.args.s.now in
+    let runs = c.args.runs.now in
+    let count = c.args.row.count in
+    let first = c.args.row.first in
     let at = c.loop-k in
     let test = c.loop-k-test.true in
     let size = c.case_length-size.ensures in
@@ -117,16 +117,16 @@ loop-k-preserved c =
 pub returns : goal.returns
 returns c =
     let a = c.args in
-    let s = a.s.now in
-    let runs = a.runs.now in
-    let count = a.row.count in
-    let first = a.row.first in
+    let s = c.args.s.now in
+    let runs = c.args.runs.now in
+    let count = c.args.row.count in
+    let first = c.args.row.first in
     let behind = c.by_run.ensures in
     let met = c.meet in
-    let one = met.ensures.0.0 c.if-meet-ge1024.false in
-    let at = c.loop-k in (
-      row_met s a.asked runs count first c.requires.1 a.keys.now met.new.0 behind one
+    let one = met.ensures.t_after.0 c.if-meet-ge1024.false in
+    let at = c.loop-k in record {
+      cases_met = row_met s a.asked runs count first c.requires.1 a.keys.now met.new.t behind one
           (Bytes at.bytes) at.keys
-          (row_end s a.asked runs count first at.set at.k at.invariant.4 c.loop-k-test.false),
-      (at.invariant.2, omega (arith, at.invariant.0, at.invariant.1, c.requires.2)),
-    )
+          (row_end s a.asked runs count first at.set at.k at.invariant.4 c.loop-k-test.false);
+      chained = (at.invariant.2, omega (arith, at.invariant.0, at.invariant.1, c.requires.2));
+    }

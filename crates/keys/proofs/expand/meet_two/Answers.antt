@@ -11,34 +11,34 @@ use Rattle.keys.proofs.expand.meet_two.Goals as goal
 pub returns-then-meet-ge1024 : goal.returns-then-meet-ge1024
 returns-then-meet-ge1024 c =
     let a = c.args in
-    let first = c.meet.ensures in (
-      one_many (keys_in a.keys.now) (key_in a.first) (key_in a.second ∷ []) (first.0.1 c.if-meet-ge1024.true),
-      (first.1, tt),
-    )
+    let first = c.meet.ensures in record {
+      met = one_many (keys_in a.keys.now) (key_in a.first) (key_in a.second ∷ []) (first.t_after.1 c.if-meet-ge1024.true);
+      chained = (first.chained, tt);
+    }
 
 pub meet-requires-2 : goal.meet-requires-2
-meet-requires-2 c = c.meet.ensures.1
+meet-requires-2 c = c.meet.ensures.chained
 
 pub returns-then-meet-ge1024-2 : goal.returns-then-meet-ge1024-2
 returns-then-meet-ge1024-2 c =
     let a = c.args in
     let first = c.meet.ensures in
-    let second = c.meet-2.ensures in (
-      second_many (keys_in a.keys.now) c.meet.new.0 (key_in a.first) (key_in a.second)
-          (first.0.0 c.if-meet-ge1024.false) (second.0.1 c.if-meet-ge1024-2.true),
-      (second.1, tt),
-    )
+    let second = c.meet-2.ensures in record {
+      met = second_many (keys_in a.keys.now) c.meet.new.t (key_in a.first) (key_in a.second)
+          (first.t_after.0 c.if-meet-ge1024.false) (second.t_after.1 c.if-meet-ge1024-2.true);
+      chained = (second.chained, tt);
+    }
 
 pub returns : goal.returns
 returns c =
     let a = c.args in
     let first = c.meet.ensures in
-    let second = c.meet-2.ensures in (
-      (
-        second_met (keys_in a.keys.now) c.meet.new.0 c.meet-2.new.0
-            (key_in a.first) (key_in a.second) (first.0.0 c.if-meet-ge1024.false)
-            (second.0.0 c.if-meet-ge1024-2.false),
+    let second = c.meet-2.ensures in record {
+      met = (
+        second_met (keys_in a.keys.now) c.meet.new.t c.meet-2.new.t
+            (key_in a.first) (key_in a.second) (first.t_after.0 c.if-meet-ge1024.false)
+            (second.t_after.0 c.if-meet-ge1024-2.false),
         refl,
-      ),
-      (second.1, omega arith),
-    )
+      );
+      chained = (second.chained, omega arith);
+    }

@@ -32,70 +32,70 @@ loop-k-init c =
       omega arith,
       omega arith,
       growing_start c.args.s.now c.args.c.now
-          (root_added c.args.s.now c.args.c.now c.args.keys.now add.new.0 none.1
+          (root_added c.args.s.now c.args.c.now c.args.keys.now add.new.t none.1
           root.ensures add.ensures.0),
     )
 
 pub expand-met-requires : goal.expand-met-requires
 expand-met-requires c =
-    let at = c.loop-k in
+    let at = c.loop in
     let count = c.count in
     let if1 = c.loop-k-test in
     (at.invariant.0, omega (arith, count.ensures, if1.true), c.requires.1, at.invariant.1)
 
 pub returns-in_default : goal.returns-in_default
 returns-in_default c =
-    let at = c.loop-k in
+    let at = c.loop in
     let behind = c.expand-met in
     let count = c.count in
     let if1 = c.loop-k-test in
     let enum_told = c.enum_told-1 in
     let a = c.args in
-    let below : at.k < count_in at.keys = omega (arith, count.ensures, if1.true) in (
-      grown_many a.s.now a.c.now at.keys at.invariant.4 below at.invariant.0.few behind.result behind.new.0
-          behind.ensures.0 enum_told.given.1,
-      (behind.ensures.1.0, many_most (1024 * most_length) enum_told.given.1, behind.ensures.1.2),
-    )
+    let below : at.k < count_in at.keys = omega (arith, count.ensures, if1.true) in record {
+      grown = grown_many a.s.now a.c.now at.keys at.invariant.4 below at.invariant.0.few behind.result behind.new.keys
+          behind.ensures.edges_met c.in_default.is;
+      chained = (behind.ensures.chained.0, many_most (1024 * most_length) c.in_default.is, behind.ensures.chained.2);
+    }
 
 pub overflow_add-bytes : goal.overflow_add-bytes
 overflow_add-bytes c =
-    let at = c.loop-k in
+    let at = c.loop in
     let met = c.met-1 in
     let expand = c.expand-met in
     let count = c.count in
     let if1 = c.loop-k-test in
-    let few = bytes_most met.given.1 expand.ensures.1.1 in
+    let few = bytes_most c.in-Bytes.is expand.ensures.chained.1 in
     omega (arith, few, at.invariant.3, at.invariant.0.few, count.ensures, if1.true)
 
 pub overflow_add-k : goal.overflow_add-k
 overflow_add-k c =
-    let at = c.loop-k in
+    let at = c.loop in
     let count = c.count in
     let if1 = c.loop-k-test in
     omega (arith, at.invariant.0.few, count.ensures, if1.true)
 
 pub loop-k-smaller : goal.loop-k-smaller
 loop-k-smaller c =
-    let at = c.loop-k in
+    let at = c.loop in
     let count = c.count in
     let if1 = c.loop-k-test in
     omega (arith, at.invariant.0.few, count.ensures, if1.true)
 
 pub loop-k-preserved : goal.loop-k-preserved
 loop-k-preserved c =
-    let at = c.loop-k in
+    let at = c.loop in
     let behind = c.expand-met in
     let met = c.met-1 in
     let count = c.count in
     let if1 = c.loop-k-test in
     let a = c.args in
-    let few = bytes_most met.given.1 behind.ensures.1.1 in
+    let few = bytes_most c.in-Bytes.is behind.ensures.chained.1 in
     let below : at.k < count_in at.keys = omega (arith, count.ensures, if1.true) in
     let turn =
-    grown_turn a.s.now a.c.now at.keys at.invariant.4 below at.invariant.0.few behind.result behind.new.0
-    behind.ensures.0 met.given.1 in (
-      behind.ensures.1.0,
-      behind.ensures.1.2,
+    grown_turn a.s.now a.c.now at.keys at.invariant.4 below at.invariant.0.few behind.result behind.new.keys
+    behind.ensures.edges_met c.in-Bytes.is in (
+      behind.ensures.chained.0,
+      behind.ensures.chained.2,
       omega (arith, below, turn.1),
       omega (arith, few, at.invariant.3),
       turn.0,
@@ -103,10 +103,10 @@ loop-k-preserved c =
 
 pub returns : goal.returns
 returns c =
-    let at = c.loop-k in
+    let at = c.loop in
     let count = c.count in
     let if1 = c.loop-k-test in
-    let a = c.args in (
-      grown_all a.s.now a.c.now at.keys at.invariant.4 (omega (arith, count.ensures, if1.false)),
-      (at.invariant.0, omega (arith, at.invariant.2, at.invariant.3, at.invariant.0.few), at.invariant.1),
-    )
+    let a = c.args in record {
+      grown = grown_all a.s.now a.c.now at.keys at.invariant.4 (omega (arith, count.ensures, if1.false));
+      chained = (at.invariant.0, omega (arith, at.invariant.2, at.invariant.3, at.invariant.0.few), at.invariant.1);
+    }

@@ -17,7 +17,7 @@ pub loop-i-init : goal.loop-i-init
 loop-i-init c =
     let a = c.args in
     let pre = c.requires in
-    let s = a.s.now in (
+    let s = c.args.s.now in (
       pre.2,
       pre.3,
       omega arith,
@@ -41,9 +41,9 @@ read_rule-read-requires c = (c.requires.0, c.loop-i.invariant.0)
 pub returns-in_default : goal.returns-in_default
 returns-in_default c =
     let a = c.args in
-    let s = a.s.now in
+    let s = c.args.s.now in
     let loop = c.loop-i in
-    let inv = loop.invariant in
+    let inv = c.loop-i.invariant in
     let begins =
     subst (Begins s a.arity a.count) (sym c.note.ensures.0)
     (begins_noted s a.arity a.count loop.auto loop.i loop.at inv.1 inv.3
@@ -51,26 +51,26 @@ returns-in_default c =
     let note = c.note in (
       begins,
       tests_stay a.kept.now loop.auto loop.i loop.at inv.5 note.ensures.0 note.ensures.1,
-      c.read_rule-read.ensures.1.entries,
+      c.read_rule-read.ensures.took_within.entries,
     )
 
 pub overflow_add-at : goal.overflow_add-at
 overflow_add-at c =
     let a = c.args in
-    let s = a.s.now in
+    let s = c.args.s.now in
     let loop = c.loop-i in
     let codes = c.read_rule-read.new.1.1.0 in
     let read = c.read_rule-read.ensures in
     let bytes = bytes_known s (λ i. omega (arith, c.shared_slice_known-1.given i)) in
-    let rule = rule_read_lem a.arity loop.at s codes c.read_rule-read.result read.0 c.requires.0 bytes c.read-1.given.1 read.1 in
+    let rule = rule_read_lem a.arity loop.at s codes c.read_rule-read.result read.result_after c.requires.0 bytes c.in-Used.is read.took_within in
     omega (arith, rule.used)
 
 pub loop-i-preserved : goal.loop-i-preserved
 loop-i-preserved c =
     let a = c.args in
-    let s = a.s.now in
+    let s = c.args.s.now in
     let loop = c.loop-i in
-    let inv = loop.invariant in
+    let inv = c.loop-i.invariant in
     let begins =
     subst (Begins s a.arity a.count) (sym c.note.ensures.0)
     (begins_noted s a.arity a.count loop.auto loop.i loop.at inv.1 inv.3
@@ -78,8 +78,8 @@ loop-i-preserved c =
     let codes = c.read_rule-read.new.1.1.0 in
     let read = c.read_rule-read.ensures in
     let bytes = bytes_known s (λ i. omega (arith, c.shared_slice_known-1.given i)) in
-    let rule = rule_read_lem a.arity loop.at s codes c.read_rule-read.result read.0 c.requires.0 bytes c.read-1.given.1 read.1 in (
-      read.1.entries,
+    let rule = rule_read_lem a.arity loop.at s codes c.read_rule-read.result read.result_after c.requires.0 bytes c.in-Used.is read.took_within in (
+      read.took_within.entries,
       c.note.ensures.1,
       omega (arith, rule.used),
       begins,

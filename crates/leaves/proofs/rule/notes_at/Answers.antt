@@ -15,16 +15,16 @@ use borrow.Author.Rules.{rules}
 use Rattle.leaves.proofs.rule.notes_at.Goals as goal
 
 pub passed-i-requires : goal.passed-i-requires
-passed-i-requires c = c.requires.0.0.from_one
+passed-i-requires c = c.requires.rule_read.0.from_one
 
 pub loop-i-init : goal.loop-i-init
 loop-i-init c =
     let a = c.args in
-    let rule = c.requires.0.0 in
+    let rule = c.requires.rule_read.0 in
     let from =
     seeking_from a.s.now a.arity a.count a.rule a.begin (omega (arith, rule.from_one, rule.inside)) rule.rules_read
-    c.requires.1 rule.from_one in
-    (c.requires.0.1, subst (Seeking (read_rule a.arity) pnil a.s.now a.count (pred a.rule) a.begin) (sym c.passed-i.ensures) from)
+    c.requires.begin_at rule.from_one in
+    (c.requires.rule_read.1, subst (Seeking (read_rule a.arity) pnil a.s.now a.count (pred a.rule) a.begin) (sym c.passed-i.ensures) from)
 
 pub slice_bounds-read_rule-count : goal.slice_bounds-read_rule-count
 slice_bounds-read_rule-count c = c.loop-i.invariant.1.there
@@ -33,52 +33,54 @@ pub slice_bounds-read_rule-start : goal.slice_bounds-read_rule-start
 slice_bounds-read_rule-start c = c.loop-i.invariant.1.there
 
 pub read_rule-read-requires : goal.read_rule-read-requires
-read_rule-read-requires c = (c.requires.0.0.few_arguments, c.loop-i.invariant.0)
+read_rule-read-requires c = (c.requires.rule_read.0.few_arguments, c.loop-i.invariant.0)
 
 pub returns-in_default : goal.returns-in_default
 returns-in_default c =
     let a = c.args in
-    let s = a.s.now in
+    let s = c.args.s.now in
     let codes = c.read_rule-read.new.1.1.0 in
     let at = c.loop-i.at in
     let read = c.read_rule-read.ensures in
-    absurd (seeking_there (read_rule a.arity) pnil s c.loop-i.invariant.1 (rule_refused a.arity at s codes c.read_rule-read.result read.0 c.enum_told-1.given.1))
+    let both = absurd (seeking_there (read_rule a.arity) pnil s c.loop-i.invariant.1 (rule_refused a.arity at s codes c.read_rule-read.result read.result_after c.in_default.is)) in
+    record { result_after = both.0; result_bound = both.1 }
 
 pub returns-then-i-rule : goal.returns-then-i-rule
 returns-then-i-rule c =
     let a = c.args in
-    let s = a.s.now in
+    let s = c.args.s.now in
     let codes = c.read_rule-read.new.1.1.0 in
     let at = c.loop-i.at in
     let read = c.read_rule-read.ensures in
     let bytes = bytes_known s (λ i. omega (arith, c.shared_slice_known-1.given i)) in
-    let rule = rule_read_lem a.arity at s codes c.read_rule-read.result read.0 c.requires.0.0.few_arguments bytes c.read-1.given.1 read.1 in (
-      ap some (rule.noted ∙ ap rule_notes (seeking_found (read_rule a.arity) pnil s c.loop-i.invariant.1 rule.read (omega (arith, c.if-i-rule.true)))),
-      (rule.made, read.1.entries, rule.placed),
-    )
+    let rule = rule_read_lem a.arity at s codes c.read_rule-read.result read.result_after c.requires.rule_read.0.few_arguments bytes c.in-Used.is read.took_within in record {
+      result_after = ap some (rule.noted ∙ ap rule_notes (seeking_found (read_rule a.arity) pnil s c.loop-i.invariant.1 rule.read (omega (arith, c.if-i-rule.true))));
+      result_bound = (rule.made, read.took_within.entries, rule.placed);
+    }
 
 pub overflow_add-at : goal.overflow_add-at
 overflow_add-at c =
     let a = c.args in
-    let s = a.s.now in
+    let s = c.args.s.now in
     let codes = c.read_rule-read.new.1.1.0 in
     let at = c.loop-i.at in
     let read = c.read_rule-read.ensures in
     let bytes = bytes_known s (λ i. omega (arith, c.shared_slice_known-1.given i)) in
-    let rule = rule_read_lem a.arity at s codes c.read_rule-read.result read.0 c.requires.0.0.few_arguments bytes c.read-1.given.1 read.1 in
+    let rule = rule_read_lem a.arity at s codes c.read_rule-read.result read.result_after c.requires.rule_read.0.few_arguments bytes c.in-Used.is read.took_within in
     omega (arith, rule.used)
 
 pub loop-i-preserved : goal.loop-i-preserved
 loop-i-preserved c =
     let a = c.args in
-    let s = a.s.now in
+    let s = c.args.s.now in
     let codes = c.read_rule-read.new.1.1.0 in
     let at = c.loop-i.at in
     let read = c.read_rule-read.ensures in
     let bytes = bytes_known s (λ i. omega (arith, c.shared_slice_known-1.given i)) in
-    let rule = rule_read_lem a.arity at s codes c.read_rule-read.result read.0 c.requires.0.0.few_arguments bytes c.read-1.given.1 read.1 in
-    (read.1.entries, seeking_next (read_rule a.arity) pnil s c.loop-i.invariant.1 rule.read (λ e. omega (arith, c.if-i-rule.false, c.requires.0.0.from_one)) (omega (arith, rule.used)))
+    let rule = rule_read_lem a.arity at s codes c.read_rule-read.result read.result_after c.requires.rule_read.0.few_arguments bytes c.in-Used.is read.took_within in
+    (read.took_within.entries, seeking_next (read_rule a.arity) pnil s c.loop-i.invariant.1 rule.read (λ e. omega (arith, c.if-i-rule.false, c.requires.rule_read.0.from_one)) (omega (arith, rule.used)))
 
 pub returns : goal.returns
 returns c =
-    absurd (omega (arith, c.loop-i.invariant.1.sought, c.loop-i.invariant.1.among))
+    let both = absurd (omega (arith, c.loop-i.invariant.1.sought, c.loop-i.invariant.1.among)) in
+    record { result_after = both.0; result_bound = both.1 }

@@ -10,7 +10,7 @@ use Rattle.marks.proofs.rule.read_marks.Goals as goal
 pub returns : goal.returns
 returns c =
     let a = c.args in
-    let s = a.s.now in (
-      part_read marked 3 a.arity 0 s c.patterns.ensures.0 refl refl,
-      omega (arith, c.patterns.ensures.1, rest_length s 0),
-    )
+    let s = c.args.s.now in record {
+      result_after = part_read marked 3 a.arity 0 s c.patterns.ensures.result_after refl refl;
+      took_within = omega (arith, c.patterns.ensures.took_within, rest_length s 0);
+    }

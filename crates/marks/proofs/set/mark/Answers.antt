@@ -6,8 +6,7 @@ use borrow.Author.Rules.{rules}
 use Rattle.marks.proofs.set.mark.Goals as goal
 
 pub returns : goal.returns
-returns c =
-    (
-      ap (λ (w : ℕ). set c.args.words.now (c.args.place / 64) w) c.insert.ensures,
-      simp length-set c.requires.1,
-    )
+returns c = record {
+      words_after = ap (λ (w : ℕ). set c.args.words.now (c.args.place / 64) w) c.insert.ensures;
+      words_len = simp length-set c.requires.1;
+    }

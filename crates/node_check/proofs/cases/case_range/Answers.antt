@@ -4,12 +4,12 @@ use Rattle.node_check.proofs.cases.case_range.Goals as goal
 
 pub returns-in-Symbols : goal.returns-in-Symbols
 returns-in-Symbols c =
-    simp (c.c-1.given.1, c.symbol_code-first.ensures, c.symbol_code-last.ensures, c.rank_of.ensures, c.range_to.ensures)
+    simp (c.in-Symbols.is, c.symbol_code-first.ensures, c.symbol_code-last.ensures, c.rank_of.ensures, c.range_to.ensures)
 
 pub returns-in-Compound : goal.returns-in-Compound
 returns-in-Compound c =
-    simp (c.c-in-Compound-1.given.1, c.compound_code-code.ensures, c.rank_of-in-Compound.ensures, c.range_to-in-Compound.ensures)
+    simp (c.in-Compound.is, c.compound_code-code.ensures, c.rank_of-in-Compound.ensures, c.range_to-in-Compound.ensures)
 
 pub returns-in-Numbers : goal.returns-in-Numbers
 returns-in-Numbers c =
-    simp (c.c-in-Numbers-1.given.1, c.gauged_code-first.ensures, c.gauged_code-last.ensures, c.rank_of-in-Numbers.ensures, c.range_to-in-Numbers.ensures)
+    simp (c.in-Numbers.is, c.gauged_code-first.ensures, c.gauged_code-last.ensures, c.rank_of-in-Numbers.ensures, c.range_to-in-Numbers.ensures)

@@ -24,26 +24,26 @@ returns-in_default c =
     sym
     (loop.invariant.2
     ∙ pass_refused a.nodes a.count a.s.now loop.i loop.at loop.end loop.inside loop.ascend c.loop-i-test.true
-    (ap case_head (sym (rest c.args.s.now c.loop-i.at)) ∙ sym c.case_head-head.ensures ∙ c.enum_told-1.given.1)
-    (c.case_refusal.ensures ∙ ap case_refusal c.enum_told-1.given.1))
+    (ap case_head (sym (rest c.args.s.now c.loop-i.at)) ∙ sym c.case_head-head.ensures ∙ c.in_default.is)
+    (c.case_refusal.ensures ∙ ap case_refusal c.in_default.is))
 
 pub overflow_add-at : goal.overflow_add-at
 overflow_add-at c =
     let a = c.args in
-    let s = a.s.now in
+    let s = c.args.s.now in
     let loop = c.loop-i in
-    let c' = c.head-1.given.0.0 in
-    let told : case_head (drop loop.at s) ≡ Whole c' = ap case_head (sym (rest c.args.s.now c.loop-i.at)) ∙ sym c.case_head-head.ensures ∙ c.head-1.given.1 in
+    let c' = c.in-Whole.c in
+    let told : case_head (drop loop.at s) ≡ Whole c' = ap case_head (sym (rest c.args.s.now c.loop-i.at)) ∙ sym c.case_head-head.ensures ∙ c.in-Whole.is in
     let fits = case_fits (drop loop.at s) told in
     omega (arith, ap (λ r. r.bytes) c.case_range-range.ensures, length-drop loop.at s)
 
 pub loop-i-preserved : goal.loop-i-preserved
 loop-i-preserved c =
     let a = c.args in
-    let s = a.s.now in
+    let s = c.args.s.now in
     let loop = c.loop-i in
-    let c' = c.head-1.given.0.0 in
-    let told : case_head (drop loop.at s) ≡ Whole c' = ap case_head (sym (rest c.args.s.now c.loop-i.at)) ∙ sym c.case_head-head.ensures ∙ c.head-1.given.1 in
+    let c' = c.in-Whole.c in
+    let told : case_head (drop loop.at s) ≡ Whole c' = ap case_head (sym (rest c.args.s.now c.loop-i.at)) ∙ sym c.case_head-head.ensures ∙ c.in-Whole.is in
     let fits = case_fits (drop loop.at s) told in (
       omega arith,
       omega (arith, ap (λ r. r.bytes) c.case_range-range.ensures, length-drop loop.at s),

@@ -4,13 +4,13 @@ use borrow.Author.Rules.{rules}
 use Rattle.node_check.proofs.check.check_leaf.Goals as goal
 
 pub returns-in-Fail : goal.returns-in-Fail
-returns-in-Fail c = rw c.enum_told-1.given.1
+returns-in-Fail c = rw c.in-Fail.is
 
 pub returns-in-Suspend : goal.returns-in-Suspend
-returns-in-Suspend c = rw c.enum_told-in-Suspend-1.given.1
+returns-in-Suspend c = rw c.in-Suspend.is
 
 pub returns-then-both : goal.returns-then-both
-returns-then-both c = rw (c.leaf-1.given.1, sym c.both.ensures ∙ c.if-both.true)
+returns-then-both c = rw (c.in-Execute.is, sym c.both.ensures ∙ c.if-both.true)
 
 pub returns-else-both : goal.returns-else-both
-returns-else-both c = rw (c.leaf-1.given.1, sym c.both.ensures ∙ c.if-both.false)
+returns-else-both c = rw (c.in-Execute.is, sym c.both.ensures ∙ c.if-both.false)

@@ -11,16 +11,16 @@ pub returns-then-count-lt1 : goal.returns-then-count-lt1
 returns-then-count-lt1 c = switch_none c.args.known c.args.count c.args.nodes c.args.s.now c.if-count-lt1.true
 
 pub returns-in_default : goal.returns-in_default
-returns-in_default c = switch_refused c.args.known c.args.count c.args.nodes c.args.s.now c.if-count-lt1.false c.check_cases-cases.result c.check_cases-cases.ensures c.enum_told-1.given.1 (c.cases_refusal.ensures ∙ ap cases_refusal c.enum_told-1.given.1)
+returns-in_default c = switch_refused c.args.known c.args.count c.args.nodes c.args.s.now c.if-count-lt1.false c.check_cases-cases.result c.check_cases-cases.ensures c.in_default.is (c.cases_refusal.ensures ∙ ap cases_refusal c.in_default.is)
 
 pub returns-then-not-both : goal.returns-then-not-both
-returns-then-not-both c = switch_outside c.args.known c.args.count c.args.nodes c.args.s.now c.if-count-lt1.false c.check_cases-cases.result c.check_cases-cases.ensures c.cases-1.given.1 (sym c.both.ensures ∙ not-true _ c.if-not-both.true)
+returns-then-not-both c = switch_outside c.args.known c.args.count c.args.nodes c.args.s.now c.if-count-lt1.false c.check_cases-cases.result c.check_cases-cases.ensures c.in-Used.is (sym c.both.ensures ∙ not-true _ c.if-not-both.true)
 
 pub returns-then-not-ascend : goal.returns-then-not-ascend
-returns-then-not-ascend c = switch_unordered c.args.known c.args.count c.args.nodes c.args.s.now c.if-count-lt1.false c.check_cases-cases.result c.check_cases-cases.ensures c.cases-1.given.1 (sym c.both.ensures ∙ not-false _ c.if-not-both.false) (not-true _ c.if-not-ascend.true)
+returns-then-not-ascend c = switch_unordered c.args.known c.args.count c.args.nodes c.args.s.now c.if-count-lt1.false c.check_cases-cases.result c.check_cases-cases.ensures c.in-Used.is (sym c.both.ensures ∙ not-false _ c.if-not-both.false) (not-true _ c.if-not-ascend.true)
 
 pub overflow_add-result : goal.overflow_add-result
-overflow_add-result c = omega (arith, switch_bytes c.args.known c.args.count c.args.nodes c.args.s.now c.if-count-lt1.false c.check_cases-cases.result c.check_cases-cases.ensures c.cases-1.given.1, c.ranges)
+overflow_add-result c = omega (arith, switch_bytes c.args.known c.args.count c.args.nodes c.args.s.now c.if-count-lt1.false c.check_cases-cases.result c.check_cases-cases.ensures c.in-Used.is, c.ranges)
 
 pub returns : goal.returns
-returns c = switch_right c.args.known c.args.count c.args.nodes c.args.s.now c.if-count-lt1.false c.check_cases-cases.result c.check_cases-cases.ensures c.cases-1.given.1 (sym c.both.ensures ∙ not-false _ c.if-not-both.false) (not-false _ c.if-not-ascend.false)
+returns c = switch_right c.args.known c.args.count c.args.nodes c.args.s.now c.if-count-lt1.false c.check_cases-cases.result c.check_cases-cases.ensures c.in-Used.is (sym c.both.ensures ∙ not-false _ c.if-not-both.false) (not-false _ c.if-not-ascend.false)

@@ -23,18 +23,18 @@ slice_bounds-case_head-start c = c.loop-i.invariant.stand.begins
 pub returns-in_default : goal.returns-in_default
 returns-in_default c =
     let a = c.args in
-    let s = a.graph.now in
+    let s = c.args.graph.now in
     absurd
     (passed_whole s a.low a.high a.neither c.loop-i.invariant c.loop-i-test.true
-    (ap case_head (sym (rest s c.loop-i.at)) ∙ sym c.case_head-head.ensures ∙ c.enum_told-1.given.1))
+    (ap case_head (sym (rest s c.loop-i.at)) ∙ sym c.case_head-head.ensures ∙ c.in_default.is))
 
 pub narrowest-requires : goal.narrowest-requires
 narrowest-requires c =
     let a = c.args in
-    let s = a.graph.now in
+    let s = c.args.graph.now in
     let next = c.loop-i-test.true in
-    let whole = ap case_head (sym (rest s c.loop-i.at)) ∙ sym c.case_head-head.ensures ∙ c.head-1.given.1 in
-    passed_numbers s a.low a.high a.neither c.loop-i.invariant next c.head-1.given.0.0 whole
+    let whole = ap case_head (sym (rest s c.loop-i.at)) ∙ sym c.case_head-head.ensures ∙ c.in-Whole.is in
+    passed_numbers s a.low a.high a.neither c.loop-i.invariant next c.in-Whole.c whole
     c.case_range-range.ensures c.if-range-ge-NUMBERS.true
 
 pub returns-then-range-ge-NUMBERS : goal.returns-then-range-ge-NUMBERS
@@ -46,22 +46,22 @@ returns-then-range-ge-NUMBERS c =
 pub overflow_add-at : goal.overflow_add-at
 overflow_add-at c =
     let a = c.args in
-    let s = a.graph.now in
+    let s = c.args.graph.now in
     let next = c.loop-i-test.true in
-    let whole = ap case_head (sym (rest s c.loop-i.at)) ∙ sym c.case_head-head.ensures ∙ c.head-1.given.1 in
+    let whole = ap case_head (sym (rest s c.loop-i.at)) ∙ sym c.case_head-head.ensures ∙ c.in-Whole.is in
     omega (
       arith,
-      passed_inside s a.low a.high a.neither c.loop-i.invariant next c.head-1.given.0.0 whole
+      passed_inside s a.low a.high a.neither c.loop-i.invariant next c.in-Whole.c whole
           c.case_range-range.ensures,
     )
 
 pub loop-i-preserved : goal.loop-i-preserved
 loop-i-preserved c =
     let a = c.args in
-    let s = a.graph.now in
+    let s = c.args.graph.now in
     let next = c.loop-i-test.true in
-    let whole = ap case_head (sym (rest s c.loop-i.at)) ∙ sym c.case_head-head.ensures ∙ c.head-1.given.1 in
-    passed_on s a.low a.high a.neither c.loop-i.invariant next c.head-1.given.0.0 whole
+    let whole = ap case_head (sym (rest s c.loop-i.at)) ∙ sym c.case_head-head.ensures ∙ c.in-Whole.is in
+    passed_on s a.low a.high a.neither c.loop-i.invariant next c.in-Whole.c whole
     c.case_range-range.ensures c.requires.1 c.if-range-ge-NUMBERS.false
 
 pub returns : goal.returns

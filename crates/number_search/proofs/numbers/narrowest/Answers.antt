@@ -43,7 +43,7 @@ returns c =
     let begun = c.count_before-begun.ensures in
     let code =
     ap (λ (n : ℕ). n / 0x100000000) c.rank_at-begins.ensures ∙ last_begins c.requires a.low a.high a.neither begun some in
-    let s = a.graph.now in
+    let s = c.args.graph.now in
     found_leads c.requires a.low a.high a.neither begun some code c.count_before-found.ensures
     (omega (arith, c.count_before-found.ensures.few, c.if-found-begun.false))
     ∙ sym (c.wide.ensures ∙ wide_there s (a.start + c.count_before-found.result * 8) 6)

@@ -12,7 +12,7 @@ use Rattle.number_search.proofs.numbers.rank_at.Goals as goal
 pub returns : goal.returns
 returns c =
     let a = c.args in
-    let s = a.graph.now in
+    let s = c.args.graph.now in
     let coded : ℕ → ℕ = λ v. number_code (on_gauge (byte_at s (a.at + 1)) v) in
     ap₂ rank_of
     (c.gauged_code-low.ensures ∙ ap coded (c.wide.ensures ∙ wide_there s a.at 2))

@@ -11,7 +11,7 @@ pub parent_in-requires : goal.parent_in-requires
 parent_in-requires c = (c.requires.0, c.requires.1)
 
 pub bounds-down-parent_in : goal.bounds-down-parent_in
-bounds-down-parent_in c = omega (arith, c.parent_in_lem.ensures, parent_inside c.args.p c.requires.0)
+bounds-down-parent_in c = omega (arith, c.parent_in.ensures, parent_inside c.args.p c.requires.0)
 
 pub returns : goal.returns
-returns c = ap (λ (q : ℕ). eqb (get_or c.args.down.now q 0) 0) c.parent_in_lem.ensures
+returns c = ap (λ (q : ℕ). eqb (get_or c.args.down.now q 0) 0) c.parent_in.ensures

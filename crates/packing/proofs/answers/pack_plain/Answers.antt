@@ -12,11 +12,11 @@ returns-in-Answered c =
     let p = c.pack.ensures in
     let word = c.word.ensures in
     let rule = c.rule.ensures in
-    subst (λ (x : Plain). Packs c.pack.result (plain_fields (plain_values x))) (sym c.answered-1.given.1)
+    subst (λ (x : Plain). Packs c.pack.result (plain_fields (plain_values x))) (sym c.in-Answered.is)
     (omega (arith, p.0, word, rule), (p.1.0, (omega (arith, p.1.1.0, word), (omega (arith, p.1.1.1.0, rule), tt))))
 
 pub returns-in-Refused : goal.returns-in-Refused
 returns-in-Refused c =
     let p = c.pack-in-Refused.ensures in
-    subst (λ (x : Plain). Packs c.pack-in-Refused.result (plain_fields (plain_values x))) (sym c.answered-in-Refused-1.given.1)
+    subst (λ (x : Plain). Packs c.pack-in-Refused.result (plain_fields (plain_values x))) (sym c.in-Refused.is)
     (omega (arith, p.0), (p.1.0, (p.1.1.0, (p.1.1.1.0, tt))))

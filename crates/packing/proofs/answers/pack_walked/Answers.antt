@@ -12,11 +12,11 @@ returns-in-Answered c =
     let p = c.pack.ensures in
     let word = c.word.ensures in
     let rule = c.rule.ensures in
-    subst (λ (x : Walked). Packs c.pack.result (walk_fields (walked_values x))) (sym c.walked-1.given.1) (
+    subst (λ (x : Walked). Packs c.pack.result (walk_fields (walked_values x))) (sym c.in-Answered.is) (
       omega (arith, p.0, word, rule),
       (p.1.0, (omega (arith, p.1.1.0, word), (omega (arith, p.1.1.1.0, rule), p.1.1.1.1))),
     )
 
 pub returns-in-Refused : goal.returns-in-Refused
 returns-in-Refused c =
-    subst (λ (x : Walked). Packs c.pack-in-Refused.result (walk_fields (walked_values x))) (sym c.walked-in-Refused-1.given.1) c.pack-in-Refused.ensures
+    subst (λ (x : Walked). Packs c.pack-in-Refused.result (walk_fields (walked_values x))) (sym c.in-Refused.is) c.pack-in-Refused.ensures

@@ -10,11 +10,11 @@ use Rattle.packing.proofs.checks.pack_piece_check.Goals as goal
 pub returns-in-Accepted : goal.returns-in-Accepted
 returns-in-Accepted c =
     let p = c.pack.ensures in
-    subst (λ (x : PieceCheck). Packs c.pack.result (piece_fields (piece_check_values x))) (sym c.checked-1.given.1)
+    subst (λ (x : PieceCheck). Packs c.pack.result (piece_fields (piece_check_values x))) (sym c.in-Accepted.is)
     (omega (arith, p.0), (p.1.0, (p.1.1.0, tt)))
 
 pub returns-in-Refused : goal.returns-in-Refused
 returns-in-Refused c =
     let p = c.pack-in-Refused.ensures in
-    subst (λ (x : PieceCheck). Packs c.pack-in-Refused.result (piece_fields (piece_check_values x))) (sym c.checked-in-Refused-1.given.1)
+    subst (λ (x : PieceCheck). Packs c.pack-in-Refused.result (piece_fields (piece_check_values x))) (sym c.in-Refused.is)
     (omega (arith, p.0), (p.1.0, (p.1.1.0, tt)))

@@ -8,8 +8,8 @@ use Rattle.packing.proofs.checks.pack_sheet_check.Goals as goal
 
 pub returns-in-Accepted : goal.returns-in-Accepted
 returns-in-Accepted c =
-    subst (λ (x : SheetCheck). Packs c.pack.result (sheet_fields (sheet_check_values x))) (sym c.checked-1.given.1) c.pack.ensures
+    subst (λ (x : SheetCheck). Packs c.pack.result (sheet_fields (sheet_check_values x))) (sym c.in-Accepted.is) c.pack.ensures
 
 pub returns-in-Refused : goal.returns-in-Refused
 returns-in-Refused c =
-    subst (λ (x : SheetCheck). Packs c.pack-in-Refused.result (sheet_fields (sheet_check_values x))) (sym c.checked-in-Refused-1.given.1) c.pack-in-Refused.ensures
+    subst (λ (x : SheetCheck). Packs c.pack-in-Refused.result (sheet_fields (sheet_check_values x))) (sym c.in-Refused.is) c.pack-in-Refused.ensures

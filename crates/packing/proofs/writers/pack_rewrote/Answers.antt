@@ -8,8 +8,8 @@ use Rattle.packing.proofs.writers.pack_rewrote.Goals as goal
 
 pub returns-in-Written : goal.returns-in-Written
 returns-in-Written c =
-    λ buffer. subst (λ (x : Rewrote). Packs c.pack_wide.result (written_fields (left_by x buffer))) (sym c.written-1.given.1) c.pack_wide.ensures
+    λ buffer. subst (λ (x : Rewrote). Packs c.pack_wide.result (written_fields (left_by x buffer))) (sym c.in-Written.is) c.pack_wide.ensures
 
 pub returns-in-Refused : goal.returns-in-Refused
 returns-in-Refused c =
-    λ buffer. subst (λ (x : Rewrote). Packs c.pack_wide-in-Refused.result (written_fields (left_by x buffer))) (sym c.written-in-Refused-1.given.1) c.pack_wide-in-Refused.ensures
+    λ buffer. subst (λ (x : Rewrote). Packs c.pack_wide-in-Refused.result (written_fields (left_by x buffer))) (sym c.in-Refused.is) c.pack_wide-in-Refused.ensures

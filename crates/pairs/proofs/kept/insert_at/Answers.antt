@@ -22,8 +22,8 @@ loop-i-preserved c =
 
 pub returns : goal.returns
 returns c =
-    let turn = c.loop-i in (
-      carrying_done c.args.codes.now c.args.n _ turn.codes turn.i turn.carried (omega arith)
-          turn.invariant.1 (omega arith),
-      simp length-set (turn.invariant.1.same_length ∙ c.requires.2),
-    )
+    let turn = c.loop-i in record {
+      codes_after = carrying_done c.args.codes.now c.args.n _ turn.codes turn.i turn.carried (omega arith)
+          turn.invariant.1 (omega arith);
+      codes_len = simp length-set (turn.invariant.1.same_length ∙ c.requires.2);
+    }

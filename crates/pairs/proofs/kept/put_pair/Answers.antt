@@ -7,8 +7,10 @@ use borrow.Author.Rules.{rules}
 use Rattle.pairs.proofs.kept.put_pair.Goals as goal
 
 pub returns-then-put-gt64 : goal.returns-then-put-gt64
-returns-then-put-gt64 c =
-    (keep_many c.args.codes.now c.args.put.count c.args.code c.if-put-gt64.true, c.requires)
+returns-then-put-gt64 c = record {
+      count_after = keep_many c.args.codes.now c.args.put.count c.args.code c.if-put-gt64.true;
+      put_at = c.requires;
+    }
 
 pub position-at-requires : goal.position-at-requires
 position-at-requires c =
@@ -19,12 +21,12 @@ pub returns-then-codes-at : goal.returns-then-codes-at
 returns-then-codes-at c =
     let a = c.args in
     let position = c.position-at in
-    let if2 = c.if-at-n in (
-      keep_there a.codes.now a.put.count a.code (omega arith) (omega (arith, c.requires.all_codes))
-          position.result position.ensures if2.true c.if-codes-at.true,
-      put_there a.codes.now a.put.count a.code (omega arith) c.requires.all_codes position.result
-          position.ensures if2.true c.if-codes-at.true,
-    )
+    let if2 = c.if-at-n in record {
+      count_after = keep_there a.codes.now a.put.count a.code (omega arith) (omega (arith, c.requires.all_codes))
+          position.result position.ensures if2.true c.if-codes-at.true;
+      put_at = put_there a.codes.now a.put.count a.code (omega arith) c.requires.all_codes position.result
+          position.ensures if2.true c.if-codes-at.true;
+    }
 
 pub insert_at-requires : goal.insert_at-requires
 insert_at-requires c =
@@ -49,11 +51,11 @@ pub returns : goal.returns
 returns c =
     let a = c.args in
     let position = c.position-at in
-    let if2 = c.if-at-n in (
-      keep_here a.codes.now a.put.count a.code (omega arith) (omega (arith, c.requires.all_codes)) position.result
-          position.ensures c.insert_at.new.0 (omega (arith, c.insert_at.ensures.1))
+    let if2 = c.if-at-n in record {
+      count_after = keep_here a.codes.now a.put.count a.code (omega arith) (omega (arith, c.requires.all_codes)) position.result
+          position.ensures c.insert_at.new.codes (omega (arith, c.insert_at.ensures.codes_len))
           (⊎_elim (λ w l. w.2.left) (λ w l. absurd (omega (arith, w.left))) if2.branch)
-          c.insert_at.ensures.0,
-      put_here a.codes.now a.put.count a.code (omega arith) c.requires.all_codes position.result
-          position.ensures c.insert_at.new.0 c.insert_at.ensures.1 c.insert_at.ensures.0,
-    )
+          c.insert_at.ensures.codes_after;
+      put_at = put_here a.codes.now a.put.count a.code (omega arith) c.requires.all_codes position.result
+          position.ensures c.insert_at.new.codes c.insert_at.ensures.codes_len c.insert_at.ensures.codes_after;
+    }

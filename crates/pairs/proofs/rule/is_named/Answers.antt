@@ -6,8 +6,8 @@ use Rattle.pairs.proofs.rule.is_named.Goals as goal
 
 pub returns-in-Variable : goal.returns-in-Variable
 returns-in-Variable c =
-    ap (names_variable c.args.v) (sym c.what-1.given.1)
+    ap (names_variable c.args.v) (sym c.in-Variable.is)
 
 pub returns-in-Ranged : goal.returns-in-Ranged
 returns-in-Ranged c =
-    ap (names_variable c.args.v) (sym c.what-in-Ranged-1.given.1)
+    ap (names_variable c.args.v) (sym c.in-Ranged.is)

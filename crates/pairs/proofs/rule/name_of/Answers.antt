@@ -5,7 +5,7 @@ use borrow.Author.Rules.{rules}
 use Rattle.pairs.proofs.rule.name_of.Goals as goal
 
 pub returns-in-Variable : goal.returns-in-Variable
-returns-in-Variable c = ap name_of (sym c.what-1.given.1)
+returns-in-Variable c = ap name_of (sym c.in-Variable.is)
 
 pub returns-in-Ranged : goal.returns-in-Ranged
-returns-in-Ranged c = ap name_of (sym c.what-in-Ranged-1.given.1)
+returns-in-Ranged c = ap name_of (sym c.in-Ranged.is)

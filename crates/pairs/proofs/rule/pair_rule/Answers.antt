@@ -20,9 +20,11 @@ returns-then-pairs-gt64 c =
     let turn = c.loop-i in
     let notes = c.args.notes.now in
     let n = c.args.n in
-    let i = turn.i in
-    let inv = turn.invariant in
-    (full_done (notes_codes (drop i (notes_in notes n))) turn.codes turn.pairs c.if-pairs-gt64.true inv.3, (inv.1, inv.2))
+    let i = c.loop-i.i in
+    let inv = c.loop-i.invariant in record {
+      result_after = full_done (notes_codes (drop i (notes_in notes n))) turn.codes turn.pairs c.if-pairs-gt64.true inv.3;
+      upper_bound = (inv.1, inv.2);
+    }
 
 pub pairs_with-pairs-requires : goal.pairs_with-pairs-requires
 pairs_with-pairs-requires c =
@@ -39,8 +41,8 @@ loop-i-preserved c =
     let name_of = c.name_of-name in
     let notes = c.args.notes.now in
     let n = c.args.n in
-    let i = turn.i in
-    let inv = turn.invariant in
+    let i = c.loop-i.i in
+    let inv = c.loop-i.invariant in
     let kept = pairs_in turn.codes turn.pairs in
     let name = ap name_of (sym note-record.ensures) ∙ sym name_of.ensures in
     ⊎_elim
@@ -63,13 +65,15 @@ loop-i-preserved c =
           ∙ pairs_nameless notes n (omega arith) i (omega arith) (name ∙ w.1.given.1) kept
           ∙ inv.3,
     ))
-    c.in-Of.branch
+    c.match-name.branch
 
 pub returns : goal.returns
 returns c =
     let turn = c.loop-i in
     let notes = c.args.notes.now in
     let n = c.args.n in
-    let i = turn.i in
-    let inv = turn.invariant in
-    (sym (pairs_end notes n (omega arith) i (omega arith) (pairs_in turn.codes turn.pairs)) ∙ inv.3, (inv.1, inv.2))
+    let i = c.loop-i.i in
+    let inv = c.loop-i.invariant in record {
+      result_after = sym (pairs_end notes n (omega arith) i (omega arith) (pairs_in turn.codes turn.pairs)) ∙ inv.3;
+      upper_bound = (inv.1, inv.2);
+    }

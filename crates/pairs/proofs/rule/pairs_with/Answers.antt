@@ -22,11 +22,13 @@ returns-then-put-gt64 c =
     let turn = c.loop-i in
     let notes = c.args.notes.now in
     let n = c.args.n in
-    let i = turn.i in
-    let inv = turn.invariant in
+    let i = c.loop-i.i in
+    let inv = c.loop-i.invariant in
     let place = c.args.place in
-    let v = c.args.v in
-    (full_done (codes_with place v (drop i (notes_in notes n))) turn.codes turn.put.count c.if-put-gt64.true inv.2, (inv.1.few, inv.1.all_codes))
+    let v = c.args.v in record {
+      result_after = full_done (codes_with place v (drop i (notes_in notes n))) turn.codes turn.put.count c.if-put-gt64.true inv.2;
+      upper_bound = (inv.1.few, inv.1.all_codes);
+    }
 
 pub pair_code-requires : goal.pair_code-requires
 pair_code-requires c =
@@ -47,8 +49,8 @@ loop-i-preserved c =
     let is-named = c.is_named in
     let notes = c.args.notes.now in
     let n = c.args.n in
-    let i = turn.i in
-    let inv = turn.invariant in
+    let i = c.loop-i.i in
+    let inv = c.loop-i.invariant in
     let place = c.args.place in
     let v = c.args.v in
     let kept = pairs_in turn.codes turn.put.count in
@@ -58,7 +60,7 @@ loop-i-preserved c =
       omega arith,
       subst (λ x. x) (λ j. PutAt (sym w.5 j) (sym w.6 j)) w.4.ensures.1,
       ap (with_from place v notes n (i + 1))
-          ((λ j. pairs_in (w.5 j) (w.6 j).count) ∙ w.4.ensures.0 ∙ ap (λ (c : ℕ). keep c kept) (w.3.ensures ∙ ap (pair_code place) w.2.ensures))
+          ((λ j. pairs_in (w.5 j) (w.6 j).count) ∙ w.4.ensures.0 ∙ ap (λ ((goal.at.loop-i-preserved c).Joined-is_named : ℕ). keep (goal.at.loop-i-preserved c).Joined-is_named kept) (w.3.ensures ∙ ap (pair_code place) w.2.ensures))
           ∙ with_yes place v notes n (omega arith) i (omega arith) (test ∙ w.0.taken) kept
           ∙ inv.2,
     ))
@@ -76,8 +78,10 @@ returns c =
     let turn = c.loop-i in
     let notes = c.args.notes.now in
     let n = c.args.n in
-    let i = turn.i in
-    let inv = turn.invariant in
+    let i = c.loop-i.i in
+    let inv = c.loop-i.invariant in
     let place = c.args.place in
-    let v = c.args.v in
-    (sym (with_end place v notes n (omega arith) i (omega arith) (pairs_in turn.codes turn.put.count)) ∙ inv.2, (inv.1.few, inv.1.all_codes))
+    let v = c.args.v in record {
+      result_after = sym (with_end place v notes n (omega arith) i (omega arith) (pairs_in turn.codes turn.put.count)) ∙ inv.2;
+      upper_bound = (inv.1.few, inv.1.all_codes);
+    }

@@ -12,21 +12,21 @@ returns-then-s-at c =
 pub returns-in-34 : goal.returns-in-34
 returns-in-34 c =
     let s = c.args.s.now in
-    ends_whole _ s c.if-s-at.false c.wide-low.ensures c.wide-high.ensures c.in-34.keys1
+    ends_whole _ s c.if-s-at.false c.wide-low.ensures c.wide-high.ensures c.in-34.is
 
 pub returns-in-37 : goal.returns-in-37
 returns-in-37 c =
     let s = c.args.s.now in
-    ends_whole _ s c.if-s-at.false c.wide-low.ensures c.wide-high.ensures c.in-34.keys2
+    ends_whole _ s c.if-s-at.false c.wide-low.ensures c.wide-high.ensures c.in-37.is
 
 pub returns-in-38 : goal.returns-in-38
 returns-in-38 c =
     let s = c.args.s.now in
-    ends_whole _ s c.if-s-at.false c.wide-low.ensures c.wide-high.ensures c.in-34.keys3
+    ends_whole _ s c.if-s-at.false c.wide-low.ensures c.wide-high.ensures c.in-38.is
 
 pub returns-in_default : goal.returns-in_default
 returns-in_default c =
     let s = c.args.s.now in
     let same = refl {a = c.args.kind} in
-    ends_gauged _ c.in-34.rest.0.0.1 c.in-34.rest.0.1 c.in-34.rest.1
+    ends_gauged _ c.in_default.rest.0.0.1 c.in_default.rest.0.1 c.in_default.rest.1
     ∙ ends_whole _ s c.if-s-at.false c.wide-low.ensures c.wide-high.ensures same

@@ -13,34 +13,34 @@ returns-then-s-eq0 c =
 
 pub returns-then-s-lt2 : goal.returns-then-s-lt2
 returns-then-s-lt2 c =
-    simp (ne_eqb _ _ c.if-s-eq0.false, c.in-32.keys4, lt-leb _ _ c.if-s-lt2.true)
+    simp (ne_eqb _ _ c.if-s-eq0.false, c.in-36.is, lt-leb _ _ c.if-s-lt2.true)
 
 pub returns-in-32 : goal.returns-in-32
 returns-in-32 c =
-    simp (ne_eqb _ _ c.if-s-eq0.false, c.in-32.keys1)
+    simp (ne_eqb _ _ c.if-s-eq0.false, c.in-32.is)
 
 pub returns-in-33 : goal.returns-in-33
 returns-in-33 c =
     let s = c.args.s.now in
-    c.id_head.ensures ∙ id_told s c.if-s-eq0.false c.in-32.keys2
+    c.id_head.ensures ∙ id_told s c.if-s-eq0.false c.in-33.is
 
 pub returns-else-s-lt2 : goal.returns-else-s-lt2
 returns-else-s-lt2 c =
-    simp (ne_eqb _ _ c.if-s-eq0.false, c.in-32.keys4, le-leb _ _ c.if-s-lt2.false)
+    simp (ne_eqb _ _ c.if-s-eq0.false, c.in-36.is, le-leb _ _ c.if-s-lt2.false)
 
 pub returns-in-0-to-31 : goal.returns-in-0-to-31
 returns-in-0-to-31 c =
     let s = c.args.s.now in
-    none_told s c.if-s-eq0.false c.in-32.rest (λ low high. omega (arith, low, c.if-kind-lt32.true))
+    none_told s c.if-s-eq0.false c.in_default-1.rest (λ low high. omega (arith, low, c.if-kind-lt32.true))
 
 pub returns-in-0-to-31-2 : goal.returns-in-0-to-31-2
 returns-in-0-to-31-2 c =
     let s = c.args.s.now in
-    none_told s c.if-s-eq0.false c.in-32.rest (λ low high. omega (arith, high, c.if-kind-lt40.false))
+    none_told s c.if-s-eq0.false c.in_default-1.rest (λ low high. omega (arith, high, c.if-kind-lt40.false))
 
 pub returns-in-34 : goal.returns-in-34
 returns-in-34 c =
     let s = c.args.s.now in
     c.ends_head.ensures
     ∙ ends_told s c.if-s-eq0.false
-    (⊎_elim (λ w. inl w.keys3) (λ w. inr (w.0.rest, w.1.left, w.2.taken)) c.in-32.branch)
+    (⊎_elim (λ w. inl w.keys3) (λ w. inr (w.0.rest, w.1.left, w.2.taken)) c.in-34-1.branch)

@@ -23,7 +23,7 @@ loop-i-init c = (omega arith, refl)
 pub pairs_with-requires : goal.pairs_with-requires
 pairs_with-requires c =
     let a = c.args in
-    let codes = a.notes.now in
+    let codes = c.args.notes.now in
     let within : a.n ≤ length codes = omega (arith, c.requires) in
     let placed = notes_each codes a.n within Placed c.loop-i.i c.requires.2 c.loop-i-test.true in
     let pre = c.requires in
@@ -32,8 +32,8 @@ pairs_with-requires c =
 pub loop-i-preserved : goal.loop-i-preserved
 loop-i-preserved c =
     let a = c.args in
-    let codes = a.notes.now in
-    let cells = a.cells.now in
+    let codes = c.args.notes.now in
+    let cells = c.args.cells.now in
     let i = c.loop-i.i in
     let within : a.n ≤ length codes = omega (arith, c.requires) in
     let f = pair_test_cells cells in
@@ -57,13 +57,13 @@ loop-i-preserved c =
       omega arith,
       ap (λ o. ◌and◌ (outcome_of o) rest) w.2 ∙ sym (ap (◌and◌ gathered) turn) ∙ c.loop-i.invariant.1,
     ))
-    c.in-Of.branch
+    c.match-name.branch
 
 pub returns : goal.returns
 returns c =
     let a = c.args in
-    let codes = a.notes.now in
-    let cells = a.cells.now in
+    let codes = c.args.notes.now in
+    let cells = c.args.cells.now in
     let i = c.loop-i.i in
     let within : a.n ≤ length codes = omega (arith, c.requires) in
     let none = no_pairs codes a.n within i (pair_test_cells cells) c.loop-i-test.false in

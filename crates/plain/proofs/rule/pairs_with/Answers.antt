@@ -23,7 +23,7 @@ loop-j-init c = (c.requires.0, refl)
 pub pair_outcome-requires : goal.pair_outcome-requires
 pair_outcome-requires c =
     let a = c.args in
-    let codes = a.notes.now in
+    let codes = c.args.notes.now in
     let within : a.n ≤ length codes = omega (arith, c.requires) in
     let placed = notes_each codes a.n within Placed c.loop-j.j c.requires.4 c.loop-j-test.true in
     (c.requires.2, omega (arith, c.note_place.ensures, placed), c.requires.5)
@@ -31,8 +31,8 @@ pair_outcome-requires c =
 pub loop-j-preserved : goal.loop-j-preserved
 loop-j-preserved c =
     let a = c.args in
-    let codes = a.notes.now in
-    let cells = a.cells.now in
+    let codes = c.args.notes.now in
+    let cells = c.args.cells.now in
     let i = c.loop-j.j in
     let within : a.n ≤ length codes = omega (arith, c.requires) in
     let f = pair_test_cells cells in
@@ -59,7 +59,7 @@ loop-j-preserved c =
 pub returns : goal.returns
 returns c =
     let a = c.args in
-    let codes = a.notes.now in
+    let codes = c.args.notes.now in
     let i = c.loop-j.j in
     let within : a.n ≤ length codes = omega (arith, c.requires) in
     let f = pair_test_cells a.cells.now in

@@ -22,7 +22,7 @@ loop-i-init c = (omega arith, refl)
 pub record_outcome-one-requires : goal.record_outcome-one-requires
 record_outcome-one-requires c =
     let a = c.args in
-    let codes = a.notes.now in
+    let codes = c.args.notes.now in
     let within : a.n ≤ length codes = omega (arith, c.requires) in
     let placed = notes_each codes a.n within Placed c.loop-i.i c.requires.2 c.loop-i-test.true in (
       omega (arith, c.note_place.ensures, placed),
@@ -32,8 +32,8 @@ record_outcome-one-requires c =
 pub returns-in-Contradicted : goal.returns-in-Contradicted
 returns-in-Contradicted c =
     let a = c.args in
-    let codes = a.notes.now in
-    let cells = a.cells.now in
+    let codes = c.args.notes.now in
+    let cells = c.args.cells.now in
     let i = c.loop-i.i in
     let within : a.n ≤ length codes = omega (arith, c.requires) in
     let f = note_outcome cells a.ranges.low a.ranges.high in
@@ -43,13 +43,13 @@ returns-in-Contradicted c =
     let left = sym (ap (◌and◌ gathered) turn) ∙ c.loop-i.invariant.1 in
     let one = c.record_outcome-one.ensures
     ∙ (λ j. record_outcome cells a.ranges.low a.ranges.high (c.note_place.ensures j) (c.note_record.ensures j)) in
-    one ∙ gathered_stops gathered (f (note_of (get_or codes i 0))) rest left (sym one ∙ ap outcome_of c.enum_told-1.given.1)
+    one ∙ gathered_stops gathered (f (note_of (get_or codes i 0))) rest left (sym one ∙ ap outcome_of c.in-Contradicted.is)
 
 pub loop-i-preserved : goal.loop-i-preserved
 loop-i-preserved c =
     let a = c.args in
-    let codes = a.notes.now in
-    let cells = a.cells.now in
+    let codes = c.args.notes.now in
+    let cells = c.args.cells.now in
     let i = c.loop-i.i in
     let within : a.n ≤ length codes = omega (arith, c.requires) in
     let f = note_outcome cells a.ranges.low a.ranges.high in
@@ -67,7 +67,7 @@ loop-i-preserved c =
 pub returns : goal.returns
 returns c =
     let a = c.args in
-    let codes = a.notes.now in
+    let codes = c.args.notes.now in
     let within : a.n ≤ length codes = omega (arith, c.requires) in
     let f = note_outcome a.cells.now a.ranges.low a.ranges.high in
     let none = no_note codes a.n within c.loop-i.i f c.loop-i-test.false in

@@ -35,35 +35,35 @@ fixed_record cells low high p (Series l h) o = refl
 fixed_record cells low high p (Gauged g l h) o = refl
 
 pub bounds-ranges-u : goal.bounds-ranges-u
-bounds-ranges-u c = subst Fitting c.what-1.given.1 c.requires.1
+bounds-ranges-u c = subst Fitting c.in-Variable.is c.requires.1
 
 pub bounds-ranges-u-in-Variable : goal.bounds-ranges-u-in-Variable
 bounds-ranges-u-in-Variable c =
-    subst Fitting c.what-1.given.1 c.requires.1
+    subst Fitting c.in-Variable.is c.requires.1
 
 pub bounds-ranges-u-in-Ranged : goal.bounds-ranges-u-in-Ranged
-bounds-ranges-u-in-Ranged c = (subst Fitting c.what-in-Ranged-1.given.1 c.requires.1).0
+bounds-ranges-u-in-Ranged c = (subst Fitting c.in-Ranged.is c.requires.1).0
 
 pub bounds-ranges-u-in-Ranged-2 : goal.bounds-ranges-u-in-Ranged-2
 bounds-ranges-u-in-Ranged-2 c =
-    (subst Fitting c.what-in-Ranged-1.given.1 c.requires.1).0
+    (subst Fitting c.in-Ranged.is c.requires.1).0
 
 pub returns-in-Variable : goal.returns-in-Variable
 returns-in-Variable c =
     let a = c.args in
     c.range_outcome.ensures
-    ∙ ap (record_outcome a.cells.now a.t2.low a.t2.high a.place)
-    (sym c.what-1.given.1)
+    ∙ ap (record_outcome a.cells.now a.ranges.low a.ranges.high a.place)
+    (sym c.in-Variable.is)
 
 pub returns-in-Ranged : goal.returns-in-Ranged
 returns-in-Ranged c =
     let a = c.args in
     c.range_outcome-in-Ranged.ensures
-    ∙ ap (record_outcome a.cells.now a.t2.low a.t2.high a.place)
-    (sym c.what-in-Ranged-1.given.1)
+    ∙ ap (record_outcome a.cells.now a.ranges.low a.ranges.high a.place)
+    (sym c.in-Ranged.is)
 
 pub returns-in_default : goal.returns-in_default
 returns-in_default c =
     let a = c.args in
     c.fixed_outcome.ensures
-    ∙ fixed_record a.cells.now a.t2.low a.t2.high a.place a.what c.in-Variable.keys3
+    ∙ fixed_record a.cells.now a.ranges.low a.ranges.high a.place a.what c.in_default.keys3

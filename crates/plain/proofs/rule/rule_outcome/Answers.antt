@@ -12,17 +12,17 @@ pub returns-in-Contradicted : goal.returns-in-Contradicted
 unfolding notes_outcome
 returns-in-Contradicted c =
     let a = c.args in
-    let cells = a.cells.now in
+    let cells = c.args.cells.now in
     let notes = notes_in a.notes.now a.n in
     let places = c.places_outcome-places.ensures ∙ ap (λ (x : Ranges). places_outcome cells x.low x.high notes) c.ranges-2.ensures in
-    let told = ap outcome_of c.enum_told-1.given.1 in
+    let told = ap outcome_of c.in-Contradicted.is in
     told ∙ sym (ap (λ (x : Outcome). ◌and◌ x (pairs_outcome cells notes)) (sym places ∙ told))
 
 pub returns : goal.returns
 unfolding notes_outcome
 returns c =
     let a = c.args in
-    let cells = a.cells.now in
+    let cells = c.args.cells.now in
     let notes = notes_in a.notes.now a.n in
     let places = c.places_outcome-places.ensures ∙ ap (λ (x : Ranges). places_outcome cells x.low x.high notes) c.ranges-2.ensures in
     c.both.ensures ∙ (λ j. ◌and◌ (places j) (c.pairs_outcome.ensures j))

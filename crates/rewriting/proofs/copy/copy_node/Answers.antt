@@ -25,13 +25,13 @@ pub returns-in_default : goal.returns-in_default
 returns-in_default c =
     let a = c.args in
     let s = drop a.start a.s.now in
-    absurd (node_there s c.requires.2 (ap node_head (sym (rest a.s.now a.start)) ∙ sym c.node_head-head.ensures ∙ c.enum_told-1.given.1))
+    absurd (node_there s c.requires.2 (ap node_head (sym (rest a.s.now a.start)) ∙ sym c.node_head-head.ensures ∙ c.in_default.is))
 
 pub put_node-at-requires : goal.put_node-at-requires
 put_node-at-requires c =
     let a = c.args in
     let s = drop a.start a.s.now in
-    let told = ap node_head (sym (rest a.s.now a.start)) ∙ sym c.node_head-head.ensures ∙ c.head-1.given.1 in
+    let told = ap node_head (sym (rest a.s.now a.start)) ∙ sym c.node_head-head.ensures ∙ c.in-Whole.is in
     omega (arith, node_fits s told, length-drop a.start a.s.now, c.requires.0, c.requires.1)
 
 pub copy_cases-requires : goal.copy_cases-requires
@@ -39,14 +39,14 @@ copy_cases-requires c =
     let a = c.args in
     let s = drop a.start a.s.now in
     let g = c.node-1.given.0 in
-    let told : node_head s ≡ Whole (Switch g.0 g.1.0 g.1.1.0 g.1.1.1.0) = ap node_head (sym (rest a.s.now a.start)) ∙ sym c.node_head-head.ensures ∙ c.head-1.given.1 ∙ ap Whole c.node-1.given.1 in
+    let told : node_head s ≡ Whole (Switch c.in-Switch.field-0 c.in-Switch.count c.in-Switch.field-2 c.in-Switch.field-3) = ap node_head (sym (rest a.s.now a.start)) ∙ sym c.node_head-head.ensures ∙ c.in-Whole.is ∙ ap Whole c.in-Switch.is in
     let fits = node_fits s told in
-    let at : c.put_node-at.result ≡ a.start + switch_length = c.put_node-at.ensures.0 ∙ ap (λ r. a.start + length (node_record_bytes r)) c.node-1.given.1 in
+    let at : c.put_node-at.result ≡ a.start + switch_length = c.put_node-at.ensures.0 ∙ ap (λ r. a.start + length (node_record_bytes r)) c.in-Switch.is in
     let there = cases_there s told c.requires.2 in
     let behind : drop switch_length s ≡ drop c.put_node-at.result a.s.now = drop-drop switch_length a.start a.s.now ∙ ap (λ k. drop k a.s.now) (sym at) in (
       omega (arith, length-drop a.start a.s.now, c.requires.0),
       omega (arith, c.buf-1.given, c.requires.1),
-      subst (λ l. IsTook (read_cases g.1.0 l)) behind there,
+      subst (λ l. IsTook (read_cases c.in-Switch.count l)) behind there,
     )
 
 pub shape_of-buf-in-End : goal.shape_of-buf-in-End
@@ -56,8 +56,8 @@ pub returns-in-End : goal.returns-in-End
 returns-in-End c =
     let a = c.args in
     let s = drop a.start a.s.now in
-    let same = leaf_bytes_lem s c.enum_told-in-End-1.given.0.0 (ap node_head (sym (rest a.s.now a.start)) ∙ sym c.node_head-head.ensures ∙ c.head-1.given.1 ∙ ap Whole c.enum_told-in-End-1.given.1) in
-    let bytes = ap node_record_bytes c.enum_told-in-End-1.given.1 ∙ same in
+    let same = leaf_bytes_lem s c.in-End.field-0 (ap node_head (sym (rest a.s.now a.start)) ∙ sym c.node_head-head.ensures ∙ c.in-Whole.is ∙ ap Whole c.in-End.is) in
+    let bytes = ap node_record_bytes c.in-End.is ∙ same in
     (ap To (c.put_node-at.ensures.0 ∙ ap (λ l. a.start + length l) bytes), c.put_node-at.ensures.1 ∙ ap (splice a.buf.now a.start) bytes)
 
 pub shape_of-buf-in-Switch : goal.shape_of-buf-in-Switch
@@ -68,19 +68,19 @@ returns-in-Switch c =
     let a = c.args in
     let s = drop a.start a.s.now in
     let g = c.node-1.given.0 in
-    let told : node_head s ≡ Whole (Switch g.0 g.1.0 g.1.1.0 g.1.1.1.0) = ap node_head (sym (rest a.s.now a.start)) ∙ sym c.node_head-head.ensures ∙ c.head-1.given.1 ∙ ap Whole c.node-1.given.1 in
+    let told : node_head s ≡ Whole (Switch c.in-Switch.field-0 c.in-Switch.count c.in-Switch.field-2 c.in-Switch.field-3) = ap node_head (sym (rest a.s.now a.start)) ∙ sym c.node_head-head.ensures ∙ c.in-Whole.is ∙ ap Whole c.in-Switch.is in
     let fits = node_fits s told in
-    let at : c.put_node-at.result ≡ a.start + switch_length = c.put_node-at.ensures.0 ∙ ap (λ r. a.start + length (node_record_bytes r)) c.node-1.given.1 in
+    let at : c.put_node-at.result ≡ a.start + switch_length = c.put_node-at.ensures.0 ∙ ap (λ r. a.start + length (node_record_bytes r)) c.in-Switch.is in
     let there = cases_there s told c.requires.2 in
     let behind : drop switch_length s ≡ drop c.put_node-at.result a.s.now = drop-drop switch_length a.start a.s.now ∙ ap (λ k. drop k a.s.now) (sym at) in
     let h = bytes_drop a.start a.s.now (bytes_all a.s.now (λ i. omega (arith, c.shared_slice_known-1.given i))) in
-    let record-bytes = ap node_record_bytes c.node-1.given.1 in
-    let cases = ap (λ l. cases_bytes (read_or [] (read_cases g.1.0 l))) (sym behind) in
-    let both = both_written a.buf.now a.start (node_record_bytes (Switch g.0 g.1.0 g.1.1.0 g.1.1.1.0)) (cases_bytes (read_or [] (read_cases g.1.0 (drop switch_length s))))
+    let record-bytes = ap node_record_bytes c.in-Switch.is in
+    let cases = ap (λ l. cases_bytes (read_or [] (read_cases c.in-Switch.count l))) (sym behind) in
+    let both = both_written a.buf.now a.start (node_record_bytes (Switch c.in-Switch.field-0 c.in-Switch.count c.in-Switch.field-2 c.in-Switch.field-3)) (cases_bytes (read_or [] (read_cases c.in-Switch.count (drop switch_length s))))
     (omega (arith, fits, length-drop a.start a.s.now, c.requires.0, c.requires.1)) at
     (c.put_node-at.ensures.1 ∙ ap (splice a.buf.now a.start) record-bytes)
     refl
-    (c.copy_cases.ensures.1 ∙ ap (splice c.put_node-at.new.0 c.put_node-at.result) cases) (switch_bytes s told c.requires.2 h) in
+    (c.copy_cases.ensures.1 ∙ ap (splice c.put_node-at.new.buf c.put_node-at.result) cases) (switch_bytes s told c.requires.2 h) in
     (c.copy_cases.ensures.0 ∙ ap To (ap (λ l. c.put_node-at.result + length l) cases ∙ both.0), both.1)
 
 pub shape_of-buf-in-Pair : goal.shape_of-buf-in-Pair
@@ -90,6 +90,6 @@ pub returns-in-Pair : goal.returns-in-Pair
 returns-in-Pair c =
     let a = c.args in
     let s = drop a.start a.s.now in
-    let same = pair_bytes s (ap node_head (sym (rest a.s.now a.start)) ∙ sym c.node_head-head.ensures ∙ c.head-1.given.1 ∙ ap Whole c.enum_told-in-Pair-1.given.1) in
-    let bytes = ap node_record_bytes c.enum_told-in-Pair-1.given.1 ∙ same in
+    let same = pair_bytes s (ap node_head (sym (rest a.s.now a.start)) ∙ sym c.node_head-head.ensures ∙ c.in-Whole.is ∙ ap Whole c.in-Pair.is) in
+    let bytes = ap node_record_bytes c.in-Pair.is ∙ same in
     (ap To (c.put_node-at.ensures.0 ∙ ap (λ l. a.start + length l) bytes), c.put_node-at.ensures.1 ∙ ap (splice a.buf.now a.start) bytes)

@@ -21,27 +21,27 @@ loop-i-init c = let a = c.args in (refl, copied_starts read_record nodes_bytes a
 pub copy_node-node-requires : goal.copy_node-node-requires
 copy_node-node-requires c =
     let a = c.args in
-    let s = a.s.now in
+    let s = c.args.s.now in
     let loop = c.loop-i in
     let h = bytes_all s (λ i. omega (arith, c.shared_slice_known-1.given i)) in
-    let copied = loop.invariant.1 in
+    let copied = c.loop-i.invariant.1 in
     (copied.there, copied.fits, first_there node_bytes NodeFields read_record node_spelled nodes_bytes refl (λ n ns. refl) h copied c.loop-i-test.true)
 
 pub shape_of-buf-in_default : goal.shape_of-buf-in_default
 shape_of-buf-in_default c = c.buf-1.given ∙ c.loop-i.invariant.0
 
 pub returns-in_default : goal.returns-in_default
-returns-in_default c = absurd (not_refused_lem (sym c.copy_node-node.ensures.0 ∙ c.enum_told-1.given.1))
+returns-in_default c = absurd (not_refused_lem (sym c.copy_node-node.ensures.0 ∙ c.in_default.is))
 
 pub loop-i-preserved : goal.loop-i-preserved
 loop-i-preserved c =
     let a = c.args in
-    let s = a.s.now in
+    let s = c.args.s.now in
     let loop = c.loop-i in
     let h = bytes_all s (λ i. omega (arith, c.shared_slice_known-1.given i)) in
-    let copied = loop.invariant.1 in
+    let copied = c.loop-i.invariant.1 in
     let read = read_there (read_record (drop loop.at s)) (end fail_node) (first_there node_bytes NodeFields read_record node_spelled nodes_bytes refl (λ n ns. refl) h copied c.loop-i-test.true) in
-    (c.buf-1.given ∙ loop.invariant.0, Copied-next node_bytes NodeFields read_record node_spelled nodes_bytes refl (λ n ns. refl) h copied c.loop-i-test.true read (ap end_of (sym c.node-1.given.1 ∙ c.copy_node-node.ensures.0)) c.copy_node-node.ensures.1)
+    (c.buf-1.given ∙ loop.invariant.0, Copied-next node_bytes NodeFields read_record node_spelled nodes_bytes refl (λ n ns. refl) h copied c.loop-i-test.true read (ap end_of (sym c.in-To.is ∙ c.copy_node-node.ensures.0)) c.copy_node-node.ensures.1)
 
 pub shape_of-buf : goal.shape_of-buf
 shape_of-buf c = c.loop-i.invariant.0
@@ -49,9 +49,9 @@ shape_of-buf c = c.loop-i.invariant.0
 pub returns : goal.returns
 returns c =
     let a = c.args in
-    let s = a.s.now in
+    let s = c.args.s.now in
     let loop = c.loop-i in
     let h = bytes_all s (λ i. omega (arith, c.shared_slice_known-1.given i)) in
-    let copied = loop.invariant.1 in
+    let copied = c.loop-i.invariant.1 in
     let ends = copied_ends node_bytes NodeFields read_record node_spelled nodes_bytes refl (λ n ns. refl) h copied c.loop-i-test.false in
     (ap To ends.0, ends.1)

@@ -29,11 +29,11 @@ pub loop-j-preserved : goal.loop-j-preserved
 loop-j-preserved c =
     let turn = c.loop-j in
     let a = c.args in
-    let notes = a.notes.now in
+    let notes = c.args.notes.now in
     let kept = pairs_listed a.s.now in
     let count = place_tests_in a.s.now in
     let within : a.n ≤ length notes = omega (arith, c.requires) in
-    let j = turn.j in
+    let j = c.loop-j.j in
     let test = ap (names_variable a.v) (sym c.note_record.ensures) ∙ sym c.is_named.ensures in
     ⊎_elim
     (λ w.
@@ -56,7 +56,7 @@ pub returns : goal.returns
 returns c =
     let turn = c.loop-j in
     let a = c.args in
-    let notes = a.notes.now in
+    let notes = c.args.notes.now in
     let kept = pairs_listed a.s.now in
     let count = place_tests_in a.s.now in
     let within : a.n ≤ length notes = omega (arith, c.requires) in

@@ -36,12 +36,12 @@ pub loop-i-preserved : goal.loop-i-preserved
 loop-i-preserved c =
     let turn = c.loop-i in
     let a = c.args in
-    let notes = a.notes.now in
-    let numbers = a.numbers.now in
-    let low = a.ranges.low in
-    let high = a.ranges.high in
+    let notes = c.args.notes.now in
+    let numbers = c.args.numbers.now in
+    let low = c.args.ranges.low in
+    let high = c.args.ranges.high in
     let within : a.n ≤ length notes = omega (arith, c.requires) in
-    let i = turn.i in
+    let i = c.loop-i.i in
     let what = c.note_record.ensures in
     let want = c.record_wanted-wanted.ensures ∙ ap (λ (r : PatternRecord). wanted_codes (record_want low high r)) what in
     ⊎_elim
@@ -60,13 +60,13 @@ loop-i-preserved c =
           ∙ places_skip low high notes a.n within i numbers (omega arith) is turn.row
           ∙ turn.invariant.1,
     ))
-    c.in-Codes.branch
+    c.match-wanted.branch
 
 pub returns : goal.returns
 returns c =
     let turn = c.loop-i in
     let a = c.args in
-    let notes = a.notes.now in
+    let notes = c.args.notes.now in
     let within : a.n ≤ length notes = omega (arith, c.requires) in
     sym
     (places_end a.ranges.low a.ranges.high notes a.n within turn.i a.numbers.now (omega arith) turn.row)

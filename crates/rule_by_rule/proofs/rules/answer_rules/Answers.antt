@@ -36,7 +36,7 @@ tried-outcome-requires c =
 -- The answer moved by a rule, and those left.
 module _ (c : goal.After-moved-answer) where
   abbrev at_loop : goal.At-loop-i
-  at_loop = c
+  at_loop = c.«In-loop-i»
 
   abbrev start : goal.Start
   start = at_loop.before.before
@@ -73,7 +73,7 @@ module _ (c : goal.After-moved-answer) where
       let begins = (start.pre.4 turn.i (omega arith)).0 in
       let there =
       ap (read_rule a.arity) (rest s _) ∙ ap (λ (k : ℕ). read_rule a.arity (drop k s)) begins ∙ read in
-      let answer = c.moved-answer.ensures ∙ ap (answer_after before (turn.i + 1)) (c.tried-outcome.ensures.0 b rule there) in
+      let answer = c.moved-answer.ensures ∙ ap (answer_after before (turn.i + 1)) (c.tried-outcome.ensures.by_index b rule there) in
       let next = start_next a.arity s turn.i at refl read in
       (λ j. answer_from outcome a.arity a.count s (turn.i + 1) (sym next j) (answer j))
       ∙ turn_next outcome a.arity a.count s turn.i at before (omega arith) rule read
@@ -82,17 +82,17 @@ module _ (c : goal.After-moved-answer) where
 -- Two rules are open.
 pub returns-in-Suspend : goal.returns-in-Suspend
 returns-in-Suspend c =
-    let a = (start c).args in
-    let next = (at_loop c).loop.i + 1 in
-    let told = ap answer_of c.enum_told-1.given.1 in
-    let come = sym (ap (onward c) told) ∙ goes_on c in
+    let a = (start (goal.at.returns-in-Suspend c).After-moved-answer).args in
+    let next = (at_loop (goal.at.returns-in-Suspend c).After-moved-answer).loop.i + 1 in
+    let told = ap answer_of c.in-Suspend.is in
+    let come = sym (ap (onward (goal.at.returns-in-Suspend c).After-moved-answer) told) ∙ goes_on (goal.at.returns-in-Suspend c).After-moved-answer in
     ap answer_values told
     ∙ turns_suspend (cells_outcome a.cells.now) a.arity a.count a.s.now next (rule_start a.arity a.s.now next)
-    (answered c) (come ∙ all_answered c)
+    (answered (goal.at.returns-in-Suspend c).After-moved-answer) (come ∙ all_answered (goal.at.returns-in-Suspend c).After-moved-answer)
     ∙ come
 
 pub loop-i-preserved : goal.loop-i-preserved
-loop-i-preserved c = (omega arith, c.tried-outcome.ensures.1, goes_on c)
+loop-i-preserved c = (omega arith, c.tried-outcome.ensures.notes_len, goes_on (goal.at.loop-i-preserved c).After-moved-answer)
 
 pub returns : goal.returns
 returns c =

@@ -7,7 +7,7 @@ use borrow.Author.Rules.{rules}
 use Rattle.rule_by_rule.proofs.rules.moved.Goals as goal
 
 pub returns-in-Holds : goal.returns-in-Holds
-returns-in-Holds c = c.opened.ensures ∙ ap (λ o. answer_after (answer_of c.args.answer) c.args.rule (outcome_of o)) (sym c.enum_told-1.given.1)
+returns-in-Holds c = c.opened.ensures ∙ ap (λ o. answer_after (answer_of c.args.answer) c.args.rule (outcome_of o)) (sym c.in-Holds.is)
 
 pub returns-in-NotKnown : goal.returns-in-NotKnown
-returns-in-NotKnown c = c.opened-in-NotKnown.ensures ∙ ap (λ o. answer_after (answer_of c.args.answer) c.args.rule (outcome_of o)) (sym c.enum_told-in-NotKnown-1.given.1)
+returns-in-NotKnown c = c.opened-in-NotKnown.ensures ∙ ap (λ o. answer_after (answer_of c.args.answer) c.args.rule (outcome_of o)) (sym c.in-NotKnown.is)

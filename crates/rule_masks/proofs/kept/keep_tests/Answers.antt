@@ -14,7 +14,7 @@ list_places-count-requires c =
 
 pub put_tests-requires : goal.put_tests-requires
 put_tests-requires c =
-    let listed = c.list_places-count.ensures.1 in
+    let listed = c.list_places-count.ensures.value in
     let pre = c.requires in
     (omega (arith, listed.0, pre.0.few_tests), listed.1, pre.0.all_codes, pre.1)
 
@@ -22,4 +22,4 @@ pub returns : goal.returns
 returns c =
     let a = c.args in
     c.put_tests.ensures
-    ∙ ap (λ (l : List ℕ). tests_put l (take a.pairs a.codes.now) a.kept.now) c.list_places-count.ensures.0
+    ∙ ap (λ (l : List ℕ). tests_put l (take a.pairs a.codes.now) a.kept.now) c.list_places-count.ensures.places_after

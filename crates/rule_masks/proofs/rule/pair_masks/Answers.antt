@@ -29,11 +29,11 @@ pub loop-i-preserved : goal.loop-i-preserved
 loop-i-preserved c =
     let turn = c.loop-i in
     let a = c.args in
-    let notes = a.notes.now in
-    let cells = a.cells.now in
+    let notes = c.args.notes.now in
+    let cells = c.args.cells.now in
     let tests = listed_tests a.kept.now in
     let within : a.n ≤ length notes = omega (arith, c.requires) in
-    let i = turn.i in
+    let i = c.loop-i.i in
     let name = ap name_of (sym c.note_record.ensures) ∙ sym c.name_of-name.ensures in
     ⊎_elim
     (λ w.
@@ -51,7 +51,7 @@ loop-i-preserved c =
           ∙ pairs_nameless tests cells notes a.n within i (omega arith) (name ∙ w.1.given.1) turn.all
           ∙ turn.invariant.1,
     ))
-    c.in-Of.branch
+    c.match-name.branch
 
 pub returns : goal.returns
 returns c =

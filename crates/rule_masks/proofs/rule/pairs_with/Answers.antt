@@ -28,13 +28,13 @@ pub loop-j-preserved : goal.loop-j-preserved
 loop-j-preserved c =
     let turn = c.loop-j in
     let a = c.args in
-    let notes = a.notes.now in
-    let cells = a.cells.now in
+    let notes = c.args.notes.now in
+    let cells = c.args.cells.now in
     let tests = listed_tests a.kept.now in
-    let p = a.spot.place in
-    let v = a.spot.name in
+    let p = c.args.spot.place in
+    let v = c.args.spot.name in
     let within : a.n ≤ length notes = omega (arith, c.requires) in
-    let j = turn.j in
+    let j = c.loop-j.j in
     let test = ap (names_variable v) (sym c.note_record.ensures) ∙ sym c.is_named.ensures in
     ⊎_elim
     (λ w.
@@ -56,7 +56,7 @@ pub returns : goal.returns
 returns c =
     let turn = c.loop-j in
     let a = c.args in
-    let notes = a.notes.now in
+    let notes = c.args.notes.now in
     let within : a.n ≤ length notes = omega (arith, c.requires) in
     sym
     (with_end (listed_tests a.kept.now) a.cells.now notes a.n within turn.j a.spot.place a.spot.name

@@ -21,7 +21,7 @@ use borrow.Author.Rules.{rules}
 use Rattle.rule_masks.proofs.rule.place_masks.Goals as goal
 
 -- The place of the note at i.
-placed_at : (c : goal.In-loop-i) → code_place (get_or c.args.notes.now c.loop-i.i 0) < 680
+placed_at : (c : goal.In-loop-i) → code_place (get_or c.before.before.args.notes.now c.before.loop.i 0) < 680
 placed_at c =
     let a = c.args in
     let pre = c.requires in
@@ -37,11 +37,11 @@ record_wanted-wanted-requires c =
 
 pub place_outcome-outcome-requires : goal.place_outcome-outcome-requires
 place_outcome-outcome-requires c =
-    omega (arith, placed_at c, c.note_place-place.ensures)
+    omega (arith, placed_at (goal.at.place_outcome-outcome-requires c).After-way_told-1, c.note_place-place.ensures)
 
 pub overflow_mul-place : goal.overflow_mul-place
 overflow_mul-place c =
-    omega (arith, placed_at c, c.note_place-place.ensures)
+    omega (arith, placed_at (goal.at.overflow_mul-place c).After-way_told-1, c.note_place-place.ensures)
 
 pub with_outcome-masks-requires : goal.with_outcome-masks-requires
 with_outcome-masks-requires c = c.requires.3
@@ -50,13 +50,13 @@ pub loop-i-preserved : goal.loop-i-preserved
 loop-i-preserved c =
     let turn = c.loop-i in
     let a = c.args in
-    let notes = a.notes.now in
-    let cells = a.cells.now in
+    let notes = c.args.notes.now in
+    let cells = c.args.cells.now in
     let tests = listed_tests a.kept.now in
-    let low = a.ranges.low in
-    let high = a.ranges.high in
+    let low = c.args.ranges.low in
+    let high = c.args.ranges.high in
     let within : a.n ≤ length notes = omega (arith, c.requires) in
-    let i = turn.i in
+    let i = c.loop-i.i in
     let what = c.note_record.ensures in
     let want = c.record_wanted-wanted.ensures ∙ ap (λ (r : PatternRecord). wanted_codes (record_want low high r)) what in
     ⊎_elim
@@ -79,13 +79,13 @@ loop-i-preserved c =
           ∙ places_skip tests cells low high notes a.n within i (omega arith) is turn.masks
           ∙ turn.invariant.1,
     ))
-    c.in-Codes.branch
+    c.match-wanted.branch
 
 pub returns : goal.returns
 returns c =
     let turn = c.loop-i in
     let a = c.args in
-    let notes = a.notes.now in
+    let notes = c.args.notes.now in
     let within : a.n ≤ length notes = omega (arith, c.requires) in
     sym
     (places_end (listed_tests a.kept.now) a.cells.now a.ranges.low a.ranges.high notes a.n within turn.i

@@ -13,22 +13,22 @@ pub returns-in-Holds : goal.returns-in-Holds
 returns-in-Holds c =
     let a = c.args in
     ap (λ (o : Outcome). with_made (listed_tests a.kept.now) a.masks (made a.code o))
-    (sym (ap outcome_of c.enum_told-1.given.1))
+    (sym (ap outcome_of c.in-Holds.is))
 
 pub returns-in-NotKnown : goal.returns-in-NotKnown
 returns-in-NotKnown c =
     let a = c.args in
-    let m = a.masks in
+    let m = c.args.masks in
     let put = c.with_test.ensures ∙ ap (with_if true m.unknown) c.test_number.ensures in
     (λ i. record { unknown = put i; contradicted = m.contradicted })
     ∙ ap (λ (o : Outcome). with_made (listed_tests a.kept.now) m (made a.code o))
-    (sym (ap outcome_of c.enum_told-in-NotKnown-1.given.1))
+    (sym (ap outcome_of c.in-NotKnown.is))
 
 pub returns-in-Contradicted : goal.returns-in-Contradicted
 returns-in-Contradicted c =
     let a = c.args in
-    let m = a.masks in
+    let m = c.args.masks in
     let put = c.with_test-in-Contradicted.ensures ∙ ap (with_if true m.contradicted) c.test_number-in-Contradicted.ensures in
     (λ i. record { unknown = m.unknown; contradicted = put i })
     ∙ ap (λ (o : Outcome). with_made (listed_tests a.kept.now) m (made a.code o))
-    (sym (ap outcome_of c.enum_told-in-Contradicted-1.given.1))
+    (sym (ap outcome_of c.in-Contradicted.is))

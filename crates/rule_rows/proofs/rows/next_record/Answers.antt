@@ -7,18 +7,22 @@ use borrow.Author.Rules.{rules}
 use Rattle.rule_rows.proofs.rows.next_record.Goals as goal
 
 pub returns-then-fewer-eq0 : goal.returns-then-fewer-eq0
-returns-then-fewer-eq0 c =
-    (ends_last c.args.s.now c.args.row (sym c.fewer.ensures ∙ c.if-fewer-eq0.true), tt)
+returns-then-fewer-eq0 c = record {
+      row_value = ends_last c.args.s.now c.args.row (sym c.fewer.ensures ∙ c.if-fewer-eq0.true);
+      goes_on = tt;
+    }
 
 pub returns-in_default : goal.returns-in_default
-returns-in_default c =
-    (ends_cut c.args.s.now c.args.row c.pattern_head-head.ensures c.enum_told-1.given.1, tt)
+returns-in_default c = record {
+      row_value = ends_cut c.args.s.now c.args.row c.pattern_head-head.ensures c.in_default.is;
+      goes_on = tt;
+    }
 
 pub overflow_add-result : goal.overflow_add-result
 overflow_add-result c =
     omega (
       arith,
-      record_there c.args.s.now c.args.row c.pattern_head-head.ensures c.head-1.given.1
+      record_there c.args.s.now c.args.row c.pattern_head-head.ensures c.in-Whole.is
           c.record_length.ensures c.requires,
     )
 
@@ -35,9 +39,11 @@ returns c =
     let s = c.args.s.now in
     let row = c.args.row in
     let is = c.pattern_head-head.ensures in
-    let e = c.head-1.given.1 in
+    let e = c.in-Whole.is in
     let size = c.record_length.ensures in
     let more = c.arguments.ensures.0 in
     let most : 1 ≤ row.most = omega (arith, c.if-fewer-eq0.false, c.fewer.ensures) in
-    let patterns : 1 ≤ row.patterns = omega (arith, c.if-fewer-eq0.false, c.fewer.ensures) in
-    (goes_next s row is e size more most patterns, goes_on s row is e size more most patterns c.requires c.arguments.ensures.1)
+    let patterns : 1 ≤ row.patterns = omega (arith, c.if-fewer-eq0.false, c.fewer.ensures) in record {
+      row_value = goes_next s row is e size more most patterns;
+      goes_on = goes_on s row is e size more most patterns c.requires c.arguments.ensures.1;
+    }

@@ -6,10 +6,14 @@ use Rattle.rule_rows.proofs.words.meet_record.Goals as goal
 
 pub returns-in-Variable : goal.returns-in-Variable
 returns-in-Variable c =
-    let words = c.args.words.now in
-    (c.meet_variable.ensures.0 ∙ ap (met_record words) (sym c.what-1.given.1), c.meet_variable.ensures.1)
+    let words = c.args.words.now in record {
+      words_after = c.meet_variable.ensures.words_after ∙ ap (met_record words) (sym c.in-Variable.is);
+      words_len = c.meet_variable.ensures.words_len;
+    }
 
 pub returns-in-Ranged : goal.returns-in-Ranged
 returns-in-Ranged c =
-    let words = c.args.words.now in
-    (c.meet_variable-in-Ranged.ensures.0 ∙ ap (met_record words) (sym c.what-in-Ranged-1.given.1), c.meet_variable-in-Ranged.ensures.1)
+    let words = c.args.words.now in record {
+      words_after = c.meet_variable-in-Ranged.ensures.words_after ∙ ap (met_record words) (sym c.in-Ranged.is);
+      words_len = c.meet_variable-in-Ranged.ensures.words_len;
+    }

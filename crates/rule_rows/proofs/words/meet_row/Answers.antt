@@ -22,8 +22,10 @@ returns-in_default c =
     let row = c.loop-what.row in
     let words = c.loop-what.words in
     let inv = c.loop-what.invariant in
-    let read = c.next_record-next.ensures in
-    (sym (ap (met_records words) (ends s row read.0 c.enum_told-1.given.1)) ∙ inv.2, inv.1)
+    let read = c.next_record-next.ensures in record {
+      words_after = sym (ap (met_records words) (ends s row read.row_value c.in_default.is)) ∙ inv.2;
+      words_len = inv.1;
+    }
 
 pub meet_record-requires : goal.meet_record-requires
 meet_record-requires c = c.loop-what.invariant.1
@@ -35,7 +37,7 @@ loop-what-smaller c =
     let words = c.loop-what.words in
     let inv = c.loop-what.invariant in
     let read = c.next_record-next.ensures in
-    omega (arith, (behind_it s row read.0 read.1 c.next-1.given.1).1)
+    omega (arith, (behind_it s row read.row_value read.goes_on c.in-Record.is).1)
 
 pub loop-what-preserved : goal.loop-what-preserved
 loop-what-preserved c =
@@ -44,6 +46,6 @@ loop-what-preserved c =
     let words = c.loop-what.words in
     let inv = c.loop-what.invariant in
     let read = c.next_record-next.ensures in
-    let more = c.next-1.given.0.1.0 in
+    let more = c.in-Record.more in
     let met = c.meet_record.ensures in
-    ((behind_it s row read.0 read.1 c.next-1.given.1).0, met.1, ap (λ (l : List ℕ). met_records l (records_from s more)) met.0 ∙ sym (ap (met_records words) (goes s row read.0 c.next-1.given.1)) ∙ inv.2)
+    ((behind_it s row read.row_value read.goes_on c.in-Record.is).0, met.words_len, ap (λ (l : List ℕ). met_records l (records_from s more)) met.words_after ∙ sym (ap (met_records words) (goes s row read.row_value c.in-Record.is)) ∙ inv.2)

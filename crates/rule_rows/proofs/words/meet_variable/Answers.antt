@@ -7,5 +7,7 @@ use Rattle.rule_rows.proofs.words.meet_variable.Goals as goal
 
 pub returns : goal.returns
 returns c =
-    let words = c.args.words.now in
-    (ap (set words (c.args.v % 16)) c.met.ensures, length-set words (c.args.v % 16) _ ∙ c.requires)
+    let words = c.args.words.now in record {
+      words_after = ap (set words (c.args.v % 16)) c.met.ensures;
+      words_len = length-set words (c.args.v % 16) _ ∙ c.requires;
+    }

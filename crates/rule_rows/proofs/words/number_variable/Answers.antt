@@ -12,13 +12,17 @@ returns-then-word-ne2 c =
     let words = c.args.words.now in
     let v = c.args.v in
     let w = get_or words (v % 16) 0 in
-    let count = c.args.count in
-    (number_none v w words count c.if-word-ne2.true, (c.requires.0, omega arith))
+    let count = c.args.count in record {
+      result_value = number_none v w words count c.if-word-ne2.true;
+      words_len = (c.requires.0, omega arith);
+    }
 
 pub returns : goal.returns
 returns c =
     let words = c.args.words.now in
     let v = c.args.v in
     let w = get_or words (v % 16) 0 in
-    let count = c.args.count in
-    (number_given v w words count c.if-word-ne2.false, (length-set words (v % 16) _ ∙ c.requires.0, omega arith))
+    let count = c.args.count in record {
+      result_value = number_given v w words count c.if-word-ne2.false;
+      words_len = (length-set words (v % 16) _ ∙ c.requires.0, omega arith);
+    }

@@ -30,7 +30,7 @@ returns-then-arity-lt1 c =
     (λ w.
     let many : 8 < arity = ltb-true _ _ w.1.taken in
     simp (whole, kind, le-leb _ _ w.0.left, lt-leb _ _ many))
-    c.if-arity-lt1.branch
+    c.then-arity-lt1.branch
 
 pub returns-then-rules-gt-MOST_RULES : goal.returns-then-rules-gt-MOST_RULES
 returns-then-rules-gt-MOST_RULES c =

@@ -7,12 +7,12 @@ use Rattle.sheet.proofs.rule.after.Goals as goal
 
 pub returns-in_default : goal.returns-in_default
 returns-in_default c =
-    c.enum_told-1.given.1 ∙ sym (ap (used_after c.args.bytes) c.enum_told-1.given.1)
+    c.in_default.is ∙ sym (ap (used_after c.args.bytes) c.in_default.is)
 
 pub overflow_add-result : goal.overflow_add-result
 overflow_add-result c =
-    omega (arith, ap bytes_used c.rest-1.given.1)
+    omega (arith, ap bytes_used c.in-Used.is)
 
 pub returns : goal.returns
 returns c =
-    sym (ap (used_after c.args.bytes) c.rest-1.given.1)
+    sym (ap (used_after c.args.bytes) c.in-Used.is)

@@ -6,5 +6,7 @@ use borrow.Author.Rules.{rules}
 use Rattle.sheet.proofs.rule.noted.Goals as goal
 
 pub returns : goal.returns
-returns c =
-    (ap (took c.args.bytes) c.put.ensures.0, omega arith)
+returns c = record {
+      result_after = ap (took c.args.bytes) c.put.ensures.n_after;
+      took_within = omega arith;
+    }

@@ -13,33 +13,33 @@ pub returns-in_default : goal.returns-in_default
 returns-in_default c =
     let a = c.args in
     let codes = c.patterns-read.new.1.1.1.1.1.0 in
-    let read = from_none a.arity a.s.now a.notes.now c.patterns-read.ensures.0 in
-    let stop = c.enum_told-1.given.1 in (
-      was_refused (notes_in codes) stop read (patterns_no a.arity a.s.now),
-      omega (arith, c.patterns-read.ensures.1, ap bytes_used stop, ap notes_made stop),
-    )
+    let read = from_none a.arity a.s.now a.notes.now c.patterns-read.ensures.result_after in
+    let stop = c.in_default.is in record {
+      result_after = was_refused (notes_in codes) stop read (patterns_no a.arity a.s.now);
+      took_within = omega (arith, c.patterns-read.ensures.took_within, ap bytes_used stop, ap notes_made stop);
+    }
 
 pub common-requires : goal.common-requires
 common-requires c =
-    omega (arith, c.patterns-read.ensures.1, ap notes_made c.read-1.given.1)
+    omega (arith, c.patterns.ensures.1, ap notes_made c.read.given.1)
 
 pub returns-then-not-common : goal.returns-then-not-common
 returns-then-not-common c =
     let a = c.args in
-    let codes = c.patterns-read.new.1.1.1.1.1.0 in
-    let read = from_none a.arity a.s.now a.notes.now c.patterns-read.ensures.0 in (
-      ranges_no a.arity a.s.now (was_used (notes_in codes) c.read-1.given.1 read)
-          (sym c.common.ensures ∙ not-true _ c.if-not-common.true),
-      omega (arith, c.patterns-read.ensures.1),
-    )
+    let codes = c.patterns.new.1.1.1.1.1.0 in
+    let read = from_none a.arity a.s.now a.notes.now c.patterns.ensures.0 in record {
+      result_after = ranges_no a.arity a.s.now (was_used (notes_in codes) c.read.given.1 read)
+          (sym c.common.ensures ∙ not-true _ c.if-not-common.true);
+      took_within = omega (arith, c.patterns.ensures.1);
+    }
 
 pub returns : goal.returns
 returns c =
     let a = c.args in
-    let codes = c.patterns-read.new.1.1.1.1.1.0 in
-    let read = from_none a.arity a.s.now a.notes.now c.patterns-read.ensures.0 in
-    let end = c.read-1.given.1 in (
-      ranges_yes a.arity a.s.now (was_used (notes_in codes) end read)
-          (sym c.common.ensures ∙ not-false _ c.if-not-common.false),
-      omega (arith, c.patterns-read.ensures.1, ap bytes_used end, ap notes_made end, rest_length a.s.now 0),
-    )
+    let codes = c.patterns.new.1.1.1.1.1.0 in
+    let read = from_none a.arity a.s.now a.notes.now c.patterns.ensures.0 in
+    let end = c.read.given.1 in record {
+      result_after = ranges_yes a.arity a.s.now (was_used (notes_in codes) end read)
+          (sym c.common.ensures ∙ not-false _ c.if-not-common.false);
+      took_within = omega (arith, c.patterns.ensures.1, ap bytes_used end, ap notes_made end, rest_length a.s.now 0);
+    }

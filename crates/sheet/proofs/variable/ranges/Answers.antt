@@ -18,24 +18,24 @@ loop-i-init c =
 
 pub bounds-low-u : goal.bounds-low-u
 bounds-low-u c =
-    (ranged_fits _ (sym c.note_record-what.ensures ∙ c.what-1.given.1)).0
+    (ranged_fits _ (sym c.note_record-what.ensures ∙ c.in-Ranged.is)).0
 
 pub bounds-low-u-in-Ranged : goal.bounds-low-u-in-Ranged
 bounds-low-u-in-Ranged c =
-    (ranged_fits _ (sym c.note_record-what.ensures ∙ c.what-1.given.1)).0
+    (ranged_fits _ (sym c.note_record-what.ensures ∙ c.in-Ranged.is)).0
 
 pub bounds-high-u : goal.bounds-high-u
 bounds-high-u c =
-    (ranged_fits _ (sym c.note_record-what.ensures ∙ c.what-1.given.1)).0
+    (ranged_fits _ (sym c.note_record-what.ensures ∙ c.in-Ranged.is)).0
 
 pub bounds-high-u-in-Ranged : goal.bounds-high-u-in-Ranged
 bounds-high-u-in-Ranged c =
-    (ranged_fits _ (sym c.note_record-what.ensures ∙ c.what-1.given.1)).0
+    (ranged_fits _ (sym c.note_record-what.ensures ∙ c.in-Ranged.is)).0
 
 pub loop-i-preserved : goal.loop-i-preserved
 loop-i-preserved c =
     let a = c.args in
-    let codes = a.notes.now in
+    let codes = c.args.notes.now in
     let i = c.loop-i.i in
     let inside : i < length codes = omega (arith, c.requires) in
     ⊎_elim
@@ -56,7 +56,7 @@ loop-i-preserved c =
       w.1 ∙ c.loop-i.invariant.1 ∙ ranges_kept codes i inside what none low_end,
       w.2 ∙ c.loop-i.invariant.2 ∙ ranges_kept codes i inside what none high_end,
     ))
-    c.in-Ranged.branch
+    c.match-what.branch
 
 pub returns : goal.returns
 returns c =

@@ -6,8 +6,8 @@ use Rattle.sheet_tests.proofs.rule.is_tested.Goals as goal
 
 pub returns-in-Variable : goal.returns-in-Variable
 returns-in-Variable c =
-    c.has_range.ensures ∙ ap (is_tested (has_range c.args.high.now)) (sym c.what-1.given.1)
+    c.has_range.ensures ∙ ap (is_tested (has_range c.args.high.now)) (sym c.in-Variable.is)
 
 pub returns-in-Ranged : goal.returns-in-Ranged
 returns-in-Ranged c =
-    c.has_range-in-Ranged.ensures ∙ ap (is_tested (has_range c.args.high.now)) (sym c.what-in-Ranged-1.given.1)
+    c.has_range-in-Ranged.ensures ∙ ap (is_tested (has_range c.args.high.now)) (sym c.in-Ranged.is)

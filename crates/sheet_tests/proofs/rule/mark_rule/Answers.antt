@@ -36,10 +36,10 @@ loop-i-preserved c =
     let is-tested = c.is_tested in
     let notes = c.args.notes.now in
     let n = c.args.n in
-    let i = turn.i in
-    let inv = turn.invariant in
+    let i = c.loop-i.i in
+    let inv = c.loop-i.invariant in
     let ranged = has_range c.args.high.now in
-    let words = turn.words in
+    let words = c.loop-i.words in
     let test = ap (is_tested ranged) (sym note-record.ensures) ∙ sym is-tested.ensures in
     ⊎_elim
     (λ w. (
@@ -64,7 +64,9 @@ returns c =
     let turn = c.loop-i in
     let notes = c.args.notes.now in
     let n = c.args.n in
-    let i = turn.i in
-    let inv = turn.invariant in
-    let ranged = has_range c.args.high.now in
-    (sym (places_end ranged notes n (omega arith) i (omega arith) (places_in turn.words)) ∙ inv.2, inv.1)
+    let i = c.loop-i.i in
+    let inv = c.loop-i.invariant in
+    let ranged = has_range c.args.high.now in record {
+      words_after = sym (places_end ranged notes n (omega arith) i (omega arith) (places_in turn.words)) ∙ inv.2;
+      words_len = inv.1;
+    }

@@ -7,4 +7,4 @@ pub check_noted-requires : goal.check_noted-requires
 check_noted-requires c = (length-replicate {A = ℕ} 680 0, length-replicate {A = ℕ} 64 0)
 
 pub returns : goal.returns
-returns c = c.check_noted.ensures.0
+returns c = c.check_noted.ensures.result_value

@@ -17,10 +17,10 @@ pub returns-then-n-eq0 : goal.returns-then-n-eq0
 returns-then-n-eq0 c =
     let codes = c.args.notes.now in
     let before = held c.args.words.now c.args.codes.now c.args.count in
-    let none = ap (notes_in codes) c.if-n-eq0.true ∙ notes_none codes in (
-      sym (ap (λ (ns : List Note). gather_notes ns before) none),
-      (c.requires.3, c.requires.4, c.requires.5),
-    )
+    let none = ap (notes_in codes) c.if-n-eq0.true ∙ notes_none codes in record {
+      result_after = sym (ap (λ (ns : List Note). gather_notes ns before) none);
+      words_len = (c.requires.3, c.requires.4, c.requires.5);
+    }
 
 pub pair_rule-requires : goal.pair_rule-requires
 pair_rule-requires c =
@@ -33,6 +33,8 @@ returns c =
     let notes = notes_in c.args.notes.now c.args.n in
     let places = places_in c.args.words.now in
     let marked =
-    mark-rule.ensures.0 ∙ ap (λ (r : Ranges). insert_all (tested_places (has_range r.high) notes) places) ranges.ensures in
-    let paired = c.pair_rule.ensures in
-    ((λ j. record { places = marked j; pairs = paired.0 j }), (mark-rule.ensures.1, paired.1.0, paired.1.1))
+    mark-rule.ensures.words_after ∙ ap (λ (r : Ranges). insert_all (tested_places (has_range r.high) notes) places) ranges.ensures in
+    let paired = c.pair_rule.ensures in record {
+      result_after = (λ j. record { places = marked j; pairs = paired.result_after j });
+      words_len = (mark-rule.ensures.words_len, paired.upper_bound.0, paired.upper_bound.1);
+    }

@@ -9,4 +9,7 @@ tests_noted-requires c =
     (pre.0, pre.1, length-replicate {A = ℕ} 680 0, length-replicate {A = ℕ} 64 0)
 
 pub returns : goal.returns
-returns c = (c.tests_noted.ensures.0, c.tests_noted.ensures.1.0)
+returns c = record {
+      result_after = c.tests_noted.ensures.result_after;
+      held = c.tests_noted.ensures.held.0;
+    }

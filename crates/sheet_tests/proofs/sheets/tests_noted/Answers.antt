@@ -17,51 +17,55 @@ use Rattle.sheet_tests.proofs.sheets.tests_noted.Goals as goal
 pub slice_bounds-read_rules-count : goal.slice_bounds-read_rules-count
 slice_bounds-read_rules-count c =
     let read-header = c.read_header-header in
-    omega (arith, header_known c.args.s.now (sym (ap header_read c.header-1.given.1) ∙ read-header.ensures))
+    omega (arith, header_known c.args.s.now (sym (ap header_read c.in-Of.is) ∙ read-header.ensures))
 
 pub slice_bounds-read_rules-start : goal.slice_bounds-read_rules-start
 slice_bounds-read_rules-start c =
     let read-header = c.read_header-header in
-    omega (arith, header_known c.args.s.now (sym (ap header_read c.header-1.given.1) ∙ read-header.ensures))
+    omega (arith, header_known c.args.s.now (sym (ap header_read c.in-Of.is) ∙ read-header.ensures))
 
 pub read_rules-requires : goal.read_rules-requires
 read_rules-requires c =
     let read-header = c.read_header-header in
-    let header = sym (ap header_read c.header-1.given.1) ∙ read-header.ensures in
+    let header = sym (ap header_read c.in-Of.is) ∙ read-header.ensures in
     let known = header_known c.args.s.now header in
     (known.1, c.requires.0, c.requires.1, known.2, c.requires.2, c.requires.3)
 
 pub returns-in_default : goal.returns-in_default
 returns-in_default c =
     let read-header = c.read_header-header in
-    let told = c.enum_told-1.given.1 in
+    let told = c.in_default.is in
     let words = c.args.words.now in
-    let codes = c.args.codes.now in (
+    let codes = c.args.codes.now in
+    let both = (
       ap (λ (q : ℕ). tests_found words codes (Refused q)) (c.header_refusal.ensures ∙ ap header_refusal told)
           ∙ header_refused c.args.s.now words codes (sym (ap header_read told) ∙ read-header.ensures),
       (
         record { all_words = zeros 11 c.requires.0; all_codes = zeros 65 c.requires.1; counted = tt },
         (tt, c.requires.2),
       ),
-    )
+    ) in
+    record { result_after = both.0; held = both.1; tests_starts = both.2 }
 
 pub returns : goal.returns
 returns c =
     let known = c.header-1 in
     let read-header = c.read_header-header in
     let s = c.args.s.now in
-    let header = sym (ap header_read known.given.1) ∙ read-header.ensures in
-    let arity = known.given.0.0 in
-    let rules = known.given.0.1.0 in (
-      c.read_rules.ensures.0
+    let header = sym (ap header_read c.in-Of.is) ∙ read-header.ensures in
+    let arity = c.in-Of.arity in
+    let rules = c.in-Of.rules in
+    let both = (
+      c.read_rules.ensures.result_after
           ∙ (λ j. sheet_found (ask_tests (end_sheet arity (rest_length s 3 j) (read_rules arity rules (rest s 3 j)))))
           ∙ sym (ap sheet_found (header_read_lem s header)),
       (
-        c.read_rules.ensures.1.0,
+        c.read_rules.ensures.held.0,
         (
           subst (λ (l : List ℕ). tests_starts l c.read_rules.new.1.1.1.1.1.1.0 c.read_rules.result) (rest s 3)
-              c.read_rules.ensures.1.1.0,
-          c.read_rules.ensures.1.1.1,
+              c.read_rules.ensures.held.1.0,
+          c.read_rules.ensures.held.1.1,
         ),
       ),
-    )
+    ) in
+    record { result_after = both.0; held = both.1; tests_starts = both.2 }

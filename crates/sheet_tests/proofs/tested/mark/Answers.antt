@@ -7,8 +7,7 @@ use borrow.Author.Rules.{rules}
 use Rattle.sheet_tests.proofs.tested.mark.Goals as goal
 
 pub returns : goal.returns
-returns c =
-    (
-      ap places_in c.mark.ensures.0 ∙ mark_is c.args.words.now c.args.place _ (omega arith) refl,
-      c.mark.ensures.1,
-    )
+returns c = record {
+      words_after = ap places_in c.mark.ensures.words_after ∙ mark_is c.args.words.now c.args.place _ (omega arith) refl;
+      words_len = c.mark.ensures.words_len;
+    }

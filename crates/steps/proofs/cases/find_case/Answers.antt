@@ -11,7 +11,7 @@ pub returns-in-To : goal.returns-in-To
 returns-in-To c =
     let a = c.args in
     let right = SoughtRight a.graph.now a.start a.count a.low a.high a.neither in
-    let told = sym c.sought-1.given.1 in
+    let told = sym c.in-To.is in
     ⊎_elim
     (λ w. let never = told ∙ w.1 in clash (cc))
     (λ w. ap To (sym (subst right (sym told) (subst right (sym w.2) w.1.ensures))))

@@ -26,41 +26,41 @@ slice_bounds-case_head-start c = c.loop-i.invariant.there
 pub returns-in_default : goal.returns-in_default
 returns-in_default c =
     let a = c.args in
-    let s = a.graph.now in
+    let s = c.args.graph.now in
     absurd
     (passed_whole s a.neither a.low a.high c.loop-i.invariant c.requires.ordered.ascend
     c.loop-i-test.true
-    (ap case_head (sym (rest s c.loop-i.at)) ∙ sym c.case_head-head.ensures ∙ c.enum_told-1.given.1))
+    (ap case_head (sym (rest s c.loop-i.at)) ∙ sym c.case_head-head.ensures ∙ c.in_default.is))
 
 pub returns-then-low-range : goal.returns-then-low-range
 returns-then-low-range c =
     let a = c.args in
-    let s = a.graph.now in
-    let whole = ap case_head (sym (rest s c.loop-i.at)) ∙ sym c.case_head-head.ensures ∙ c.head-1.given.1 in
+    let s = c.args.graph.now in
+    let whole = ap case_head (sym (rest s c.loop-i.at)) ∙ sym c.case_head-head.ensures ∙ c.in-Whole.is in
     ap To
     (passed_above s a.neither a.low a.high c.loop-i.invariant c.requires.ordered.ascend
     c.loop-i-test.true
-    c.head-1.given.0.0 whole c.case_range-range.ensures c.if-low-range.true)
+    c.in-Whole.c whole c.case_range-range.ensures c.if-low-range.true)
 
 pub overflow_add-at : goal.overflow_add-at
 overflow_add-at c =
     let a = c.args in
-    let s = a.graph.now in
-    let whole = ap case_head (sym (rest s c.loop-i.at)) ∙ sym c.case_head-head.ensures ∙ c.head-1.given.1 in
+    let s = c.args.graph.now in
+    let whole = ap case_head (sym (rest s c.loop-i.at)) ∙ sym c.case_head-head.ensures ∙ c.in-Whole.is in
     omega (
       arith,
       passed_inside s a.neither a.low a.high c.loop-i.invariant c.requires.ordered.ascend
           c.loop-i-test.true
-          c.head-1.given.0.0 whole c.case_range-range.ensures,
+          c.in-Whole.c whole c.case_range-range.ensures,
     )
 
 pub loop-i-preserved : goal.loop-i-preserved
 loop-i-preserved c =
     let a = c.args in
-    let s = a.graph.now in
+    let s = c.args.graph.now in
     let next = c.loop-i-test.true in
-    let first = c.head-1.given.0.0 in
-    let whole = ap case_head (sym (rest s c.loop-i.at)) ∙ sym c.case_head-head.ensures ∙ c.head-1.given.1 in
+    let first = c.in-Whole.c in
+    let whole = ap case_head (sym (rest s c.loop-i.at)) ∙ sym c.case_head-head.ensures ∙ c.in-Whole.is in
     let low_enough = c.if-low-range.false in
     ⊎_elim
     (λ w.

@@ -41,8 +41,8 @@ returns-in-To c =
     let some = ne_eqb run 0 c.if-run-eq0.false in
     let right = switch_on cs a.neither a.unknown run test false some (ne_eqb run unknown_run c.if-run-eq-UNKNOWN.false) in
     rw (sym c.look-run.ensures)
-    (ap (GoTo c.led-1.given.0.0) c.test_code-test.ensures
-    ∙ ap (λ l. GoTo (led_to l) test) (sym c.led-1.given.1 ∙ c.find_case-led.ensures)
+    (ap (GoTo c.in-To.node) c.test_code-test.ensures
+    ∙ ap (λ l. GoTo (led_to l) test) (sym c.in-To.is ∙ c.find_case-led.ensures)
     ∙ ap₂ (λ low high. GoTo (follow_code cs a.neither low high) test) c.low_of.ensures
     c.high_of.ensures
     ∙ right)

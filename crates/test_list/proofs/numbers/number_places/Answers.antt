@@ -17,8 +17,8 @@ loop-t-preserved c =
     let turn = c.loop-t in
     let places = c.args.places.now in
     let count = c.args.count in
-    let t = turn.t in
-    let numbers = turn.numbers in
+    let t = c.loop-t.t in
+    let numbers = c.loop-t.numbers in
     let is = c.wide-place.ensures in
     ⊎_elim
     (λ w. (

@@ -16,13 +16,13 @@ list_places-count-requires c = (c.requires.0, omega (arith, c.requires.2), lengt
 
 pub number_places-requires : goal.number_places-requires
 number_places-requires c =
-    let listed = c.list_places-count.ensures.1 in
+    let listed = c.list_places-count.ensures.value in
     let pre = c.requires in
     (omega (arith, listed.0, pre.2), listed.1, pre.4)
 
 pub put_tests-requires : goal.put_tests-requires
 put_tests-requires c =
-    let listed = c.list_places-count.ensures.1 in
+    let listed = c.list_places-count.ensures.value in
     let pre = c.requires in
     (omega (arith, listed.0, pre.2), listed.1, pre.1, pre.3)
 
@@ -34,7 +34,7 @@ put_under-requires c =
     let s = c.args.s.now in
     let pairs : length (take c.args.pairs codes) ≡ c.args.pairs =
     length-take-le c.args.pairs codes (omega (arith, c.requires.1, c.requires.2)) in
-    let put = c.put_tests.ensures ∙ ap (λ (l : List ℕ). tests_put l (take c.args.pairs codes) s) listed.0 in
+    let put = c.put_tests.ensures ∙ ap (λ (l : List ℕ). tests_put l (take c.args.pairs codes) s) listed.places_after in
     subst Counted (sym put) (listed_counted (places_in words) (take c.args.pairs codes) s c.requires.3 (omega (arith, pairs, c.requires.2)))
 
 pub returns : goal.returns
@@ -42,7 +42,7 @@ returns c =
     let listed = c.list_places-count.ensures in
     let codes = c.args.codes.now in
     let put =
-    c.put_tests.ensures ∙ ap (λ (l : List ℕ). tests_put l (take c.args.pairs codes) c.args.s.now) listed.0 in (
-      c.Put-under.ensures ∙ ap under_put put,
-      c.number_places.ensures ∙ ap (λ (l : List ℕ). number_all l 0 c.args.numbers.now) listed.0,
-    )
+    c.put_tests.ensures ∙ ap (λ (l : List ℕ). tests_put l (take c.args.pairs codes) c.args.s.now) listed.places_after in record {
+      s_after = c.Put-under.ensures ∙ ap under_put put;
+      numbers_after = c.number_places.ensures ∙ ap (λ (l : List ℕ). number_all l 0 c.args.numbers.now) listed.places_after;
+    }

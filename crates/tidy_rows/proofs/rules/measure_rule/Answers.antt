@@ -24,10 +24,12 @@ returns-in_default c =
     let row = c.loop-what.row in
     let inv = c.loop-what.invariant in
     let read = c.next_record-next.ensures in
-    let none = ends s row read.0 c.enum_told-1.given.1 in
+    let none = ends s row read.row_value c.in_default.is in
     let from = ends_here s row none ∙ inv.2 in
-    let to : c.loop-what.size ≡ size_from words s c.args.start = omega (arith, inv.3, ap length (nothing_left s row none words)) in
-    ((λ j. record { from = from j; to = to j }), (inv.0.inside, omega (arith, inv.1)))
+    let to : c.loop-what.size ≡ size_from words s c.args.start = omega (arith, inv.3, ap length (nothing_left s row none words)) in record {
+      value = (λ j. record { from = from j; to = to j });
+      from_in_bounds = (inv.0.inside, omega (arith, inv.1));
+    }
 
 pub tidy_record-requires : goal.tidy_record-requires
 tidy_record-requires c = c.requires.2
@@ -39,10 +41,10 @@ overflow_add-size c =
     let row = c.loop-what.row in
     let inv = c.loop-what.invariant in
     let read = c.next_record-next.ensures in
-    let whole = goes s row read.0 c.next-1.given.1 in
-    let on = behind_it s row read.0 read.1 c.next-1.given.1 in
-    let what = c.next-1.given.0.0 in
-    let more = c.next-1.given.0.1.0 in
+    let whole = goes s row read.row_value c.in-Record.is in
+    let on = behind_it s row read.row_value read.goes_on c.in-Record.is in
+    let what = c.in-Record.what in
+    let more = c.in-Record.more in
     let size = c.record_length-size.ensures ∙ ap record_bytes c.tidy_record.ensures in
     omega (arith, size, few_bytes (tidy_in words what), inv.1)
 
@@ -53,7 +55,7 @@ loop-what-smaller c =
     let row = c.loop-what.row in
     let inv = c.loop-what.invariant in
     let read = c.next_record-next.ensures in
-    omega (arith, (behind_it s row read.0 read.1 c.next-1.given.1).1)
+    omega (arith, (behind_it s row read.row_value read.goes_on c.in-Record.is).1)
 
 pub loop-what-preserved : goal.loop-what-preserved
 loop-what-preserved c =
@@ -62,9 +64,9 @@ loop-what-preserved c =
     let row = c.loop-what.row in
     let inv = c.loop-what.invariant in
     let read = c.next_record-next.ensures in
-    let whole = goes s row read.0 c.next-1.given.1 in
-    let on = behind_it s row read.0 read.1 c.next-1.given.1 in
-    let what = c.next-1.given.0.0 in
-    let more = c.next-1.given.0.1.0 in
+    let whole = goes s row read.row_value c.in-Record.is in
+    let on = behind_it s row read.row_value read.goes_on c.in-Record.is in
+    let what = c.in-Record.what in
+    let more = c.in-Record.more in
     let size = c.record_length-size.ensures ∙ ap record_bytes c.tidy_record.ensures in
     (on.0, omega (arith, on.1, inv.1, size, few_bytes (tidy_in words what)), ends_same s row more whole on.2 ∙ inv.2, omega (arith, size, size_next s row more whole words, inv.3))

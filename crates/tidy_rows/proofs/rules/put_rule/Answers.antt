@@ -28,42 +28,43 @@ pub returns-in_default : goal.returns-in_default
 returns-in_default c =
     let turn = c.loop-what in
     let s = c.args.s.now in
-    let row = turn.row in
-    let inv = turn.invariant in
+    let row = c.loop-what.row in
+    let inv = c.loop-what.invariant in
     let read = c.next_record-next.ensures in
     let x : Numbering = record { words = turn.words; count = turn.count } in
-    let buf = turn.buf in
-    let end = turn.end in
+    let buf = c.loop-what.buf in
+    let end = c.loop-what.end in
     let x₀ : Numbering = record { words = c.args.words.now; count = 0 } in
-    let none = ends s row read.0 c.enum_told-1.given.1 in
+    let none = ends s row read.row_value c.in_default.is in
     let from = ends_here s row none ∙ inv.4 in
     let left = nothing_onward s row none x in
     let to : end ≡ c.args.to + length (tidy_onward x₀ (records_from s c.args.start)) = omega (arith, inv.5, ap length left) in
-    ((λ j. record { from = from j; to = to j }), (splice_none buf end ∙ ap (splice buf end) (sym left) ∙ inv.6, inv.0.inside))
+    let both = ((λ j. record { from = from j; to = to j }), (splice_none buf end ∙ ap (splice buf end) (sym left) ∙ inv.6, inv.0.inside)) in
+    record { value = both.0; buf_after = both.1; from_in_bounds = both.2 }
 
 pub number_record-count-requires : goal.number_record-count-requires
 number_record-count-requires c = (c.loop-what.invariant.2, omega (arith, c.loop-what.invariant.1))
 
 pub tidy_record-requires : goal.tidy_record-requires
-tidy_record-requires c = c.number_record-count.ensures.1.0
+tidy_record-requires c = c.number-record.ensures.1.0
 
 pub put_record-end-requires : goal.put_record-end-requires
 put_record-end-requires c =
-    let turn = c.loop-what in
+    let turn = c.loop in
     let s = c.args.s.now in
-    let row = turn.row in
-    let inv = turn.invariant in
-    let read = c.next_record-next.ensures in
+    let row = c.loop.row in
+    let inv = c.loop.invariant in
+    let read = c.next-record.ensures in
     let x : Numbering = record { words = turn.words; count = turn.count } in
-    let buf = turn.buf in
-    let end = turn.end in
-    let told = c.next-1.given in
-    let what = told.0.0 in
-    let more = told.0.1.0 in
+    let buf = c.loop.buf in
+    let end = c.loop.end in
+    let told = c.next.given in
+    let what = c.next.given.0.0 in
+    let more = c.next.given.0.1.0 in
     let whole = goes s row read.0 told.1 in
     let on = behind_it s row read.0 read.1 told.1 in
-    let numbered = c.number_record-count.ensures in
-    let y : Numbering = record { words = c.number_record-count.new.1.1.0; count = c.number_record-count.result } in
+    let numbered = c.number-record.ensures in
+    let y : Numbering = record { words = c.number-record.new.1.1.0; count = c.number-record.result } in
     let part = record_spelling (tidy_in y.words what) in
     let rest = tidy_onward y (records_from s more) in
     let next = onward_next s row more whole x {y = y} numbered.0 in
@@ -73,30 +74,30 @@ put_record-end-requires c =
 
 pub loop-what-smaller : goal.loop-what-smaller
 loop-what-smaller c =
-    let turn = c.loop-what in
+    let turn = c.loop in
     let s = c.args.s.now in
-    let row = turn.row in
-    let inv = turn.invariant in
-    let read = c.next_record-next.ensures in
-    omega (arith, (behind_it s row read.0 read.1 c.next-1.given.1).1)
+    let row = c.loop.row in
+    let inv = c.loop.invariant in
+    let read = c.next-record.ensures in
+    omega (arith, (behind_it s row read.0 read.1 c.next.given.1).1)
 
 pub loop-what-preserved : goal.loop-what-preserved
 loop-what-preserved c =
-    let turn = c.loop-what in
+    let turn = c.loop in
     let s = c.args.s.now in
-    let row = turn.row in
-    let inv = turn.invariant in
-    let read = c.next_record-next.ensures in
+    let row = c.loop.row in
+    let inv = c.loop.invariant in
+    let read = c.next-record.ensures in
     let x : Numbering = record { words = turn.words; count = turn.count } in
-    let buf = turn.buf in
-    let end = turn.end in
-    let told = c.next-1.given in
-    let what = told.0.0 in
-    let more = told.0.1.0 in
+    let buf = c.loop.buf in
+    let end = c.loop.end in
+    let told = c.next.given in
+    let what = c.next.given.0.0 in
+    let more = c.next.given.0.1.0 in
     let whole = goes s row read.0 told.1 in
     let on = behind_it s row read.0 read.1 told.1 in
-    let numbered = c.number_record-count.ensures in
-    let y : Numbering = record { words = c.number_record-count.new.1.1.0; count = c.number_record-count.result } in
+    let numbered = c.number-record.ensures in
+    let y : Numbering = record { words = c.number-record.new.1.1.0; count = c.number-record.result } in
     let part = record_spelling (tidy_in y.words what) in
     let rest = tidy_onward y (records_from s more) in
     let next = onward_next s row more whole x {y = y} numbered.0 in

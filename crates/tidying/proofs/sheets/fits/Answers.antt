@@ -19,4 +19,4 @@ pub measure-requires : goal.measure-requires
 measure-requires c = c.requires
 
 pub returns : goal.returns
-returns c = ap (λ (k : ℕ). leb k c.args.room) c.measure.ensures.0
+returns c = ap (λ (k : ℕ). leb k c.args.room) c.measure.ensures.value

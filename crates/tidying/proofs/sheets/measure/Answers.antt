@@ -18,7 +18,7 @@ pub meet_row-requires : goal.meet_row-requires
 meet_row-requires c = (record { inside = c.loop-i.invariant.1; counted = omega arith }, refl)
 
 pub measure_rule-moved-requires : goal.measure_rule-moved-requires
-measure_rule-moved-requires c = (record { inside = c.loop-i.invariant.1; counted = omega arith }, omega arith, c.meet_row.ensures.1)
+measure_rule-moved-requires c = (record { inside = c.loop-i.invariant.1; counted = omega arith }, omega arith, c.meet_row.ensures.words_len)
 
 pub overflow_add-size : goal.overflow_add-size
 overflow_add-size c =
@@ -29,9 +29,9 @@ overflow_add-size c =
     let i = c.loop-i.i in
     let inv = c.loop-i.invariant in
     let moved = c.measure_rule-moved.ensures in
-    let from = ap (λ (m : Moved). m.from) moved.0 in
-    let to = ap (λ (m : Moved). m.to) moved.0 in
-    omega (arith, inv.2, moved.1.1)
+    let from = ap (λ (m : Moved). m.from) moved.value in
+    let to = ap (λ (m : Moved). m.to) moved.value in
+    omega (arith, inv.2, moved.from_in_bounds.1)
 
 pub loop-i-preserved : goal.loop-i-preserved
 loop-i-preserved c =
@@ -42,9 +42,9 @@ loop-i-preserved c =
     let i = c.loop-i.i in
     let inv = c.loop-i.invariant in
     let moved = c.measure_rule-moved.ensures in
-    let from = ap (λ (m : Moved). m.from) moved.0 in
-    let to = ap (λ (m : Moved). m.to) moved.0 in
-    (omega arith, moved.1.0, omega (arith, inv.2, moved.1.1), omega (arith, inv.3, to, turn_measured arity rules s i at c.loop-i-test.true from c.meet_row.ensures.0))
+    let from = ap (λ (m : Moved). m.from) moved.value in
+    let to = ap (λ (m : Moved). m.to) moved.value in
+    (omega arith, moved.from_in_bounds.0, omega (arith, inv.2, moved.from_in_bounds.1), omega (arith, inv.3, to, turn_measured arity rules s i at c.loop-i-test.true from c.meet_row.ensures.words_after))
 
 pub returns : goal.returns
 returns c =
@@ -54,5 +54,7 @@ returns c =
     let at = c.loop-i.at in
     let i = c.loop-i.i in
     let inv = c.loop-i.invariant in
-    let end : c.loop-i.size ≡ 3 + length (tidy_rows arity rules (drop 3 s)) = omega (arith, inv.3, ap length (rows_done arity rules s i at c.loop-i-test.false)) in
-    (end, omega (arith, inv.2, inv.0))
+    let end : c.loop-i.size ≡ 3 + length (tidy_rows arity rules (drop 3 s)) = omega (arith, inv.3, ap length (rows_done arity rules s i at c.loop-i-test.false)) in record {
+      value = end;
+      upper_bound = omega (arith, inv.2, inv.0);
+    }

@@ -29,16 +29,16 @@ put_rule-moved-requires c =
     let s = c.args.s.now in
     let arity = c.args.arity in
     let rules = c.args.rules in
-    let at = turn.at in
-    let i = turn.i in
-    let inv = turn.invariant in
-    let buf = turn.buf in
-    let end = turn.end in
+    let at = c.loop-i.at in
+    let i = c.loop-i.i in
+    let inv = c.loop-i.invariant in
+    let buf = c.loop-i.buf in
+    let end = c.loop-i.end in
     let here = c.loop-i-test.true in
-    let is = c.meet_row.ensures.0 in
+    let is = c.meet_row.ensures.words_after in
     let row = ap length (turn_row arity rules s i at here refl is) in
     let room : end + length (tidy_onward (record { words = c.meet_row.new.1.1.0; count = 0 }) (rule_records arity (drop at s))) ≤ length buf = omega (arith, row, turn_size arity rules s i at here refl, inv.2, inv.3, c.requires.1) in
-    (record { inside = inv.1; counted = omega arith }, omega arith, c.meet_row.ensures.1, room)
+    (record { inside = inv.1; counted = omega arith }, omega arith, c.meet_row.ensures.words_len, room)
 
 pub loop-i-preserved : goal.loop-i-preserved
 loop-i-preserved c =
@@ -46,19 +46,19 @@ loop-i-preserved c =
     let s = c.args.s.now in
     let arity = c.args.arity in
     let rules = c.args.rules in
-    let at = turn.at in
-    let i = turn.i in
-    let inv = turn.invariant in
-    let buf = turn.buf in
-    let end = turn.end in
+    let at = c.loop-i.at in
+    let i = c.loop-i.i in
+    let inv = c.loop-i.invariant in
+    let buf = c.loop-i.buf in
+    let end = c.loop-i.end in
     let here = c.loop-i-test.true in
-    let is = c.meet_row.ensures.0 in
+    let is = c.meet_row.ensures.words_after in
     let row = ap length (turn_row arity rules s i at here refl is) in
     let room : end + length (tidy_onward (record { words = c.meet_row.new.1.1.0; count = 0 }) (rule_records arity (drop at s))) ≤ length buf = omega (arith, row, turn_size arity rules s i at here refl, inv.2, inv.3, c.requires.1) in
     let put = c.put_rule-moved.ensures in
-    let from = ap (λ (m : Moved). m.from) put.0 in
-    let to = ap (λ (m : Moved). m.to) put.0 in
-    (omega arith, put.1.1, c.buf-1.given ∙ inv.2, omega (arith, to, row, turn_size arity rules s i at here from, inv.3), turn_written arity rules s i at here from is buf end room put.1.0 to ∙ inv.4)
+    let from = ap (λ (m : Moved). m.from) put.value in
+    let to = ap (λ (m : Moved). m.to) put.value in
+    (omega arith, put.buf_after.1, c.buf-1.given ∙ inv.2, omega (arith, to, row, turn_size arity rules s i at here from, inv.3), turn_written arity rules s i at here from is buf end room put.buf_after.0 to ∙ inv.4)
 
 pub shape_of-buf : goal.shape_of-buf
 shape_of-buf c = c.loop-i.invariant.2
@@ -69,11 +69,11 @@ returns c =
     let s = c.args.s.now in
     let arity = c.args.arity in
     let rules = c.args.rules in
-    let at = turn.at in
-    let i = turn.i in
-    let inv = turn.invariant in
-    let buf = turn.buf in
-    let end = turn.end in
+    let at = c.loop-i.at in
+    let i = c.loop-i.i in
+    let inv = c.loop-i.invariant in
+    let buf = c.loop-i.buf in
+    let end = c.loop-i.end in
     let none = rows_done arity rules s i at c.loop-i-test.false in
     let to : end ≡ c.args.start + length (tidy_rows arity rules (drop 3 s)) = omega (arith, inv.3, ap length none) in
     (to, splice_none buf end ∙ ap (splice buf end) (sym none) ∙ inv.4)

@@ -19,10 +19,10 @@ fits-requires c =
     let buffer = c.args.buffer.now in
     let bytes = bytes_all s (λ i. omega (arith, c.shared_slice_known-1.given i)) in
     let checked = c.checked-in-Accepted-1.given in
-    let told = sym (ap sheet_check_values checked.1) ∙ c.check_sheet-checked.ensures in
-    let a = checked.0.0 in
-    let n = checked.0.1.0 in
-    let t = checked.0.1.1.0 in
+    let told = sym (ap sheet_check_values c.in-Accepted.is) ∙ c.check_sheet-checked.ensures in
+    let a = c.in-Accepted.arity in
+    let n = c.in-Accepted.rules in
+    let t = c.in-Accepted.field-2 in
     sheet_whole s bytes a n t told
 
 pub returns-then-not-fits : goal.returns-then-not-fits
@@ -31,10 +31,10 @@ returns-then-not-fits c =
     let buffer = c.args.buffer.now in
     let bytes = bytes_all s (λ i. omega (arith, c.shared_slice_known-1.given i)) in
     let checked = c.checked-in-Accepted-1.given in
-    let told = sym (ap sheet_check_values checked.1) ∙ c.check_sheet-checked.ensures in
-    let a = checked.0.0 in
-    let n = checked.0.1.0 in
-    let t = checked.0.1.1.0 in
+    let told = sym (ap sheet_check_values c.in-Accepted.is) ∙ c.check_sheet-checked.ensures in
+    let a = c.in-Accepted.arity in
+    let n = c.in-Accepted.rules in
+    let t = c.in-Accepted.field-2 in
     let rows = tidy_rows a n (drop 3 s) in
     tidy_large s bytes a n t told buffer (leb-false (3 + length rows) (length buffer) (sym c.fits2.ensures ∙ not-true _ c.if-not-fits.true))
 
@@ -44,10 +44,10 @@ put-start-requires c =
     let buffer = c.args.buffer.now in
     let bytes = bytes_all s (λ i. omega (arith, c.shared_slice_known-1.given i)) in
     let checked = c.checked-in-Accepted-1.given in
-    let told = sym (ap sheet_check_values checked.1) ∙ c.check_sheet-checked.ensures in
-    let a = checked.0.0 in
-    let n = checked.0.1.0 in
-    let t = checked.0.1.1.0 in
+    let told = sym (ap sheet_check_values c.in-Accepted.is) ∙ c.check_sheet-checked.ensures in
+    let a = c.in-Accepted.arity in
+    let n = c.in-Accepted.rules in
+    let t = c.in-Accepted.field-2 in
     let rows = tidy_rows a n (drop 3 s) in
     let room : 3 + length rows ≤ length buffer = leb-true (3 + length rows) (length buffer) (sym c.fits2.ensures ∙ not-false _ c.if-not-fits.false) in
     omega (arith, room)
@@ -58,10 +58,10 @@ put_rules-end-requires c =
     let buffer = c.args.buffer.now in
     let bytes = bytes_all s (λ i. omega (arith, c.shared_slice_known-1.given i)) in
     let checked = c.checked-in-Accepted-1.given in
-    let told = sym (ap sheet_check_values checked.1) ∙ c.check_sheet-checked.ensures in
-    let a = checked.0.0 in
-    let n = checked.0.1.0 in
-    let t = checked.0.1.1.0 in
+    let told = sym (ap sheet_check_values c.in-Accepted.is) ∙ c.check_sheet-checked.ensures in
+    let a = c.in-Accepted.arity in
+    let n = c.in-Accepted.rules in
+    let t = c.in-Accepted.field-2 in
     let rows = tidy_rows a n (drop 3 s) in
     let room : 3 + length rows ≤ length buffer = leb-true (3 + length rows) (length buffer) (sym c.fits2.ensures ∙ not-false _ c.if-not-fits.false) in
     (sheet_whole s bytes a n t told, omega (arith, c.put-start.ensures.0, c.buffer-1.given, room))
@@ -72,16 +72,16 @@ overflow_cast-result c =
     let buffer = c.args.buffer.now in
     let bytes = bytes_all s (λ i. omega (arith, c.shared_slice_known-1.given i)) in
     let checked = c.checked-in-Accepted-1.given in
-    let told = sym (ap sheet_check_values checked.1) ∙ c.check_sheet-checked.ensures in
-    let a = checked.0.0 in
-    let n = checked.0.1.0 in
-    let t = checked.0.1.1.0 in
+    let told = sym (ap sheet_check_values c.in-Accepted.is) ∙ c.check_sheet-checked.ensures in
+    let a = c.in-Accepted.arity in
+    let n = c.in-Accepted.rules in
+    let t = c.in-Accepted.field-2 in
     omega (arith, c.put-start.ensures.0, c.put_rules-end.ensures.0, rows_few a n (drop 3 s))
 
 pub returns-in-Refused : goal.returns-in-Refused
 returns-in-Refused c =
     let s = c.args.sheet.now in
-    tidy_refused s c.args.buffer.now (check_refuses s (sym (ap sheet_check_values c.checked-1.given.1) ∙ c.check_sheet-checked.ensures))
+    tidy_refused s c.args.buffer.now (check_refuses s (sym (ap sheet_check_values c.in-Refused.is) ∙ c.check_sheet-checked.ensures))
 
 pub returns-else-not-fits : goal.returns-else-not-fits
 returns-else-not-fits c =
@@ -89,10 +89,10 @@ returns-else-not-fits c =
     let buffer = c.args.buffer.now in
     let bytes = bytes_all s (λ i. omega (arith, c.shared_slice_known-1.given i)) in
     let checked = c.checked-in-Accepted-1.given in
-    let told = sym (ap sheet_check_values checked.1) ∙ c.check_sheet-checked.ensures in
-    let a = checked.0.0 in
-    let n = checked.0.1.0 in
-    let t = checked.0.1.1.0 in
+    let told = sym (ap sheet_check_values c.in-Accepted.is) ∙ c.check_sheet-checked.ensures in
+    let a = c.in-Accepted.arity in
+    let n = c.in-Accepted.rules in
+    let t = c.in-Accepted.field-2 in
     let rows = tidy_rows a n (drop 3 s) in
     let room : 3 + length rows ≤ length buffer = leb-true (3 + length rows) (length buffer) (sym c.fits2.ensures ∙ not-false _ c.if-not-fits.false) in
     tidy_written s bytes a n t told buffer room c.put-start.ensures.0 c.put-start.ensures.1 c.put_rules-end.ensures.0 c.put_rules-end.ensures.1

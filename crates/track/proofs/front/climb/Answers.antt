@@ -19,25 +19,25 @@ module _ (c : goal.In-loop-q) where
 
 pub least_below-requires : goal.least_below-requires
 least_below-requires c =
-    let turn = c.loop-q in
-    let inside = c.loop-q-test.true in
+    let turn = c.loop in
+    let inside = c.loop-test.true in
     (turn.invariant.size, inside, turn.invariant.depth inside)
 
 pub parent_in-q-requires : goal.parent_in-q-requires
 parent_in-q-requires c = (c.loop-q-test.true, c.requires.0)
 
 pub overflow_sub-d : goal.overflow_sub-d
-overflow_sub-d c = some c
+overflow_sub-d c = some (goal.at.overflow_sub-d c).In-loop-q
 
 pub loop-q-smaller : goal.loop-q-smaller
-loop-q-smaller c = omega (arith, some c)
+loop-q-smaller c = omega (arith, some (goal.at.loop-q-smaller c).In-loop-q)
 
 pub loop-q-preserved : goal.loop-q-preserved
 loop-q-preserved c =
     let turn = c.loop-q in
     let a = c.args in
     let m = c.least_below.result in
-    subst (λ (q : ℕ). Climbing a.p a.keys.now (set turn.keys turn.q m) q (turn.d - 1)) (sym c.parent_in_lem.ensures)
+    subst (λ (q : ℕ). Climbing a.p a.keys.now (set turn.keys turn.q m) q (turn.d - 1)) (sym c.parent_in-q.ensures)
     (climb_more turn.invariant c.loop-q-test.true m c.least_below.ensures)
 
 pub returns : goal.returns

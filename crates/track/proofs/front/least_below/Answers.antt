@@ -19,17 +19,17 @@ module _ (c : goal.Else-depth-eq4) where
       omega (arith, depth_range c.args.p, c.requires.2, c.if-depth-eq4.false)
 
 pub step-requires : goal.step-requires
-step-requires c = some c
+step-requires c = some (goal.at.step-requires c).Else-depth-eq4
 
 module _ (c : goal.After-step) where
   row : Row c.args.p (c.args.p + 1) c.step.result 4
   row =
-      children c.args.p c.args.depth c.step.result c.requires.1 c.requires.2 (some c)
+      children c.args.p c.args.depth c.step.result c.requires.1 c.requires.2 (some c.«Else-depth-eq4»)
       c.step.ensures
 
 pub least_row-requires : goal.least_row-requires
 least_row-requires c =
-    (c.requires.0, omega (arith, c.step.ensures, step_most c.args.depth), (row c).inside)
+    (c.requires.0, omega (arith, c.step.ensures, step_most c.args.depth), (row (goal.at.least_row-requires c).After-step).inside)
 
 pub returns : goal.returns
-returns c = least_below (row c) c.least_row.ensures
+returns c = least_below (row (goal.at.returns c).After-step) c.least_row.ensures

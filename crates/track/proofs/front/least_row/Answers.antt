@@ -19,20 +19,20 @@ module _ (c : goal.In-loop-i) where
       omega (arith, turn.invariant.1, c.requires.2 turn.i c.loop-i-test.true)
 
 pub offset_bounds-keys-q : goal.offset_bounds-keys-q
-offset_bounds-keys-q c = omega (arith, inside c)
+offset_bounds-keys-q c = omega (arith, inside (goal.at.offset_bounds-keys-q c).In-loop-i)
 
 pub bounds-keys-q : goal.bounds-keys-q
-bounds-keys-q c = omega (arith, inside c)
+bounds-keys-q c = omega (arith, inside (goal.at.bounds-keys-q c).After-way_told-1)
 
 pub overflow_add-q : goal.overflow_add-q
-overflow_add-q c = omega (arith, inside c, c.requires.1)
+overflow_add-q c = omega (arith, inside (goal.at.overflow_add-q c).After-way_told-1, c.requires.1)
 
 pub loop-i-preserved : goal.loop-i-preserved
 loop-i-preserved c =
     let turn = c.loop-i in
     let a = c.args in
     let least : ℕ → Type 0 = LeastOf a.keys.now a.from a.step (turn.i + 1) in
-    let inv = turn.invariant in (
+    let inv = c.loop-i.invariant in (
       omega (arith, c.loop-i-test.true),
       ap (λ (x : ℕ). x + a.step) turn.invariant.1 ∙ row_next a.from turn.i a.step,
       ⊎_elim

@@ -18,16 +18,16 @@ module _ (c : goal.In-loop-i) where
       omega (arith, turn.invariant.1, c.requires.3 turn.i c.loop-i-test.true)
 
 pub key-requires : goal.key-requires
-key-requires c = (c.requires.0, inside c)
+key-requires c = (c.requires.0, inside (goal.at.key-requires c).In-loop-i)
 
 pub offset_bounds-keys-q : goal.offset_bounds-keys-q
-offset_bounds-keys-q c = omega (arith, inside c)
+offset_bounds-keys-q c = omega (arith, inside (goal.at.offset_bounds-keys-q c).In-loop-i)
 
 pub bounds-keys-q : goal.bounds-keys-q
-bounds-keys-q c = omega (arith, inside c)
+bounds-keys-q c = omega (arith, inside (goal.at.bounds-keys-q c).After-key)
 
 pub overflow_add-q : goal.overflow_add-q
-overflow_add-q c = omega (arith, inside c, c.requires.2)
+overflow_add-q c = omega (arith, inside (goal.at.overflow_add-q c).After-key, c.requires.2)
 
 pub loop-i-preserved : goal.loop-i-preserved
 loop-i-preserved c =
@@ -35,7 +35,7 @@ loop-i-preserved c =
     let a = c.args in (
       omega (arith, c.loop-i-test.true),
       ap (λ (x : ℕ). x + a.step) turn.invariant.1 ∙ row_next a.from turn.i a.step,
-      opened_more _ _ _ turn.i turn.q c.key.result turn.invariant.2 turn.invariant.1 (inside c) c.key.ensures,
+      opened_more _ _ _ turn.i turn.q c.key.result turn.invariant.2 turn.invariant.1 (inside (goal.at.loop-i-preserved c).After-key) c.key.ensures,
     )
 
 pub returns : goal.returns

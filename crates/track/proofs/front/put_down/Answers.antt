@@ -41,7 +41,7 @@ module _ (c : goal.Joined-depth-lt4) where
 
 pub climb-requires : goal.climb-requires
 climb-requires c =
-    (c.requires.1, (fresh c).size, c.requires.3, c.depth-depth.ensures)
+    (c.requires.1, (fresh (goal.at.climb-requires c).Joined-depth-lt4).size, c.requires.3, c.depth-depth.ensures)
 
 pub returns : goal.returns
-returns c = put_down_is c.requires.3 (fresh c) c.climb.ensures
+returns c = put_down_is c.requires.3 (fresh (goal.at.returns c).Joined-depth-lt4) c.climb.ensures

@@ -7,5 +7,7 @@ use Rattle.voltunnis.proofs.order_calls.vt_build_ordered.Goals as goal
 
 pub returns : goal.returns
 returns c =
-    let e = c.build_ordered.ensures in
-    (subst (λ (x : BuildOutcome). Packs c.pack_built.result (built_fields x.values)) e c.pack_built.ensures, ap (λ (x : BuildOutcome). x.buffer) e)
+    let e = c.build_ordered.ensures in record {
+      packs = subst (λ (x : BuildOutcome). Packs c.pack_built.result (built_fields x.values)) e c.pack_built.ensures;
+      buffer_after = ap (λ (x : BuildOutcome). x.buffer) e;
+    }

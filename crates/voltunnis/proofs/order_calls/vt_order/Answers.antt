@@ -8,5 +8,7 @@ use Rattle.voltunnis.proofs.order_calls.vt_order.Goals as goal
 
 pub returns : goal.returns
 returns c =
-    let r = c.order in
-    (subst (λ (x : Result). Packs c.pack_ordered.result (written_fields x)) r.ensures (c.pack_ordered.ensures _), ordered_buffer r.result _ ∙ ap (λ (x : Result). x.buffer) r.ensures)
+    let r = c.order in record {
+      packs = subst (λ (x : Result). Packs c.pack_ordered.result (written_fields x)) r.ensures (c.pack_ordered.ensures _);
+      buffer_after = ordered_buffer r.result _ ∙ ap (λ (x : Result). x.buffer) r.ensures;
+    }

@@ -19,5 +19,7 @@ pack_walked_all-requires c =
 
 pub returns : goal.returns
 returns c =
-    let r = c.walk_all in
-    (subst (λ (x : WalkAll). Packs c.pack_walked_all.result (walk_all_fields x)) r.ensures (c.pack_walked_all.ensures _), walked_buffer r.result _ ∙ ap (λ (x : WalkAll). x.buffer) r.ensures)
+    let r = c.walk_all in record {
+      packs = subst (λ (x : WalkAll). Packs c.pack_walked_all.result (walk_all_fields x)) r.ensures (c.pack_walked_all.ensures _);
+      results_after = walked_buffer r.result _ ∙ ap (λ (x : WalkAll). x.buffer) r.ensures;
+    }

@@ -9,5 +9,7 @@ use Rattle.voltunnis.proofs.window_calls.vt_window_feed.Goals as goal
 pub returns : goal.returns
 returns c =
     let a = c.args in
-    let fed = c.feed.ensures in
-    (c.fed_refusal.ensures ∙ ap refusal_in fed.0 ∙ fed_refusal (given a.word a.rule), fed.1)
+    let fed = c.feed.ensures in record {
+      value = c.fed_refusal.ensures ∙ ap refusal_in fed.value ∙ fed_refusal (given a.word a.rule);
+      window_after = fed.window_after;
+    }

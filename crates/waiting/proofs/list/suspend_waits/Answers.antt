@@ -21,12 +21,12 @@ meets_span-requires c =
     let met = take a.edges a.met.now in
     let near =
     all_map (KeptCode (listed_tests a.kept.now)) (λ k. k / 0x1_0000 < 680) (λ k kept. code_first_lem k kept.0) met
-    c.requires.1.2 in
-    (c.requires.1.0, c.requires.1.1, near)
+    c.requires.met_len.2 in
+    (c.requires.met_len.0, c.requires.met_len.1, near)
 
 pub number_tests-requires : goal.number_tests-requires
 number_tests-requires c =
-    (c.requires.0.3.counted, c.requires.1.0, c.requires.1.1)
+    (c.requires.arity_bound.3.counted, c.requires.met_len.0, c.requires.met_len.1)
 
 pub rules_waits-requires : goal.rules_waits-requires
 rules_waits-requires c =
@@ -34,11 +34,11 @@ rules_waits-requires c =
     let tests = listed_tests a.kept.now in
     let met = take a.edges a.met.now in
     let pre = c.requires in
-    let numbered = c.number_tests.ensures in
-    let few = numbers_few tests (listed_few a.kept.now pre.0.3.counted) met pre.1.2 in (
-      (pre.0.0, pre.0.1, pre.0.2, pre.0.3.counted, pre.0.4),
-      (numbered.1, pre.1.1, subst (All (λ t. t < 64)) (sym numbered.0) few),
-    )
+    let numbered = c.number-tests.ensures in
+    let few = numbers_few tests (listed_few a.kept.now pre.arity_bound.3.counted) met pre.met_len.2 in record {
+      arity_bound = (pre.arity_bound.0, pre.arity_bound.1, pre.arity_bound.2, pre.arity_bound.3.counted, pre.arity_bound.4);
+      numbers_len = (numbered.1, pre.met_len.1, subst (All (λ t. t < 64)) (sym numbered.0) few);
+    }
 
 pub returns-then-meets_span : goal.returns-then-meets_span
 returns-then-meets_span c =
@@ -47,13 +47,13 @@ returns-then-meets_span c =
     let met = take a.edges a.met.now in
     let rules = read_or [] (read_rules a.shape.arity a.shape.rules a.s.now) in
     let span =
-    sym c.meets_span.ensures
-    ∙ c.if-meets_span.true in (
-      list_both tests a.cells.now rules met (search rules) (search rules)
-          c.open_waits-open.ensures
-          c.number_tests.ensures.0 c.rules_waits.ensures.0 span,
-      c.rules_waits.ensures.1,
-    )
+    sym c.meets-span.ensures
+    ∙ c.if1.true in record {
+      value = list_both tests a.cells.now rules met (search rules) (search rules)
+          c.open-waits.ensures
+          c.number-tests.ensures.0 c.rules_waits.ensures.value span;
+      notes_len = c.rules_waits.ensures.notes_len;
+    }
 
 pub returns : goal.returns
 returns c =
@@ -61,5 +61,7 @@ returns c =
     let tests = listed_tests a.kept.now in
     let met = take a.edges a.met.now in
     let rules = read_or [] (read_rules a.shape.arity a.shape.rules a.s.now) in
-    let span = sym c.meets_span.ensures ∙ c.if-meets_span.false in
-    (c.open_waits-open.ensures ∙ list_short tests a.cells.now rules met span, c.requires.0.2)
+    let span = sym c.meets_span.ensures ∙ c.if-meets_span.false in record {
+      value = c.open-waits.ensures ∙ list_short tests a.cells.now rules met span;
+      notes_len = c.requires.arity_bound.2;
+    }

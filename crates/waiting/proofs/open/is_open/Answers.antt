@@ -24,13 +24,13 @@ pair_outcome-outcome-requires c =
     (near.0, near.1, c.requires.1)
 
 pub returns-in-Holds : goal.returns-in-Holds
-returns-in-Holds c = ap is_not_known (sym (ap outcome_of c.enum_told-1.given.1) ∙ c.pair_outcome-outcome.ensures)
+returns-in-Holds c = ap is_not_known (sym (ap outcome_of c.in-Holds.is) ∙ c.pair_outcome-outcome.ensures)
     ∙ ap (open_cells c.args.cells.now) (sym (code_pair_lem c.args.code c.if-p-q.false))
 
 pub returns-in-NotKnown : goal.returns-in-NotKnown
-returns-in-NotKnown c = ap is_not_known (sym (ap outcome_of c.enum_told-in-NotKnown-1.given.1) ∙ c.pair_outcome-outcome.ensures)
+returns-in-NotKnown c = ap is_not_known (sym (ap outcome_of c.in-NotKnown.is) ∙ c.pair_outcome-outcome.ensures)
     ∙ ap (open_cells c.args.cells.now) (sym (code_pair_lem c.args.code c.if-p-q.false))
 
 pub returns-in-Contradicted : goal.returns-in-Contradicted
-returns-in-Contradicted c = ap is_not_known (sym (ap outcome_of c.enum_told-in-Contradicted-1.given.1) ∙ c.pair_outcome-outcome.ensures)
+returns-in-Contradicted c = ap is_not_known (sym (ap outcome_of c.in-Contradicted.is) ∙ c.pair_outcome-outcome.ensures)
     ∙ ap (open_cells c.args.cells.now) (sym (code_pair_lem c.args.code c.if-p-q.false))

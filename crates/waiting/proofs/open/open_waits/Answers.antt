@@ -13,31 +13,31 @@ pub loop-i-init : goal.loop-i-init
 loop-i-init c =
     let a = c.args in
     let pre = c.requires in
-    let cells = a.cells.now in
-    let met = a.met.now in
+    let cells = c.args.cells.now in
+    let met = c.args.met.now in
     (omega arith, met_none (listed_tests a.kept.now) cells)
 
 pub with_open-set-requires : goal.with_open-set-requires
 with_open-set-requires c =
     let a = c.args in
     let pre = c.requires in
-    let cells = a.cells.now in
-    let met = a.met.now in
-    (pre.0.0, met_at_lem a.kept.now pre.0.0 cells met a.edges c.loop-i.i pre.1 c.loop-i-test.true (omega (arith, pre.0.1, pre.0.2)), pre.0.3)
+    let cells = c.args.cells.now in
+    let met = c.args.met.now in
+    (pre.listed.0, met_at_lem a.kept.now pre.listed.0 cells met a.edges c.loop-i.i pre.all c.loop-i-test.true (omega (arith, pre.listed.1, pre.listed.2)), pre.listed.3)
 
 pub loop-i-preserved : goal.loop-i-preserved
 loop-i-preserved c =
     let a = c.args in
     let pre = c.requires in
-    let cells = a.cells.now in
-    let met = a.met.now in
-    (omega arith, c.with_open-set.ensures ∙ met_turn a.kept.now pre.0.0 cells met a.edges c.loop-i.i pre.1 c.loop-i-test.true (omega (arith, pre.0.1, pre.0.2)) c.loop-i.invariant.1)
+    let cells = c.args.cells.now in
+    let met = c.args.met.now in
+    (omega arith, c.with_open-set.ensures ∙ met_turn a.kept.now pre.listed.0 cells met a.edges c.loop-i.i pre.all c.loop-i-test.true (omega (arith, pre.listed.1, pre.listed.2)) c.loop-i.invariant.1)
 
 pub returns : goal.returns
 returns c =
     let a = c.args in
     let pre = c.requires in
-    let cells = a.cells.now in
-    let met = a.met.now in
+    let cells = c.args.cells.now in
+    let met = c.args.met.now in
     let done : c.loop-i.i ≡ a.edges = omega arith in
     c.loop-i.invariant.1 ∙ ap (λ (n : ℕ). met_waits (listed_tests a.kept.now) cells (take n met)) done

@@ -18,8 +18,8 @@ loop-i-init c =
     let tests = listed_tests a.kept.now in
     let front = take a.edges a.numbers.now in (
       omega arith,
-      c.requires.0.2,
-      adding_starts tests a.cells.now front a.s.now a.shape.arity a.shape.rules c.requires.0.1,
+      c.requires.arity_bound.2,
+      adding_starts tests a.cells.now front a.s.now a.shape.arity a.shape.rules c.requires.arity_bound.1,
     )
 
 pub slice_bounds-read_rule-count : goal.slice_bounds-read_rule-count
@@ -32,7 +32,7 @@ slice_bounds-read_rule-start c =
 
 pub read_rule-read-requires : goal.read_rule-read-requires
 read_rule-read-requires c =
-    (c.requires.0.0, c.loop-i.invariant.1)
+    (c.requires.arity_bound.0, c.loop-i.invariant.1)
 
 pub returns-in_default : goal.returns-in_default
 returns-in_default c =
@@ -42,63 +42,64 @@ returns-in_default c =
     let loop = c.loop-i in
     let call = c.read_rule-read in
     let refused =
-    rule_refused a.shape.arity loop.at a.s.now call.new.1.1.0 call.result call.ensures.0
-    c.enum_told-1.given.1 in
-    absurd
+    rule_refused a.shape.arity loop.at a.s.now call.new.1.1.0 call.result call.ensures.result_after
+    c.in_default.is in
+    let both = absurd
     (adding_there tests a.cells.now front a.s.now a.shape.arity a.shape.rules loop.invariant.2
-    c.loop-i-test.true refused)
+    c.loop-i-test.true refused) in
+    record { value = both.0; notes_len = both.1 }
 
 pub rule_masks-requires : goal.rule_masks-requires
 rule_masks-requires c =
     let a = c.args in
-    let s = a.s.now in
-    let loop = c.loop-i in
-    let call = c.read_rule-read in
+    let s = c.args.s.now in
+    let loop = c.loop in
+    let call = c.read-rule in
     let bytes =
-    bytes_known s (λ k. omega (arith, c.shared_slice_known-1.given k)) in
+    bytes_known s (λ k. omega (arith, c.shared-slice-known.given k)) in
     let rule =
-    rule_read_lem a.shape.arity loop.at s call.new.1.1.0 call.result call.ensures.0 c.requires.0.0 bytes
-    c.read-1.given.1 call.ensures.1 in
-    (rule.made, call.ensures.1.entries, rule.placed, c.requires.0.3, c.requires.0.4)
+    rule_read_lem a.shape.arity loop.at s call.new.1.1.0 call.result call.ensures.0 c.requires.arity_bound.0 bytes
+    c.read.given.1 call.ensures.1 in
+    (rule.made, call.ensures.1.entries, rule.placed, c.requires.arity_bound.3, c.requires.arity_bound.4)
 
 pub with_rule-set-requires : goal.with_rule-set-requires
 with_rule-set-requires c =
-    c.requires.1
+    c.requires.numbers_len
 
 pub overflow_add-at : goal.overflow_add-at
 overflow_add-at c =
     let a = c.args in
-    let s = a.s.now in
-    let loop = c.loop-i in
-    let call = c.read_rule-read in
+    let s = c.args.s.now in
+    let loop = c.loop in
+    let call = c.read-rule in
     let bytes =
-    bytes_known s (λ k. omega (arith, c.shared_slice_known-1.given k)) in
+    bytes_known s (λ k. omega (arith, c.shared-slice-known.given k)) in
     let rule =
-    rule_read_lem a.shape.arity loop.at s call.new.1.1.0 call.result call.ensures.0 c.requires.0.0 bytes
-    c.read-1.given.1 call.ensures.1 in
+    rule_read_lem a.shape.arity loop.at s call.new.1.1.0 call.result call.ensures.0 c.requires.arity_bound.0 bytes
+    c.read.given.1 call.ensures.1 in
     omega (arith, rule.used, loop.invariant.2.there)
 
 pub loop-i-preserved : goal.loop-i-preserved
 loop-i-preserved c =
     let a = c.args in
-    let s = a.s.now in
-    let loop = c.loop-i in
-    let call = c.read_rule-read in
+    let s = c.args.s.now in
+    let loop = c.loop in
+    let call = c.read-rule in
     let bytes =
-    bytes_known s (λ k. omega (arith, c.shared_slice_known-1.given k)) in
+    bytes_known s (λ k. omega (arith, c.shared-slice-known.given k)) in
     let rule =
-    rule_read_lem a.shape.arity loop.at s call.new.1.1.0 call.result call.ensures.0 c.requires.0.0 bytes
-    c.read-1.given.1 call.ensures.1 in
+    rule_read_lem a.shape.arity loop.at s call.new.1.1.0 call.result call.ensures.0 c.requires.arity_bound.0 bytes
+    c.read.given.1 call.ensures.1 in
     let tests = listed_tests a.kept.now in
-    let cells = a.cells.now in
+    let cells = c.args.cells.now in
     let front = take a.edges a.numbers.now in
     let masks = c.rule_masks.ensures ∙ ap (notes_masks tests cells) rule.noted in
-    let inside : loop.at + c.read-1.given.0.0 ≤ length s =
+    let inside : loop.at + c.read.given.0.0 ≤ length s =
     omega (arith, rule.used, loop.invariant.2.there) in (
-      omega (arith, c.loop-i-test.true),
+      omega (arith, c.if1.true),
       call.ensures.1.entries,
       adding_more tests cells front s a.shape.arity a.shape.rules loop.invariant.2
-          c.loop-i-test.true rule.read inside
+          c.if1.true rule.read inside
           (c.with_rule-set.ensures ∙ ap (λ (m : Masks). with_rule m front loop.set) masks),
     )
 
@@ -106,8 +107,8 @@ pub returns : goal.returns
 returns c =
     let a = c.args in
     let tests = listed_tests a.kept.now in
-    let front = take a.edges a.numbers.now in (
-      adding_done tests a.cells.now front a.s.now a.shape.arity a.shape.rules c.loop-i.invariant.2
-          c.loop-i-test.false,
-      c.loop-i.invariant.1,
-    )
+    let front = take a.edges a.numbers.now in record {
+      value = adding_done tests a.cells.now front a.s.now a.shape.arity a.shape.rules c.loop-i.invariant.2
+          c.loop-i-test.false;
+      notes_len = c.loop-i.invariant.1;
+    }

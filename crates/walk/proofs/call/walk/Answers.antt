@@ -11,36 +11,36 @@ use Rattle.walk.proofs.call.walk.Goals as goal
 pub walk_piece-requires : goal.walk_piece-requires
 walk_piece-requires c =
     let a = c.args in
-    let s = a.sheet.now in
-    let g = a.graph.now in
-    let p = a.piece.now in
-    let words = c.read_tests-read.new.1.0 in
+    let s = c.args.sheet.now in
+    let g = c.args.graph.now in
+    let p = c.args.piece.now in
+    let words = c.read_tests-read.new.codes in
     let codes = c.read_tests-read.new.1.1.0 in
-    let held = c.read_tests-read.ensures.1 in
-    let counted = subst (CountsTests words) c.read-in-Accepted-1.given.1 held.counted in (
-      record { all_words = held.all_words; all_codes = held.all_codes; few_tests = omega (arith, counted.0, counted.1) },
-      found_accepts s words codes c.read_tests-read.ensures.0 c.read-in-Accepted-1.given.1,
-    )
+    let held = c.read_tests-read.ensures.held in
+    let counted = subst (CountsTests words) c.in-Accepted.is held.counted in record {
+      arrays = record { all_words = held.all_words; all_codes = held.all_codes; few_tests = omega (arith, counted.0, counted.1) };
+      accepted_tests = found_accepts s words codes c.read_tests-read.ensures.result_after c.in-Accepted.is;
+    }
 
 pub returns-in-Refused : goal.returns-in-Refused
 returns-in-Refused c =
     let a = c.args in
-    let s = a.sheet.now in
-    let g = a.graph.now in
-    let p = a.piece.now in
-    let words = c.read_tests-read.new.1.0 in
+    let s = c.args.sheet.now in
+    let g = c.args.graph.now in
+    let p = c.args.piece.now in
+    let words = c.read_tests-read.new.codes in
     let codes = c.read_tests-read.new.1.1.0 in
-    let held = c.read_tests-read.ensures.1 in
-    ap reply_values (sheet_refuses s g p (found_refuses s words codes c.read_tests-read.ensures.0 c.read-1.given.1))
+    let held = c.read_tests-read.ensures.held in
+    ap reply_values (sheet_refuses s g p (found_refuses s words codes c.read_tests-read.ensures.result_after c.in-Refused.is))
 
 pub returns-in-Accepted : goal.returns-in-Accepted
 returns-in-Accepted c =
     let a = c.args in
-    let s = a.sheet.now in
-    let g = a.graph.now in
-    let p = a.piece.now in
-    let words = c.read_tests-read.new.1.0 in
+    let s = c.args.sheet.now in
+    let g = c.args.graph.now in
+    let p = c.args.piece.now in
+    let words = c.read_tests-read.new.codes in
     let codes = c.read_tests-read.new.1.1.0 in
-    let held = c.read_tests-read.ensures.1 in
-    let t = found_accepts s words codes c.read_tests-read.ensures.0 c.read-in-Accepted-1.given.1 in
+    let held = c.read_tests-read.ensures.held in
+    let t = found_accepts s words codes c.read_tests-read.ensures.result_after c.in-Accepted.is in
     values_read c.walk_piece.result ∙ ap reply_values (c.walk_piece.ensures t ∙ sheet_accepts s g p t.read.accepted)

@@ -20,47 +20,47 @@ use borrow.Author.Rules.{rules}
 use Rattle.walk.proofs.call.walk_checked.Goals as goal
 
 pub slice_bounds-walk_nodes-count : goal.slice_bounds-walk_nodes-count
-slice_bounds-walk_nodes-count c = c.requires.1.sheet.read.whole
+slice_bounds-walk_nodes-count c = c.requires.checked.sheet.read.whole
 
 pub slice_bounds-walk_nodes-start : goal.slice_bounds-walk_nodes-start
-slice_bounds-walk_nodes-start c = c.requires.1.sheet.read.whole
+slice_bounds-walk_nodes-start c = c.requires.checked.sheet.read.whole
 
 pub walk_nodes-requires : goal.walk_nodes-requires
 walk_nodes-requires c =
     let a = c.args in
-    let s = a.sheet.now in
-    let g = a.graph.now in
-    let kept = a.kept.now in
-    let starts = a.starts.now in
-    let pre = c.requires.0 in
-    let checked = c.requires.1 in
+    let s = c.args.sheet.now in
+    let g = c.args.graph.now in
+    let kept = c.args.kept.now in
+    let starts = c.args.starts.now in
+    let pre = c.requires.starts_len in
+    let checked = c.requires.checked in
     let s-bytes = bytes_all s (λ i. omega (arith, c.shared_slice_known-1.given i)) in
-    let g-bytes = bytes_all g (λ i. omega (arith, c.shared_slice_known-2-1.given i)) in (
-      (
+    let g-bytes = bytes_all g (λ i. omega (arith, c.shared_slice_known-2-1.given i)) in record {
+      starts_len = (
         pre.0,
         read_narrow pre.1.read_as,
         subst (λ (l : List ℕ). Begins l a.sizes.arity a.sizes.rules kept) (sym (rest s 3)) pre.2,
         pre.3,
-      ),
-      subst (λ (l : List ℕ). Ready l g starts kept a.sizes.arity a.sizes.rules a.sizes.nodes) (sym (rest s 3))
-          (ready_made s g kept checked.sheet s-bytes g-bytes starts checked.graph),
-    )
+      );
+      ready = subst (λ (l : List ℕ). Ready l g starts kept a.sizes.arity a.sizes.rules a.sizes.nodes) (sym (rest s 3))
+          (ready_made s g kept checked.sheet s-bytes g-bytes starts checked.graph);
+    }
 
 pub returns : goal.returns
 returns c =
     let a = c.args in
-    let s = a.sheet.now in
-    let g = a.graph.now in
-    let kept = a.kept.now in
-    let starts = a.starts.now in
-    let cells = a.cells.now in
-    let checked = c.requires.1 in
+    let s = c.args.sheet.now in
+    let g = c.args.graph.now in
+    let kept = c.args.kept.now in
+    let starts = c.args.starts.now in
+    let cells = c.args.cells.now in
+    let checked = c.requires.checked in
     let s-bytes = bytes_all s (λ i. omega (arith, c.shared_slice_known-1.given i)) in
-    let g-bytes = bytes_all g (λ i. omega (arith, c.shared_slice_known-2-1.given i)) in (
-      (λ t p k.
-          c.walk_nodes.ensures.0
+    let g-bytes = bytes_all g (λ i. omega (arith, c.shared_slice_known-2-1.given i)) in record {
+      result_value = (λ t p k.
+          c.walk_nodes.ensures.result_value
           ∙ ap (λ (l : List ℕ). end_walk (read_or [] (read_rules a.sizes.arity a.sizes.rules l)) (listed_tests kept) cells (cells_end (nodes_at g starts a.sizes.nodes) cells)) (rest s 3)
           ∙ graph_walked s g kept checked.sheet s-bytes g-bytes starts checked.graph p cells k
-          ∙ ap (λ (x : Sheet). graph_reply x g k.piece.terms) (same_sheet checked.sheet.read t)),
-      c.walk_nodes.ensures.1,
-    )
+          ∙ ap (λ (x : Sheet). graph_reply x g k.piece.terms) (same_sheet checked.sheet.read t));
+      notes_len = c.walk_nodes.ensures.notes_len;
+    }

@@ -13,23 +13,23 @@ use Rattle.walk.proofs.call.walk_graph.Goals as goal
 
 pub index_graph-index-requires : goal.index_graph-index-requires
 index_graph-index-requires c =
-    let pre = c.requires.0 in
+    let pre = c.requires.arrays in
     (pre.0.all_words, omega (arith, pre.0.few_tests), pre.0.all_codes, length-replicate {A = ℕ} 1024 0)
 
 pub keep_tests-requires : goal.keep_tests-requires
-keep_tests-requires c = (c.requires.0.0, length-replicate {A = ℕ} 324 0)
+keep_tests-requires c = (c.requires.arrays.0, length-replicate {A = ℕ} 324 0)
 
 pub walk_checked-requires : goal.walk_checked-requires
 walk_checked-requires c =
     let a = c.args in
-    let s = a.sheet.now in
-    let words = a.words.now in
-    let codes = a.codes.now in
-    let pairs = a.sizes.pairs in
+    let s = c.args.sheet.now in
+    let words = c.args.words.now in
+    let codes = c.args.codes.now in
+    let pairs = c.args.sizes.pairs in
     let index-graph = c.index_graph-index in
-    let starts = index-graph.new.1.1.1.1.1.1.0 in
-    let pre = c.requires.0 in
-    let t = c.requires.1 in
+    let starts = c.index_graph-index.new.1.1.1.1.1.1.0 in
+    let pre = c.requires.arrays in
+    let t = c.requires.accepted_tests in
     let s-bytes = bytes_all s (λ i. omega (arith, c.shared_slice_known-1.given i)) in
     let blank = replicate {A = ℕ} 324 0 in
     let long = length-replicate {A = ℕ} 324 0 in
@@ -38,19 +38,19 @@ walk_checked-requires c =
     subst (Begins (drop 3 s) a.sizes.arity a.sizes.rules) (sym put)
     (none_noted words codes pairs pre.0 (drop 3 s) a.sizes.arity a.sizes.rules) in
     let f =
-    index_accepts s a.graph.now words codes starts t index-graph.result index-graph.ensures.0 c.index-in-Accepted-1.given.1 in (
-      (index-graph.ensures.1, pre.1, begins, length-replicate {A = ℕ} 680 0),
-      checked_kept s words codes t s-bytes pre.0 blank long a.graph.now starts
-          (kept_stays s words codes t s-bytes pre.0 blank long put) f,
-    )
+    index_accepts s a.graph.now words codes starts t index-graph.result index-graph.ensures.result_after c.in-Accepted.is in record {
+      starts_len = (index-graph.ensures.starts_len, pre.1, begins, length-replicate {A = ℕ} 680 0);
+      checked = checked_kept s words codes t s-bytes pre.0 blank long a.graph.now starts
+          (kept_stays s words codes t s-bytes pre.0 blank long put) f;
+    }
 
 pub returns-in-Refused : goal.returns-in-Refused
 returns-in-Refused c = λ t p k.
     let a = c.args in
     let index-graph = c.index_graph-index in
-    let starts = index-graph.new.1.1.1.1.1.1.0 in
+    let starts = c.index_graph-index.new.1.1.1.1.1.1.0 in
     graph_refuses t.read.sheet a.graph.now k.piece
-    (index_refuses a.sheet.now a.graph.now a.words.now a.codes.now starts t index-graph.result index-graph.ensures.0 c.index-1.given.1)
+    (index_refuses a.sheet.now a.graph.now a.words.now a.codes.now starts t index-graph.result index-graph.ensures.result_after c.in-Refused.is)
 
 pub returns-in-Accepted : goal.returns-in-Accepted
-returns-in-Accepted c = λ t. c.walk_checked.ensures.0 t.read
+returns-in-Accepted c = λ t. c.walk_checked.ensures.result_value t.read

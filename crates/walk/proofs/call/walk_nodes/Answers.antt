@@ -19,38 +19,40 @@ use Rattle.walk.proofs.call.walk_nodes.Goals as goal
 
 pub follow_path-followed-requires : goal.follow_path-followed-requires
 follow_path-followed-requires c =
-    let pre = c.requires.0 in
-    ((pre.1, pre.0, length-replicate {A = ℕ} 64 0), c.requires.1.index)
+    let pre = c.requires.starts_len in record {
+      narrow = (pre.1, pre.0, length-replicate {A = ℕ} 64 0);
+      index = c.requires.ready.index;
+    }
 
 pub suspend_waits-requires : goal.suspend_waits-requires
 suspend_waits-requires c =
     let a = c.args in
-    let pre = c.requires.0 in
-    let ready = c.requires.1 in
+    let pre = c.requires.starts_len in
+    let ready = c.requires.ready in
     let tests = listed_tests a.kept.now in
-    let cells = a.cells.now in
-    let sizes = a.sizes in
+    let cells = c.args.cells.now in
+    let sizes = c.args.sizes in
     let call = c.follow_path-followed in
-    let ends = sym (ap (ended_of c.follow_path-followed.new.1.1.1.1.0) c.followed-in-Reached-1.given.1) ∙ c.follow_path-followed.ensures.0 in (
-      (ready.few_arguments, ready.rules_read, pre.3, ready.listed, pre.1),
-      (
-        call.ensures.1.0,
-        omega (arith, call.ensures.1.1, ap edges_of c.followed-in-Reached-1.given.1),
+    let ends = sym (ap (ended_of c.follow_path-followed.new.1.1.1.1.0) c.in-Reached.is) ∙ c.follow_path-followed.ensures.result_after in record {
+      arity_bound = (ready.few_arguments, ready.rules_read, pre.3, ready.listed, pre.1);
+      met_len = (
+        call.ensures.met_len.0,
+        omega (arith, call.ensures.met_len.1, ap edges_of c.in-Reached.is),
         reached_kept tests (nodes_at a.graph.now a.starts.now sizes.nodes) ready.asked cells ends,
-      ),
-    )
+      );
+    }
 
 pub at_execute-requires : goal.at_execute-requires
 at_execute-requires c =
     let a = c.args in
-    let pre = c.requires.0 in
-    let ready = c.requires.1 in
+    let pre = c.requires.starts_len in
+    let ready = c.requires.ready in
     let tests = listed_tests a.kept.now in
-    let cells = a.cells.now in
-    let sizes = a.sizes in
-    let ends = sym (ap (ended_of c.follow_path-followed.new.1.1.1.1.0) c.followed-in-Reached-1.given.1) ∙ c.follow_path-followed.ensures.0 in
+    let cells = c.args.cells.now in
+    let sizes = c.args.sizes in
+    let ends = sym (ap (ended_of c.follow_path-followed.new.1.1.1.1.0) c.in-Reached.is) ∙ c.follow_path-followed.ensures.result_after in
     let inside =
-    subst (λ (l : Leaf). LeafIn sizes.rules (leaf_of l)) c.leaf-1.given.1
+    subst (λ (l : Leaf). LeafIn sizes.rules (leaf_of l)) c.in-Execute.is
     (reached_leaf sizes.rules (nodes_at a.graph.now a.starts.now sizes.nodes) cells ready.leaves ends) in (
       record { few_arguments = ready.few_arguments; from_one = inside.0; inside = inside.1; rules_read = ready.rules_read },
       pre.1,
@@ -62,50 +64,52 @@ at_execute-requires c =
 pub returns-in-Refused : goal.returns-in-Refused
 returns-in-Refused c =
     let a = c.args in
-    let pre = c.requires.0 in
-    let ready = c.requires.1 in
+    let pre = c.requires.starts_len in
+    let ready = c.requires.ready in
     let tests = listed_tests a.kept.now in
-    let cells = a.cells.now in
-    let sizes = a.sizes in (
-      ap (end_walk (read_or [] (read_rules sizes.arity sizes.rules a.s.now)) tests cells) (sym (ap (ended_of c.follow_path-followed.new.1.1.1.1.0) c.followed-1.given.1) ∙ c.follow_path-followed.ensures.0),
-      pre.3,
-    )
+    let cells = c.args.cells.now in
+    let sizes = c.args.sizes in record {
+      result_value = ap (end_walk (read_or [] (read_rules sizes.arity sizes.rules a.s.now)) tests cells) (sym (ap (ended_of c.follow_path-followed.new.1.1.1.1.0) c.in-Refused.is) ∙ c.follow_path-followed.ensures.result_after);
+      notes_len = pre.3;
+    }
 
 pub returns-in-Fail : goal.returns-in-Fail
 returns-in-Fail c =
     let a = c.args in
-    let pre = c.requires.0 in
-    let ready = c.requires.1 in
+    let pre = c.requires.starts_len in
+    let ready = c.requires.ready in
     let tests = listed_tests a.kept.now in
-    let cells = a.cells.now in
-    let sizes = a.sizes in
-    let ends = sym (ap (ended_of c.follow_path-followed.new.1.1.1.1.0) c.followed-in-Reached-1.given.1) ∙ c.follow_path-followed.ensures.0 in
-    (ap (end_walk (read_or [] (read_rules sizes.arity sizes.rules a.s.now)) tests cells) (ap (λ (l : Leaf). reached (leaf_of l) c.followed-in-Reached-1.given.0.1.0 (take c.followed-in-Reached-1.given.0.1.0 c.follow_path-followed.new.1.1.1.1.0)) (sym c.enum_told-1.given.1) ∙ ends), pre.3)
+    let cells = c.args.cells.now in
+    let sizes = c.args.sizes in
+    let ends = sym (ap (ended_of c.follow_path-followed.new.1.1.1.1.0) c.in-Reached.is) ∙ c.follow_path-followed.ensures.result_after in record {
+      result_value = ap (end_walk (read_or [] (read_rules sizes.arity sizes.rules a.s.now)) tests cells) (ap (λ (l : Leaf). reached (leaf_of l) c.in-Reached.edges (take c.in-Reached.edges c.follow_path-followed.new.1.1.1.1.0)) (sym c.in-Fail.is) ∙ ends);
+      notes_len = pre.3;
+    }
 
 pub returns-in-Suspend : goal.returns-in-Suspend
 returns-in-Suspend c =
     let a = c.args in
-    let pre = c.requires.0 in
-    let ready = c.requires.1 in
+    let pre = c.requires.starts_len in
+    let ready = c.requires.ready in
     let tests = listed_tests a.kept.now in
-    let cells = a.cells.now in
-    let sizes = a.sizes in
-    let ends = sym (ap (ended_of c.follow_path-followed.new.1.1.1.1.0) c.followed-in-Reached-1.given.1) ∙ c.follow_path-followed.ensures.0 in (
-      ap (λ (w : ℕ). took 0 (record { answer = answers.suspend; edges = c.followed-in-Reached-1.given.0.1.0; waits = w })) c.suspend_waits.ensures.0
-          ∙ ap (end_walk (read_or [] (read_rules sizes.arity sizes.rules a.s.now)) tests cells) (ap (λ (l : Leaf). reached (leaf_of l) c.followed-in-Reached-1.given.0.1.0 (take c.followed-in-Reached-1.given.0.1.0 c.follow_path-followed.new.1.1.1.1.0)) (sym c.enum_told-in-Suspend-1.given.1) ∙ ends),
-      c.suspend_waits.ensures.1,
-    )
+    let cells = c.args.cells.now in
+    let sizes = c.args.sizes in
+    let ends = sym (ap (ended_of c.follow_path-followed.new.1.1.1.1.0) c.in-Reached.is) ∙ c.follow_path-followed.ensures.result_after in record {
+      result_value = ap (λ (w : ℕ). took 0 (record { answer = answers.suspend; edges = c.in-Reached.edges; waits = w })) c.suspend_waits.ensures.value
+          ∙ ap (end_walk (read_or [] (read_rules sizes.arity sizes.rules a.s.now)) tests cells) (ap (λ (l : Leaf). reached (leaf_of l) c.in-Reached.edges (take c.in-Reached.edges c.follow_path-followed.new.1.1.1.1.0)) (sym c.in-Suspend.is) ∙ ends);
+      notes_len = c.suspend_waits.ensures.notes_len;
+    }
 
 pub returns-in-Execute : goal.returns-in-Execute
 returns-in-Execute c =
     let a = c.args in
-    let pre = c.requires.0 in
-    let ready = c.requires.1 in
+    let pre = c.requires.starts_len in
+    let ready = c.requires.ready in
     let tests = listed_tests a.kept.now in
-    let cells = a.cells.now in
-    let sizes = a.sizes in
-    let ends = sym (ap (ended_of c.follow_path-followed.new.1.1.1.1.0) c.followed-in-Reached-1.given.1) ∙ c.follow_path-followed.ensures.0 in (
-      c.at_execute.ensures.0
-          ∙ ap (end_walk (read_or [] (read_rules sizes.arity sizes.rules a.s.now)) tests cells) (ap (λ (l : Leaf). reached (leaf_of l) c.followed-in-Reached-1.given.0.1.0 (take c.followed-in-Reached-1.given.0.1.0 c.follow_path-followed.new.1.1.1.1.0)) (sym c.leaf-1.given.1) ∙ ends),
-      c.at_execute.ensures.1,
-    )
+    let cells = c.args.cells.now in
+    let sizes = c.args.sizes in
+    let ends = sym (ap (ended_of c.follow_path-followed.new.1.1.1.1.0) c.in-Reached.is) ∙ c.follow_path-followed.ensures.result_after in record {
+      result_value = c.at_execute.ensures.result_value
+          ∙ ap (end_walk (read_or [] (read_rules sizes.arity sizes.rules a.s.now)) tests cells) (ap (λ (l : Leaf). reached (leaf_of l) c.in-Reached.edges (take c.in-Reached.edges c.follow_path-followed.new.1.1.1.1.0)) (sym c.in-Execute.is) ∙ ends);
+      notes_len = c.at_execute.ensures.notes_len;
+    }

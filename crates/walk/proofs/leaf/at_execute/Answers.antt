@@ -27,21 +27,23 @@ notes_at-taken-requires c =
     let pre = c.requires in
     let begin =
     subst (BeginAt a.s.now a.sizes.arity a.sizes.rules a.rule) (sym c.begin_of-begin.ensures)
-    (pre.3 a.rule pre.0.from_one pre.0.inside) in
-    ((pre.0, pre.4), begin)
+    (pre.3 a.rule pre.0.from_one pre.0.inside) in record {
+      rule_read = (pre.0, pre.4);
+      begin_at = begin;
+    }
 
 pub returns-in-Refused : goal.returns-in-Refused
 returns-in-Refused c =
-    let call = c.notes_at-taken in (
-      absurd (something (sym (ap (taken_notes call.new.1.1.1.1.1.0) c.taken-1.given.1) ∙ call.ensures.0)),
-      call.ensures.1.1,
-    )
+    let call = c.notes_at-taken in record {
+      result_value = absurd (something (sym (ap (taken_notes call.new.1.1.1.1.1.0) c.in-Refused.is) ∙ call.ensures.result_after));
+      notes_len = call.ensures.result_bound.1;
+    }
 
 pub at_rule-end-requires : goal.at_rule-end-requires
 at_rule-end-requires c =
-    let call = c.notes_at-taken in
-    let few = call.ensures.1 in
-    let told = ap notes_taken c.taken-in-Used-1.given.1 in
+    let call = c.notes-at in
+    let few = c.notes-at.ensures.1 in
+    let told = ap notes_taken c.taken2.given.1 in
     let pre = c.requires in (
       omega (arith, few.0, told),
       few.1,
@@ -53,10 +55,10 @@ at_rule-end-requires c =
 pub returns : goal.returns
 returns c =
     let a = c.args in
-    let call = c.notes_at-taken in
-    let noted = same_thing (sym (ap (taken_notes call.new.1.1.1.1.1.0) c.taken-in-Used-1.given.1) ∙ call.ensures.0) in (
-      ap (λ (e : RuleEnd). took 0 (walk_after a.edges e))
+    let call = c.notes-at in
+    let noted = same_thing (sym (ap (taken_notes call.new.1.1.1.1.1.0) c.taken2.given.1) ∙ call.ensures.0) in record {
+      result_value = ap (λ (e : RuleEnd). took 0 (walk_after a.edges e))
           (c.at_rule-end.ensures
-          ∙ ap (λ (l : List Note). executed_by a.rule (notes_masks (listed_tests a.kept.now) a.cells.now l)) noted),
-      call.ensures.1.1,
-    )
+          ∙ ap (λ (l : List Note). executed_by a.rule (notes_masks (listed_tests a.kept.now) a.cells.now l)) noted);
+      notes_len = call.ensures.1.1;
+    }

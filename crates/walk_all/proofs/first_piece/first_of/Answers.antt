@@ -6,12 +6,12 @@ use Rattle.walk_all.specs.views.FirstPiece.{first_made}
 use Rattle.walk_all.proofs.first_piece.first_of.Goals as goal
 
 pub returns-in-Refused : goal.returns-in-Refused
-returns-in-Refused c = sym (ap (λ (r : Prefix). first_made r c.args.walked) c.prefix-1.given.1)
+returns-in-Refused c = sym (ap (λ (r : Prefix). first_made r c.args.walked) c.in-Refused.is)
 
 pub returns-in-Refused-walked : goal.returns-in-Refused-walked
 returns-in-Refused-walked c =
-    sym (ap₂ first_made c.prefix-in-Read-1.given.1 c.walked-1.given.1)
+    sym (ap₂ first_made c.in-Read.is c.in-Refused-walked.is)
 
 pub returns-in-Answered : goal.returns-in-Answered
 returns-in-Answered c =
-    sym (ap₂ first_made c.prefix-in-Read-1.given.1 c.walked-in-Read-1.given.1)
+    sym (ap₂ first_made c.in-Read.is c.in-Answered.is)

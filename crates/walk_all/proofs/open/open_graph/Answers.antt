@@ -33,31 +33,31 @@ module _ (c : goal.In-Accepted) where
   sheet = c.args.sheet.now
 
   abbrev words : List ℕ
-  words = c.read_tests-read.new.1.0
+  words = c.read_tests-read.new.codes
 
   abbrev codes : List ℕ
   codes = c.read_tests-read.new.1.1.0
 
   abbrev arity : ℕ
-  arity = c.read-in-Accepted-1.given.0.0
+  arity = c.in-Accepted.arity
 
   abbrev rules : ℕ
-  rules = c.read-in-Accepted-1.given.0.1.0
+  rules = c.in-Accepted.rules
 
   abbrev places : ℕ
-  places = c.read-in-Accepted-1.given.0.1.1.0
+  places = c.in-Accepted.field-2
 
   abbrev pairs : ℕ
-  pairs = c.read-in-Accepted-1.given.0.1.1.1.0
+  pairs = c.in-Accepted.pairs
 
   held : Held words codes c.read_tests-read.result
-  held = c.read_tests-read.ensures.1
+  held = c.read_tests-read.ensures.held
 
   few : (places ≡ length (places_in words)) × (places + pairs ≤ most_tests)
-  few = read_counted words codes c.read-in-Accepted-1.given.1 held
+  few = read_counted words codes c.in-Accepted.is held
 
   read : AcceptedTests sheet words codes arity rules pairs
-  read = found_accepts sheet words codes c.read_tests-read.ensures.0 c.read-in-Accepted-1.given.1
+  read = found_accepts sheet words codes c.read_tests-read.ensures.result_after c.in-Accepted.is
 
   arrays : Arrays words codes pairs
   arrays = record { all_words = held.all_words; all_codes = held.all_codes; few_tests = omega (arith, few.0, few.1) }
@@ -82,68 +82,68 @@ module _ (c : goal.In-Accepted) where
 
 pub index_graph-index-requires : goal.index_graph-index-requires
 index_graph-index-requires c =
-    ((held c).all_words, omega (arith, (few c).1), (held c).all_codes, c.requires.0)
+    ((held (goal.at.index_graph-index-requires c).In-Accepted).all_words, omega (arith, (few (goal.at.index_graph-index-requires c).In-Accepted).1), (held (goal.at.index_graph-index-requires c).In-Accepted).all_codes, c.requires.0)
 
 pub keep_tests-requires : goal.keep_tests-requires
-keep_tests-requires c = (arrays c, entries c)
+keep_tests-requires c = (arrays (goal.at.keep_tests-requires c).In-Accepted, entries (goal.at.keep_tests-requires c).In-Accepted)
 
 pub slice_bounds-rule_begins-count : goal.slice_bounds-rule_begins-count
-slice_bounds-rule_begins-count c = (read c).read.whole
+slice_bounds-rule_begins-count c = (read (goal.at.slice_bounds-rule_begins-count c).In-Accepted).read.whole
 
 pub slice_bounds-rule_begins-start : goal.slice_bounds-rule_begins-start
-slice_bounds-rule_begins-start c = (read c).read.whole
+slice_bounds-rule_begins-start c = (read (goal.at.slice_bounds-rule_begins-start c).In-Accepted).read.whole
 
 pub rule_begins-requires : goal.rule_begins-requires
 rule_begins-requires c =
-    let t = read c in
-    let s = sheet c in
+    let t = read (goal.at.rule_begins-requires c).In-Accepted in
+    let s = sheet (goal.at.rule_begins-requires c).In-Accepted in
     let put = c.keep_tests.ensures in
-    let stay = kept_stays s (words c) (codes c) t (bytes c) (arrays c) (blank c) (entries c) put in
+    let stay = kept_stays s (words (goal.at.rule_begins-requires c).In-Accepted) (codes (goal.at.rule_begins-requires c).In-Accepted) t (bytes (goal.at.rule_begins-requires c).In-Accepted) (arrays (goal.at.rule_begins-requires c).In-Accepted) (blank (goal.at.rule_begins-requires c).In-Accepted) (entries (goal.at.rule_begins-requires c).In-Accepted) put in
     let took = subst IsTook (sym t.read.rules_read) tt in (
       t.read.few,
-      subst (λ (l : List ℕ). IsTook (read_rules (arity c) (rules c) l)) (sym (rest s 3)) took,
+      subst (λ (l : List ℕ). IsTook (read_rules (arity (goal.at.rule_begins-requires c).In-Accepted) (rules (goal.at.rule_begins-requires c).In-Accepted) l)) (sym (rest s 3)) took,
       c.requires.1,
       stay.entries,
-      subst (λ (l : List ℕ). Begins l (arity c) (rules c) c.keep_tests.new.1.1.1.0) (sym (rest s 3))
-          (subst (Begins (drop 3 s) (arity c) (rules c)) (sym put) (unnoted c)),
+      subst (λ (l : List ℕ). Begins l (arity (goal.at.rule_begins-requires c).In-Accepted) (rules (goal.at.rule_begins-requires c).In-Accepted) c.keep_tests.new.1.1.1.0) (sym (rest s 3))
+          (subst (Begins (drop 3 s) (arity (goal.at.rule_begins-requires c).In-Accepted) (rules (goal.at.rule_begins-requires c).In-Accepted)) (sym put) (unnoted (goal.at.rule_begins-requires c).In-Accepted)),
     )
 
 pub returns-in-Refused : goal.returns-in-Refused
 returns-in-Refused c =
     let a = c.args in
     let call = c.read_tests-read in
-    let told = check_no call.new.1.0 call.new.1.1.0 (accept_sheet a.sheet.now) c.read-1.given.1 call.ensures.0 in
+    let told = check_no call.new.codes call.new.1.1.0 (accept_sheet a.sheet.now) c.in-Refused.is call.ensures.result_after in
     (sheet_unread a.sheet.now a.graph.now (check_refuses a.sheet.now told), c.requires.1)
 
 pub returns-in-Refused-index : goal.returns-in-Refused-index
 returns-in-Refused-index c =
     let graph = c.args.graph.now in
     let call = c.index_graph-index in
-    let starts = call.new.1.1.1.1.1.1.0 in (
-      sheet_read_lem (sheet c) graph (read c).read.accepted
-          ∙ index_refuses (sheet c) graph (words c) (codes c) starts (read c) call.result call.ensures.0 c.index-1.given.1,
+    let starts = c.index_graph-index.new.1.1.1.1.1.1.0 in (
+      sheet_read_lem (sheet (goal.at.returns-in-Refused-index c).In-Accepted) graph (read (goal.at.returns-in-Refused-index c).In-Accepted).read.accepted
+          ∙ index_refuses (sheet (goal.at.returns-in-Refused-index c).In-Accepted) graph (words (goal.at.returns-in-Refused-index c).In-Accepted) (codes (goal.at.returns-in-Refused-index c).In-Accepted) starts (read (goal.at.returns-in-Refused-index c).In-Accepted) call.result call.ensures.result_after c.in-Refused-index.is,
       c.requires.1,
     )
 
 pub returns-in-Accepted-index : goal.returns-in-Accepted-index
 returns-in-Accepted-index c =
-    let s = sheet c in
+    let s = sheet (goal.at.returns-in-Accepted-index c).In-Accepted in
     let graph = c.args.graph.now in
     let call = c.index_graph-index in
-    let starts = call.new.1.1.1.1.1.1.0 in
+    let starts = c.index_graph-index.new.1.1.1.1.1.1.0 in
     let noted = c.rule_begins.ensures in
     let kept = c.rule_begins.new.1.1.1.1.0 in
     let stay = subst (λ (l : List ℕ). TestsStay l kept) c.keep_tests.ensures noted.1 in
-    let made = index_accepts s graph (words c) (codes c) starts (read c) call.result call.ensures.0 c.index-in-Accepted-index-1.given.1 in (
+    let made = index_accepts s graph (words (goal.at.returns-in-Accepted-index c).In-Accepted) (codes (goal.at.returns-in-Accepted-index c).In-Accepted) starts (read (goal.at.returns-in-Accepted-index c).In-Accepted) call.result call.ensures.result_after c.in-Accepted-index.is in (
       record {
         nodes = made.nodes;
-        read = sheet_read_lem s graph (read c).read.accepted ∙ made.read;
+        read = sheet_read_lem s graph (read (goal.at.returns-in-Accepted-index c).In-Accepted).read.accepted ∙ made.read;
         known = record {
-          all_starts = call.ensures.1;
+          all_starts = call.ensures.starts_len;
           checked =
-              checked_kept s (words c) (codes c) (read c) (bytes c) (arrays c) (blank c) (entries c) graph starts
+              checked_kept s (words (goal.at.returns-in-Accepted-index c).In-Accepted) (codes (goal.at.returns-in-Accepted-index c).In-Accepted) (read (goal.at.returns-in-Accepted-index c).In-Accepted) (bytes (goal.at.returns-in-Accepted-index c).In-Accepted) (arrays (goal.at.returns-in-Accepted-index c).In-Accepted) (blank (goal.at.returns-in-Accepted-index c).In-Accepted) (entries (goal.at.returns-in-Accepted-index c).In-Accepted) graph starts
               stay made;
-          begins = subst (λ (l : List ℕ). Begins l (arity c) (rules c) kept) (rest s 3) noted.0;
+          begins = subst (λ (l : List ℕ). Begins l (arity (goal.at.returns-in-Accepted-index c).In-Accepted) (rules (goal.at.returns-in-Accepted-index c).In-Accepted) kept) (rest s 3) noted.0;
         };
       },
       noted.2,
