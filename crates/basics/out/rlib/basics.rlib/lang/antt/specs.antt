@@ -1,3 +1,0 @@
--- What is said of lists, and ascending order.
-pub mod Lists
-pub mod Order

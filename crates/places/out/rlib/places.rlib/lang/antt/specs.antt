@@ -1,3 +1,0 @@
--- The definitions that the contracts of this crate cite.
-pub mod Numbering
-pub mod AllParents
