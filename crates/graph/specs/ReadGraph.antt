@@ -81,7 +81,8 @@ case_before (symbols_case l h) (symbols_case x y) = ltb h x
 case_before (symbols_case l h) (compound_case b m) = true
 case_before (symbols_case l h) (numbers_case x y) = true
 case_before (compound_case a n) (symbols_case x y) = false
-case_before (compound_case a n) (compound_case b m) = functor_before (record { name = a; arity = n }) (record { name = b; arity = m })
+case_before (compound_case a n) (compound_case b m) =
+    functor_before (record { name = a; arity = n }) (record { name = b; arity = m })
 case_before (compound_case a n) (numbers_case x y) = true
 case_before (numbers_case l h) (symbols_case x y) = false
 case_before (numbers_case l h) (compound_case b m) = false
@@ -125,7 +126,8 @@ end_graph bytes (refused q) = refused q
 -- "21 Does the graph begin with a whole 12 record with the sheet's arity and rule count, and 1 to 1,024 nodes?"
 abbrev pub has_header : ℕ → ℕ → List ℕ → Bool
 has_header arity rules s =
-    is_whole 0x12 0x12 s && eqb (get_or s 1 0) arity && eqb (get_or s 2 0) rules && leb 1 (wide_at s 3) && leb (wide_at s 3) most_nodes
+    is_whole 0x12 0x12 s && eqb (get_or s 1 0) arity && eqb (get_or s 2 0) rules
+    && leb 1 (wide_at s 3) && leb (wide_at s 3) most_nodes
 
 -- A graph for a sheet of that arity, so many rules and these tests.
 unfoldable pub read_by : (Test → Bool) → ℕ → ℕ → List ℕ → Reading (List (Node ℕ))

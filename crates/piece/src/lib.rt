@@ -13,8 +13,7 @@ ghost use Rattle.piece.specs.CheckPiece.{piece_check_values, piece_values};
 
 use codes::{NEVER, UNKNOWN, compound_code, gauged_code, number_code, run_of, symbol_code};
 
-// For each of the 680 places the run of codes that what stands there can have (codes::low_of, codes::high_of), 0 where the piece
-// lacks it.
+// For each of the 680 places the run of codes (codes::low_of, codes::high_of) of what may stand there, 0 where the piece lacks it.
 pub type Cells = [u64; 680];
 
 // A whole record of a term.

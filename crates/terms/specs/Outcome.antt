@@ -134,7 +134,8 @@ together f (x ∷ xs) = ◌and◌ (f x) (together f xs)
 
 -- The outcome of all tests of a rule together.
 abbrev pub rule_outcome : Patterns → Terms → Outcome
-rule_outcome rule piece = ◌and◌ (together (place_outcome piece) (place_tests rule)) (together (pair_outcome piece) (pair_tests rule))
+rule_outcome rule piece =
+    ◌and◌ (together (place_outcome piece) (place_tests rule)) (together (pair_outcome piece) (pair_tests rule))
 
 -- "A rule is met when all its tests hold."
 abbrev pub Meets : Patterns → Terms → Type 0

@@ -8,7 +8,8 @@
 --
 -- The memory may hold anything, so each step says what becomes of every content. From a fresh window the cells hold what
 -- specs/views/CellsOf says.
-use Rattle.std.specs.Prelude.{ℕ, ◌+◌, ◌-◌, ◌*◌, ◌/◌, ◌%◌, Bool, true, false, cond, ◌&&◌, List, [], ◌∷◌, replicate, nat_le, nat_lt, slice_index, slice_set}
+use Rattle.std.specs.Prelude.{ℕ, ◌+◌, ◌-◌, ◌*◌, ◌/◌, ◌%◌, Bool, true, false, cond, ◌&&◌}
+use Rattle.std.specs.Prelude.{List, [], ◌∷◌, replicate, nat_le, nat_lt, slice_index, slice_set}
 use Rattle.window.specs.LastThousand.{Given, given, is_commit, is_taken}
 
 -- A fresh window.

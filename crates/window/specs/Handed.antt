@@ -17,4 +17,9 @@ refusal_in (Refused q) = q
 -- The counts of the four words, as the cells hold them.
 abbrev pub words_in : List ℕ → WordCounts
 words_in cells =
-    record { commit = slice_index cells 2; execute = slice_index cells 3; suspend = slice_index cells 4; fail = slice_index cells 5 }
+    record {
+      commit = slice_index cells 2;
+      execute = slice_index cells 3;
+      suspend = slice_index cells 4;
+      fail = slice_index cells 5;
+    }

@@ -2,7 +2,8 @@
 -- among them. They stand in one array: key i's live rules at i, its pending tests at 1,024 + i, at 2,048 + i the number after that
 -- of the last key before it that has its hash, at 3,072 + h the number after that of the last key with hash h, and at 4,096 how
 -- many keys there are. 0 stands where there is no such key.
-use Rattle.std.specs.Prelude.{◌≡◌, ℕ, zero, suc, ◌+◌, ◌*◌, ◌%◌, ◌<◌, ◌≤◌, false, cond, List, [], ◌∷◌, ◌++◌, map, length, ◌==◌, slice_index}
+use Rattle.std.specs.Prelude.{◌≡◌, ℕ, zero, suc, ◌+◌, ◌*◌, ◌%◌, ◌<◌, ◌≤◌, false, cond}
+use Rattle.std.specs.Prelude.{List, [], ◌∷◌, ◌++◌, map, length, ◌==◌, slice_index}
 use Rattle.basics.specs.Lists.{count_from, any_of}
 use Rattle.decision.specs.Key.{Key, same_key}
 use Rattle.decision.specs.Graph.{number_in, most_nodes}

@@ -1,5 +1,6 @@
 -- How two terms of a piece compare, as its cells tell it (document 01, "Places and tests"; document 02, request 6).
-use Rattle.std.specs.Prelude.{ℕ, zero, suc, ◌+◌, ◌*◌, ◌%◌, ◌≤◌, ◌<◌, Bool, false, ◌&&◌, ◌||◌, not, cond, List, get_or, T, leb, ltb, eqb}
+use Rattle.std.specs.Prelude.{ℕ, zero, suc, ◌+◌, ◌*◌, ◌%◌, ◌≤◌, ◌<◌, Bool, false, ◌&&◌, ◌||◌, not, cond}
+use Rattle.std.specs.Prelude.{List, get_or, T, leb, ltb, eqb}
 use Rattle.places.specs.Numbering.{stride}
 use Rattle.terms.specs.Outcome.{Outcome, holds, not_known, contradicted, known, ◌and◌, compare_spans, beside_unknown}
 use Rattle.codes.specs.views.Codes.{compound_code, number_code, never_code, low_of, high_of}
@@ -80,8 +81,8 @@ compare_at cells zero other p q a b = compare_by a b not_known (left_open cells 
 compare_at cells (suc below) zero p q a b = compare_by a b not_known (left_open cells (suc below) zero p q (low_of a) (low_of b))
 compare_at cells (suc below) (suc other) p q a b =
     compare_by a b
-    (compare_row (λ i j. compare_at cells below other i j (get_or cells i 0) (get_or cells j 0)) (stride (suc below)) (stride (suc other))
-    (arity_of (low_of a)) (p + 1) (q + 1))
+    (compare_row (λ i j. compare_at cells below other i j (get_or cells i 0) (get_or cells j 0))
+    (stride (suc below)) (stride (suc other)) (arity_of (low_of a)) (p + 1) (q + 1))
     (left_open cells (suc below) (suc other) p q (low_of a) (low_of b))
 
 -- The terms at places p and q by their cells.

@@ -3,7 +3,8 @@ use Rattle.std.specs.Prelude.{ℕ, ◌/◌, ◌%◌, cond, List, [], ◌∷◌, 
 use Rattle.patterns.specs.declared.PatternRecord.{PatternRecord}
 use Rattle.patterns.specs.declared.PatternRecord.TheVariants.{Anything, Symbol, Series, Range, Gauged, Compound, Variable, Ranged}
 use Rattle.patterns.specs.views.PatternRecord.{series_record, gauged_record, record_spelling, records_spelling}
-use Rattle.rule_rows.specs.views.Words.{word_low, word_high, word_uses, word_place, fresh_words, met_records, Numbering, number_record}
+use Rattle.rule_rows.specs.views.Words.{word_low, word_high, word_uses, word_place}
+use Rattle.rule_rows.specs.views.Words.{fresh_words, met_records, Numbering, number_record}
 
 -- What a variable becomes, by its word.
 unfoldable pub tidy_word : ℕ → PatternRecord

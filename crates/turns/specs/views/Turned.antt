@@ -20,4 +20,6 @@ unfoldable pub turned_by : List ℕ → List ℕ → ℕ → List ℕ → List �
 turned_by numbers [] asked s = s
 turned_by numbers (p ∷ places) asked s =
     let t = get_or numbers p 0 in
-    cond (is_test_of s t p) (turned_by numbers places (with_asked asked t) (set s (260 + t) asked)) (turned_by numbers places asked s)
+    cond (is_test_of s t p)
+    (turned_by numbers places (with_asked asked t) (set s (260 + t) asked))
+    (turned_by numbers places asked s)

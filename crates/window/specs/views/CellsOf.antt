@@ -1,5 +1,6 @@
 -- What the cells of a window hold when these answers, all of them taken, were fed to a fresh one.
-use Rattle.std.specs.Prelude.{◌≡◌, ℕ, ◌+◌, ◌<◌, ◌≤◌, Bool, ◌&&◌, ◌||◌, List, ◌++◌, map, length, take, drop, ◌==◌, slice_index, slice_index_or}
+use Rattle.std.specs.Prelude.{◌≡◌, ℕ, ◌+◌, ◌<◌, ◌≤◌, Bool, ◌&&◌, ◌||◌}
+use Rattle.std.specs.Prelude.{List, ◌++◌, map, length, take, drop, ◌==◌, slice_index, slice_index_or}
 use Rattle.window.specs.LastThousand.{Given, is_commit, last_of, count_of}
 use Rattle.window.specs.Cells.{answer_in}
 
