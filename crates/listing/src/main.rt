@@ -3,25 +3,40 @@
 
 ghost use Rattle.io.specs.Counts.{IsPrefixLen};
 
-// The bytes of sheet.bin, none where it is missing or cannot be read.
-fn read_sheet(buf: &mut [u8]) -> usize
+use std::fs;
+use std::io::{Read, Write, writer};
+use std::rt::Files;
+
+// Reads until the buffer is full, the input ends or a read fails, and returns how many bytes it put at the buffer's start.
+fn read_full<R: Read>(input: &mut R, buf: &mut [u8]) -> usize
     ensures { IsPrefixLen result buf.new }
 {
-    let fd = os::open_read(b"sheet.bin");
-    if fd < 0 {
-        return 0;
+    let mut done = 0;
+    while done < buf.len() {
+        match input.read(&mut buf[done..]) {
+            Ok(n) if n > 0 => done += n,
+            _ => break,
+        }
     }
-    let n = io::read_full(fd, buf);
-    libc::close(fd);
-    n
+    done
 }
 
-fn main() {
-    let mut sheet = io::large_buffer();
-    let sheet_bytes = read_sheet(&mut sheet);
-    let mut input = io::large_buffer();
-    let input_bytes = io::read_full(libc::STDIN_FILENO, &mut input);
+// The bytes of sheet.bin, none where it is missing or cannot be read.
+fn read_sheet(files: &impl Files, buf: &mut [u8]) -> usize
+    ensures { IsPrefixLen result buf.new }
+{
+    match fs::open(files, "sheet.bin") {
+        Ok(mut file) => read_full(&mut file, buf),
+        Err(_) => 0,
+    }
+}
+
+fn main(rt: HostRuntime) -> std::io::Result<()> {
+    let mut sheet = [0u8; 65536];
+    let sheet_bytes = read_sheet(&rt, &mut sheet);
+    let mut input = [0u8; 65536];
+    let input_bytes = read_full(&mut rt.reader(), &mut input);
     let mut out = output::room();
     let bytes = output::listing(&sheet[..sheet_bytes], &input[..input_bytes], &mut out);
-    io::write_all(libc::STDOUT_FILENO, &out[..bytes]);
+    writer(&rt).write_all(&out[..bytes])
 }
