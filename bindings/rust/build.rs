@@ -1,5 +1,5 @@
 //! Links the static library `voltunnis`: from the folder that VOLTUNNIS_LIB names, else from
-//! target/staticlib at the top of the repository, where `rt staticlib voltunnis` writes it.
+//! target/staticlib at the top of the repository, where tools/staticlib.sh writes it.
 
 use std::path::{Path, PathBuf};
 
@@ -16,7 +16,7 @@ fn main() {
         match named {
             Some(_) => println!("cargo::error=VOLTUNNIS_LIB names no folder with libvoltunnis.a in it"),
             None => println!(
-                "cargo::error=there is no target/staticlib/libvoltunnis.a: run `rt staticlib voltunnis` \
+                "cargo::error=there is no target/staticlib/libvoltunnis.a: run `bash tools/staticlib.sh` \
                  first, or name the folder that holds it in VOLTUNNIS_LIB"
             ),
         }

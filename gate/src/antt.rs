@@ -55,12 +55,11 @@ impl Imports {
     }
 }
 
-/// The file of a module of the repository, as `Rattle·walk.specs.Walking` or, inside its own crate,
-/// `Rattle·walk·specs.specs.Walking`. None for the kit's modules and for the types that a program declares.
+/// The file of a module of the repository, as `Rattle.walk.specs.Walking`. None for the kit's modules and for the types that a
+/// program declares.
 fn module_file(module: &str) -> Option<String> {
-    let rest = module.strip_prefix("Rattle·")?;
-    let (head, path) = rest.split_once('.')?;
-    let name = head.split('·').next()?;
+    let rest = module.strip_prefix("Rattle.")?;
+    let (name, path) = rest.split_once('.')?;
     let parts: Vec<&str> = path.split('.').collect();
     if parts.len() < 2 || parts[1] == "declared" || KIT.contains(&name) {
         return None;
@@ -152,8 +151,8 @@ fn indent_of(line: &str) -> usize {
 mod tests {
     use super::*;
 
-    const LAW: &str = "use Rattle·walk.specs.Walking.{walkReply, Found as Seen}\nuse Rattle·decision·specs.specs.Key as key\n\n\
-        abbrev pub Local : ℕ\nLocal = 0\n\nmodule _ (a : Seen) where\n  -- A law.\n  pub right\n      : (b : key.Key) → walkReply a\n\
+    const LAW: &str = "use Rattle.walk.specs.Walking.{walk_reply, Found as Seen}\nuse Rattle.decision.specs.Key as key\n\n\
+        abbrev pub Local : ℕ\nLocal = 0\n\nmodule _ (a : Seen) where\n  -- A law.\n  pub right\n      : (b : key.Key) → walk_reply a\n\
         \x20 right b = refl\n";
 
     #[test]
@@ -167,7 +166,7 @@ mod tests {
     #[test]
     fn a_statement_has_its_module_and_no_proof() {
         let said = statement(LAW, "right").unwrap();
-        assert!(said.contains("module _ (a : Seen) where") && said.contains("walkReply a"));
+        assert!(said.contains("module _ (a : Seen) where") && said.contains("walk_reply a"));
         assert!(!said.contains("refl"));
     }
 

@@ -31,7 +31,7 @@ pub fn faults() -> Vec<String> {
     faults
 }
 
-/// The files below a folder with this ending, in order; build folders are passed over.
+/// The files below a folder with this ending, in order; what cargo and rt make is passed over.
 pub fn files_under(folder: &str, ending: &str) -> Vec<String> {
     let mut found = Vec::new();
     let Ok(entries) = read_dir(folder) else { return found };
@@ -39,8 +39,10 @@ pub fn files_under(folder: &str, ending: &str) -> Vec<String> {
     paths.sort();
     for path in paths {
         let name = path.to_string_lossy().into_owned();
-        if path.is_dir() && path.file_name().is_some_and(|name| name != "target") {
-            found.extend(files_under(&name, ending));
+        if path.is_dir() {
+            if path.file_name().is_some_and(|name| name != "target" && name != "out") {
+                found.extend(files_under(&name, ending));
+            }
         } else if Path::new(&name).extension().is_some_and(|e| e == ending) {
             found.push(name);
         }

@@ -89,7 +89,7 @@ abbrev pub head_refusal : PatternHead → ℕ
 head_refusal (Whole r) = 0
 head_refusal (Refused q) = q
 
--- "7 Is low at most high? 8 Is the variable 0 to 15?", asked in this order; a compound goes on by compoundOf.
+-- "7 Is low at most high? 8 Is the variable 0 to 15?", asked in this order; a compound goes on by compound_of.
 abbrev pub on_record : (ℕ → ℕ → Reading Pattern) → PatternRecord → Reading Pattern
 on_record compound_of Anything = took 1 anything
 on_record compound_of (Symbol a) = took 3 (the_symbol a)

@@ -32,7 +32,7 @@ abbrev pub head_refusal : TermHead → ℕ
 head_refusal (Whole r) = 0
 head_refusal (Refused q) = q
 
--- A compound goes on by compoundOf; "a span with low above high is refused (32)".
+-- A compound goes on by compound_of; "a span with low above high is refused (32)".
 abbrev pub on_record : (ℕ → ℕ → Reading Term) → TermRecord → Reading Term
 on_record compound_of Unknown = took 1 unknown
 on_record compound_of (Symbol a) = took 3 (symbol a)

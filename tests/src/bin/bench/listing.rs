@@ -34,7 +34,7 @@ fn run(program: &Path, words: &[&str], folder: &Path) {
 
 /// The row of one case: as many copies of its piece as an input takes, 10,000 at most.
 pub fn row(table: &mut Table, Case { name, sheet, piece }: &Case) {
-    let program: PathBuf = Path::new(env!("CARGO_MANIFEST_DIR")).join("../target/bin/listing");
+    let program: PathBuf = Path::new(env!("CARGO_MANIFEST_DIR")).join("../crates/listing/out/listing");
     let Ok(program) = program.canonicalize() else { return };
     let folder = env::temp_dir().join("voltunnis-bench");
     fs::create_dir_all(&folder).expect("a folder");

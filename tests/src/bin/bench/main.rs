@@ -1,8 +1,8 @@
 //! Times the library against the reference and the fast code, call by call in the same run, and prints a
 //! table; then for each call the geometric mean and the worst of its ratios to the fast code.
 //!
-//! `cargo run --release --bin bench`, after `rt staticlib voltunnis` and `rt check listing`. A ratio above 1
-//! says that the library is slower.
+//! `cargo run --release --bin bench`, after tools/staticlib.sh and `rt run` in crates/listing. A ratio above
+//! 1 says that the library is slower.
 
 mod cases;
 mod graphs;
