@@ -2,11 +2,9 @@
 use Prim.Native.Nat.{ℕ, zero, suc, pred, ◌+◌, ◌-◌, ◌≤◌, ◌<◌}
 use mathlib.Core.Path.{◌≡◌, refl, sym, ap, ◌∙◌}
 use mathlib.Core.Bool.{◌&&◌}
-use mathlib.Core.Logic.{◌⊎◌, inl, inr, ⊎_elim}
-use mathlib.Core.List.{List, [], ◌∷◌}
+use mathlib.Core.Logic.{◌⊎◌, inl, inr}
+use mathlib.Core.List.{List}
 use native.Mathlib.Omega.{arith}
-use types.Run.{OneOf}
-use denote.Enum.Declared.{tag_of}
 use lib.ListN.{drop}
 use lib.Dec.{leb}
 use borrow.Author.Tests.{le-leb, lt-leb}
@@ -21,7 +19,6 @@ use Rattle.sheet.specs.ReadSheet.{read_pattern, read_patterns}
 use Rattle.patterns.specs.views.Note.{Note, note}
 use Rattle.sheet.specs.views.Noted.{pattern_notes, patterns_notes}
 use Rattle.sheet.specs.views.NotesBehind.{held_with, leaf_held, pattern_held, row_held}
-use Rattle.patterns.specs.contracts.PatternRecord.{the_type}
 use Rattle.sheet.proofs.RecordKinds.{by_table_lem}
 
 -- What a compound goes on with: question 5, or question 6 and its arguments.
@@ -47,20 +44,16 @@ Flat (Ranged v l h) = Unit
 Flat (Series l h) = Unit
 Flat (Gauged g l h) = Unit
 
--- What the arm for compounds does not take is no compound.
-pub flat_tag : (r : PatternRecord) → OneOf (0 ∷ 1 ∷ 2 ∷ 4 ∷ 5 ∷ 6 ∷ 7 ∷ []) (tag_of the_type r) → Flat r
-flat_tag Anything o = tt
-flat_tag (Symbol a) o = tt
-flat_tag (Range l h) o = tt
-flat_tag (Compound a n) o =
-    ⊎_elim (λ e. omega arith)
-    (⊎_elim (λ e. omega arith)
-    (⊎_elim (λ e. omega arith)
-    (⊎_elim (λ e. omega arith) (⊎_elim (λ e. omega arith) (⊎_elim (λ e. omega arith) (λ e. omega arith)))))) o
-flat_tag (Variable v) o = tt
-flat_tag (Ranged v l h) o = tt
-flat_tag (Series l h) o = tt
-flat_tag (Gauged g l h) o = tt
+-- A record that is not of that variant is no compound.
+pub flat_record : (r : PatternRecord) → ((a n : ℕ) → r ≡ Compound a n → ⊥) → Flat r
+flat_record Anything other = tt
+flat_record (Symbol a) other = tt
+flat_record (Range l h) other = tt
+flat_record (Compound a n) other = other a n refl
+flat_record (Variable v) other = tt
+flat_record (Ranged v l h) other = tt
+flat_record (Series l h) other = tt
+flat_record (Gauged g l h) other = tt
 
 -- As many patterns are read as are asked for.
 pub row_count

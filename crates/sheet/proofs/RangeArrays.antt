@@ -3,11 +3,8 @@ use Prim.Native.Nat.{ℕ, zero, suc, ◌+◌, ◌<◌, min, max}
 use mathlib.Core.Path.{◌≡◌, refl, sym, ap, subst, ◌∙◌}
 use mathlib.Core.List.{List, [], ◌∷◌, map}
 use mathlib.Core.Option.{Option, some, none}
-use mathlib.Core.Logic.{⊎_elim}
 use native.Mathlib.Decide.{ℕ_discrete}
 use native.Mathlib.Omega.{arith}
-use types.Run.{OneOf}
-use denote.Enum.Declared.{tag_of}
 use lib.ListN.{length, get_or, set, replicate, length-set}
 use borrow.Author.Tests.{eq-eqb, ne_eqb}
 use lib.Seq.{ext_get_or, get_or-set_same, get_or-set_other}
@@ -20,7 +17,6 @@ use Rattle.patterns.specs.views.Note.{Note}
 use Rattle.patterns.specs.views.NoteCode.{note_of, code_record, Fitting}
 use Rattle.sheet.specs.views.NoteArray.{notes_in}
 use Rattle.sheet.specs.views.NoteRanges.{record_range, range_in, low_end, high_end, for_variables, lows_of, highs_of}
-use Rattle.patterns.specs.contracts.PatternRecord.{the_type}
 use Rattle.patterns.proofs.NoteCodes.{code_fits}
 use Rattle.sheet.proofs.NoteArrays.{notes_next}
 use Rattle.sheet.proofs.CommonRanges.{common_none, range_append}
@@ -95,22 +91,17 @@ high_common
 high_common none l h k = omega arith
 high_common (some x) l h k = refl
 
--- What the arm for ranged variables does not take gives no range.
+-- A record that is no ranged variable gives no range.
 pub no_range_lem
-    : (r : PatternRecord) → OneOf (0 ∷ 1 ∷ 2 ∷ 3 ∷ 4 ∷ 6 ∷ 7 ∷ []) (tag_of the_type r) → (v : ℕ) → record_range r v ≡ none
-no_range_lem Anything o v = refl
-no_range_lem (Symbol a) o v = refl
-no_range_lem (RangeOf l h) o v = refl
-no_range_lem (Compound a n) o v = refl
-no_range_lem (Variable u) o v = refl
-no_range_lem (Ranged u l h) o v =
-    absurd
-    (⊎_elim (λ e. omega arith)
-    (⊎_elim (λ e. omega arith)
-    (⊎_elim (λ e. omega arith)
-    (⊎_elim (λ e. omega arith) (⊎_elim (λ e. omega arith) (⊎_elim (λ e. omega arith) (λ e. omega arith)))))) o)
-no_range_lem (Series l h) o v = refl
-no_range_lem (Gauged g l h) o v = refl
+    : (r : PatternRecord) → ((u l h : ℕ) → r ≡ Ranged u l h → ⊥) → (v : ℕ) → record_range r v ≡ none
+no_range_lem Anything other v = refl
+no_range_lem (Symbol a) other v = refl
+no_range_lem (RangeOf l h) other v = refl
+no_range_lem (Compound a n) other v = refl
+no_range_lem (Variable u) other v = refl
+no_range_lem (Ranged u l h) other v = absurd (other u l h refl)
+no_range_lem (Series l h) other v = refl
+no_range_lem (Gauged g l h) other v = refl
 
 -- The fields of a ranged record that a number stands for.
 pub ranged_fits : (c : ℕ) {u l h : ℕ} → code_record c ≡ Ranged u l h → (u < 16) × Wide l × Wide h

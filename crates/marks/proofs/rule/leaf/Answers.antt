@@ -7,7 +7,6 @@ use Rattle.sheet.specs.views.NotesBehind.{leaf_held}
 use Rattle.sheet.proofs.Leaves.{range_yes, range_no, variable_yes, variable_no, ranged_yes, ranged_no_range, ranged_no_variable, series_yes, series_no, gauged_yes, gauged_no}
 use Rattle.marks.specs.views.Marks.{marked, marks_in}
 use Rattle.marks.proofs.Marking.{beside, took_names}
-use borrow.Author.Rules.{rules}
 use Rattle.marks.proofs.rule.leaf.Goals as goal
 
 pub returns-then-high-low : goal.returns-then-high-low

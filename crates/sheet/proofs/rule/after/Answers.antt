@@ -2,7 +2,6 @@
 use mathlib.Core.Path.{sym, ap, ◌∙◌}
 use native.Mathlib.Omega.{arith}
 use Rattle.sheet.specs.views.NoteArray.{used_after, bytes_used}
-use borrow.Author.Rules.{rules}
 use Rattle.sheet.proofs.rule.after.Goals as goal
 
 pub returns-in_default : goal.returns-in_default

@@ -5,7 +5,6 @@ use native.Mathlib.Omega.{arith}
 use lib.ListN.{set, length-set}
 use Rattle.sheet.specs.views.NoteArray.{notes_in}
 use Rattle.sheet.proofs.NoteArrays.{notes_put}
-use borrow.Author.Rules.{rules}
 use Rattle.sheet.proofs.rule.put.Goals as goal
 
 pub returns : goal.returns

@@ -1,14 +1,9 @@
 -- The ranges of the variables passed so far have each a number in common.
-use mathlib.Core.Path.{◌≡◌, sym}
+use mathlib.Core.Path.{◌≡◌}
 use Prim.Native.Nat.{ℕ, ◌≤◌, ◌-◌}
 use mathlib.Core.Bool.{true}
-use native.Mathlib.Omega.{arith}
 use lib.Dec.{leb}
 use lib.ListN.{get_or}
-use borrow.Author.Tests.{le-leb, lt-leb}
-use Rattle.sheet.specs.views.NoteRanges.{ends_meet}
-use Rattle.basics.proofs.AllBelow.{all_none, all_more, all_fails}
-use borrow.Author.Rules.{rules}
 use Rattle.basics.specs.Lists.{all_below}
 use Rattle.sheet.proofs.variable.meet.Given as goal
 

@@ -1,15 +1,14 @@
 -- The common ranges in the notes passed so far, note by note.
 use mathlib.Core.Path.{◌≡◌, sym, ap, ◌∙◌}
 use Prim.Native.Nat.{ℕ, ◌-◌, ◌≤◌, ◌<◌}
-use mathlib.Core.Logic.{⊎_elim}
 use native.Mathlib.Omega.{arith}
 use lib.ListN.{length, set}
 use Rattle.sheet.specs.views.NoteArray.{notes_in}
 use Rattle.sheet.specs.views.NoteRanges.{lows_of, highs_of, low_end, high_end}
 use Rattle.sheet.proofs.NoteArrays.{notes_none}
 use Rattle.sheet.proofs.RangeArrays.{lows_none, highs_none, no_range_lem, ranges_kept, low_narrowed, high_narrowed, ranged_fits}
-use borrow.Author.Rules.{rules}
 use Rattle.sheet.proofs.variable.ranges.Goals as goal
+use Rattle.sheet.proofs.variable.ranges.Goals.{in-Ranged, in_default}
 
 pub loop-i-init : goal.loop-i-init
 loop-i-init c =
@@ -38,25 +37,25 @@ loop-i-preserved c =
     let codes = c.args.notes.now in
     let i = c.loop-i.i in
     let inside : i < length codes = omega (arith, c.requires) in
-    ⊎_elim
-    (λ w.
-    let what = sym c.note_record-what.ensures ∙ w.1.given.1 in (
-      omega arith,
-      w.5
-          ∙ ap (set c.loop-i.low w.1.given.0.0) w.3.ensures
-          ∙ low_narrowed codes i inside what c.loop-i.invariant.1,
-      w.6
-          ∙ ap (set c.loop-i.high w.1.given.0.0) w.4.ensures
-          ∙ high_narrowed codes i inside what c.loop-i.invariant.2,
-    ))
-    (λ w.
-    let none = no_range_lem c.note_record-what.result w.0.keys2 in
-    let what = sym c.note_record-what.ensures in (
-      omega arith,
-      w.1 ∙ c.loop-i.invariant.1 ∙ ranges_kept codes i inside what none low_end,
-      w.2 ∙ c.loop-i.invariant.2 ∙ ranges_kept codes i inside what none high_end,
-    ))
-    c.match-what.branch
+    elim c.match-what.branch [
+      | in-Ranged w ↦
+          let what = sym c.note_record-what.ensures ∙ w.in-Ranged.is in (
+            omega arith,
+            w.low-is
+                ∙ ap (set c.loop-i.low w.in-Ranged.v) w.larger.ensures
+                ∙ low_narrowed codes i inside what c.loop-i.invariant.1,
+            w.high-is
+                ∙ ap (set c.loop-i.high w.in-Ranged.v) w.smaller.ensures
+                ∙ high_narrowed codes i inside what c.loop-i.invariant.2,
+          )
+      | in_default w ↦
+          let none = no_range_lem c.note_record-what.result w.in_default.not-Ranged in
+          let what = sym c.note_record-what.ensures in (
+            omega arith,
+            w.low-is ∙ c.loop-i.invariant.1 ∙ ranges_kept codes i inside what none low_end,
+            w.high-is ∙ c.loop-i.invariant.2 ∙ ranges_kept codes i inside what none high_end,
+          )
+    ]
 
 pub returns : goal.returns
 returns c =

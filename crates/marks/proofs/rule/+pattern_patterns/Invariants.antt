@@ -1,0 +1,28 @@
+-- What falls from call to call, and what the loop keeps. The levels below fall from a pattern to its arguments, so 2 for each
+-- level and 1 for a row are enough.
+use Rattle.std.proofs.Common.{ℕ, suc, ◌+◌, ◌-◌, ◌*◌, ◌≤◌, ◌≡◌, length}
+use Rattle.places.specs.Numbering.{stride}
+use Rattle.records.proofs.RowSoFar.{row_from}
+use Rattle.sheet.specs.views.NotesBehind.{row_held}
+use Rattle.marks.specs.views.Marks.{marked, marks_in}
+use Rattle.sheet.proofs.Rows.{pattern_row}
+use Rattle.marks.proofs.rule.+pattern_patterns.Given as goal
+
+abbrev pub decreases-pattern : goal.decreases-pattern
+decreases-pattern l = 2 * l.below
+
+abbrev pub decreases-patterns : goal.decreases-patterns
+decreases-patterns l = 2 * l.below + 1
+
+-- The loop of `patterns`: what is held and the count - i patterns still to come are the whole row, from a place that leaves
+-- them their room and is behind the notes made.
+abbrev pub invariant-patterns-loop-i : goal.invariant-patterns-loop-i
+invariant-patterns-loop-i l =
+    (l.i ≤ l.count) × (l.at ≤ length l.s) × (l.made ≤ l.here)
+    × (l.here + (l.count - l.i) * stride (suc l.below) ≡ l.place + l.count * stride (suc l.below)) × (length l.notes ≡ 680)
+    × (length l.words ≡ 11)
+    × (row_from (pattern_row marked l.below) l.s l.at (l.count - l.i) l.here (marks_in l.words l.notes l.made)
+    ≡ row_held marked l.below l.count l.place (marks_in l.initial.words l.initial.notes l.n) l.s)
+
+abbrev pub decreases-patterns-loop-i : goal.decreases-patterns-loop-i
+decreases-patterns-loop-i l = l.count - l.i
