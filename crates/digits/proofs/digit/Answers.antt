@@ -1,5 +1,4 @@
 -- `digits::digit` meets its contract, below ten and above.
-use borrow.Author.Rules.{rules}
 use borrow.Author.Tests.{lt-ltb, le-ltb}
 use Rattle.digits.proofs.digit.Goals as goal
 

@@ -1,6 +1,5 @@
 -- `digits::put_number` meets its contract: the digits, then the byte after them.
 use mathlib.Core.List.{[], ◌∷◌}
-use borrow.Author.Rules.{rules}
 use Rattle.digits.specs.Decimal.{decimal}
 use Rattle.records.proofs.Wrote.{first_fits, rest_fits, wrote_more}
 use Rattle.digits.proofs.put_number.Goals as goal

@@ -2,11 +2,12 @@
 use Prim.Native.Nat.{ℕ}
 use mathlib.Core.Path.{◌≡◌, sym, ◌∙◌}
 use mathlib.Core.Logic.{inl, inr, ⊎_elim}
-use borrow.Author.Tests.{ne_eqb}
+use borrow.Author.Tests.{eq-eqb, ne_eqb}
 use borrow.Author.Rules.{rules}
 use Rattle.outcomes.specs.views.Look.{hidden_below, look}
 use Rattle.outcomes.proofs.Climbing.{parent_most, hides_itself, hides_nothing, looked_above}
 use Rattle.outcomes.proofs.look.Goals as goal
+use Rattle.outcomes.proofs.look.Goals.{After-nearest-above}
 
 -- Where the nearest cell above is known, it decides.
 module _ (c : goal.After-nearest-above) where
@@ -29,8 +30,10 @@ pub returns-then-above-eq-UNKNOWN : goal.returns-then-above-eq-UNKNOWN
 returns-then-above-eq-UNKNOWN c =
     sym
     (above_decides (goal.at.returns-then-above-eq-UNKNOWN c).After-nearest-above
-    ∙ hides_itself (above (goal.at.returns-then-above-eq-UNKNOWN c).After-nearest-above) (⊎_elim (λ w. inl w.taken) (λ w. inr w.1.taken) c.then-above-eq-UNKNOWN.branch))
+    ∙ hides_itself c.nearest-above.result
+    (⊎_elim (λ w. inl w) (λ w. inr (eq-eqb _ _ w.1)) c.then-above-eq-UNKNOWN.either))
 
 pub returns : goal.returns
 returns c =
-    sym (above_decides (goal.at.returns c).After-nearest-above ∙ hides_nothing (above (goal.at.returns c).After-nearest-above) c.if-above-eq-UNKNOWN.false c.if-above-eq-NEVER.false)
+    sym (above_decides (goal.at.returns c).After-nearest-above ∙ hides_nothing c.nearest-above.result c.if-above-eq-UNKNOWN.false
+    (ne_eqb _ _ c.if-above-eq-NEVER.false))

@@ -1,9 +1,6 @@
 -- `nearest` meets its contract: what is left of the climb gives the same answer.
-use Prim.Native.Nat.{◌≤◌}
 use mathlib.Core.Path.{◌≡◌, sym, ◌∙◌}
 use native.Mathlib.Omega.{arith}
-use borrow.Author.Rules.{rules}
-use Rattle.outcomes.specs.views.Look.{nearest_cell}
 use Rattle.outcomes.proofs.Climbing.{none_left, no_parent, has_cell, has_none, parent_most}
 use Rattle.outcomes.proofs.nearest.Goals as goal
 

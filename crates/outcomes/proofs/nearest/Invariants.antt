@@ -1,10 +1,7 @@
 -- `nearest` meets its contract: what is left of the climb gives the same answer.
 use Prim.Native.Nat.{◌≤◌}
-use mathlib.Core.Path.{◌≡◌, sym, ◌∙◌}
-use native.Mathlib.Omega.{arith}
-use borrow.Author.Rules.{rules}
+use mathlib.Core.Path.{◌≡◌}
 use Rattle.outcomes.specs.views.Look.{nearest_cell}
-use Rattle.outcomes.proofs.Climbing.{none_left, no_parent, has_cell, has_none, parent_most}
 use Rattle.outcomes.proofs.nearest.Given as goal
 
 abbrev pub invariant-loop-left : goal.invariant-loop-left

@@ -1,12 +1,8 @@
 -- A loop that carries each number one place further.
-use Prim.Native.Nat.{◌-◌, ◌≤◌}
-use mathlib.Core.List.{◌∷◌, ◌++◌}
-use lib.ListN.{take, drop}
-use Rattle.pairs.proofs.Carrying.{Carrying, carrying_start, carrying_turn, carrying_done}
+use Rattle.pairs.proofs.Carrying.{carrying_start, carrying_turn, carrying_done}
 use native.Mathlib.Omega.{arith}
 use mathlib.Core.Path.{◌∙◌}
 use lib.ListN.{length-set}
-use borrow.Author.Rules.{rules}
 use Rattle.pairs.proofs.kept.insert_at.Goals as goal
 
 pub loop-i-init : goal.loop-i-init

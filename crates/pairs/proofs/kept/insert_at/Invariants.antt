@@ -2,11 +2,7 @@
 use Prim.Native.Nat.{◌-◌, ◌≤◌}
 use mathlib.Core.List.{◌∷◌, ◌++◌}
 use lib.ListN.{take, drop}
-use Rattle.pairs.proofs.Carrying.{Carrying, carrying_start, carrying_turn, carrying_done}
-use native.Mathlib.Omega.{arith}
-use mathlib.Core.Path.{◌∙◌}
-use lib.ListN.{length-set}
-use borrow.Author.Rules.{rules}
+use Rattle.pairs.proofs.Carrying.{Carrying}
 use Rattle.pairs.proofs.kept.insert_at.Given as goal
 
 abbrev pub invariant-loop-i : goal.invariant-loop-i

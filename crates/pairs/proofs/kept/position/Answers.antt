@@ -1,10 +1,5 @@
 -- A search: each number passed is below the code.
-use Prim.Native.Nat.{◌+◌, ◌-◌, ◌≤◌}
-use mathlib.Core.Path.{◌≡◌}
 use native.Mathlib.Omega.{arith}
-use lib.ListN.{take, drop}
-use borrow.Author.Rules.{rules}
-use Rattle.pairs.specs.views.Slot.{slot}
 use Rattle.pairs.proofs.Slots.{slot_end, slot_found, slot_further}
 use Rattle.pairs.proofs.kept.position.Goals as goal
 

@@ -1,10 +1,9 @@
 -- A pair more: too many stay too many, one that is there stays once, and any other is put where it belongs.
-use mathlib.Core.Logic.{⊎_elim}
 use native.Mathlib.Omega.{arith}
 use Rattle.pairs.proofs.KeptLists.{keep_many, keep_there, keep_here, slot_low}
 use Rattle.pairs.proofs.PutPairs.{start_passed, put_there, put_here}
-use borrow.Author.Rules.{rules}
 use Rattle.pairs.proofs.kept.put_pair.Goals as goal
+use Rattle.pairs.proofs.kept.put_pair.Goals.{then-at-n+else-codes-at, else-at-n}
 
 pub returns-then-put-gt64 : goal.returns-then-put-gt64
 returns-then-put-gt64 c = record {
@@ -54,7 +53,7 @@ returns c =
     let if2 = c.if-at-n in record {
       count_after = keep_here a.codes.now a.put.count a.code (omega arith) (omega (arith, c.requires.all_codes)) position.result
           position.ensures c.insert_at.new.codes (omega (arith, c.insert_at.ensures.codes_len))
-          (⊎_elim (λ w l. w.2.left) (λ w l. absurd (omega (arith, w.left))) if2.branch)
+          (elim if2.branch [ then-at-n+else-codes-at w ↦ λ l. w.if-codes-at.false | else-at-n w ↦ λ l. absurd (omega (arith, w.if-at-n.false)) ])
           c.insert_at.ensures.codes_after;
       put_at = put_here a.codes.now a.put.count a.code (omega arith) c.requires.all_codes position.result
           position.ensures c.insert_at.new.codes c.insert_at.ensures.codes_len c.insert_at.ensures.codes_after;

@@ -1,7 +1,6 @@
 -- A variable of that name, by the kind of the record.
 use mathlib.Core.Path.{sym, ap}
 use Rattle.pairs.specs.views.NoteVariables.{names_variable}
-use borrow.Author.Rules.{rules}
 use Rattle.pairs.proofs.rule.is_named.Goals as goal
 
 pub returns-in-Variable : goal.returns-in-Variable

@@ -1,7 +1,6 @@
 -- The name, by the kind of the record.
 use mathlib.Core.Path.{sym, ap}
 use Rattle.pairs.specs.views.NoteVariables.{name_of}
-use borrow.Author.Rules.{rules}
 use Rattle.pairs.proofs.rule.name_of.Goals as goal
 
 pub returns-in-Variable : goal.returns-in-Variable

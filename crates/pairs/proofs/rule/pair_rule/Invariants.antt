@@ -1,15 +1,9 @@
 -- A loop over the notes: the pairs of those passed with all later ones are kept.
-use Prim.Native.Nat.{ℕ, ◌+◌, ◌-◌, ◌≤◌}
-use mathlib.Core.Path.{◌≡◌, refl, sym, ap, ◌∙◌}
-use mathlib.Core.Logic.{⊎_elim}
-use native.Mathlib.Omega.{arith}
-use lib.ListN.{length, drop}
-use Rattle.sheet.specs.views.NoteArray.{notes_in}
-use Rattle.pairs.specs.views.KeptPairs.{keep_all, pairs_in}
-use Rattle.pairs.specs.views.NoteVariables.{name_of, codes_with, notes_codes, Placed}
-use Rattle.pairs.proofs.NoteRows.{notes_each}
-use Rattle.pairs.proofs.NotePairs.{pairs_from, pairs_named, pairs_nameless, pairs_end, full_done}
-use borrow.Author.Rules.{rules}
+use Prim.Native.Nat.{◌-◌, ◌≤◌}
+use mathlib.Core.Path.{◌≡◌}
+use lib.ListN.{length}
+use Rattle.pairs.specs.views.KeptPairs.{pairs_in}
+use Rattle.pairs.proofs.NotePairs.{pairs_from}
 use Rattle.pairs.proofs.rule.pair_rule.Given as goal
 
 abbrev pub invariant-loop-i : goal.invariant-loop-i

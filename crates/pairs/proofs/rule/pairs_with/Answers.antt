@@ -1,7 +1,6 @@
 -- A loop over the later notes: the pairs with those passed are kept.
-use Prim.Native.Nat.{ℕ, ◌+◌, ◌-◌, ◌≤◌}
-use mathlib.Core.Path.{◌≡◌, refl, sym, ap, ◌∙◌, subst}
-use mathlib.Core.Logic.{⊎_elim}
+use Prim.Native.Nat.{ℕ, ◌+◌}
+use mathlib.Core.Path.{refl, sym, ap, ◌∙◌, subst}
 use native.Mathlib.Omega.{arith}
 use lib.ListN.{drop}
 use Rattle.sheet.specs.views.NoteArray.{notes_in}
@@ -11,8 +10,8 @@ use Rattle.pairs.specs.views.NoteVariables.{names_variable, codes_with, Placed}
 use Rattle.pairs.proofs.NoteRows.{notes_each}
 use Rattle.pairs.proofs.PutPairs.{none_passed}
 use Rattle.pairs.proofs.NotePairs.{with_from, with_yes, with_no, with_end, full_done}
-use borrow.Author.Rules.{rules}
 use Rattle.pairs.proofs.rule.pairs_with.Goals as goal
+use Rattle.pairs.proofs.rule.pairs_with.Goals.{then-is_named, else-is_named}
 
 pub loop-i-init : goal.loop-i-init
 loop-i-init c = (c.requires.0, none_passed c.args.codes.now c.args.count c.requires.5 c.requires.6, refl)
@@ -55,23 +54,24 @@ loop-i-preserved c =
     let v = c.args.v in
     let kept = pairs_in turn.codes turn.put.count in
     let test = ap (names_variable v) (sym note-record.ensures) ∙ sym is-named.ensures in
-    ⊎_elim
-    (λ w. (
-      omega arith,
-      subst (λ x. x) (λ j. PutAt (sym w.5 j) (sym w.6 j)) w.4.ensures.1,
-      ap (with_from place v notes n (i + 1))
-          ((λ j. pairs_in (w.5 j) (w.6 j).count) ∙ w.4.ensures.0 ∙ ap (λ ((goal.at.loop-i-preserved c).Joined-is_named : ℕ). keep (goal.at.loop-i-preserved c).Joined-is_named kept) (w.3.ensures ∙ ap (pair_code place) w.2.ensures))
-          ∙ with_yes place v notes n (omega arith) i (omega arith) (test ∙ w.0.taken) kept
-          ∙ inv.2,
-    ))
-    (λ w. (
-      omega arith,
-      subst (λ x. x) (λ j. PutAt (sym w.1 j) (sym w.2 j)) inv.1,
-      ap (with_from place v notes n (i + 1)) (λ j. pairs_in (w.1 j) (w.2 j).count)
-          ∙ with_no place v notes n (omega arith) i (omega arith) (test ∙ w.0.left) kept
-          ∙ inv.2,
-    ))
-    c.if-is_named.branch
+    elim c.if-is_named.branch [
+      then-is_named w ↦ (
+        omega arith,
+        subst (λ x. x) (λ j. PutAt (sym w.codes-is j) (sym w.put-is j)) w.put_pair-put.ensures.put_at,
+        ap (with_from place v notes n (i + 1))
+            ((λ j. pairs_in (w.codes-is j) (w.put-is j).count) ∙ w.put_pair-put.ensures.count_after
+              ∙ ap (λ (k : ℕ). keep k kept) (w.pair_code.ensures ∙ ap (pair_code place) w.note_place.ensures))
+            ∙ with_yes place v notes n (omega arith) i (omega arith) (test ∙ w.if-is_named.true) kept
+            ∙ inv.2,
+      )
+    | else-is_named w ↦ (
+        omega arith,
+        subst (λ x. x) (λ j. PutAt (sym w.codes-is j) (sym w.put-is j)) inv.1,
+        ap (with_from place v notes n (i + 1)) (λ j. pairs_in (w.codes-is j) (w.put-is j).count)
+            ∙ with_no place v notes n (omega arith) i (omega arith) (test ∙ w.if-is_named.false) kept
+            ∙ inv.2,
+      )
+    ]
 
 pub returns : goal.returns
 returns c =

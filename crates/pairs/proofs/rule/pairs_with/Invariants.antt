@@ -1,17 +1,9 @@
 -- A loop over the later notes: the pairs with those passed are kept.
-use Prim.Native.Nat.{ℕ, ◌+◌, ◌-◌, ◌≤◌}
-use mathlib.Core.Path.{◌≡◌, refl, sym, ap, ◌∙◌, subst}
-use mathlib.Core.Logic.{⊎_elim}
-use native.Mathlib.Omega.{arith}
-use lib.ListN.{drop}
-use Rattle.sheet.specs.views.NoteArray.{notes_in}
-use Rattle.pairs.specs.views.KeptPairs.{pair_code, keep, pairs_in}
+use Prim.Native.Nat.{◌-◌, ◌≤◌}
+use mathlib.Core.Path.{◌≡◌}
+use Rattle.pairs.specs.views.KeptPairs.{pairs_in}
 use Rattle.pairs.specs.views.PutAt.{PutAt}
-use Rattle.pairs.specs.views.NoteVariables.{names_variable, codes_with, Placed}
-use Rattle.pairs.proofs.NoteRows.{notes_each}
-use Rattle.pairs.proofs.PutPairs.{none_passed}
-use Rattle.pairs.proofs.NotePairs.{with_from, with_yes, with_no, with_end, full_done}
-use borrow.Author.Rules.{rules}
+use Rattle.pairs.proofs.NotePairs.{with_from}
 use Rattle.pairs.proofs.rule.pairs_with.Given as goal
 
 abbrev pub invariant-loop-i : goal.invariant-loop-i
