@@ -37,6 +37,7 @@ ascending_ascends [] = tt
 ascending_ascends (t ∷ ts) = insert_ascends before_order t (ascending ts) (ascending_ascends ts)
 
 pub ascending_has : (ts : List Test) {t : Test} → Mem t ts → Mem t (ascending ts)
+ascending_has [] {t = t} m = elim m [ ]
 ascending_has (u ∷ ts) {t} m =
     elim (mem_cases m) [
       | inl e ↦ subst (λ (x : Test). Mem x (ascending (u ∷ ts))) (sym e) (insert_has before_order u (ascending ts))

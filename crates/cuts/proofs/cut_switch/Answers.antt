@@ -17,7 +17,7 @@ pub returns : goal.returns
 returns c =
     let a = c.args in
     let end = c.frame_switch.ensures in
-    let runs = c.frame_switch.new.1.1.1.1.0 in
+    let runs = c.frame_switch.new.runs in
     let r = c.frame_switch.result in
     let few : r.names ≤ r.count = omega (arith, end.1, names_few 0x300_0000 runs r.count) in
     let same : case_runs r.names (runs_in runs r.count) ≡ switch_runs a.live (cuts_in a.c.now a.from) =

@@ -2,7 +2,6 @@
 -- and at most three for two cuts, since codes that no live rule wants are over at every second cut at most.
 use Prim.Native.Nat.{ℕ, max, ◌+◌, ◌*◌, ◌-◌, ◌≤◌, ◌<◌}
 use mathlib.Core.Path.{◌≡◌, refl, sym, ap, ◌∙◌}
-use mathlib.Core.Logic.{⊎_elim}
 use mathlib.Core.List.{[], ◌++◌, map}
 use native.Mathlib.Decide.{ℕ_discrete}
 use native.Mathlib.Omega.{arith}
@@ -15,6 +14,7 @@ use Rattle.cuts.specs.views.FramedRuns.{gap_run, gauge_first, gauge_end, framed_
 use Rattle.cuts.proofs.FramedPass.{framed_with, names_few, names_more, cut_passed, cut_ended, cut_last, gap_no_name}
 use borrow.Author.Rules.{rules}
 use Rattle.cuts.proofs.frame_switch.Goals as goal
+use Rattle.cuts.proofs.frame_switch.Goals.{then-turned-ne0, else-turned-ne0}
 
 -- Twice as many runs as there are stay below three for each cut, and one less where no rule wants what comes next.
 twice
@@ -62,34 +62,34 @@ loop-k-preserved c =
     let n = c.loop-k.framed.count in
     let ended = cut_ended cuts a.from count a.base a.live at.runs n at.start at.set at.k in
     let passed = cut_passed cuts a.from count a.base a.live at.runs n at.start at.set at.k in
-    ⊎_elim
-    (λ w.
-    let end = w.3.ensures in
-    let after = w.3.last.0 in
-    let result = w.3.result in
-    let few = twice n result.count at.k at.set (bit_and (cut_at cuts a.from at.k).turns a.live)
-    w.0.taken inv.1 inv.2 end.2 end.3 in
-    rw (w.4, w.5, w.6, w.7) (
-      omega arith,
-      few.0,
-      few.1,
-      (c.requires.by_index at.k (omega arith)).1,
-      names_more a.base at.framed.names result.names (runs_in at.runs at.framed.count)
-          (runs_in after result.count) (framed_run a.base at.start code at.set []) inv.4 end.1 end.0,
-      end.4,
-      sym (ended after result.count more w.0.taken end.0) ∙ inv.6,
-    ))
-    (λ w.
-    rw (w.1, w.2, w.3, w.4) (
-      omega arith,
-      omega (arith, inv.1),
-      λ d. omega (arith, inv.2 d),
-      inv.3,
-      inv.4,
-      inv.5,
-      sym (passed more w.0.left) ∙ inv.6,
-    ))
-    c.if-turned-ne0.branch
+    elim c.if-turned-ne0.branch [
+      | then-turned-ne0 w ↦
+        let end = w.end_run-framed.ensures in
+        let after = w.end_run-framed.new.runs in
+        let result = w.end_run-framed.result in
+        let few = twice n result.count at.k at.set (bit_and (cut_at cuts a.from at.k).turns a.live)
+        w.if-turned-ne0.true inv.1 inv.2 end.2 end.3 in
+        rw (w.runs-is, w.framed-is, w.start-is, w.set-is) (
+          omega arith,
+          few.0,
+          few.1,
+          (c.requires.by_index at.k (omega arith)).1,
+          names_more a.base at.framed.names result.names (runs_in at.runs at.framed.count)
+              (runs_in after result.count) (framed_run a.base at.start code at.set []) inv.4 end.1 end.0,
+          end.4,
+          sym (ended after result.count more w.if-turned-ne0.true end.0) ∙ inv.6,
+        )
+      | else-turned-ne0 w ↦
+        rw (w.runs-is, w.framed-is, w.start-is, w.set-is) (
+          omega arith,
+          omega (arith, inv.1),
+          λ d. omega (arith, inv.2 d),
+          inv.3,
+          inv.4,
+          inv.5,
+          sym (passed more w.if-turned-ne0.false) ∙ inv.6,
+        )
+    ]
 
 pub put_gap-all-requires : goal.put_gap-all-requires
 put_gap-all-requires c =

@@ -1,19 +1,19 @@
 -- `cuts::turn` meets its contract: a cut is at the code, or one is put in.
 use Prim.Native.Nat.{ℕ, ◌<◌}
 use mathlib.Core.Path.{◌≡◌, subst}
-use mathlib.Core.Logic.{⊎_elim}
 use native.Mathlib.Omega.{arith}
 use lib.ListN.{length-set}
 use Rattle.cuts.specs.views.Cuts.{count_at, cut_at, Spot}
 use Rattle.cuts.proofs.Turning.{turn_there, turn_new}
 use borrow.Author.Rules.{rules}
 use Rattle.cuts.proofs.turn.Goals as goal
+use Rattle.cuts.proofs.turn.Goals.{then-k-count+else-c-at, else-k-count}
 
 pub returns-then-c-at : goal.returns-then-c-at
 returns-then-c-at c =
     let a = c.args in
     let k = c.spot_of-k.result in
-    let counted = c.wide.ensures in
+    let counted = c.wide-count.ensures in
     let spot = subst (λ (n : ℕ). Spot a.c.now a.from n a.code k) counted c.spot_of-k.ensures in
     turn_there a.c.now a.from a.code a.bit k spot c.requires (omega arith) c.if-c-at.true
 
@@ -27,9 +27,9 @@ pub returns : goal.returns
 returns c =
     let a = c.args in
     let k = c.spot_of-k.result in
-    let counted = c.wide.ensures in
+    let counted = c.wide-count.ensures in
     let spot = subst (λ (n : ℕ). Spot a.c.now a.from n a.code k) counted c.spot_of-k.ensures in
     let missing : k < count_at a.c.now a.from → (cut_at a.c.now a.from k).code ≡ a.code → ⊥ =
-    ⊎_elim (λ w l d. w.2.left d) (λ w l d. absurd (omega (arith, w.left))) c.if-k-count.branch in
+    elim c.if-k-count.branch [ then-k-count+else-c-at w ↦ λ l d. w.if-c-at.false d | else-k-count w ↦ λ l d. absurd (omega arith) ] in
     rw (c.move_up.ensures, counted)
     (turn_new a.c.now a.from a.code a.bit k spot c.requires missing)

@@ -57,10 +57,10 @@ module _ (rules : List Patterns) (order : List ℕ) where
         (root_vertex ∷ []) (root_vertex ∷ []) vs (λ v m. inl m) built
 
     -- At the number of a vertex stands its node.
-    pub Node-at
+    pub node_at_lem
         : (piece : Terms) (v : Vertex) → Mem v vs
         → node_at (numbered rules order vs) (number_of vs v) ≡ numbered_node vs v
-    Node-at piece v m =
+    node_at_lem piece v m =
         let there-is = number_right same_vertex (next_vertices rules order) same_vertex_lem vertex_same (leaf fail_node) v vs m in
         get_map (numbered_node vs) (leaf fail_node) vs (number_of vs v) ∙ ap (numbered_node vs) there-is.1
 

@@ -29,6 +29,7 @@ module _ {A : Type 0} (same : A → A → Bool) (next : A → List A)
 
   -- What is looked at is met afterwards.
   new_met : (met xs : List A) (x : A) → Mem x xs → Mem x (met ++ new_ones met xs)
+  new_met met [] x m = elim m [ ]
   new_met met (y ∷ xs) x m =
       go (any_of (same y) met) (any_mem (same y) met) (mem_cases m) (new_met met xs x) (new_met (met ++ y ∷ []) xs x)
     where

@@ -24,6 +24,7 @@ pub record Without {A : Type 0} (x : A) (ys : List A) : Type 0 where
   pub others : (y : A) → Mem y ys → (y ≡ x) ⊎ Mem y rest
 
 without : {A : Type 0} (x : A) (ys : List A) → Mem x ys → Without x ys
+without {A = A} x [] m = elim m [ ]
 without {A} x (y ∷ ys) m = elim (mem_cases m) [
   | inl e ↦ record {
     rest = ys;

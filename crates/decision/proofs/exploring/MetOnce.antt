@@ -90,6 +90,7 @@ module _ {A : Type 0} (same : A → A → Bool) (next : A → List A)
 
   -- A member's number is below the length, and leads back to it.
   pub number_right : (d x : A) (xs : List A) → Mem x xs → (number_in xs x < length xs) × (get_or xs (number_in xs x) d ≡ x)
+  number_right d x [] m = elim m [ ]
   number_right d x (y ∷ xs) m = go (same x y) refl (mem_cases m) (λ k. number_right d x xs k)
     where
       go : (b : Bool) → same x y ≡ b → (x ≡ y) ⊎ Mem x xs
@@ -109,6 +110,7 @@ module _ {A : Type 0} (same : A → A → Bool) (next : A → List A)
 
   -- A member keeps its number when more are met, and what is met later has a larger one.
   number_kept : (x : A) (xs ys : List A) → Mem x xs → number_in (xs ++ ys) x ≡ number_in xs x
+  number_kept x [] ys m = elim m [ ]
   number_kept x (y ∷ xs) ys m = go (same x y) refl (mem_cases m) (λ k. number_kept x xs ys k)
     where
       go : (b : Bool) → same x y ≡ b → (x ≡ y) ⊎ Mem x xs → (Mem x xs → number_in (xs ++ ys) x ≡ number_in xs x)

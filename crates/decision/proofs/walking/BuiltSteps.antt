@@ -37,10 +37,10 @@ module _ (rules : List Patterns) (order : List ℕ) (vs : List Vertex) (built : 
       ∙ step_map (number_of rules order vs) piece (node_of rules order v)
 
   -- The node of a vertex that asks test t first asks test t alone.
-  pub Asked-is
+  pub asked_is
       : (key : Key) → Mem (asking key) vs → (t : ℕ) → first_in key.pending order ≡ some t → (x : Test)
       → asks_test x (node_at (numbered rules order vs) (number_of rules order vs (asking key))) ≡ same_test x (test_at rules t)
-  Asked-is key m t first x =
+  asked_is key m t first x =
       ap (asks_test x) (node_at_lem rules order vs built piece (asking key) m)
       ∙ ap (λ (o : Option ℕ). asks_test x (map_node (number_of rules order vs) (ask_first rules key o))) first
       ∙ asks_test_lem rules (number_of rules order vs) key t x (test_at rules t)

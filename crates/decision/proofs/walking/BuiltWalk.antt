@@ -34,7 +34,7 @@ use Rattle.decision.proofs.elimination.RightLeaves.{right_leaf}
 use Rattle.decision.proofs.elimination.RightSteps.{right_step}
 use Rattle.decision.proofs.rules.TestsOfRules.{test_same}
 use Rattle.decision.proofs.walking.StepEdges.{map_step, step_edge}
-use Rattle.decision.proofs.walking.BuiltSteps.{step_at_lem, Asked-is}
+use Rattle.decision.proofs.walking.BuiltSteps.{step_at_lem, asked_is}
 use Rattle.decision.proofs.built.BuiltNodes.{root_vertex, number_of, edges_met, root_met, root_number}
 use Rattle.records.specs.Reading.{took, refused}
 
@@ -126,7 +126,7 @@ module _ (arity : ℕ) (rules : List Patterns) (piece : Terms)
         : (key : Key) → Mem (asking key) vs → (t : ℕ) → first_in key.pending order ≡ some t
         → T (asks_test (test_at rules t) (node_at nodes (number (asking key))))
     asks_first key m t first =
-        subst T (sym (Asked-is rules order vs built piece key m t first (test_at rules t))) (test_same (test_at rules t))
+        subst T (sym (asked_is rules order vs built piece key m t first (test_at rules t))) (test_same (test_at rules t))
 
     -- The path goes on as the step does.
     abbrev go_on : ℕ → Vertex → Step ℕ → Path
@@ -136,21 +136,21 @@ module _ (arity : ℕ) (rules : List Patterns) (piece : Terms)
     path_right
         : {Seen : ℕ → Type 0} (more : ℕ) (v : Vertex) → Mem v vs → RightVertex rules piece Seen v → edges_left rules v ≤ more
         → EndsRight Seen (edges_left rules v) (path_from nodes piece more (number v))
-    path_right {Seen} zero (leaf l) m right few =
+    path_right {Seen = Seen} zero (leaf l) m right few =
         subst (λ s. EndsRight Seen 0 (last_step (number (leaf l)) s)) (sym (step_at_lem rules order vs built piece (leaf l) m))
         (vertex_more rules piece (λ t h. inl h) right, omega arith, refl)
-    path_right zero (asking key) m right few =
+    path_right {Seen = Seen} zero (asking key) m right few =
         let next = right_step arity rules piece accepted ok order asks key right in
         absurd (let z : ⊥ = omega (arith, next.fewer) in z)
-    path_right {Seen} (suc more) (leaf l) m right few =
+    path_right {Seen = Seen} (suc more) (leaf l) m right few =
         subst (λ s. EndsRight Seen 0 (go_on more (leaf l) s)) (sym (step_at_lem rules order vs built piece (leaf l) m))
         (vertex_more rules piece (λ t h. inl h) right, omega arith, refl)
-    path_right {Seen} (suc more) (asking key) m right few =
+    path_right {Seen = Seen} (suc more) (asking key) m right few =
         let step = right_step arity rules piece accepted ok order asks key right in
         let v = step.next in
         let edge = step_edge piece (node_of rules order (asking key)) step.goes in
         let met = edges_met rules order vs built (asking key) m v edge in
-        let rest = path_right more v met step.right (omega (arith, step.fewer)) in
+        let rest = path_right {Seen = λ u. Seen u ⊎ (u ≡ step.test)} more v met step.right (omega (arith, step.fewer)) in
         let goes = step_at_lem rules order vs built piece (asking key) m ∙ ap (map_step number) step.goes in
         let all = edges_left rules (asking key) in
         let on = path_from nodes piece more (number v) in

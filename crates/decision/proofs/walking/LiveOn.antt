@@ -34,7 +34,7 @@ use Rattle.decision.proofs.rules.TestsOfRules.{HasTest, same_test_lem, test_same
 use Rattle.decision.proofs.keys.Vertices.{Means, pending_in, vertex_means}
 use Rattle.decision.proofs.walking.StepEdges.{map_step, step_edge}
 use Rattle.decision.proofs.built.BuiltNodes.{root_vertex, number_of, edges_met, root_met, root_number}
-use Rattle.decision.proofs.walking.BuiltSteps.{step_at_lem, Asked-is}
+use Rattle.decision.proofs.walking.BuiltSteps.{step_at_lem, asked_is}
 use Rattle.decision.proofs.walking.LiveEdges.{Against, KeptRules, asked_kept}
 
 -- The nodes walked on a path, and the bytes that it takes as a reading.
@@ -138,7 +138,7 @@ module _ (arity : ℕ) (rules : List Patterns) (accepted : All (AcceptedRule ari
       met_is u =
           any_join (λ (n : ℕ). asks_test (test_at rules u) (node_at nodes n)) before (number_at (asking k) ∷ [])
           ∙ ap (λ (b : Bool). is_met rules nodes before u || (b || false))
-          (Asked-is rules order vs built piece k m t first (test_at rules u))
+          (asked_is rules order vs built piece k m t first (test_at rules u))
 
       -- A step keeps the live rules right.
       step_live : LiveAt before (asking k) → (w : Vertex) → KeptRules arity rules accepted piece nodes k t w → LiveAt after w

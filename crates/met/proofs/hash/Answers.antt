@@ -30,7 +30,7 @@ unfolding hash_of
 returns c =
     let a = c.args in
     let sum =
-    five_times a.live a.pending c.wrapping_add_u64-twice.ensures
-    c.wrapping_add_u64-four.ensures c.wrapping_add_u64-five.ensures
-    c.wrapping_add_u64.ensures in
+    five_times a.live a.pending c.wrapping_add_u64-twice.ensures.value
+    c.wrapping_add_u64-four.ensures.value c.wrapping_add_u64-five.ensures.value
+    c.wrapping_add_u64.ensures.value in
     (ap (λ (x : ℕ). x % 1021) sum, omega arith)

@@ -7,7 +7,7 @@ use Rattle.met.proofs.meet.Goals as goal
 pub returns-then-number-n : goal.returns-then-number-n
 returns-then-number-n c =
     let a = c.args in
-    let number = c.find in
+    let number = c.find-number in
     let n = c.count-n in
     let below = c.if-number-n.true in record {
       t_after = (
@@ -20,7 +20,7 @@ returns-then-number-n c =
 pub returns-then-n-ge1024 : goal.returns-then-n-ge1024
 returns-then-n-ge1024 c =
     let a = c.args in
-    let number = c.find in
+    let number = c.find-number in
     let n = c.count-n in
     let above = c.if-number-n.false in
     let full = c.if-n-ge1024.true in record {
@@ -39,7 +39,7 @@ returns-then-n-ge1024 c =
 pub add-requires : goal.add-requires
 add-requires c =
     let a = c.args in
-    let number = c.find in
+    let number = c.find-number in
     let n = c.count-n in (
       c.requires,
       omega (arith, n.ensures, c.if-n-ge1024.false),
@@ -49,7 +49,7 @@ add-requires c =
 pub returns : goal.returns
 returns c =
     let a = c.args in
-    let number = c.find in
+    let number = c.find-number in
     let n = c.count-n in
     let above = c.if-number-n.false in
     let room = c.if-n-ge1024.false in

@@ -16,10 +16,10 @@ pub loop-to_come-init : goal.loop-to_come-init
 loop-to_come-init c = joining_start 64 (in_both (row_in c.args.s.now) c.args.left) c.args.live (search rules)
 
 pub overflow_cast-i : goal.overflow_cast-i
-overflow_cast-i c = omega (arith, trailing_le 64 c.loop-to_come.to-come)
+overflow_cast-i c = omega (arith, trailing_le 64 c.loop-to_come.to_come)
 
 pub row-requires : goal.row-requires
-row-requires c = trailing_lt 64 c.loop-to_come.to-come c.loop-to_come.invariant.left_fits (omega arith)
+row-requires c = trailing_lt 64 c.loop-to_come.to_come c.loop-to_come.invariant.left_fits (omega arith)
 
 pub returns-then-all-left : goal.returns-then-all-left
 unfolding held_in
@@ -28,18 +28,18 @@ returns-then-all-left c =
     let at = c.loop-to_come in
     let row = row_in a.s.now in
     holding_all 64 row a.left a.live (bit_or at.all (bit_and c.row.result a.left))
-    (bit_and at.to-come (at.to-come - 1))
-    (holding_turn 64 row a.left a.live at.all at.to-come at.invariant c.row.ensures (search rules)
+    (bit_and at.to_come (at.to_come - 1))
+    (holding_turn 64 row a.left a.live at.all at.to_come at.invariant c.row.ensures (search rules)
     (omega arith)) (search rules) c.if-all-left.true
 
 pub loop-to_come-smaller : goal.loop-to_come-smaller
-loop-to_come-smaller c = rest_lt c.loop-to_come.to-come (omega arith)
+loop-to_come-smaller c = rest_lt c.loop-to_come.to_come (omega arith)
 
 pub loop-to_come-preserved : goal.loop-to_come-preserved
 loop-to_come-preserved c =
     let a = c.args in
     let at = c.loop-to_come in
-    holding_turn 64 (row_in a.s.now) a.left a.live at.all at.to-come at.invariant c.row.ensures
+    holding_turn 64 (row_in a.s.now) a.left a.live at.all at.to_come at.invariant c.row.ensures
     (search rules) (omega arith)
 
 pub returns : goal.returns
@@ -47,4 +47,4 @@ unfolding held_in
 returns c =
     let a = c.args in
     let at = c.loop-to_come in
-    holding_done 64 (row_in a.s.now) a.left a.live at.all at.to-come at.invariant c.loop-to_come-test.false
+    holding_done 64 (row_in a.s.now) a.left a.live at.all at.to_come at.invariant c.loop-to_come-test.false

@@ -14,6 +14,10 @@ use Rattle.edges.specs.views.KeysBehind.{settled_in}
 use Rattle.edges.proofs.Dropping.{Dropping, dropping_start, dropping_turn, dropping_done}
 use Rattle.edges.proofs.keys.settled.Given as goal
 
+-- rule i has test t
+abbrev pub in_column : List ℕ → ℕ → ℕ → Bool
+in_column s t i = has (column_in s t) i
+
 abbrev pub invariant-loop-to_come : goal.invariant-loop-to_come
 invariant-loop-to_come l = Dropping 64 (in_column l.s) l.live l.left l.all l.to_come
 

@@ -2,7 +2,6 @@
 use Prim.Native.Nat.{ℕ, ◌+◌, ◌-◌, ◌≤◌}
 use mathlib.Core.Path.{◌≡◌, refl, sym, ap, ◌∙◌}
 use mathlib.Core.List.{List}
-use mathlib.Core.Logic.{⊎_elim}
 use native.Mathlib.Omega.{arith}
 use lib.Dec.{ltb}
 use lib.ListN.{length}
@@ -14,6 +13,7 @@ use Rattle.pairs.proofs.NoteRows.{notes_each}
 use Rattle.sheet_tests.proofs.PlaceRows.{places_from, places_yes, places_no, places_end}
 use borrow.Author.Rules.{rules}
 use Rattle.sheet_tests.proofs.rule.mark_rule.Goals as goal
+use Rattle.sheet_tests.proofs.rule.mark_rule.Goals.{then-is_tested, else-is_tested}
 
 pub loop-i-init : goal.loop-i-init
 loop-i-init c = (omega arith, c.requires.3, refl)
@@ -41,23 +41,27 @@ loop-i-preserved c =
     let ranged = has_range c.args.high.now in
     let words = c.loop-i.words in
     let test = ap (is_tested ranged) (sym note-record.ensures) ∙ sym is-tested.ensures in
-    ⊎_elim
-    (λ w. (
-      omega arith,
-      ap length w.4 ∙ w.3.ensures.1,
-      ap (places_from ranged notes n (i + 1))
-          (ap places_in w.4 ∙ w.3.ensures.0 ∙ ap (λ (p : ℕ). insert_by ltb p (places_in words)) w.2.ensures)
-          ∙ places_yes ranged notes n (omega arith) i (omega arith) (test ∙ w.0.taken) (places_in words)
-          ∙ inv.2,
-    ))
-    (λ w. (
-      omega arith,
-      ap length w.1 ∙ inv.1,
-      ap (λ (l : List ℕ). places_from ranged notes n (i + 1) (places_in l)) w.1
-          ∙ places_no ranged notes n (omega arith) i (omega arith) (test ∙ w.0.left) (places_in words)
-          ∙ inv.2,
-    ))
-    c.if-is_tested.branch
+    elim c.if-is_tested.branch [
+      | then-is_tested w ↦ (
+        omega arith,
+        ap length w.words-is ∙ w.mark.ensures.words_len,
+        ap (places_from ranged notes n (i + 1))
+            (
+              ap places_in w.words-is
+              ∙ w.mark.ensures.words_after
+              ∙ ap (λ (p : ℕ). insert_by ltb p (places_in words)) w.note_place.ensures
+            )
+            ∙ places_yes ranged notes n (omega arith) i (omega arith) (test ∙ w.if-is_tested.true) (places_in words)
+            ∙ inv.2,
+      )
+      | else-is_tested w ↦ (
+        omega arith,
+        ap length w.words-is ∙ inv.1,
+        ap (λ (l : List ℕ). places_from ranged notes n (i + 1) (places_in l)) w.words-is
+            ∙ places_no ranged notes n (omega arith) i (omega arith) (test ∙ w.if-is_tested.false) (places_in words)
+            ∙ inv.2,
+      )
+    ]
 
 pub returns : goal.returns
 returns c =
