@@ -66,4 +66,4 @@ pub returns-in_default : goal.returns-in_default
 returns-in_default c =
     let a = c.args in
     c.fixed_outcome.ensures
-    ∙ fixed_record a.cells.now a.ranges.low a.ranges.high a.place a.what c.in_default.keys3
+    ∙ fixed_record a.cells.now a.ranges.low a.ranges.high a.place a.what c.in_default.in_default-own.keys3
