@@ -15,7 +15,7 @@ open_row-requires c = (c.requires.0, search rules, omega arith, arguments.inside
 
 pub loop-i-init : goal.loop-i-init
 loop-i-init c =
-    let known = c.shared_slice_known-1.given in (
+    let known = c.type_inv.positions in (
       c.requires.0,
       put_first _ _ _ c.requires.1 (λ q h. omega (arith, known (2 * q), known (2 * q + 1))) c.open_row.ensures,
     )

@@ -42,12 +42,13 @@ returns-in-7 c =
 pub returns-in_default : goal.returns-in_default
 unfolding code_record
 returns-in_default c =
+    let rest = c.in_default.in_default-own.rest in
     simp (
-      ne_eqb _ _ c.in_default.rest.0.0.0.0.0.0.1,
-      ne_eqb _ _ c.in_default.rest.0.0.0.0.0.1,
-      ne_eqb _ _ c.in_default.rest.0.0.0.0.1,
-      ne_eqb _ _ c.in_default.rest.0.0.0.1,
-      ne_eqb _ _ c.in_default.rest.0.0.1,
-      ne_eqb _ _ c.in_default.rest.0.1,
-      ne_eqb _ _ c.in_default.rest.1,
+      ne_eqb _ _ rest.0.0.0.0.0.0.1,
+      ne_eqb _ _ rest.0.0.0.0.0.1,
+      ne_eqb _ _ rest.0.0.0.0.1,
+      ne_eqb _ _ rest.0.0.0.1,
+      ne_eqb _ _ rest.0.0.1,
+      ne_eqb _ _ rest.0.1,
+      ne_eqb _ _ rest.1,
     )

@@ -27,6 +27,7 @@ returns-in-38 c =
 pub returns-in_default : goal.returns-in_default
 returns-in_default c =
     let s = c.args.s.now in
+    let rest = c.in_default.in_default-own.rest in
     let same = refl {a = c.args.kind} in
-    ends_gauged _ c.in_default.rest.0.0.1 c.in_default.rest.0.1 c.in_default.rest.1
+    ends_gauged _ rest.0.0.1 rest.0.1 rest.1
     ∙ ends_whole _ s c.if-s-at.false c.wide-low.ensures c.wide-high.ensures same

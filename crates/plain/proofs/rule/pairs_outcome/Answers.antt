@@ -1,7 +1,6 @@
 -- A loop over the notes: what is gathered and what is left make up all equality tests.
 use Prim.Native.Nat.{ℕ, ◌+◌, ◌-◌, ◌≤◌}
 use mathlib.Core.Path.{◌≡◌, refl, sym, ap, ◌∙◌}
-use mathlib.Core.Logic.{⊎_elim}
 use native.Mathlib.Omega.{arith}
 use lib.ListN.{length, get_or, drop}
 use Rattle.terms.specs.RuleTests.{pairs_with}
@@ -16,6 +15,7 @@ use Rattle.plain.proofs.Gathering.{gathered_more, gathered_all}
 use Rattle.plain.proofs.NoteTurns.{variable_turn, nameless_turn, no_pairs}
 use borrow.Author.Rules.{rules}
 use Rattle.plain.proofs.rule.pairs_outcome.Goals as goal
+use Rattle.plain.proofs.rule.pairs_outcome.Goals.{in-Of, in_default}
 
 pub loop-i-init : goal.loop-i-init
 loop-i-init c = (omega arith, refl)
@@ -42,22 +42,19 @@ loop-i-preserved c =
     let rest = pairs_outcome cells later in
     let name = ap name_of (sym c.note_record.ensures) ∙ sym c.name_of-name.ensures in
     let inside = c.loop-i-test.true in
-    ⊎_elim
-    (λ w.
-    let v = w.1.given.0.0 in
-    let turn = variable_turn codes a.n within i f v inside (name ∙ w.1.given.1) in
+    elim c.match-name.branch [ in-Of w ↦
+    let v = w.in-Of.v in
+    let turn = variable_turn codes a.n within i f v inside (name ∙ w.in-Of.is) in
     let with_place : ℕ → Outcome = λ p. together f (pairs_with p v (notes_variables later)) in
-    let own = w.4.ensures ∙ ap with_place w.3.ensures in (
+    let own = w.pairs_with.ensures ∙ ap with_place w.note_place.ensures in (
       omega arith,
-      ap (λ (x : Outcome). ◌and◌ x rest) (ap outcome_of w.6 ∙ w.5.ensures ∙ ap (◌and◌ gathered) own)
+      ap (λ (x : Outcome). ◌and◌ x rest) (ap outcome_of w.outcome-is ∙ w.both-outcome.ensures ∙ ap (◌and◌ gathered) own)
           ∙ gathered_more gathered (with_place (code_place (get_or codes i 0))) rest (sym (ap (◌and◌ gathered) turn) ∙ c.loop-i.invariant.1),
-    ))
-    (λ w.
-    let turn = nameless_turn codes a.n within i f inside (name ∙ w.1.given.1) in (
+    ) | in_default w ↦
+    let turn = nameless_turn codes a.n within i f inside (name ∙ w.in_default.is) in (
       omega arith,
-      ap (λ o. ◌and◌ (outcome_of o) rest) w.2 ∙ sym (ap (◌and◌ gathered) turn) ∙ c.loop-i.invariant.1,
-    ))
-    c.match-name.branch
+      ap (λ o. ◌and◌ (outcome_of o) rest) w.outcome-is ∙ sym (ap (◌and◌ gathered) turn) ∙ c.loop-i.invariant.1,
+    ) ]
 
 pub returns : goal.returns
 returns c =

@@ -1,7 +1,6 @@
 -- A loop over the later notes: what is gathered and what is left make up all pairs of the place.
 use Prim.Native.Nat.{ℕ, ◌+◌, ◌-◌, ◌≤◌}
 use mathlib.Core.Path.{◌≡◌, refl, sym, ap, ◌∙◌}
-use mathlib.Core.Logic.{⊎_elim}
 use native.Mathlib.Omega.{arith}
 use lib.ListN.{length, get_or, drop}
 use Rattle.terms.specs.RuleTests.{both, pairs_with}
@@ -16,6 +15,7 @@ use Rattle.plain.proofs.Gathering.{gathered_more, gathered_all}
 use Rattle.plain.proofs.NoteTurns.{named_turn, other_turn, no_pair}
 use borrow.Author.Rules.{rules}
 use Rattle.plain.proofs.rule.pairs_with.Goals as goal
+use Rattle.plain.proofs.rule.pairs_with.Goals.{then-is_named, else-is_named}
 
 pub loop-j-init : goal.loop-j-init
 loop-j-init c = (c.requires.0, refl)
@@ -40,21 +40,18 @@ loop-j-preserved c =
     let rest = together f (pairs_with a.place a.v (notes_variables (drop (i + 1) (notes_in codes a.n)))) in
     let named = ap (names_variable a.v) (sym c.note_record.ensures) ∙ sym c.is_named.ensures in
     let inside = c.loop-j-test.true in
-    ⊎_elim
-    (λ w.
-    let turn = named_turn codes a.n within i f a.place a.v inside (named ∙ w.0.taken) in
-    let one = w.2.ensures ∙ ap (λ (q : ℕ). pair_cells cells a.place q) w.1.ensures in (
+    elim c.if-is_named.branch [ then-is_named w ↦
+    let turn = named_turn codes a.n within i f a.place a.v inside (named ∙ w.if-is_named.true) in
+    let one = w.pair_outcome.ensures ∙ ap (λ (q : ℕ). pair_cells cells a.place q) w.note_place.ensures in (
       omega arith,
-      ap (λ (x : Outcome). ◌and◌ x rest) (ap outcome_of w.4 ∙ w.3.ensures ∙ ap (◌and◌ gathered) one)
+      ap (λ (x : Outcome). ◌and◌ x rest) (ap outcome_of w.outcome-is ∙ w.both-outcome.ensures ∙ ap (◌and◌ gathered) one)
           ∙ gathered_more gathered (f (both a.place (code_place (get_or codes i 0)))) rest
           (sym (ap (◌and◌ gathered) turn) ∙ c.loop-j.invariant.1),
-    ))
-    (λ w.
-    let turn = other_turn codes a.n within i f a.place a.v inside (named ∙ w.0.left) in (
+    ) | else-is_named w ↦
+    let turn = other_turn codes a.n within i f a.place a.v inside (named ∙ w.if-is_named.false) in (
       omega arith,
-      ap (λ o. ◌and◌ (outcome_of o) rest) w.1 ∙ sym (ap (◌and◌ gathered) turn) ∙ c.loop-j.invariant.1,
-    ))
-    c.if-is_named.branch
+      ap (λ o. ◌and◌ (outcome_of o) rest) w.outcome-is ∙ sym (ap (◌and◌ gathered) turn) ∙ c.loop-j.invariant.1,
+    ) ]
 
 pub returns : goal.returns
 returns c =

@@ -5,6 +5,7 @@ use mathlib.Core.Logic.{⊎_elim}
 use Prim.Native.Nat.{ℕ, ◌<◌}
 use native.Mathlib.Omega.{arith}
 use types.Run.{OneOf}
+use borrow.Enum.Refused.{opened}
 use denote.Enum.Declared.{tag_of}
 use Rattle.patterns.specs.declared.PatternRecord.{PatternRecord}
 use Rattle.patterns.specs.declared.PatternRecord.TheVariants.{Anything, Symbol, Range, Compound, Variable, Ranged, Series, Gauged}
@@ -66,4 +67,4 @@ pub returns-in_default : goal.returns-in_default
 returns-in_default c =
     let a = c.args in
     c.fixed_outcome.ensures
-    ∙ fixed_record a.cells.now a.ranges.low a.ranges.high a.place a.what c.in_default.keys3
+    ∙ fixed_record a.cells.now a.ranges.low a.ranges.high a.place a.what (opened c.in_default.in_default-own.keys3)

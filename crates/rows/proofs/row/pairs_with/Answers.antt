@@ -1,7 +1,6 @@
 -- A loop over the later notes: the pairs with those passed are in the set.
 use Prim.Native.Nat.{ℕ, ◌+◌, ◌-◌, ◌≤◌}
 use mathlib.Core.Path.{◌≡◌, refl, sym, ap, ◌∙◌}
-use mathlib.Core.Logic.{⊎_elim}
 use native.Mathlib.Omega.{arith}
 use lib.ListN.{length, drop}
 use Rattle.sheet.specs.views.NoteArray.{notes_in}
@@ -14,6 +13,7 @@ use Rattle.rows.specs.views.Row.{with_test, with_tests, pair_number, pair_number
 use Rattle.rows.proofs.RowTurns.{with_from, with_yes, with_no, with_end}
 use borrow.Author.Rules.{rules}
 use Rattle.rows.proofs.row.pairs_with.Goals as goal
+use Rattle.rows.proofs.row.pairs_with.Goals.{then-is_named, else-is_named}
 
 pub loop-j-init : goal.loop-j-init
 loop-j-init c = (c.requires.0, refl)
@@ -35,22 +35,19 @@ loop-j-preserved c =
     let within : a.n ≤ length notes = omega (arith, c.requires) in
     let j = c.loop-j.j in
     let test = ap (names_variable a.v) (sym c.note_record.ensures) ∙ sym c.is_named.ensures in
-    ⊎_elim
-    (λ w.
-    let t = w.2.ensures ∙ ap (λ (q : ℕ). pair_number count kept (pair_code a.place q)) w.1.ensures in (
+    elim c.if-is_named.branch [ then-is_named w ↦
+    let t = w.pair_number.ensures ∙ ap (λ (q : ℕ). pair_number count kept (pair_code a.place q)) w.note_place-q.ensures in (
       omega arith,
       ap (with_from notes a.n within j count kept a.place a.v (j + 1))
-          (w.4 ∙ w.3.ensures ∙ ap (with_test turn.all) t)
-          ∙ with_yes notes a.n within j count kept a.place a.v (omega arith) (test ∙ w.0.taken) turn.all
+          (w.all-is ∙ w.with_test-all.ensures ∙ ap (with_test turn.all) t)
+          ∙ with_yes notes a.n within j count kept a.place a.v (omega arith) (test ∙ w.if-is_named.true) turn.all
           ∙ turn.invariant.1,
-    ))
-    (λ w. (
+    ) | else-is_named w ↦ (
       omega arith,
-      ap (with_from notes a.n within j count kept a.place a.v (j + 1)) w.1
-          ∙ with_no notes a.n within j count kept a.place a.v (omega arith) (test ∙ w.0.left) turn.all
+      ap (with_from notes a.n within j count kept a.place a.v (j + 1)) w.all-is
+          ∙ with_no notes a.n within j count kept a.place a.v (omega arith) (test ∙ w.if-is_named.false) turn.all
           ∙ turn.invariant.1,
-    ))
-    c.if-is_named.branch
+    ) ]
 
 pub returns : goal.returns
 returns c =

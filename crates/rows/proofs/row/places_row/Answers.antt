@@ -1,7 +1,6 @@
 -- A loop over the notes: the place tests of those passed are in the set.
 use Prim.Native.Nat.{ℕ, ◌+◌, ◌-◌, ◌≤◌}
 use mathlib.Core.Path.{◌≡◌, refl, sym, ap, ◌∙◌, subst}
-use mathlib.Core.Logic.{⊎_elim}
 use native.Mathlib.Omega.{arith}
 use lib.ListN.{length, get_or, drop}
 use Rattle.patterns.specs.declared.PatternRecord.{PatternRecord}
@@ -16,6 +15,7 @@ use Rattle.rows.proofs.NotesWanted.{want_here, wanted_some, wanted_none}
 use Rattle.rows.proofs.RowTurns.{places_from, places_turn, places_skip, places_end}
 use borrow.Author.Rules.{rules}
 use Rattle.rows.proofs.row.places_row.Goals as goal
+use Rattle.rows.proofs.row.places_row.Goals.{in-Codes, in_default}
 
 pub loop-i-init : goal.loop-i-init
 loop-i-init c = (omega arith, refl)
@@ -44,23 +44,20 @@ loop-i-preserved c =
     let i = c.loop-i.i in
     let what = c.note_record.ensures in
     let want = c.record_wanted-wanted.ensures ∙ ap (λ (r : PatternRecord). wanted_codes (record_want low high r)) what in
-    ⊎_elim
-    (λ w.
-    let (v, is, least, most) = wanted_some (want_here low high notes a.n within i) (sym w.1.given.1 ∙ want) in
-    let t = w.3.ensures.0 ∙ ap (λ (p : ℕ). get_or numbers p 0) w.2.ensures in (
+    elim c.match-wanted.branch [ in-Codes w ↦
+    let (v, is, least, most) = wanted_some (want_here low high notes a.n within i) (sym w.in-Codes.is ∙ want) in
+    let t = w.place_number.ensures.0 ∙ ap (λ (p : ℕ). get_or numbers p 0) w.note_place.ensures in (
       omega arith,
-      ap (places_from low high notes a.n within i numbers (i + 1)) (w.5 ∙ w.4.ensures ∙ ap (with_test turn.row) t)
+      ap (places_from low high notes a.n within i numbers (i + 1)) (w.row-is ∙ w.with_test-row.ensures ∙ ap (with_test turn.row) t)
           ∙ places_turn low high notes a.n within i numbers (omega arith) v is turn.row
           ∙ turn.invariant.1,
-    ))
-    (λ w.
-    let is = wanted_none (want_here low high notes a.n within i) (sym w.1.given.1 ∙ want) in (
+    ) | in_default w ↦
+    let is = wanted_none (want_here low high notes a.n within i) (sym w.in_default.is ∙ want) in (
       omega arith,
-      ap (places_from low high notes a.n within i numbers (i + 1)) w.2
+      ap (places_from low high notes a.n within i numbers (i + 1)) w.row-is
           ∙ places_skip low high notes a.n within i numbers (omega arith) is turn.row
           ∙ turn.invariant.1,
-    ))
-    c.match-wanted.branch
+    ) ]
 
 pub returns : goal.returns
 returns c =

@@ -16,35 +16,30 @@ use Rattle.plain.specs.views.NotesOutcome.{flat_bytes}
 use Rattle.rule_by_rule.proofs.FlatArguments.{Left, flat_there, left_all, left_out, left_next}
 use borrow.Author.Rules.{rules}
 use Rattle.rule_by_rule.proofs.flat.is_out.Goals as goal
+use Rattle.rule_by_rule.proofs.flat.is_out.Goals.{In-Whole}
 
 pub loop-i-init : goal.loop-i-init
 loop-i-init c =
     let a = c.args in (omega arith, omega arith, λ b rule read. left_all a.arity a.s.now read)
 
 -- Where a record was read.
-module _ (c : goal.In-Whole) where
-  abbrev at_loop : goal.At-loop-i
-  at_loop = c.«At-loop-i»
-
-  abbrev start : goal.Start
-  start = at_loop.before.before
-
-  head : pattern_head (drop at_loop.loop.at start.args.s.now) ≡ Whole c.in-Whole.what
+module _ (c : In-Whole) where
+  head : pattern_head (drop c.loop-i.at c.args.s.now) ≡ Whole c.in-Whole.what
   head =
-      sym (ap pattern_head (rest start.args.s.now at_loop.loop.at))
+      sym (ap pattern_head (rest c.args.s.now c.loop-i.at))
       ∙ sym c.pattern_head-head.ensures
       ∙ c.in-Whole.is
 
-  bytes_there : at_loop.loop.at + flat_bytes c.in-Whole.what ≤ length start.args.s.now
+  bytes_there : c.loop-i.at + flat_bytes c.in-Whole.what ≤ length c.args.s.now
   bytes_there =
-      let s = start.args.s.now in
-      let at = at_loop.loop.at in
+      let s = c.args.s.now in
+      let at = c.loop-i.at in
       omega (
         arith,
         flat_there c.in-Whole.what,
         head_whole (drop at s) head,
         ap length (sym (rest s at)) ∙ rest_length s at,
-        at_loop.loop.inv.1,
+        c.loop-i.invariant.1,
       )
 
 pub fixed_outcome-one-requires : goal.fixed_outcome-one-requires
@@ -55,9 +50,9 @@ returns-in_default c = λ e. absurd (subst T (sym e) tt)
 
 pub returns-in-Contradicted : goal.returns-in-Contradicted
 returns-in-Contradicted c =
-    let a = (start (goal.at.returns-in-Contradicted c).In-Whole).args in
+    let a = c.args in
     λ e b rule read.
-    left_out ((at_loop (goal.at.returns-in-Contradicted c).In-Whole).loop.invariant.2 b rule read) (omega arith) (head (goal.at.returns-in-Contradicted c).In-Whole) a.cells.now
+    left_out (c.loop-i.invariant.2 b rule read) (omega arith) (head (goal.at.returns-in-Contradicted c).In-Whole) a.cells.now
     (sym c.fixed_outcome-one.ensures ∙ ap outcome_of c.in-Contradicted.is)
 
 pub returns-then-bytes-eq0 : goal.returns-then-bytes-eq0
@@ -65,18 +60,18 @@ returns-then-bytes-eq0 c = λ e. absurd (subst T (sym e) tt)
 
 pub overflow_add-at : goal.overflow_add-at
 overflow_add-at c =
-    omega (arith, c.flat_length-bytes.ensures, bytes_there (goal.at.overflow_add-at c).In-Whole, (start (goal.at.overflow_add-at c).In-Whole).well_formed.0.0)
+    omega (arith, c.flat_length-bytes.ensures, bytes_there (goal.at.overflow_add-at c).In-Whole, c.well_formed.0.0)
 
 pub loop-i-preserved : goal.loop-i-preserved
 loop-i-preserved c =
     let bytes = c.flat_length-bytes.ensures in
-    let turn = (at_loop (goal.at.loop-i-preserved c).In-Whole).loop in (
+    let turn = c.loop-i in (
       omega arith,
       omega (arith, bytes, bytes_there (goal.at.loop-i-preserved c).In-Whole),
       λ b rule read.
-          subst (λ (k : ℕ). Left (start (goal.at.loop-i-preserved c).In-Whole).args.arity (start (goal.at.loop-i-preserved c).In-Whole).args.s.now rule (turn.i + 1) (turn.at + k))
+          subst (λ (k : ℕ). Left c.args.arity c.args.s.now rule (turn.i + 1) (turn.at + k))
           (sym bytes)
-          (left_next (turn.inv.2 b rule read) (omega arith) (head (goal.at.loop-i-preserved c).In-Whole) (λ none. c.if-bytes-eq0.false (bytes ∙ none))),
+          (left_next (turn.invariant.2 b rule read) (omega arith) (head (goal.at.loop-i-preserved c).In-Whole) (λ none. c.if-bytes-eq0.false (bytes ∙ none))),
     )
 
 pub returns : goal.returns

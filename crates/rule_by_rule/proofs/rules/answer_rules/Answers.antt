@@ -15,6 +15,7 @@ use Rattle.plain.specs.views.NotesOutcome.{cells_outcome}
 use Rattle.rule_by_rule.proofs.RuleTurns.{answer_from, turns_start, turns_end, turns_suspend, turn_next, turn_read}
 use borrow.Author.Rules.{rules}
 use Rattle.rule_by_rule.proofs.rules.answer_rules.Goals as goal
+use Rattle.rule_by_rule.proofs.rules.answer_rules.Goals.{After-moved-answer}
 
 pub loop-i-init : goal.loop-i-init
 loop-i-init c =
@@ -34,56 +35,50 @@ tried-outcome-requires c =
     (c.requires.0.few, c.loop-i.invariant.1, c.requires.2)
 
 -- The answer moved by a rule, and those left.
-module _ (c : goal.After-moved-answer) where
-  abbrev at_loop : goal.At-loop-i
-  at_loop = c.«In-loop-i»
-
-  abbrev start : goal.Start
-  start = at_loop.before.before
-
+module _ (c : After-moved-answer) where
   -- What comes of all rules.
   abbrev all : PlainValues
   all =
-      let a = start.args in
+      let a = c.args in
       reading_values (map_reading (moved_by (cells_outcome a.cells.now) 1 fail) (read_rules a.arity a.count a.s.now))
 
   abbrev answered : Answer
-  answered = moved_by (cells_outcome start.args.cells.now) 1 fail start.pre.0.rules
+  answered = moved_by (cells_outcome c.args.cells.now) 1 fail c.requires.0.rules
 
   all_answered : all ≡ answer_values answered
   all_answered =
-      ap (λ x. reading_values (map_reading (moved_by (cells_outcome start.args.cells.now) 1 fail) x)) start.pre.0.read
+      ap (λ x. reading_values (map_reading (moved_by (cells_outcome c.args.cells.now) 1 fail) x)) c.requires.0.read
 
   abbrev onward : Answer → PlainValues
   onward x =
-      let a = start.args in
-      let next = at_loop.loop.i + 1 in
+      let a = c.args in
+      let next = c.loop-i.i + 1 in
       answer_from (cells_outcome a.cells.now) a.arity a.count a.s.now next (rule_start a.arity a.s.now next) x
 
   goes_on : onward (answer_of c.moved-answer.result) ≡ all
   goes_on =
-      let a = start.args in
+      let a = c.args in
       let s = a.s.now in
-      let turn = at_loop.loop in
+      let turn = c.loop-i in
       let outcome = cells_outcome a.cells.now in
       let before = answer_of turn.answer in
       let at = rule_start a.arity s turn.i in
       let (b, rule, read) =
-      turn_read outcome a.arity a.count s turn.i at before answered (omega arith) (turn.inv.2 ∙ all_answered) in
-      let begins = (start.pre.4 turn.i (omega arith)).0 in
+      turn_read outcome a.arity a.count s turn.i at before answered (omega arith) (turn.invariant.2 ∙ all_answered) in
+      let begins = (c.requires.4 turn.i (omega arith)).0 in
       let there =
       ap (read_rule a.arity) (rest s _) ∙ ap (λ (k : ℕ). read_rule a.arity (drop k s)) begins ∙ read in
       let answer = c.moved-answer.ensures ∙ ap (answer_after before (turn.i + 1)) (c.tried-outcome.ensures.by_index b rule there) in
       let next = start_next a.arity s turn.i at refl read in
       (λ j. answer_from outcome a.arity a.count s (turn.i + 1) (sym next j) (answer j))
       ∙ turn_next outcome a.arity a.count s turn.i at before (omega arith) rule read
-      ∙ turn.inv.2
+      ∙ turn.invariant.2
 
 -- Two rules are open.
 pub returns-in-Suspend : goal.returns-in-Suspend
 returns-in-Suspend c =
-    let a = (start (goal.at.returns-in-Suspend c).After-moved-answer).args in
-    let next = (at_loop (goal.at.returns-in-Suspend c).After-moved-answer).loop.i + 1 in
+    let a = c.args in
+    let next = c.loop-i.i + 1 in
     let told = ap answer_of c.in-Suspend.is in
     let come = sym (ap (onward (goal.at.returns-in-Suspend c).After-moved-answer) told) ∙ goes_on (goal.at.returns-in-Suspend c).After-moved-answer in
     ap answer_values told

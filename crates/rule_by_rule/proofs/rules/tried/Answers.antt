@@ -9,6 +9,7 @@ use Rattle.plain.specs.views.NotesOutcome.{notes_outcome}
 use Rattle.rule_by_rule.proofs.RuleTurns.{readings_apart, same_rule}
 use borrow.Author.Rules.{rules}
 use Rattle.rule_by_rule.proofs.rules.tried.Goals as goal
+use Rattle.rule_by_rule.proofs.rules.tried.Goals.{In-Used}
 
 pub returns-then-is_out : goal.returns-then-is_out
 returns-then-is_out c =
@@ -30,32 +31,24 @@ returns-in_default c =
       notes_len = c.read_rule-read.ensures.took_within.entries;
     }
 
-module _ (c : goal.In-Used) where
-  abbrev at_read_rule : goal.After-read_rule-read
-  at_read_rule = c.«After-read_rule-read»
-
-  abbrev start : goal.Start
-  start = at_read_rule.before.before.before.before.before.before.before
-
-  whole
-      : let n = c.read-1.given.0 in
-      RuleRead start.args.arity 0 start.args.s.now at_read_rule.read-rule.last.1.1.0 c.in-Used.field-0 c.in-Used.n
+module _ (c : In-Used) where
+  whole : RuleRead c.args.arity 0 c.args.s.now c.read_rule-read.new.notes c.in-Used.field-0 c.in-Used.n
   whole =
-      let s = start.args.s.now in
-      let told = at_read_rule.read-rule.ensures in
-      rule_read_lem start.args.arity 0 s _ at_read_rule.read-rule.result told.0 start.pre.0
-      (bytes_known s (λ i. omega (arith, at_read_rule.before.before.before.before.before.before.shared-slice-known.given i)))
-      c.in-Used.is told.1
+      let s = c.args.s.now in
+      let told = c.read_rule-read.ensures in
+      rule_read_lem c.args.arity 0 s _ c.read_rule-read.result told.result_after c.requires.0
+      (bytes_known s (λ i. omega (arith, c.type_inv.s i)))
+      c.in-Used.is told.took_within
 
 pub rule_outcome-requires : goal.rule_outcome-requires
 rule_outcome-requires c =
-    ((whole (goal.at.rule_outcome-requires c).In-Used-2).made, (at_read_rule (goal.at.rule_outcome-requires c).In-Used-2).read-rule.ensures.1.entries, (whole (goal.at.rule_outcome-requires c).In-Used-2).placed, (start (goal.at.rule_outcome-requires c).In-Used-2).requires.2)
+    ((whole (goal.at.rule_outcome-requires c).In-Used).made, c.read_rule-read.ensures.took_within.entries, (whole (goal.at.rule_outcome-requires c).In-Used).placed, c.requires.2)
 
 pub returns : goal.returns
 returns c =
-    let cells = (start (goal.at.returns c).In-Used-2).args.cells.now in record {
+    let cells = c.args.cells.now in record {
       by_index = λ b rule e.
           c.rule_outcome.ensures
-          ∙ ap (notes_outcome cells) ((whole (goal.at.returns c).In-Used-2).noted ∙ same_rule (sym (whole (goal.at.returns c).In-Used-2).read ∙ e));
-      notes_len = (at_read_rule (goal.at.returns c).In-Used-2).read-rule.ensures.1.entries;
+          ∙ ap (notes_outcome cells) ((whole (goal.at.returns c).In-Used).noted ∙ same_rule (sym (whole (goal.at.returns c).In-Used).read ∙ e));
+      notes_len = c.read_rule-read.ensures.took_within.entries;
     }

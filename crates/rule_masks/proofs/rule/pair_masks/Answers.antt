@@ -1,7 +1,6 @@
 -- A loop over the notes: the pairs of those passed are made.
 use Prim.Native.Nat.{ℕ, ◌+◌, ◌-◌, ◌≤◌}
 use mathlib.Core.Path.{◌≡◌, refl, sym, ap, ◌∙◌}
-use mathlib.Core.Logic.{⊎_elim}
 use native.Mathlib.Omega.{arith}
 use lib.ListN.{length, drop}
 use Rattle.sheet.specs.views.NoteArray.{notes_in}
@@ -13,6 +12,7 @@ use Rattle.rule_masks.specs.views.RuleMasks.{after_pairs}
 use Rattle.rule_masks.proofs.MadeTurns.{with_from, pairs_from, pairs_named, pairs_nameless, pairs_end}
 use borrow.Author.Rules.{rules}
 use Rattle.rule_masks.proofs.rule.pair_masks.Goals as goal
+use Rattle.rule_masks.proofs.rule.pair_masks.Goals.{in-Of, in_default}
 
 pub loop-i-init : goal.loop-i-init
 loop-i-init c = (omega arith, refl)
@@ -35,23 +35,20 @@ loop-i-preserved c =
     let within : a.n ≤ length notes = omega (arith, c.requires) in
     let i = c.loop-i.i in
     let name = ap name_of (sym c.note_record.ensures) ∙ sym c.name_of-name.ensures in
-    ⊎_elim
-    (λ w.
-    let v = w.1.given.0.0 in
+    elim c.match-name.branch [ in-Of w ↦
+    let v = w.in-Of.v in
     let pairs : ℕ → Masks = λ p. with_from tests cells notes a.n within i p v (i + 1) turn.all in
-    let own = w.4.ensures ∙ ap pairs w.3.ensures in (
+    let own = w.pairs_with-all.ensures ∙ ap pairs w.note_place.ensures in (
       omega arith,
-      ap (pairs_from tests cells notes a.n within i (i + 1)) (w.5 ∙ own)
-          ∙ pairs_named tests cells notes a.n within i v (omega arith) (name ∙ w.1.given.1) turn.all
+      ap (pairs_from tests cells notes a.n within i (i + 1)) (w.all-is ∙ own)
+          ∙ pairs_named tests cells notes a.n within i v (omega arith) (name ∙ w.in-Of.is) turn.all
           ∙ turn.invariant.1,
-    ))
-    (λ w. (
+    ) | in_default w ↦ (
       omega arith,
-      ap (pairs_from tests cells notes a.n within i (i + 1)) w.2
-          ∙ pairs_nameless tests cells notes a.n within i (omega arith) (name ∙ w.1.given.1) turn.all
+      ap (pairs_from tests cells notes a.n within i (i + 1)) w.all-is
+          ∙ pairs_nameless tests cells notes a.n within i (omega arith) (name ∙ w.in_default.is) turn.all
           ∙ turn.invariant.1,
-    ))
-    c.match-name.branch
+    ) ]
 
 pub returns : goal.returns
 returns c =

@@ -1,7 +1,6 @@
 -- A loop over the later notes: the pairs with those passed are made.
 use Prim.Native.Nat.{ℕ, ◌+◌, ◌-◌, ◌≤◌}
 use mathlib.Core.Path.{◌≡◌, refl, sym, ap, ◌∙◌}
-use mathlib.Core.Logic.{⊎_elim}
 use native.Mathlib.Omega.{arith}
 use lib.ListN.{length, drop}
 use Rattle.sheet.specs.views.NoteArray.{notes_in}
@@ -13,6 +12,7 @@ use Rattle.rule_masks.specs.views.RuleMasks.{pair_made, with_made, after_pairs}
 use Rattle.rule_masks.proofs.MadeTurns.{with_from, with_yes, with_no, with_end}
 use borrow.Author.Rules.{rules}
 use Rattle.rule_masks.proofs.rule.pairs_with.Goals as goal
+use Rattle.rule_masks.proofs.rule.pairs_with.Goals.{then-is_named, else-is_named}
 
 pub loop-j-init : goal.loop-j-init
 loop-j-init c = (c.requires.0, refl)
@@ -36,21 +36,18 @@ loop-j-preserved c =
     let within : a.n ≤ length notes = omega (arith, c.requires) in
     let j = c.loop-j.j in
     let test = ap (names_variable v) (sym c.note_record.ensures) ∙ sym c.is_named.ensures in
-    ⊎_elim
-    (λ w.
-    let put = w.2.ensures ∙ ap (λ (q : ℕ). with_made tests turn.all (pair_made cells (pair_code p q))) w.1.ensures in (
+    elim c.if-is_named.branch [ then-is_named w ↦
+    let put = w.with_pair-all.ensures ∙ ap (λ (q : ℕ). with_made tests turn.all (pair_made cells (pair_code p q))) w.note_place.ensures in (
       omega arith,
-      ap (with_from tests cells notes a.n within j p v (j + 1)) (w.3 ∙ put)
-          ∙ with_yes tests cells notes a.n within j p v (omega arith) (test ∙ w.0.taken) turn.all
+      ap (with_from tests cells notes a.n within j p v (j + 1)) (w.all-is ∙ put)
+          ∙ with_yes tests cells notes a.n within j p v (omega arith) (test ∙ w.if-is_named.true) turn.all
           ∙ turn.invariant.1,
-    ))
-    (λ w. (
+    ) | else-is_named w ↦ (
       omega arith,
-      ap (with_from tests cells notes a.n within j p v (j + 1)) w.1
-          ∙ with_no tests cells notes a.n within j p v (omega arith) (test ∙ w.0.left) turn.all
+      ap (with_from tests cells notes a.n within j p v (j + 1)) w.all-is
+          ∙ with_no tests cells notes a.n within j p v (omega arith) (test ∙ w.if-is_named.false) turn.all
           ∙ turn.invariant.1,
-    ))
-    c.if-is_named.branch
+    ) ]
 
 pub returns : goal.returns
 returns c =

@@ -1,7 +1,6 @@
 -- A loop over the notes: the place tests of those passed are made.
 use Prim.Native.Nat.{◌+◌, ◌-◌, ◌*◌, ◌≤◌, ◌<◌}
 use mathlib.Core.Path.{◌≡◌, refl, sym, ap, ◌∙◌, subst}
-use mathlib.Core.Logic.{⊎_elim}
 use native.Mathlib.Omega.{arith}
 use lib.ListN.{length, get_or, drop}
 use Rattle.patterns.specs.declared.PatternRecord.{PatternRecord}
@@ -19,13 +18,7 @@ use Rattle.rule_masks.specs.views.RuleMasks.{made, with_made, after_places, no_m
 use Rattle.rule_masks.proofs.MadeTurns.{places_from, places_turn, places_skip, places_end}
 use borrow.Author.Rules.{rules}
 use Rattle.rule_masks.proofs.rule.place_masks.Goals as goal
-
--- The place of the note at i.
-placed_at : (c : goal.In-loop-i) → code_place (get_or c.before.before.args.notes.now c.before.loop.i 0) < 680
-placed_at c =
-    let a = c.args in
-    let pre = c.requires in
-    notes_each a.notes.now a.n (omega (arith, pre.0, pre.1)) Placed c.loop-i.i pre.2 c.loop-i-test.true
+use Rattle.rule_masks.proofs.rule.place_masks.Goals.{in-Codes, in_default}
 
 pub loop-i-init : goal.loop-i-init
 loop-i-init c = (omega arith, refl)
@@ -37,11 +30,17 @@ record_wanted-wanted-requires c =
 
 pub place_outcome-outcome-requires : goal.place_outcome-outcome-requires
 place_outcome-outcome-requires c =
-    omega (arith, placed_at (goal.at.place_outcome-outcome-requires c).After-way_told-1, c.note_place-place.ensures)
+    let a = c.args in
+    let pre = c.requires in
+    let placed = notes_each a.notes.now a.n (omega (arith, pre.0, pre.1)) Placed c.loop-i.i pre.2 c.loop-i-test.true in
+    omega (arith, placed, c.note_place-place.ensures)
 
 pub overflow_mul-place : goal.overflow_mul-place
 overflow_mul-place c =
-    omega (arith, placed_at (goal.at.overflow_mul-place c).After-way_told-1, c.note_place-place.ensures)
+    let a = c.args in
+    let pre = c.requires in
+    let placed = notes_each a.notes.now a.n (omega (arith, pre.0, pre.1)) Placed c.loop-i.i pre.2 c.loop-i-test.true in
+    omega (arith, placed, c.note_place-place.ensures)
 
 pub with_outcome-masks-requires : goal.with_outcome-masks-requires
 with_outcome-masks-requires c = c.requires.3
@@ -59,27 +58,24 @@ loop-i-preserved c =
     let i = c.loop-i.i in
     let what = c.note_record.ensures in
     let want = c.record_wanted-wanted.ensures ∙ ap (λ (r : PatternRecord). wanted_codes (record_want low high r)) what in
-    ⊎_elim
-    (λ w.
-    let (v, is, least, most) = wanted_some (want_here low high notes a.n within i) (sym w.1.given.1 ∙ want) in
-    let spot = w.3.ensures in
+    elim c.match-wanted.branch [ in-Codes w ↦
+    let (v, is, least, most) = wanted_some (want_here low high notes a.n within i) (sym w.in-Codes.is ∙ want) in
+    let spot = w.note_place-place.ensures in
     let p = code_place (get_or notes i 0) in
-    let code : 0x1_0001 * w.3.result ≡ spot_code p = omega (arith, spot) in
-    let outcome = w.4.ensures ∙ (λ j. place_cells cells (spot j) (least j) (most j)) in (
+    let code : 0x1_0001 * w.note_place-place.result ≡ spot_code p = omega (arith, spot) in
+    let outcome = w.place_outcome-outcome.ensures ∙ (λ j. place_cells cells (spot j) (least j) (most j)) in (
       omega arith,
       ap (places_from tests cells low high notes a.n within i (i + 1))
-          (w.6 ∙ w.5.ensures ∙ (λ j. with_made tests turn.masks (made (code j) (outcome j))))
+          (w.masks-is ∙ w.with_outcome-masks.ensures ∙ (λ j. with_made tests turn.masks (made (code j) (outcome j))))
           ∙ places_turn tests cells low high notes a.n within i (omega arith) v is turn.masks
           ∙ turn.invariant.1,
-    ))
-    (λ w.
-    let is = wanted_none (want_here low high notes a.n within i) (sym w.1.given.1 ∙ want) in (
+    ) | in_default w ↦
+    let is = wanted_none (want_here low high notes a.n within i) (sym w.in_default.is ∙ want) in (
       omega arith,
-      ap (places_from tests cells low high notes a.n within i (i + 1)) w.2
+      ap (places_from tests cells low high notes a.n within i (i + 1)) w.masks-is
           ∙ places_skip tests cells low high notes a.n within i (omega arith) is turn.masks
           ∙ turn.invariant.1,
-    ))
-    c.match-wanted.branch
+    ) ]
 
 pub returns : goal.returns
 returns c =

@@ -19,7 +19,7 @@ returns c =
     let a = c.args in
     let notes = notes_in a.notes.now a.n in
     let tests = listed_tests a.kept.now in
-    let ranges = c.ranges-2.ensures in
+    let ranges = c.ranges-ranges.ensures in
     let places =
     c.place_masks-places.ensures
     ∙ (λ i. after_places tests a.cells.now (ranges i).low (ranges i).high notes no_masks) in

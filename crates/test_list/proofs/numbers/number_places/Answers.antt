@@ -1,13 +1,13 @@
 -- A loop over the listed places: those passed have their numbers.
 use Prim.Native.Nat.{ℕ, ◌+◌, ◌-◌, ◌≤◌}
 use mathlib.Core.Path.{◌≡◌, refl, sym, ap, ◌∙◌}
-use mathlib.Core.Logic.{⊎_elim}
 use native.Mathlib.Omega.{arith}
 use lib.ListN.{length, take, drop, set, length-set}
 use Rattle.test_list.specs.views.Numbers.{number_all}
 use Rattle.test_list.proofs.PlaceNumbers.{number_turn, number_skip, number_end}
 use borrow.Author.Rules.{rules}
 use Rattle.test_list.proofs.numbers.number_places.Goals as goal
+use Rattle.test_list.proofs.numbers.number_places.Goals.{then-place-lt680, else-place-lt680}
 
 pub loop-t-init : goal.loop-t-init
 loop-t-init c = (omega arith, c.requires.2, refl)
@@ -20,22 +20,19 @@ loop-t-preserved c =
     let t = c.loop-t.t in
     let numbers = c.loop-t.numbers in
     let is = c.wide-place.ensures in
-    ⊎_elim
-    (λ w. (
+    elim c.if-place-lt680.branch [ then-place-lt680 w ↦ (
       omega arith,
-      ap length w.1 ∙ length-set numbers _ t ∙ turn.invariant.1,
-      ap (number_all (drop (t + 1) (take count places)) (t + 1)) (w.1 ∙ ap (λ (p : ℕ). set numbers p t) is)
+      ap length w.numbers-is ∙ length-set numbers _ t ∙ turn.invariant.1,
+      ap (number_all (drop (t + 1) (take count places)) (t + 1)) (w.numbers-is ∙ ap (λ (p : ℕ). set numbers p t) is)
           ∙ number_turn places count t (omega arith) (omega arith) numbers
           ∙ turn.invariant.2,
-    ))
-    (λ w. (
+    ) | else-place-lt680 w ↦ (
       omega arith,
-      ap length w.1 ∙ turn.invariant.1,
-      ap (number_all (drop (t + 1) (take count places)) (t + 1)) w.1
-          ∙ number_skip places count t (omega arith) (omega arith) numbers (omega (arith, w.0.left, is, turn.invariant.1))
+      ap length w.numbers-is ∙ turn.invariant.1,
+      ap (number_all (drop (t + 1) (take count places)) (t + 1)) w.numbers-is
+          ∙ number_skip places count t (omega arith) (omega arith) numbers (omega (arith, w.if-place-lt680.false, is, turn.invariant.1))
           ∙ turn.invariant.2,
-    ))
-    c.if-place-lt680.branch
+    ) ]
 
 pub returns : goal.returns
 returns c =

@@ -43,6 +43,6 @@ returns c =
     let codes = c.args.codes.now in
     let put =
     c.put_tests.ensures ∙ ap (λ (l : List ℕ). tests_put l (take c.args.pairs codes) c.args.s.now) listed.places_after in record {
-      s_after = c.Put-under.ensures ∙ ap under_put put;
+      s_after = c.put_under.ensures ∙ ap under_put put;
       numbers_after = c.number_places.ensures ∙ ap (λ (l : List ℕ). number_all l 0 c.args.numbers.now) listed.places_after;
     }

@@ -11,10 +11,8 @@ use Rattle.test_list.specs.views.Tests.{settled_below, under_put}
 use Rattle.test_list.proofs.PutLists.{Putting, putting_start, putting_turn, putting_done, row_at}
 use Rattle.test_list.proofs.SameTests.{same_counted, same_settled}
 use borrow.Author.Rules.{rules}
+use Rattle.test_list.proofs.tests.put_under.Invariants.{sets}
 use Rattle.test_list.proofs.tests.put_under.Goals as goal
-
-abbrev sets : List ℕ → List ℕ
-sets s = map (settled_below s) (count_from 0 (place_tests_in s))
 
 many : (s : List ℕ) → length (sets s) ≡ place_tests_in s
 many s = length-map (count_from 0 (place_tests_in s)) (settled_below s) ∙ count_length 0 (place_tests_in s)
@@ -24,20 +22,20 @@ loop-t-init c = putting_start 196 (sets c.args.s.now) c.args.s.now
 
 pub settled-requires : goal.settled-requires
 settled-requires c =
-    let turn = c.loop in
+    let turn = c.loop-t in
     let s = c.args.s.now in
     let counted = same_counted s turn.s turn.invariant.entries (λ k h. turn.invariant.below k (omega arith)) c.requires in
-    (counted, omega (arith, c.place-tests.ensures, turn.invariant.below 2 (omega arith)))
+    (counted, omega (arith, c.place_tests-count.ensures, turn.invariant.below 2 (omega arith)))
 
 pub overflow_add-s : goal.overflow_add-s
 overflow_add-s c =
     let pre = c.requires in
-    omega (arith, c.place-tests.ensures, pre.places, pre.few)
+    omega (arith, c.place_tests-count.ensures, pre.places, pre.few)
 
 pub offset_bounds-s-t : goal.offset_bounds-s-t
 offset_bounds-s-t c =
     let pre = c.requires in
-    omega (arith, c.place-tests.ensures, pre.places, pre.few)
+    omega (arith, c.place_tests-count.ensures, pre.places, pre.few)
 
 pub bounds-s-t : goal.bounds-s-t
 bounds-s-t c =

@@ -13,6 +13,9 @@ use Rattle.test_list.proofs.SameTests.{same_counted, same_settled}
 use borrow.Author.Rules.{rules}
 use Rattle.test_list.proofs.tests.put_under.Given as goal
 
+abbrev pub sets : List ℕ → List ℕ
+sets s = map (settled_below s) (count_from 0 (place_tests_in s))
+
 abbrev pub invariant-loop-t : goal.invariant-loop-t
 invariant-loop-t l = Putting 196 (sets l.initial.s) l.initial.s l.s l.t
 

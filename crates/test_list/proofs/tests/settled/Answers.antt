@@ -1,7 +1,6 @@
 -- A loop over the place tests from t on: of those passed, the settled ones are in the set.
 use Prim.Native.Nat.{◌-◌, ◌≤◌}
 use mathlib.Core.Path.{◌≡◌, ◌∙◌}
-use mathlib.Core.Logic.{⊎_elim}
 use native.Mathlib.Omega.{arith}
 use Rattle.masks.specs.Mask.{mask_of}
 use Rattle.masks.proofs.Loops.{turn_yes, turn_no, turns_done}
@@ -10,6 +9,7 @@ use Rattle.test_list.specs.views.Tests.{is_settled, settled_below}
 use Rattle.test_list.proofs.SettledTests.{settled_start, settled_here}
 use borrow.Author.Rules.{rules}
 use Rattle.test_list.proofs.tests.settled.Goals as goal
+use Rattle.test_list.proofs.tests.settled.Goals.{then-is_inside, else-is_inside}
 
 pub test-requires : goal.test-requires
 test-requires c = omega (arith, c.requires.0.few, c.requires.0.places)
@@ -42,18 +42,15 @@ loop-u-preserved c =
     let test =
     settled_here s t turn.u turn.invariant.0 c.test.ensures c.below_end-end.ensures c.test-in-loop-u.ensures
     c.is_inside.ensures in
-    ⊎_elim
-    (λ w. (
+    elim c.if-is_inside.branch [ then-is_inside w ↦ (
       omega arith,
       omega (arith, count),
-      w.1 ∙ turn_yes 64 turn.u (is_settled s t) turn.invariant.2 (omega (arith, count)) (test ∙ w.0.taken),
-    ))
-    (λ w. (
+      w.all-is ∙ turn_yes 64 turn.u (is_settled s t) turn.invariant.2 (omega (arith, count)) (test ∙ w.if-is_inside.true),
+    ) | else-is_inside w ↦ (
       omega arith,
       omega (arith, count),
-      w.1 ∙ turn_no turn.u (is_settled s t) turn.invariant.2 (test ∙ w.0.left),
-    ))
-    c.if-is_inside.branch
+      w.all-is ∙ turn_no turn.u (is_settled s t) turn.invariant.2 (test ∙ w.if-is_inside.false),
+    ) ]
 
 pub returns : goal.returns
 unfolding settled_below

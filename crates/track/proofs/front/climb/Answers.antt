@@ -7,20 +7,21 @@ use borrow.Author.Rules.{rules}
 use Rattle.places.proofs.Levels.{depth_range}
 use Rattle.track.proofs.Climb.{Climbing, climb_none, climb_more, climb_all}
 use Rattle.track.proofs.front.climb.Goals as goal
+use Rattle.track.proofs.front.climb.Goals.{In-loop-q}
 
 pub loop-q-init : goal.loop-q-init
 loop-q-init c = climb_none _ _ _ c.requires.1 c.requires.2 c.requires.3
 
 -- A place has a depth.
-module _ (c : goal.In-loop-q) where
+module _ (c : In-loop-q) where
   some : 1 ≤ c.loop-q.d
   some =
       let turn = c.loop-q in omega (arith, depth_range turn.q, turn.invariant.depth c.loop-q-test.true)
 
 pub least_below-requires : goal.least_below-requires
 least_below-requires c =
-    let turn = c.loop in
-    let inside = c.loop-test.true in
+    let turn = c.loop-q in
+    let inside = c.loop-q-test.true in
     (turn.invariant.size, inside, turn.invariant.depth inside)
 
 pub parent_in-q-requires : goal.parent_in-q-requires

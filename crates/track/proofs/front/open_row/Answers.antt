@@ -6,12 +6,13 @@ use borrow.Author.Rules.{rules}
 use Rattle.track.specs.views.Front.{Opened}
 use Rattle.track.proofs.Rows.{row_next, opened_none, opened_more}
 use Rattle.track.proofs.front.open_row.Goals as goal
+use Rattle.track.proofs.front.open_row.Goals.{In-loop-i}
 
 pub loop-i-init : goal.loop-i-init
 loop-i-init c = (omega arith, omega arith, opened_none _ _ _ c.requires.1)
 
 -- The place is one of the 680.
-module _ (c : goal.In-loop-i) where
+module _ (c : In-loop-i) where
   inside : c.loop-i.q < 680
   inside =
       let turn = c.loop-i in
@@ -24,10 +25,10 @@ pub offset_bounds-keys-q : goal.offset_bounds-keys-q
 offset_bounds-keys-q c = omega (arith, inside (goal.at.offset_bounds-keys-q c).In-loop-i)
 
 pub bounds-keys-q : goal.bounds-keys-q
-bounds-keys-q c = omega (arith, inside (goal.at.bounds-keys-q c).After-key)
+bounds-keys-q c = omega (arith, inside (goal.at.bounds-keys-q c).In-loop-i)
 
 pub overflow_add-q : goal.overflow_add-q
-overflow_add-q c = omega (arith, inside (goal.at.overflow_add-q c).After-key, c.requires.2)
+overflow_add-q c = omega (arith, inside (goal.at.overflow_add-q c).In-loop-i, c.requires.2)
 
 pub loop-i-preserved : goal.loop-i-preserved
 loop-i-preserved c =
@@ -35,7 +36,7 @@ loop-i-preserved c =
     let a = c.args in (
       omega (arith, c.loop-i-test.true),
       ap (λ (x : ℕ). x + a.step) turn.invariant.1 ∙ row_next a.from turn.i a.step,
-      opened_more _ _ _ turn.i turn.q c.key.result turn.invariant.2 turn.invariant.1 (inside (goal.at.loop-i-preserved c).After-key) c.key.ensures,
+      opened_more _ _ _ turn.i turn.q c.key.result turn.invariant.2 turn.invariant.1 (inside (goal.at.loop-i-preserved c).In-loop-i) c.key.ensures,
     )
 
 pub returns : goal.returns

@@ -1,6 +1,5 @@
 -- `track::front::put_down` meets its contract: the children of p get their keys, then the places at or above it are climbed.
 use mathlib.Core.Path.{sym, subst}
-use mathlib.Core.Logic.{⊎_elim}
 use native.Mathlib.Omega.{arith}
 use borrow.Author.Rules.{rules}
 use Rattle.places.proofs.Levels.{depth_range}
@@ -8,6 +7,7 @@ use Rattle.places.proofs.Rows.{step_most}
 use Rattle.track.proofs.Rows.{children, no_children}
 use Rattle.track.proofs.Climb.{Fresh, fresh_row, fresh_none, put_down_is}
 use Rattle.track.proofs.front.put_down.Goals as goal
+use Rattle.track.proofs.front.put_down.Goals.{Joined-depth-lt4, then-depth-lt4, else-depth-lt4}
 
 pub step-requires : goal.step-requires
 step-requires c = omega (arith, c.if-depth-lt4.true)
@@ -21,23 +21,20 @@ open_row-requires c =
     (c.requires.0, c.requires.2, omega (arith, c.step.ensures, step_most depth.result), row.inside)
 
 -- The children of p have their keys, if it has any.
-module _ (c : goal.Joined-depth-lt4) where
+module _ (c : Joined-depth-lt4) where
   fresh
       : (let a = c.args in Fresh a.positions.now a.p a.keys.now c.if-depth-lt4.keys)
   fresh =
       let p = c.args.p in
       let depth = c.depth-depth in
-      ⊎_elim
-      (λ w.
-      subst (Fresh c.args.positions.now p c.args.keys.now) (sym w.4)
+      elim c.if-depth-lt4.branch [ then-depth-lt4 w ↦
+      subst (Fresh c.args.positions.now p c.args.keys.now) (sym w.keys-is)
       (fresh_row
-      (children p depth.result w.2.result c.requires.3 depth.ensures (omega (arith, w.0.taken)) w.2.ensures)
-      w.3.ensures))
-      (λ w.
-      subst (Fresh c.args.positions.now p c.args.keys.now) (sym w.1)
+      (children p depth.result w.step.result c.requires.3 depth.ensures (omega (arith, w.if-depth-lt4.true)) w.step.ensures)
+      w.open_row.ensures) | else-depth-lt4 w ↦
+      subst (Fresh c.args.positions.now p c.args.keys.now) (sym w.keys-is)
       (fresh_none _ _ p c.requires.2
-      (no_children p c.requires.3 (omega (arith, w.0.left, depth.ensures, depth_range p)))))
-      c.if-depth-lt4.branch
+      (no_children p c.requires.3 (omega (arith, w.if-depth-lt4.false, depth.ensures, depth_range p)))) ]
 
 pub climb-requires : goal.climb-requires
 climb-requires c =
