@@ -18,4 +18,4 @@ pub returns-in-70 : goal.returns-in-70
 returns-in-70 c = simp (ne_eqb _ _ (not_zero _ c.if-s-lt6.false), c.in-70.is, c.numbers_head.ensures)
 
 pub returns-in-0-to-67 : goal.returns-in-0-to-67
-returns-in-0-to-67 c = simp (ne_eqb _ _ (not_zero _ c.if-s-lt6.false), ne_eqb _ _ c.in-0-to-67.rest.0.0.1, ne_eqb _ _ c.in-0-to-67.rest.0.1, ne_eqb _ _ c.in-0-to-67.rest.1)
+returns-in-0-to-67 c = simp (ne_eqb _ _ (not_zero _ c.if-s-lt6.false), ne_eqb _ _ c.in-0-to-67.in-0-to-67-own.rest.0.0.1, ne_eqb _ _ c.in-0-to-67.in-0-to-67-own.rest.0.1, ne_eqb _ _ c.in-0-to-67.in-0-to-67-own.rest.1)

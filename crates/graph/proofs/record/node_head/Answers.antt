@@ -16,7 +16,7 @@ pub returns-then-s-lt9 : goal.returns-then-s-lt9
 returns-then-s-lt9 c = simp (ne_eqb _ _ c.if-s-eq0.false, c.in-71.is, lt-leb _ _ c.if-s-lt9.true)
 
 pub returns-in-0-to-63 : goal.returns-in-0-to-63
-returns-in-0-to-63 c = simp (ne_eqb _ _ c.if-s-eq0.false, ne_eqb _ _ c.in-0-to-63.rest.0.0.0.0.1, ne_eqb _ _ c.in-0-to-63.rest.0.0.0.1, ne_eqb _ _ c.in-0-to-63.rest.0.0.1, ne_eqb _ _ c.in-0-to-63.rest.0.1, ne_eqb _ _ c.in-0-to-63.rest.1)
+returns-in-0-to-63 c = simp (ne_eqb _ _ c.if-s-eq0.false, ne_eqb _ _ c.in-0-to-63.in-0-to-63-own.rest.0.0.0.0.1, ne_eqb _ _ c.in-0-to-63.in-0-to-63-own.rest.0.0.0.1, ne_eqb _ _ c.in-0-to-63.in-0-to-63-own.rest.0.0.1, ne_eqb _ _ c.in-0-to-63.in-0-to-63-own.rest.0.1, ne_eqb _ _ c.in-0-to-63.in-0-to-63-own.rest.1)
 
 pub returns-in-64 : goal.returns-in-64
 returns-in-64 c = simp (ne_eqb _ _ c.if-s-eq0.false, c.in-64.is)

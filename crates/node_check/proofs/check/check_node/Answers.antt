@@ -27,7 +27,6 @@ returns-in-End c = c.check_leaf.ensures ∙ leaf_asked (kept_test c.args.words.n
 
 pub returns-in-Switch : goal.returns-in-Switch
 returns-in-Switch c =
-    let g = c.node-in-Switch-1.given.0 in
     c.check_switch.ensures
     ∙ ap (λ l. switch_check c.both-known.result c.in-Switch.cases c.args.nodes l) (rest c.args.s.now switch_length)
     ∙ switch_asked (kept_test c.args.words.now c.args.codes.now c.args.count) c.args.rules c.args.nodes c.args.s.now c.in-Switch.place c.in-Switch.cases c.in-Switch.neither c.in-Switch.unknown (c.both-known.ensures ∙ ap (λ b. b && ltb c.in-Switch.unknown c.args.nodes) (c.both.ensures ∙ ap (λ b. b && ltb c.in-Switch.neither c.args.nodes) c.has_place.ensures))

@@ -1,7 +1,6 @@
 -- `graph::check::check_switch` meets its contract: the questions in order.
 use native.Mathlib.Omega.{arith}
 use Rattle.node_check.proofs.Switches.{switch_none, switch_refused, switch_bytes, switch_outside, switch_unordered, switch_right}
-use borrow.Author.Tests.{not-true, not-false}
 use mathlib.Core.Path.{sym, ◌∙◌, ap}
 use borrow.Author.Rules.{rules}
 use Rattle.node_check.specs.views.CaseRanges.{cases_refusal}
@@ -14,13 +13,13 @@ pub returns-in_default : goal.returns-in_default
 returns-in_default c = switch_refused c.args.known c.args.count c.args.nodes c.args.s.now c.if-count-lt1.false c.check_cases-cases.result c.check_cases-cases.ensures c.in_default.is (c.cases_refusal.ensures ∙ ap cases_refusal c.in_default.is)
 
 pub returns-then-not-both : goal.returns-then-not-both
-returns-then-not-both c = switch_outside c.args.known c.args.count c.args.nodes c.args.s.now c.if-count-lt1.false c.check_cases-cases.result c.check_cases-cases.ensures c.in-Used.is (sym c.both.ensures ∙ not-true _ c.if-not-both.true)
+returns-then-not-both c = switch_outside c.args.known c.args.count c.args.nodes c.args.s.now c.if-count-lt1.false c.check_cases-cases.result c.check_cases-cases.ensures c.in-Used.is (sym c.both.ensures ∙ c.if-not-both.true)
 
 pub returns-then-not-ascend : goal.returns-then-not-ascend
-returns-then-not-ascend c = switch_unordered c.args.known c.args.count c.args.nodes c.args.s.now c.if-count-lt1.false c.check_cases-cases.result c.check_cases-cases.ensures c.in-Used.is (sym c.both.ensures ∙ not-false _ c.if-not-both.false) (not-true _ c.if-not-ascend.true)
+returns-then-not-ascend c = switch_unordered c.args.known c.args.count c.args.nodes c.args.s.now c.if-count-lt1.false c.check_cases-cases.result c.check_cases-cases.ensures c.in-Used.is (sym c.both.ensures ∙ c.if-not-both.false) c.if-not-ascend.true
 
 pub overflow_add-result : goal.overflow_add-result
 overflow_add-result c = omega (arith, switch_bytes c.args.known c.args.count c.args.nodes c.args.s.now c.if-count-lt1.false c.check_cases-cases.result c.check_cases-cases.ensures c.in-Used.is, c.ranges)
 
 pub returns : goal.returns
-returns c = switch_right c.args.known c.args.count c.args.nodes c.args.s.now c.if-count-lt1.false c.check_cases-cases.result c.check_cases-cases.ensures c.in-Used.is (sym c.both.ensures ∙ not-false _ c.if-not-both.false) (not-false _ c.if-not-ascend.false)
+returns c = switch_right c.args.known c.args.count c.args.nodes c.args.s.now c.if-count-lt1.false c.check_cases-cases.result c.check_cases-cases.ensures c.in-Used.is (sym c.both.ensures ∙ c.if-not-both.false) c.if-not-ascend.false

@@ -2,7 +2,6 @@
 use Prim.Native.Nat.{ℕ, ◌-◌, ◌<◌, ◌≤◌}
 use mathlib.Core.Path.{subst}
 use native.Mathlib.Omega.{arith}
-use borrow.Author.Tests.{ltb-true, ltb-false}
 use Rattle.number_search.proofs.Halving.{Halved, halved_starts, halved_ends, halved_behind, halved_front}
 use borrow.Author.Rules.{rules}
 use Rattle.number_search.proofs.numbers.count_before.Goals as goal
@@ -13,12 +12,12 @@ loop-from-init c = halved_starts c.requires
 pub loop-from-preserved-then-passed : goal.loop-from-preserved-then-passed
 loop-from-preserved-then-passed c =
     halved_behind c.requires c.loop-from.invariant (omega arith) (omega (arith, c.loop-from-test.true))
-    (subst (λ (n : ℕ). n < c.args.rank) c.rank_at.ensures (ltb-true _ _ c.if-passed.true))
+    (subst (λ (n : ℕ). n < c.args.rank) c.rank_at.ensures c.if-passed.true)
 
 pub loop-from-preserved : goal.loop-from-preserved
 loop-from-preserved c =
     halved_front c.requires c.loop-from.invariant (omega arith) (omega (arith, c.loop-from-test.true))
-    (subst (λ (n : ℕ). c.args.rank ≤ n) c.rank_at.ensures (ltb-false _ _ c.if-passed.false))
+    (subst (λ (n : ℕ). c.args.rank ≤ n) c.rank_at.ensures c.if-passed.false)
 
 pub returns : goal.returns
 returns c = halved_ends c.requires c.loop-from.invariant c.loop-from-test.false

@@ -33,7 +33,7 @@ returns-in_default c =
     let loop = c.loop-i in
     let h = bytes_all s (λ i. omega (arith, c.shared_slice_known-1.given i)) in
     let copied = c.loop-i.invariant.1 in
-    absurd (copied_first edge_bytes EdgeFields read_case case_spelled cases_bytes refl (λ (goal.at.returns-in_default c).After-case_refusal cs. refl) h copied c.loop-i-test.true (case_refused (drop loop.at s) (ap case_head (sym (rest s loop.at)) ∙ sym c.case_head-head.ensures ∙ c.in_default.is)))
+    absurd (copied_first edge_bytes EdgeFields read_case case_spelled cases_bytes refl (λ d cs. refl) h copied c.loop-i-test.true (case_refused (drop loop.at s) (ap case_head (sym (rest s loop.at)) ∙ sym c.case_head-head.ensures ∙ c.in_default.is)))
 
 pub put_case-at-requires : goal.put_case-at-requires
 put_case-at-requires c =
@@ -45,7 +45,7 @@ put_case-at-requires c =
     let c' = c.in-Whole.c in
     let told : case_head (drop loop.at s) ≡ Whole c' = ap case_head (sym (rest s loop.at)) ∙ sym c.case_head-head.ensures ∙ c.in-Whole.is in
     let read = edge_read (drop loop.at s) c' told in
-    omega (arith, copied_fits edge_bytes EdgeFields read_case case_spelled cases_bytes refl (λ (goal.at.put_case-at-requires c).After-put_case-arg-1 cs. refl) h copied c.loop-i-test.true read, ap length (edge_bytes_lem c'))
+    omega (arith, copied_fits edge_bytes EdgeFields read_case case_spelled cases_bytes refl (λ d cs. refl) h copied c.loop-i-test.true read, ap length (edge_bytes_lem c'))
 
 pub loop-i-preserved : goal.loop-i-preserved
 loop-i-preserved c =
@@ -57,7 +57,7 @@ loop-i-preserved c =
     let c' = c.in-Whole.c in
     let told : case_head (drop loop.at s) ≡ Whole c' = ap case_head (sym (rest s loop.at)) ∙ sym c.case_head-head.ensures ∙ c.in-Whole.is in
     let read = edge_read (drop loop.at s) c' told in
-    let next = Copied-next edge_bytes EdgeFields read_case case_spelled cases_bytes refl (λ (goal.at.loop-i-preserved c).After-slice_known-in-loop-i-1 cs. refl) h copied c.loop-i-test.true read
+    let next = Copied-next edge_bytes EdgeFields read_case case_spelled cases_bytes refl (λ d cs. refl) h copied c.loop-i-test.true read
     (c.put_case-at.ensures.0 ∙ ap (λ l. loop.at + length l) (sym (edge_bytes_lem c')))
     (c.put_case-at.ensures.1 ∙ ap (splice loop.buf loop.at) (sym (edge_bytes_lem c'))) in
     (c.buf-1.given ∙ loop.invariant.0, next)
@@ -72,5 +72,5 @@ returns c =
     let loop = c.loop-i in
     let h = bytes_all s (λ i. omega (arith, c.shared_slice_known-1.given i)) in
     let copied = c.loop-i.invariant.1 in
-    let ends = copied_ends edge_bytes EdgeFields read_case case_spelled cases_bytes refl (λ (goal.at.returns c).After-loop-i cs. refl) h copied c.loop-i-test.false in
+    let ends = copied_ends edge_bytes EdgeFields read_case case_spelled cases_bytes refl (λ d cs. refl) h copied c.loop-i-test.false in
     (ap To ends.0, ends.1)

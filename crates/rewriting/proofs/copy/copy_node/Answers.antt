@@ -38,7 +38,6 @@ pub copy_cases-requires : goal.copy_cases-requires
 copy_cases-requires c =
     let a = c.args in
     let s = drop a.start a.s.now in
-    let g = c.node-1.given.0 in
     let told : node_head s ≡ Whole (Switch c.in-Switch.field-0 c.in-Switch.count c.in-Switch.field-2 c.in-Switch.field-3) = ap node_head (sym (rest a.s.now a.start)) ∙ sym c.node_head-head.ensures ∙ c.in-Whole.is ∙ ap Whole c.in-Switch.is in
     let fits = node_fits s told in
     let at : c.put_node-at.result ≡ a.start + switch_length = c.put_node-at.ensures.0 ∙ ap (λ r. a.start + length (node_record_bytes r)) c.in-Switch.is in
@@ -67,7 +66,6 @@ pub returns-in-Switch : goal.returns-in-Switch
 returns-in-Switch c =
     let a = c.args in
     let s = drop a.start a.s.now in
-    let g = c.node-1.given.0 in
     let told : node_head s ≡ Whole (Switch c.in-Switch.field-0 c.in-Switch.count c.in-Switch.field-2 c.in-Switch.field-3) = ap node_head (sym (rest a.s.now a.start)) ∙ sym c.node_head-head.ensures ∙ c.in-Whole.is ∙ ap Whole c.in-Switch.is in
     let fits = node_fits s told in
     let at : c.put_node-at.result ≡ a.start + switch_length = c.put_node-at.ensures.0 ∙ ap (λ r. a.start + length (node_record_bytes r)) c.in-Switch.is in

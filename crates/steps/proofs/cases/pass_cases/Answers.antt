@@ -1,6 +1,5 @@
 -- `steps::cases::pass_cases` meets its contract: with the best so far, the cases that are left lead where all do.
 use mathlib.Core.Path.{sym, ap, ◌∙◌}
-use mathlib.Core.Logic.{⊎_elim}
 use Prim.Native.Nat.{◌-◌}
 use native.Mathlib.Omega.{arith}
 use Rattle.records.proofs.Parts.{rest}
@@ -10,6 +9,7 @@ use Rattle.steps.proofs.CasesLeft.{Passed, passed_starts, passed_ends, passed_wh
 use Rattle.steps.proofs.CasesLeft.{passed_inside, passed_above, passed_better, passed_still}
 use borrow.Author.Rules.{rules}
 use Rattle.steps.proofs.cases.pass_cases.Goals as goal
+use Rattle.steps.proofs.cases.pass_cases.Goals.{then-both, else-both}
 
 pub loop-i-init : goal.loop-i-init
 loop-i-init c =
@@ -62,16 +62,16 @@ loop-i-preserved c =
     let first = c.in-Whole.c in
     let whole = ap case_head (sym (rest s c.loop-i.at)) ∙ sym c.case_head-head.ensures ∙ c.in-Whole.is in
     let low_enough = c.if-low-range.false in
-    ⊎_elim
-    (λ w.
-    passed_better s a.neither a.low a.high c.loop-i.invariant c.requires.ordered.ascend next first whole
-    c.case_range-range.ensures
-    low_enough (sym c.both.ensures ∙ w.0.taken) w.1 w.2)
-    (λ w.
-    passed_still s a.neither a.low a.high c.loop-i.invariant c.requires.ordered.ascend next first whole
-    c.case_range-range.ensures
-    low_enough (sym c.both.ensures ∙ w.0.left) w.1 w.2)
-    c.if-both.branch
+    elim c.if-both.branch [
+      then-both w ↦
+      passed_better s a.neither a.low a.high c.loop-i.invariant c.requires.ordered.ascend next first whole
+      c.case_range-range.ensures
+      low_enough (sym c.both.ensures ∙ w.if-both.true) w.begun-is w.node-is
+    | else-both w ↦
+      passed_still s a.neither a.low a.high c.loop-i.invariant c.requires.ordered.ascend next first whole
+      c.case_range-range.ensures
+      low_enough (sym c.both.ensures ∙ w.if-both.false) w.begun-is w.node-is
+    ]
 
 pub returns : goal.returns
 returns c =

@@ -1,6 +1,5 @@
 -- `steps::cases::pass_cases` meets its contract: with the best so far, the cases that are left lead where all do.
 use mathlib.Core.Path.{sym, ap, ◌∙◌}
-use mathlib.Core.Logic.{⊎_elim}
 use Prim.Native.Nat.{◌-◌}
 use native.Mathlib.Omega.{arith}
 use Rattle.records.proofs.Parts.{rest}

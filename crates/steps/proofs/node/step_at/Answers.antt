@@ -36,7 +36,6 @@ switch_step-requires c =
     let stands = c.requires.0 in
     let s = c.args.graph.now in
     let read = ap node_head (sym (rest s a.at)) ∙ sym c.node_head-head.ensures in
-    let f = c.node-in-Switch-1.given.0 in
     let switching : node_head (drop a.at s) ≡ Whole (Switch c.in-Switch.tested c.in-Switch.count c.in-Switch.neither c.in-Switch.unknown) =
     read ∙ c.in-Whole.is ∙ ap Whole c.in-Switch.is in
     let node = sym (switch_node (drop a.at s) switching stands.whole) in (
@@ -55,7 +54,6 @@ pair_step-requires c =
     let s = c.args.graph.now in
     let cells = c.args.cells.now in
     let read = ap node_head (sym (rest s a.at)) ∙ sym c.node_head-head.ensures in
-    let f = c.node-in-Pair-1.given.0 in
     let pairing : node_head (drop a.at s) ≡ Whole (Pair c.in-Pair.p c.in-Pair.q c.in-Pair.differ c.in-Pair.other) =
     read ∙ c.in-Whole.is ∙ ap Whole c.in-Pair.is in
     let near = subst NearNode (sym (pair_node_lem (drop a.at s) pairing)) c.requires.0.near in (near.0, near.1, c.requires.1)
@@ -77,7 +75,6 @@ returns-in-Switch c =
     let s = c.args.graph.now in
     let cells = c.args.cells.now in
     let read = ap node_head (sym (rest s a.at)) ∙ sym c.node_head-head.ensures in
-    let f = c.node-in-Switch-1.given.0 in
     let switching : node_head (drop a.at s) ≡ Whole (Switch c.in-Switch.tested c.in-Switch.count c.in-Switch.neither c.in-Switch.unknown) =
     read ∙ c.in-Whole.is ∙ ap Whole c.in-Switch.is in
     let node = switch_node (drop a.at s) switching stands.whole in
@@ -92,8 +89,7 @@ returns-in-Pair c =
     let s = c.args.graph.now in
     let cells = c.args.cells.now in
     let read = ap node_head (sym (rest s a.at)) ∙ sym c.node_head-head.ensures in
-    let f = c.node-in-Pair-1.given.0 in
     let pairing : node_head (drop a.at s) ≡ Whole (Pair c.in-Pair.p c.in-Pair.q c.in-Pair.differ c.in-Pair.other) =
     read ∙ c.in-Whole.is ∙ ap Whole c.in-Pair.is in
     let node = pair_node_lem (drop a.at s) pairing in
-    c.Pair-step.ensures ∙ ap (node_step cells) node
+    c.pair_step.ensures ∙ ap (node_step cells) node

@@ -39,72 +39,73 @@ returns-in_default c =
     let from = ends_here s row none ∙ inv.4 in
     let left = nothing_onward s row none x in
     let to : end ≡ c.args.to + length (tidy_onward x₀ (records_from s c.args.start)) = omega (arith, inv.5, ap length left) in
-    let both = ((λ j. record { from = from j; to = to j }), (splice_none buf end ∙ ap (splice buf end) (sym left) ∙ inv.6, inv.0.inside)) in
-    record { value = both.0; buf_after = both.1; from_in_bounds = both.2 }
+    record {
+      value = (λ j. record { from = from j; to = to j });
+      buf_after = splice_none buf end ∙ ap (splice buf end) (sym left) ∙ inv.6;
+      from_in_bounds = inv.0.inside;
+    }
 
 pub number_record-count-requires : goal.number_record-count-requires
 number_record-count-requires c = (c.loop-what.invariant.2, omega (arith, c.loop-what.invariant.1))
 
 pub tidy_record-requires : goal.tidy_record-requires
-tidy_record-requires c = c.number-record.ensures.1.0
+tidy_record-requires c = c.number_record-count.ensures.words_len.0
 
 pub put_record-end-requires : goal.put_record-end-requires
 put_record-end-requires c =
-    let turn = c.loop in
+    let turn = c.loop-what in
     let s = c.args.s.now in
-    let row = c.loop.row in
-    let inv = c.loop.invariant in
-    let read = c.next-record.ensures in
+    let row = c.loop-what.row in
+    let inv = c.loop-what.invariant in
+    let read = c.next_record-next.ensures in
     let x : Numbering = record { words = turn.words; count = turn.count } in
-    let buf = c.loop.buf in
-    let end = c.loop.end in
-    let told = c.next.given in
-    let what = c.next.given.0.0 in
-    let more = c.next.given.0.1.0 in
-    let whole = goes s row read.0 told.1 in
-    let on = behind_it s row read.0 read.1 told.1 in
-    let numbered = c.number-record.ensures in
-    let y : Numbering = record { words = c.number-record.new.1.1.0; count = c.number-record.result } in
+    let buf = c.loop-what.buf in
+    let end = c.loop-what.end in
+    let what = c.in-Record.what in
+    let more = c.in-Record.more in
+    let whole = goes s row read.row_value c.in-Record.is in
+    let on = behind_it s row read.row_value read.goes_on c.in-Record.is in
+    let numbered = c.number_record-count.ensures in
+    let y : Numbering = record { words = c.number_record-count.new.words; count = c.number_record-count.result } in
     let part = record_spelling (tidy_in y.words what) in
     let rest = tidy_onward y (records_from s more) in
-    let next = onward_next s row more whole x {y = y} numbered.0 in
+    let next = onward_next s row more whole x {y = y} numbered.result_value in
     let size = ap length next ∙ length-append part rest in
     let room : end + length part ≤ length buf = omega (arith, size, inv.3, inv.5, c.requires.3) in
     omega (arith, room, ap (λ (r : PatternRecord). length (record_spelling r)) c.tidy_record.ensures)
 
 pub loop-what-smaller : goal.loop-what-smaller
 loop-what-smaller c =
-    let turn = c.loop in
+    let turn = c.loop-what in
     let s = c.args.s.now in
-    let row = c.loop.row in
-    let inv = c.loop.invariant in
-    let read = c.next-record.ensures in
-    omega (arith, (behind_it s row read.0 read.1 c.next.given.1).1)
+    let row = c.loop-what.row in
+    let inv = c.loop-what.invariant in
+    let read = c.next_record-next.ensures in
+    omega (arith, (behind_it s row read.row_value read.goes_on c.in-Record.is).1)
 
 pub loop-what-preserved : goal.loop-what-preserved
 loop-what-preserved c =
-    let turn = c.loop in
+    let turn = c.loop-what in
     let s = c.args.s.now in
-    let row = c.loop.row in
-    let inv = c.loop.invariant in
-    let read = c.next-record.ensures in
+    let row = c.loop-what.row in
+    let inv = c.loop-what.invariant in
+    let read = c.next_record-next.ensures in
     let x : Numbering = record { words = turn.words; count = turn.count } in
-    let buf = c.loop.buf in
-    let end = c.loop.end in
-    let told = c.next.given in
-    let what = c.next.given.0.0 in
-    let more = c.next.given.0.1.0 in
-    let whole = goes s row read.0 told.1 in
-    let on = behind_it s row read.0 read.1 told.1 in
-    let numbered = c.number-record.ensures in
-    let y : Numbering = record { words = c.number-record.new.1.1.0; count = c.number-record.result } in
+    let buf = c.loop-what.buf in
+    let end = c.loop-what.end in
+    let what = c.in-Record.what in
+    let more = c.in-Record.more in
+    let whole = goes s row read.row_value c.in-Record.is in
+    let on = behind_it s row read.row_value read.goes_on c.in-Record.is in
+    let numbered = c.number_record-count.ensures in
+    let y : Numbering = record { words = c.number_record-count.new.words; count = c.number_record-count.result } in
     let part = record_spelling (tidy_in y.words what) in
     let rest = tidy_onward y (records_from s more) in
-    let next = onward_next s row more whole x {y = y} numbered.0 in
+    let next = onward_next s row more whole x {y = y} numbered.result_value in
     let size = ap length next ∙ length-append part rest in
     let room : end + length part ≤ length buf = omega (arith, size, inv.3, inv.5, c.requires.3) in
     let put = c.put_record-end.ensures in
     let tidy = c.tidy_record.ensures in
     let to = put.0 ∙ ap (λ (r : PatternRecord). end + length (record_spelling r)) tidy in
     let left = put.1 ∙ ap (λ (r : PatternRecord). splice buf end (record_spelling r)) tidy in
-    (on.0, omega (arith, on.1, inv.1, numbered.1.1), numbered.1.0, c.buf-1.given ∙ inv.3, ends_same s row more whole on.2 ∙ inv.4, omega (arith, to, size, inv.5), Written-next (tidy_onward x (records_from s row)) part rest buf end next room left to ∙ inv.6)
+    (on.0, omega (arith, on.1, inv.1, numbered.words_len.1), numbered.words_len.0, c.put_record-end.auto.buf ∙ inv.3, ends_same s row more whole on.2 ∙ inv.4, omega (arith, to, size, inv.5), Written-next (tidy_onward x (records_from s row)) part rest buf end next room left to ∙ inv.6)

@@ -19,10 +19,10 @@ abbrev pub invariant-loop-what : goal.invariant-loop-what
 invariant-loop-what l =
     Going l.s l.row × (l.count + l.row.most ≤ 680) × (length l.words ≡ 16) × (length l.buf ≡ length l.initial.buf)
     × (end_from l.s l.row ≡ end_from l.s l.initial.row)
-    × (l.end + length (tidy_onward (record { l.words = l.words; l.count = l.count }) (records_from l.s l.row))
-    ≡ l.to + length (tidy_onward (record { l.words = l.initial.words; l.count = 0 }) (records_from l.s l.initial.row)))
-    × (splice l.buf l.end (tidy_onward (record { l.words = l.words; l.count = l.count }) (records_from l.s l.row))
-    ≡ splice l.initial.buf l.to (tidy_onward (record { l.words = l.initial.words; l.count = 0 }) (records_from l.s l.initial.row)))
+    × (l.end + length (tidy_onward (record { words = l.words; count = l.count }) (records_from l.s l.row))
+    ≡ l.to + length (tidy_onward (record { words = l.initial.words; count = 0 }) (records_from l.s l.initial.row)))
+    × (splice l.buf l.end (tidy_onward (record { words = l.words; count = l.count }) (records_from l.s l.row))
+    ≡ splice l.initial.buf l.to (tidy_onward (record { words = l.initial.words; count = 0 }) (records_from l.s l.initial.row)))
 
 abbrev pub decreases-loop-what : goal.decreases-loop-what
 decreases-loop-what l =
