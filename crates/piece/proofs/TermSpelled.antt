@@ -12,7 +12,7 @@ use lib.Dec.{leb}
 use borrow.Author.Tests.{leb-true, le-leb, lt-leb}
 use Rattle.records.specs.Fields.{wide_then, AreBytes}
 use Rattle.records.specs.Reading.{Reading, took, refused, ask, after, and_then, read_row}
-use Rattle.terms.specs.Term.{Term, Terms, count, unknown, never, symbol, numbers, compound, nil, cons, Wide, on_gauge, gauge_of, value_of}
+use Rattle.terms.specs.Term.{Term, Terms, count, unknown, never, symbol, numbers, compound, nil, cons, Wide, gauge_of, value_of}
 use Rattle.terms.proofs.Gauges.{gauge_and_value, gauge_of_number, value_of_number}
 use Rattle.terms.specs.Filling.{WellFormed, WellFormeds}
 use Rattle.terms.specs.Accepted.{Shallow, Shallows}
@@ -212,7 +212,8 @@ read_head below s head = by_head below s ∙ ap (on_head (read_compound below s)
 
 -- "A span with low above high is refused (32)."
 pub low_above_high_refused
-    : (below l h : ℕ) (rest : List ℕ) → Wide l → Wide h → h < l → read_term below (0x34 ∷ wide_then l (wide_then h rest)) ≡ refused 32
+    : (below l h : ℕ) (rest : List ℕ) → Wide l → Wide h → h < l
+    → read_term below (0x34 ∷ wide_then l (wide_then h rest)) ≡ refused 32
 low_above_high_refused below l h rest wideLow wide_high less =
     read_head below (0x34 ∷ wide_then l (wide_then h rest)) (spelled_head (Span l h) rest (wideLow, wide_high))
     ∙ (rw (lt-leb l h less))

@@ -81,7 +81,9 @@ module _ {A : Type 0} (put : A → Note → A) (below place : ℕ) (before : A) 
   pub lowest_read : {r : PatternRecord} → pattern_head s ≡ Whole r → below ≡ 0 → leaf_held put place before r ≡ pattern_read
   lowest_read {r} e lowest =
       sym (by_record e
-      ∙ ap (λ (k : ℕ). map_reading (λ (p : Pattern). held_with put before (pattern_notes p k place)) (on_record (compound_of k s) r))
+      ∙ ap
+      (λ (k : ℕ).
+      map_reading (λ (p : Pattern). held_with put before (pattern_notes p k place)) (on_record (compound_of k s) r))
       lowest)
 
   flat_same : (r : PatternRecord) → Flat r → leaf_held put place before r ≡ on_whole r

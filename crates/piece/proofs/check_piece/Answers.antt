@@ -1,6 +1,5 @@
 -- `check_piece` meets its contract: it says what reading the piece says.
 use lib.ListN.{length}
-use borrow.Author.Rules.{rules}
 use Rattle.piece.specs.ReadPiece.{read_piece}
 use Rattle.piece.proofs.PiecesRead.{check_says}
 use Rattle.piece.proofs.check_piece.Goals as goal
@@ -8,4 +7,4 @@ use Rattle.piece.proofs.check_piece.Goals as goal
 pub returns : goal.returns
 returns c =
     let s = c.args.s.now in
-    check_says (length s) c.read_piece.new.1.0 c.read_piece.result (read_piece s) c.read_piece.ensures
+    check_says (length s) c.read_piece.new.cells c.read_piece.result (read_piece s) c.read_piece.ensures

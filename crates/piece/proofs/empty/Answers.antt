@@ -1,10 +1,7 @@
 -- `empty` meets its contract: the cells of one argument after another are emptied, and from there on they were empty.
-use Prim.Native.Nat.{◌*◌, ◌-◌, ◌≤◌}
 use mathlib.Core.Path.{◌∙◌}
 use native.Mathlib.Omega.{arith}
-use borrow.Author.Rules.{rules}
-use Rattle.piece.specs.views.Emptied.{Emptied}
-use Rattle.piece.proofs.Emptying.{emptied_none, emptied_more, emptied_to, emptied_all, argument_still}
+use Rattle.piece.proofs.Emptying.{emptied_more, emptied_to, emptied_all, argument_still}
 use Rattle.piece.proofs.empty.Goals as goal
 
 pub empty_argument-requires : goal.empty_argument-requires
@@ -17,3 +14,6 @@ pub loop-a-preserved : goal.loop-a-preserved
 loop-a-preserved c =
     let so_far = c.loop-a.invariant.1 in
     (omega arith, emptied_to (emptied_more so_far (omega arith) c.empty_argument.ensures (omega arith)) (omega arith))
+
+pub returns : goal.returns
+returns c = emptied_all c.requires.1 c.loop-a-test.false c.loop-a.invariant.1

@@ -1,10 +1,6 @@
 -- `empty` meets its contract: the cells of one argument after another are emptied, and from there on they were empty.
 use Prim.Native.Nat.{◌*◌, ◌-◌, ◌≤◌}
-use mathlib.Core.Path.{◌∙◌}
-use native.Mathlib.Omega.{arith}
-use borrow.Author.Rules.{rules}
 use Rattle.piece.specs.views.Emptied.{Emptied}
-use Rattle.piece.proofs.Emptying.{emptied_none, emptied_more, emptied_to, emptied_all, argument_still}
 use Rattle.piece.proofs.empty.Given as goal
 
 abbrev pub invariant-loop-a : goal.invariant-loop-a

@@ -1,41 +1,44 @@
 -- `empty_argument` meets its contract: the argument's own cell is emptied, and where anything stands below it, those of its four
 -- children.
-use Prim.Native.Nat.{◌+◌, ◌*◌, ◌-◌, ◌≤◌}
-use mathlib.Core.Path.{◌≡◌, ◌∙◌}
+use Prim.Native.Nat.{◌+◌, ◌*◌}
+use mathlib.Core.Path.{◌∙◌}
 use native.Mathlib.Omega.{arith}
-use lib.ListN.{length, set}
-use borrow.Author.Rules.{rules}
+use lib.ListN.{set}
 use Rattle.piece.specs.views.Emptied.{Emptied}
 use Rattle.piece.proofs.Emptying.{emptied_none, emptied_own, emptied_more, emptied_flat, emptied_to, still_tells}
 use Rattle.piece.proofs.empty_argument.Goals as goal
+use Rattle.piece.proofs.empty_argument.Goals.{Start, At-loop-k}
 
 -- The argument's own cell is emptied first,
 own
-    : (c : goal.Start)
+    : (c : Start)
     → Emptied c.args.argument (c.args.argument + 1) c.args.cells.now (set c.args.cells.now c.args.argument 0)
 own c = let size = c.requires.1 in emptied_own c.args.cells.now (omega arith)
 
 -- then the cells of one child after another.
 so_far
-    : (c : goal.At-loop-k)
-    → Emptied c.before.before.before.args.argument (c.before.before.before.args.argument + 1 + 21 * c.loop.k)
-    c.before.before.before.args.cells.now c.loop.cells
-so_far c = emptied_more (own c.«After-way_told-1») (omega arith) c.loop-k.invariant.2 (omega arith)
+    : (c : At-loop-k)
+    → Emptied c.args.argument (c.args.argument + 1 + 21 * c.loop-k.k) c.args.cells.now c.loop-k.cells
+so_far c =
+    let size = c.requires.1 in
+    emptied_more (emptied_own c.args.cells.now (omega arith)) (omega arith) c.loop-k.invariant.2 (omega arith)
 
 pub returns-then-cells-argument-eq0 : goal.returns-then-cells-argument-eq0
 returns-then-cells-argument-eq0 c =
-    emptied_flat 85 (omega arith) (own (goal.at.returns-then-cells-argument-eq0 c).After-way_told-1) c.requires.2.own c.if-cells-argument-eq0.true
+    let first = own (goal.at.returns-then-cells-argument-eq0 c).Start in
+    emptied_flat 85 (omega arith) first c.requires.2.own c.if-cells-argument-eq0.true
 
 pub loop-k-init : goal.loop-k-init
 loop-k-init c =
-    (omega arith, (own (goal.at.loop-k-init c).After-way_told-1).size ∙ c.requires.1, emptied_to (emptied_none (c.args.argument + 1) _) (omega arith))
+    let size = (own (goal.at.loop-k-init c).Start).size ∙ c.requires.1 in
+    (omega arith, size, emptied_to (emptied_none (c.args.argument + 1) _) (omega arith))
 
 pub empty_child-requires : goal.empty_child-requires
 empty_child-requires c =
-    (
+    let emptied = so_far (goal.at.empty_child-requires c).At-loop-k in (
       omega arith,
-      (so_far (goal.at.empty_child-requires c).At-loop-k).size ∙ c.requires.1,
-      still_tells (so_far (goal.at.empty_child-requires c).At-loop-k) (omega arith) 21 (c.requires.2.children c.loop-k.k (omega arith)),
+      emptied.size ∙ c.requires.1,
+      still_tells emptied (omega arith) 21 (c.requires.2.children c.loop-k.k (omega arith)),
     )
 
 pub loop-k-preserved : goal.loop-k-preserved

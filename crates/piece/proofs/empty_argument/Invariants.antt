@@ -1,12 +1,9 @@
 -- `empty_argument` meets its contract: the argument's own cell is emptied, and where anything stands below it, those of its four
 -- children.
 use Prim.Native.Nat.{◌+◌, ◌*◌, ◌-◌, ◌≤◌}
-use mathlib.Core.Path.{◌≡◌, ◌∙◌}
-use native.Mathlib.Omega.{arith}
-use lib.ListN.{length, set}
-use borrow.Author.Rules.{rules}
+use mathlib.Core.Path.{◌≡◌}
+use lib.ListN.{length}
 use Rattle.piece.specs.views.Emptied.{Emptied}
-use Rattle.piece.proofs.Emptying.{emptied_none, emptied_own, emptied_more, emptied_flat, emptied_to, still_tells}
 use Rattle.piece.proofs.empty_argument.Given as goal
 
 abbrev pub invariant-loop-k : goal.invariant-loop-k

@@ -1,11 +1,8 @@
 -- `empty_child` meets its contract: the child's own cell is emptied, and where anything stands below it, the 20 behind.
 use Prim.Native.Nat.{◌+◌, ◌-◌, ◌≤◌}
-use mathlib.Core.Path.{◌≡◌, ◌∙◌}
-use native.Mathlib.Omega.{arith}
-use lib.ListN.{length, set}
-use borrow.Author.Rules.{rules}
+use mathlib.Core.Path.{◌≡◌}
+use lib.ListN.{length}
 use Rattle.piece.specs.views.Emptied.{Emptied}
-use Rattle.piece.proofs.Emptying.{emptied_none, emptied_own, emptied_next, emptied_more, emptied_flat, emptied_to}
 use Rattle.piece.proofs.empty_child.Given as goal
 
 abbrev pub invariant-loop-place : goal.invariant-loop-place

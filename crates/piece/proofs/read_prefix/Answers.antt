@@ -4,7 +4,6 @@ use mathlib.Core.Path.{◌≡◌, ap, ap₂, sym, ◌∙◌}
 use mathlib.Core.List.{List}
 use native.Mathlib.Omega.{arith}
 use lib.ListN.{length}
-use borrow.Author.Rules.{rules}
 use Rattle.records.specs.Reading.{Reading, map_reading, after}
 use Rattle.records.proofs.Parts.{rest, rest_length}
 use Rattle.piece.specs.declared.Taken.{Taken}
@@ -14,39 +13,31 @@ use Rattle.piece.specs.views.LaidOut.{LaidOut, took_cells, terms_cells, lay_out,
 use Rattle.piece.proofs.TermCells.{terms_fit}
 use Rattle.piece.proofs.PiecesRead.{ArityRead, arity_known, arity_refused, terms_laid}
 use Rattle.piece.proofs.read_prefix.Goals as goal
+use Rattle.piece.proofs.read_prefix.Goals.{In-Read, After-terms-taken}
 
 -- Where the arity is known.
-module _ (c : goal.In-Read) where
+known : (c : In-Read) → ArityRead c.args.s.now c.in-Read.field-1 c.in-Read.arity
+known c = arity_known c.args.s.now c.piece_head-head.result c.piece_head-head.ensures c.in-Read.is
+
+-- Where the terms were read or refused.
+module _ (c : After-terms-taken) where
   abbrev bytes : List ℕ
   bytes = c.args.s.now
 
-  abbrev arity : ℕ
-  arity = c.in-Read.arity
-
-  known : ArityRead bytes c.in-Read.field-1 arity
-  known =
-      arity_known bytes c.piece_head-head.result c.piece_head-head.ensures
-      c.in-Read.is
-
--- Where the terms were read or refused.
-module _ (c : goal.After-terms-taken) where
-  abbrev start : goal.In-Read
-  start = c.«In-Read»
-
   abbrev laid : Taken → Reading LaidOut
   laid r =
-      after 2 (λ cells. record { arity = arity start; cells = cells }) (took_cells c.terms-taken.new.1.1.1.1.0 r)
+      after 2 (λ cells. record { arity = c.in-Read.arity; cells = cells }) (took_cells c.terms-taken.new.cells r)
 
-  laid_out : laid c.terms-taken.result ≡ map_reading lay_out (read_prefix (bytes start))
+  laid_out : laid c.terms-taken.result ≡ map_reading lay_out (read_prefix bytes)
   laid_out =
-      let head = start.before.before.before.piece-head in
-      terms_laid (bytes start) head.result head.ensures start.before.head.given.1
-      (c.terms-taken.ensures ∙ ap₂ (terms_cells 3 (arity start) 0) c.empty.ensures (rest (bytes start) 2))
+      terms_laid bytes c.piece_head-head.result c.piece_head-head.ensures c.in-Read.is
+      (c.terms-taken.ensures ∙ ap₂ (terms_cells 3 c.in-Read.arity 0) c.empty.ensures (rest bytes 2))
 
-  within : {b : ℕ} → c.terms-taken.result ≡ Bytes b → 2 + b ≤ length (bytes start)
+  within : {b : ℕ} → c.terms-taken.result ≡ Bytes b → 2 + b ≤ length bytes
   within told =
       let fits = terms_fit 3 _ _ 0 _ _ c.terms-taken.result c.terms-taken.ensures told in
-      omega (arith, fits, rest_length (bytes start) 2, (known start).there)
+      let there = (arity_known bytes c.piece_head-head.result c.piece_head-head.ensures c.in-Read.is).there in
+      omega (arith, fits, rest_length bytes 2, there)
 
 pub returns-in_default : goal.returns-in_default
 returns-in_default c =
@@ -66,13 +57,15 @@ terms-taken-requires c = omega (arith, (known (goal.at.terms-taken-requires c).I
 
 pub overflow_add-result : goal.overflow_add-result
 overflow_add-result c =
-    omega (arith, within (goal.at.overflow_add-result c).After-terms-taken c.in-Bytes.is, (start (goal.at.overflow_add-result c).After-terms-taken).before.before.before.before.before.well_formed.0.0)
+    omega (arith, within (goal.at.overflow_add-result c).After-terms-taken c.in-Bytes.is, c.well_formed)
 
 pub returns-in-Bytes : goal.returns-in-Bytes
 returns-in-Bytes c =
     let told = c.in-Bytes.is in
-    (ap (laid (goal.at.returns-in-Bytes c).After-terms-taken) (sym told) ∙ laid_out (goal.at.returns-in-Bytes c).After-terms-taken, within (goal.at.returns-in-Bytes c).After-terms-taken told)
+    let read = (goal.at.returns-in-Bytes c).After-terms-taken in
+    (ap (laid read) (sym told) ∙ laid_out read, within read told)
 
 pub returns-in-Refused : goal.returns-in-Refused
 returns-in-Refused c =
-    (ap (laid (goal.at.returns-in-Refused c).After-terms-taken) (sym c.in-Refused.is) ∙ laid_out (goal.at.returns-in-Refused c).After-terms-taken, omega arith)
+    let read = (goal.at.returns-in-Refused c).After-terms-taken in
+    (ap (laid read) (sym c.in-Refused.is) ∙ laid_out read, omega arith)

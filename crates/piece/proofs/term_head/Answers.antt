@@ -1,6 +1,5 @@
 -- `term_head` meets its contract: each answer by the tests that led to it.
 use borrow.Author.Tests.{lt-leb, le-leb, eq-eqb, ne_eqb}
-use borrow.Author.Rules.{rules}
 use Rattle.piece.proofs.term_head.Goals as goal
 
 pub returns-then-s-eq0 : goal.returns-then-s-eq0
@@ -57,15 +56,3 @@ pub returns-else-s-lt4-2 : goal.returns-else-s-lt4-2
 returns-else-s-lt4-2 c =
     let long = le-leb _ _ c.if-s-lt4-2.false in
     simp (ne_eqb _ _ c.if-s-eq0.false, c.in-54.is, long, c.wide-in-54.ensures)
-
-pub returns-in-0-to-47 : goal.returns-in-0-to-47
-returns-in-0-to-47 c =
-    let others = c.in-0-to-47.rest in
-    let unknown = ne_eqb _ _ others.0.0.0.0.0.0.1 in
-    let symbol = ne_eqb _ _ others.0.0.0.0.0.1 in
-    let number = ne_eqb _ _ others.0.0.0.0.1 in
-    let compound = ne_eqb _ _ others.0.0.0.1 in
-    let span = ne_eqb _ _ others.0.0.1 in
-    let never = ne_eqb _ _ others.0.1 in
-    let gauged = ne_eqb _ _ others.1 in
-    simp (ne_eqb _ _ c.if-s-eq0.false, unknown, symbol, number, compound, span, never, gauged)

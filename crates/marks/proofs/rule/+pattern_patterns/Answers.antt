@@ -1,5 +1,5 @@
 -- Patterns and rows of patterns, which call each other.
-use Rattle.std.proofs.Common.{◌≡◌, ℕ, ◌+◌, ◌-◌, suc, ◌*◌, ◌≤◌, length, drop, sym, ap, refl, ◌∙◌, arith, inl, inr, ⊎_elim}
+use Rattle.std.proofs.Common.{◌≡◌, ℕ, ◌-◌, suc, drop, sym, ap, refl, ◌∙◌, arith, inl, inr, ⊎_elim}
 use Rattle.places.specs.Numbering.{stride}
 use Rattle.patterns.specs.declared.PatternRecord.TheVariants.{Compound}
 use Rattle.patterns.specs.declared.PatternHead.TheVariants.{Whole}
@@ -92,7 +92,8 @@ pattern-returns-clause-took_within t c =
 pattern_tried
     : (t : ℕ) (c : patterns-After-pattern-read t)
     → took_as (marks_in c.pattern-read.new.words c.pattern-read.new.notes) c.pattern-read.result
-    ≡ pattern_held marked c.args.below c.loop-i.here (marks_in c.loop-i.words c.loop-i.notes c.loop-i.made) (drop c.loop-i.at c.args.s.now)
+    ≡ pattern_held marked c.args.below c.loop-i.here (marks_in c.loop-i.words c.loop-i.notes c.loop-i.made)
+    (drop c.loop-i.at c.args.s.now)
 pattern_tried t c = c.pattern-read.ensures.result_after ∙ (rw (rest c.args.s.now c.loop-i.at))
 
 -- Where it was refused, so is the row;
@@ -142,5 +143,6 @@ pub patterns-returns-clause-result_after : goal.patterns-returns-clause-result_a
 patterns-returns-clause-result_after t c =
     let a = c.args in
     let own = c.loop-i in
-    row_ended (pattern_row marked a.below) a.s.now own.at (a.count - own.i) own.here (marks_in own.words own.notes own.made) (omega arith)
+    row_ended (pattern_row marked a.below) a.s.now own.at (a.count - own.i) own.here
+    (marks_in own.words own.notes own.made) (omega arith)
     ∙ own.invariant.6

@@ -74,7 +74,8 @@ returns-in-Symbol c =
     let a = c.args in
     let held = marks_in a.words.now a.notes.now a.n in
     let same = c.in-Symbol.is in record {
-      result_after = (λ j. took 3 (beside (c.mark.ensures.words_after j) held.names)) ∙ ap (leaf_held marked a.place held) (sym same);
+      result_after = (λ j. took 3 (beside (c.mark.ensures.words_after j) held.names))
+          ∙ ap (leaf_held marked a.place held) (sym same);
       took_within = omega (arith, c.mark.ensures.words_len, ap record_bytes same);
     }
 
@@ -83,7 +84,8 @@ returns-else-high-low c =
     let a = c.args in
     let held = marks_in a.words.now a.notes.now a.n in
     let same = c.in-Range.is in record {
-      result_after = (λ j. took 5 (beside (c.mark-in-Range.ensures.words_after j) held.names)) ∙ range_yes marked a.place held c.if-high-low.false
+      result_after = (λ j. took 5 (beside (c.mark-in-Range.ensures.words_after j) held.names))
+          ∙ range_yes marked a.place held c.if-high-low.false
           ∙ ap (leaf_held marked a.place held) (sym same);
       took_within = omega (arith, c.mark-in-Range.ensures.words_len, ap record_bytes same);
     }
@@ -122,7 +124,8 @@ returns-else-high-low-3 c =
     let a = c.args in
     let held = marks_in a.words.now a.notes.now a.n in
     let same = c.in-Series.is in record {
-      result_after = (λ j. took 5 (beside (c.mark-in-Series.ensures.words_after j) held.names)) ∙ series_yes marked a.place held c.if-high-low-3.false
+      result_after = (λ j. took 5 (beside (c.mark-in-Series.ensures.words_after j) held.names))
+          ∙ series_yes marked a.place held c.if-high-low-3.false
           ∙ ap (leaf_held marked a.place held) (sym same);
       took_within = omega (arith, c.mark-in-Series.ensures.words_len, ap record_bytes same);
     }
@@ -132,7 +135,8 @@ returns-else-high-low-4 c =
     let a = c.args in
     let held = marks_in a.words.now a.notes.now a.n in
     let same = c.in-Gauged.is in record {
-      result_after = (λ j. took 6 (beside (c.mark-in-Gauged.ensures.words_after j) held.names)) ∙ gauged_yes marked a.place held c.if-high-low-4.false
+      result_after = (λ j. took 6 (beside (c.mark-in-Gauged.ensures.words_after j) held.names))
+          ∙ gauged_yes marked a.place held c.if-high-low-4.false
           ∙ ap (leaf_held marked a.place held) (sym same);
       took_within = omega (arith, c.mark-in-Gauged.ensures.words_len, ap record_bytes same);
     }

@@ -108,7 +108,8 @@ returns-else-v-gt15-2 c =
     let a = c.args in
     let before = notes_in a.notes.now a.n in
     let same = c.in-Ranged.is in record {
-      result_after = c.noted-in-Ranged.ensures.result_after ∙ ranged_yes behind a.place before c.if-high-low-2.false c.if-v-gt15-2.false
+      result_after = c.noted-in-Ranged.ensures.result_after
+          ∙ ranged_yes behind a.place before c.if-high-low-2.false c.if-v-gt15-2.false
           ∙ ap (leaf_held behind a.place before) (sym same);
       took_within = omega (arith, c.noted-in-Ranged.ensures.took_within, ap record_bytes same);
     }
