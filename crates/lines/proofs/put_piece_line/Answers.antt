@@ -10,6 +10,7 @@ use Rattle.lines.proofs.Wrote.{Five, joined, wrote_as, room_as, fits_1, fits_2, 
 use Rattle.lines.proofs.LineParts.{five_parts, piece_parts_lem}
 use Rattle.lines.proofs.LineSizes.{piece_size, line_fits, line_ends}
 use Rattle.lines.proofs.put_piece_line.Goals as goal
+use Rattle.lines.proofs.put_piece_line.Goals.{After-rule_of-rule}
 
 module _ (c : goal.After-rule_of-rule) where
   -- The line's parts where its rule is r, and where it is the rule that was handed back.

@@ -1,6 +1,5 @@
 -- `lines::put_waits` meets its contract: the digits, then the line feed.
 use mathlib.Core.List.{[], ◌∷◌}
-use borrow.Author.Rules.{rules}
 use Rattle.lines.specs.Lines.{hex_digits}
 use Rattle.lines.proofs.Wrote.{first_fits, rest_fits, wrote_more}
 use Rattle.lines.proofs.put_waits.Goals as goal

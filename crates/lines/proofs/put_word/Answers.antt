@@ -1,5 +1,4 @@
 -- `lines::put_word` meets its contract, for each answer.
-use borrow.Author.Rules.{rules}
 use Rattle.lines.proofs.put_word.Goals as goal
 
 pub put-requires : goal.put-requires

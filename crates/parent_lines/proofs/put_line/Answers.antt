@@ -3,7 +3,6 @@ use Prim.Native.Nat.{ℕ, ◌+◌, ◌≤◌}
 use mathlib.Core.Path.{◌≡◌, sym}
 use mathlib.Core.List.{List, [], ◌∷◌, ◌++◌, append_assoc}
 use lib.ListN.{length}
-use borrow.Author.Rules.{rules}
 use Rattle.digits.specs.Decimal.{decimal}
 use Rattle.records.proofs.Wrote.{wrote_as, room_as, first_fits, rest_fits, wrote_more}
 use Rattle.parent_lines.specs.ParentLines.{place_line}
