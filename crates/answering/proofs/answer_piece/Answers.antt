@@ -13,18 +13,18 @@ pub returns-then-n-arity : goal.returns-then-n-arity
 returns-then-n-arity c =
     let a = c.args in
     let p = c.args.p.now in
-    let cells = c.read_piece-read.new.1.0 in
-    let bytes = bytes_all p (λ i. omega (arith, c.shared_slice_known-2-1.given i)) in
+    let cells = c.read_piece-read.new.cells in
+    let bytes = bytes_all p (λ i. omega (arith, c.type_inv.p i)) in
     let r = reader_accepted p cells c.read_piece-read.result c.read_piece-read.ensures c.in-Accepted.is bytes in
     λ k. arities_differ a.arity k.rules p r.read (λ e. c.if-n-arity.true (sym r.arity_is ∙ e))
 
 pub answer_rules-requires : goal.answer_rules-requires
 answer_rules-requires c =
     let p = c.args.p.now in
-    let bytes = bytes_all p (λ i. omega (arith, c.shared_slice_known-2-1.given i)) in
+    let bytes = bytes_all p (λ i. omega (arith, c.type_inv.p i)) in
     let read-piece = c.read_piece-read in
     let r =
-    reader_accepted p read-piece.new.1.0 read-piece.result read-piece.ensures
+    reader_accepted p read-piece.new.cells read-piece.result read-piece.ensures
     c.in-Accepted.is bytes in
     (c.requires.0, c.requires.1, read_narrow r, c.requires.2, c.requires.3)
 
@@ -32,7 +32,7 @@ pub returns-in-Refused : goal.returns-in-Refused
 returns-in-Refused c =
     let a = c.args in
     let p = c.args.p.now in
-    let cells = c.read_piece-read.new.1.0 in
+    let cells = c.read_piece-read.new.cells in
     λ k.
     piece_refused a.arity k.rules p (reader_refused p cells c.read_piece-read.result c.read_piece-read.ensures c.in-Refused.is)
 
@@ -40,8 +40,8 @@ pub returns-else-n-arity : goal.returns-else-n-arity
 returns-else-n-arity c =
     let a = c.args in
     let p = c.args.p.now in
-    let cells = c.read_piece-read.new.1.0 in
-    let bytes = bytes_all p (λ i. omega (arith, c.shared_slice_known-2-1.given i)) in
+    let cells = c.read_piece-read.new.cells in
+    let bytes = bytes_all p (λ i. omega (arith, c.type_inv.p i)) in
     let r = reader_accepted p cells c.read_piece-read.result c.read_piece-read.ensures c.in-Accepted.is bytes in
     let same = c.if-n-arity.false in
     let ok = subst (λ (n : ℕ). AcceptedPiece n r.piece.terms) same r.accepted in

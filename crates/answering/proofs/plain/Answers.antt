@@ -16,47 +16,42 @@ use Rattle.answering.proofs.PieceAnswers.{sheet_refused, sheet_answers}
 use Rattle.answering.proofs.RulesBehind.{sheet_rules}
 use borrow.Author.Rules.{rules}
 use Rattle.answering.proofs.plain.Goals as goal
+use Rattle.answering.proofs.plain.Goals.{In-Accepted}
 
 pub check_noted-checked-requires : goal.check_noted-checked-requires
 check_noted-checked-requires c = (length-replicate {A = ℕ} 680 0, length-replicate {A = ℕ} 64 0)
 
 -- Where the sheet was accepted.
-module _ (c : goal.In-Accepted) where
-  abbrev at_check : goal.After-check_noted-checked
-  at_check = c.«After-check_noted-checked»
-
-  abbrev start : goal.Start
-  start = at_check.before.before.before.before.before
-
-  abbrev known : AcceptedAs start.args.sheet.now c.in-Accepted.arity c.in-Accepted.count
+module _ (c : In-Accepted) where
+  abbrev known : AcceptedAs c.args.sheet.now c.in-Accepted.arity c.in-Accepted.count
   known =
-      check_accepts start.args.sheet.now c.in-Accepted.arity c.in-Accepted.count
+      check_accepts c.args.sheet.now c.in-Accepted.arity c.in-Accepted.count
       c.in-Accepted.field-2
-      (sym (ap sheet_check_values c.in-Accepted.is) ∙ at_check.check-noted.ensures.0)
+      (sym (ap sheet_check_values c.in-Accepted.is) ∙ c.check_noted-checked.ensures.result_value)
 
   abbrev rules
-      : let s = start.args.sheet.now in
+      : let s = c.args.sheet.now in
       SheetRules (take (length s - 3) (drop 3 s)) c.in-Accepted.arity c.in-Accepted.count
   rules =
-      let s = start.args.sheet.now in
-      sheet_rules s (bytes_all s (λ i. omega (arith, at_check.before.before.before.before.shared-slice-known.given i))) known
+      let s = c.args.sheet.now in
+      sheet_rules s (bytes_all s (λ i. omega (arith, c.type_inv.sheet i))) known
 
 pub slice_bounds-answer_piece-start : goal.slice_bounds-answer_piece-start
 slice_bounds-answer_piece-start c = omega (arith, (known (goal.at.slice_bounds-answer_piece-start c).In-Accepted).whole)
 
 pub answer_piece-requires : goal.answer_piece-requires
 answer_piece-requires c =
-    let s = (start (goal.at.answer_piece-requires c).In-Accepted).args.sheet.now in
-    let told = (at_check (goal.at.answer_piece-requires c).In-Accepted).check-noted.ensures.1 in
+    let s = c.args.sheet.now in
+    let told = c.check_noted-checked.ensures.1 in
     let starts =
-    subst (check_starts (drop 3 s) (at_check (goal.at.answer_piece-requires c).In-Accepted).check-noted.new.1.1.0) c.in-Accepted.is
+    subst (check_starts (drop 3 s) c.check_noted-checked.new.starts) c.in-Accepted.is
     told.0 in (
       rules (goal.at.answer_piece-requires c).In-Accepted,
       told.1,
       starts.0,
       subst
           (λ (l : List ℕ).
-          StartsIn c.in-Accepted.arity l (at_check (goal.at.answer_piece-requires c).In-Accepted).check-noted.new.1.1.0
+          StartsIn c.in-Accepted.arity l c.check_noted-checked.new.starts
           c.in-Accepted.count)
           (sym (rest s 3)) starts.1,
     )
@@ -69,7 +64,7 @@ returns-in-Refused c =
 
 pub returns-in-Accepted : goal.returns-in-Accepted
 returns-in-Accepted c =
-    let a = (start (goal.at.returns-in-Accepted c).In-Accepted).args in
+    let a = c.args in
     let s = a.sheet.now in
     let p = a.piece.now in
     let is = known (goal.at.returns-in-Accepted c).In-Accepted in

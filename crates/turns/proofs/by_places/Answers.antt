@@ -2,7 +2,6 @@
 use Prim.Native.Nat.{ℕ, ◌-◌, ◌<◌}
 use mathlib.Core.Path.{◌≡◌, sym, ◌∙◌}
 use mathlib.Core.List.{List}
-use mathlib.Core.Logic.{⊎_elim}
 use native.Mathlib.Omega.{arith}
 use lib.ListN.{length, get_or}
 use Rattle.basics.specs.Lists.{All}
@@ -12,6 +11,7 @@ use Rattle.turns.specs.views.Turned.{with_asked}
 use Rattle.turns.proofs.Turning.{Turning, turning_start, turning_asks, turning_stays, turning_done}
 use borrow.Author.Rules.{rules}
 use Rattle.turns.proofs.by_places.Goals as goal
+use Rattle.turns.proofs.by_places.Goals.{then-is_test_of, else-is_test_of}
 
 -- Each place of the list is below 680.
 place_inside : (places : List ℕ) → All (λ (p : ℕ). p < 680) places → (i : ℕ) → i < length places → {p : ℕ} → p ≡ get_or places i 0 → p < 680
@@ -27,13 +27,13 @@ bounds-numbers-p c =
 
 pub is_test_of-requires : goal.is_test_of-requires
 is_test_of-requires c =
-    omega (arith, c.number.ensures, c.requires.3 c.wide-p.result)
+    omega (arith, c.number-t.ensures, c.requires.3 c.wide-p.result)
 
 pub overflow_add-s : goal.overflow_add-s
-overflow_add-s c = omega (arith, c.number.ensures, c.requires.3 c.wide-p.result)
+overflow_add-s c = omega (arith, c.number-t.ensures, c.requires.3 c.wide-p.result)
 
 pub offset_bounds-s-t : goal.offset_bounds-s-t
-offset_bounds-s-t c = omega (arith, c.number.ensures, c.requires.3 c.wide-p.result)
+offset_bounds-s-t c = omega (arith, c.number-t.ensures, c.requires.3 c.wide-p.result)
 
 pub bounds-s-t : goal.bounds-s-t
 bounds-s-t c = omega (arith, c.number-t.ensures, c.requires.3 c.wide-p.result)
@@ -49,18 +49,15 @@ loop-i-preserved c =
     let numbers = c.args.numbers.now in
     let places = c.args.places.now in
     let p = c.wide-p.result in
-    let t = c.number.result in
+    let t = c.number-t.result in
     let short : turn.i < length places = omega (arith, c.requires.0, inside) in
-    ⊎_elim
-    (λ w.
+    elim c.if-is_test_of.branch [ then-is_test_of w ↦
     turning_asks numbers places c.args.s.now turn.s turn.asked turn.i p t turn.invariant short
-    c.wide-p.ensures c.number.ensures
-    (sym c.is_test_of.ensures ∙ w.0.taken) w.2 (w.3 ∙ w.1.ensures))
-    (λ w.
+    c.wide-p.ensures c.number-t.ensures
+    (sym c.is_test_of.ensures ∙ w.if-is_test_of.true) w.s-is (w.asked-is ∙ w.insert-asked.ensures) | else-is_test_of w ↦
     turning_stays numbers places c.args.s.now turn.s turn.asked turn.i p t turn.invariant short
-    c.wide-p.ensures c.number.ensures
-    (sym c.is_test_of.ensures ∙ w.0.left) w.1 w.2)
-    c.if-is_test_of.branch
+    c.wide-p.ensures c.number-t.ensures
+    (sym c.is_test_of.ensures ∙ w.if-is_test_of.false) w.s-is w.asked-is ]
 
 pub returns : goal.returns
 returns c =

@@ -11,10 +11,7 @@ use Rattle.test_list.proofs.PutLists.{Putting, putting_start, putting_turn, putt
 use Rattle.turns.specs.views.Turned.{lower_tests}
 use borrow.Author.Rules.{rules}
 use Rattle.turns.proofs.lowest_first.Goals as goal
-
--- The tests below each.
-abbrev lower : ℕ → List ℕ
-lower count = map lower_tests (count_from 0 count)
+use Rattle.turns.proofs.lowest_first.Invariants.{lower}
 
 many : (count : ℕ) → length (lower count) ≡ count
 many count = length-map (count_from 0 count) lower_tests ∙ count_length 0 count

@@ -12,6 +12,10 @@ use Rattle.turns.specs.views.Turned.{lower_tests}
 use borrow.Author.Rules.{rules}
 use Rattle.turns.proofs.lowest_first.Given as goal
 
+-- The tests below each.
+abbrev pub lower : ℕ → List ℕ
+lower count = map lower_tests (count_from 0 count)
+
 abbrev pub invariant-loop-t : goal.invariant-loop-t
 invariant-loop-t l = Putting 260 (lower l.count) l.initial.s l.s l.t
 

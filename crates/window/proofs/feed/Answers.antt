@@ -2,13 +2,12 @@
 use Rattle.std.proofs.Common.{sym, ◌∙◌, rules}
 use Rattle.window.specs.LastThousand.{given}
 use Rattle.window.proofs.Steps.{taken_fed, refused_fed}
-use borrow.Author.Tests.{not-true, not-false}
 use Rattle.window.proofs.feed.Goals as goal
 
 pub returns-then-not-is_taken : goal.returns-then-not-is_taken
 returns-then-not-is_taken c =
     let a = c.args in
-    let t = sym c.is_taken.ensures ∙ not-true c.is_taken.result c.if-not-is_taken.true in record {
+    let t = sym c.is_taken.ensures ∙ c.if-not-is_taken.true in record {
       value = sym (rw t);
       window_after = refused_fed (given a.word a.rule) a.window.now t;
     }
@@ -16,7 +15,7 @@ returns-then-not-is_taken c =
 pub returns : goal.returns
 returns c =
     let a = c.args in
-    let t = sym c.is_taken.ensures ∙ not-false c.is_taken.result c.if-not-is_taken.false in record {
+    let t = sym c.is_taken.ensures ∙ c.if-not-is_taken.false in record {
       value = sym (rw t);
       window_after = taken_fed (given a.word a.rule) a.window.now t c.place_of-next.ensures.0
           c.make_room.ensures c.store.ensures c.count.ensures;

@@ -1,5 +1,5 @@
 -- A word 1 to 4, and a rule from its least on.
-use Rattle.std.proofs.Common.{◌<◌, ◌⊎◌, sym, ◌∙◌, inl, inr, ⊎_elim, rules, ltb-false, ltb-true, le-leb}
+use Rattle.std.proofs.Common.{◌<◌, ◌⊎◌, sym, ◌∙◌, inl, inr, le-leb}
 use borrow.Author.Tests.{lt-leb}
 use Rattle.window.proofs.Taken.{no_word, by_least}
 use Rattle.window.proofs.is_taken.Goals as goal
@@ -7,23 +7,21 @@ use Rattle.window.proofs.is_taken.Goals as goal
 pub returns-then-word-lt1 : goal.returns-then-word-lt1
 returns-then-word-lt1 c =
     let a = c.args in
-    let none : (a.word < 1) ⊎ (4 < a.word) = ⊎_elim (λ w. inl w.taken) (λ w. inr (ltb-true 4 a.word w.1.taken)) c.then-word-lt1.branch in
+    let none : (a.word < 1) ⊎ (4 < a.word) = elim c.then-word-lt1.either [ inl h ↦ inl h | inr h ↦ inr h.1 ] in
     sym (no_word a.word a.rule none)
 
 pub returns-then-least-rule : goal.returns-then-least-rule
 returns-then-least-rule c =
     let a = c.args in
-    let four = ltb-false 4 a.word c.if-word-gt4.false in
     let least = c.least_rule-least.result in
     sym
-    (by_least a.word a.rule least c.if-word-lt1.false four c.least_rule-least.ensures.0
+    (by_least a.word a.rule least c.if-word-lt1.false c.if-word-gt4.false c.least_rule-least.ensures.0
     ∙ rw (le-leb least a.rule c.if-least-rule.true))
 
 pub returns-else-least-rule : goal.returns-else-least-rule
 returns-else-least-rule c =
     let a = c.args in
-    let four = ltb-false 4 a.word c.if-word-gt4.false in
     let least = c.least_rule-least.result in
     sym
-    (by_least a.word a.rule least c.if-word-lt1.false four c.least_rule-least.ensures.0
+    (by_least a.word a.rule least c.if-word-lt1.false c.if-word-gt4.false c.least_rule-least.ensures.0
     ∙ rw (lt-leb least a.rule c.if-least-rule.false))

@@ -46,11 +46,11 @@ returns-in_default c =
     let inv = c.loop-i.invariant in
     let begins =
     subst (Begins s a.arity a.count) (sym c.note.ensures.0)
-    (begins_noted s a.arity a.count loop.auto loop.i loop.at inv.1 inv.3
+    (begins_noted s a.arity a.count loop.kept loop.i loop.at inv.1 inv.3
     (inv.4 loop.i (omega arith) c.loop-i-test.true)) in
     let note = c.note in (
       begins,
-      tests_stay a.kept.now loop.auto loop.i loop.at inv.5 note.ensures.0 note.ensures.1,
+      tests_stay a.kept.now loop.kept loop.i loop.at inv.5 note.ensures.0 note.ensures.1,
       c.read_rule-read.ensures.took_within.entries,
     )
 
@@ -59,9 +59,9 @@ overflow_add-at c =
     let a = c.args in
     let s = c.args.s.now in
     let loop = c.loop-i in
-    let codes = c.read_rule-read.new.1.1.0 in
+    let codes = c.read_rule-read.new.notes in
     let read = c.read_rule-read.ensures in
-    let bytes = bytes_known s (λ i. omega (arith, c.shared_slice_known-1.given i)) in
+    let bytes = bytes_known s (λ i. omega (arith, c.type_inv.s i)) in
     let rule = rule_read_lem a.arity loop.at s codes c.read_rule-read.result read.result_after c.requires.0 bytes c.in-Used.is read.took_within in
     omega (arith, rule.used)
 
@@ -73,11 +73,11 @@ loop-i-preserved c =
     let inv = c.loop-i.invariant in
     let begins =
     subst (Begins s a.arity a.count) (sym c.note.ensures.0)
-    (begins_noted s a.arity a.count loop.auto loop.i loop.at inv.1 inv.3
+    (begins_noted s a.arity a.count loop.kept loop.i loop.at inv.1 inv.3
     (inv.4 loop.i (omega arith) c.loop-i-test.true)) in
-    let codes = c.read_rule-read.new.1.1.0 in
+    let codes = c.read_rule-read.new.notes in
     let read = c.read_rule-read.ensures in
-    let bytes = bytes_known s (λ i. omega (arith, c.shared_slice_known-1.given i)) in
+    let bytes = bytes_known s (λ i. omega (arith, c.type_inv.s i)) in
     let rule = rule_read_lem a.arity loop.at s codes c.read_rule-read.result read.result_after c.requires.0 bytes c.in-Used.is read.took_within in (
       read.took_within.entries,
       c.note.ensures.1,
@@ -86,7 +86,7 @@ loop-i-preserved c =
       λ k from among.
           seeking_next (read_rule a.arity) pnil s (inv.4 k (omega arith) among) rule.read (λ e. omega (arith, e))
           (omega (arith, rule.used)),
-      tests_stay a.kept.now loop.auto loop.i loop.at inv.5 c.note.ensures.0
+      tests_stay a.kept.now loop.kept loop.i loop.at inv.5 c.note.ensures.0
           c.note.ensures.1,
     )
 

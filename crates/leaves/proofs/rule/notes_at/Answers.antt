@@ -39,20 +39,19 @@ pub returns-in_default : goal.returns-in_default
 returns-in_default c =
     let a = c.args in
     let s = c.args.s.now in
-    let codes = c.read_rule-read.new.1.1.0 in
+    let codes = c.read_rule-read.new.notes in
     let at = c.loop-i.at in
     let read = c.read_rule-read.ensures in
-    let both = absurd (seeking_there (read_rule a.arity) pnil s c.loop-i.invariant.1 (rule_refused a.arity at s codes c.read_rule-read.result read.result_after c.in_default.is)) in
-    record { result_after = both.0; result_bound = both.1 }
+    absurd (seeking_there (read_rule a.arity) pnil s c.loop-i.invariant.1 (rule_refused a.arity at s codes c.read_rule-read.result read.result_after c.in_default.is))
 
 pub returns-then-i-rule : goal.returns-then-i-rule
 returns-then-i-rule c =
     let a = c.args in
     let s = c.args.s.now in
-    let codes = c.read_rule-read.new.1.1.0 in
+    let codes = c.read_rule-read.new.notes in
     let at = c.loop-i.at in
     let read = c.read_rule-read.ensures in
-    let bytes = bytes_known s (λ i. omega (arith, c.shared_slice_known-1.given i)) in
+    let bytes = bytes_known s (λ i. omega (arith, c.type_inv.s i)) in
     let rule = rule_read_lem a.arity at s codes c.read_rule-read.result read.result_after c.requires.rule_read.0.few_arguments bytes c.in-Used.is read.took_within in record {
       result_after = ap some (rule.noted ∙ ap rule_notes (seeking_found (read_rule a.arity) pnil s c.loop-i.invariant.1 rule.read (omega (arith, c.if-i-rule.true))));
       result_bound = (rule.made, read.took_within.entries, rule.placed);
@@ -62,10 +61,10 @@ pub overflow_add-at : goal.overflow_add-at
 overflow_add-at c =
     let a = c.args in
     let s = c.args.s.now in
-    let codes = c.read_rule-read.new.1.1.0 in
+    let codes = c.read_rule-read.new.notes in
     let at = c.loop-i.at in
     let read = c.read_rule-read.ensures in
-    let bytes = bytes_known s (λ i. omega (arith, c.shared_slice_known-1.given i)) in
+    let bytes = bytes_known s (λ i. omega (arith, c.type_inv.s i)) in
     let rule = rule_read_lem a.arity at s codes c.read_rule-read.result read.result_after c.requires.rule_read.0.few_arguments bytes c.in-Used.is read.took_within in
     omega (arith, rule.used)
 
@@ -73,14 +72,13 @@ pub loop-i-preserved : goal.loop-i-preserved
 loop-i-preserved c =
     let a = c.args in
     let s = c.args.s.now in
-    let codes = c.read_rule-read.new.1.1.0 in
+    let codes = c.read_rule-read.new.notes in
     let at = c.loop-i.at in
     let read = c.read_rule-read.ensures in
-    let bytes = bytes_known s (λ i. omega (arith, c.shared_slice_known-1.given i)) in
+    let bytes = bytes_known s (λ i. omega (arith, c.type_inv.s i)) in
     let rule = rule_read_lem a.arity at s codes c.read_rule-read.result read.result_after c.requires.rule_read.0.few_arguments bytes c.in-Used.is read.took_within in
     (read.took_within.entries, seeking_next (read_rule a.arity) pnil s c.loop-i.invariant.1 rule.read (λ e. omega (arith, c.if-i-rule.false, c.requires.rule_read.0.from_one)) (omega (arith, rule.used)))
 
 pub returns : goal.returns
 returns c =
-    let both = absurd (omega (arith, c.loop-i.invariant.1.sought, c.loop-i.invariant.1.among)) in
-    record { result_after = both.0; result_bound = both.1 }
+    absurd (omega (arith, c.loop-i.invariant.1.sought, c.loop-i.invariant.1.among))
