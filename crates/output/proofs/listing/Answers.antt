@@ -86,9 +86,9 @@ slice_bounds-put_built-end-in-Written-2 c =
 
 pub put_built-requires : goal.put_built-requires
 put_built-requires c = record {
-      graph_for = accepted (goal.at.put_built-requires c).In-Written-1;
-      input_len_bound = (cut_most (start (goal.at.put_built-requires c).In-Written-1).args.input.now most_bytes c.cut2.ensures, omega (arith, (start (goal.at.put_built-requires c).In-Written-1).requires));
-    }
+  graph_for = accepted (goal.at.put_built-requires c).In-Written-1;
+  input_len_bound = (cut_most (start (goal.at.put_built-requires c).In-Written-1).args.input.now most_bytes c.cut2.ensures, omega (arith, (start (goal.at.put_built-requires c).In-Written-1).requires));
+}
 
 pub returns-in-Refused : goal.returns-in-Refused
 returns-in-Refused c =
