@@ -14,7 +14,6 @@ use Rattle.plain.specs.Plain.{piece_reading, reading_values}
 use Rattle.rule_by_rule.specs.views.SheetRules.{SheetRules}
 use Rattle.answering.proofs.PieceAnswers.{sheet_refused, sheet_answers}
 use Rattle.answering.proofs.RulesBehind.{sheet_rules}
-use borrow.Author.Rules.{rules}
 use Rattle.answering.proofs.plain.Goals as goal
 use Rattle.answering.proofs.plain.Goals.{In-Accepted}
 
@@ -36,13 +35,16 @@ module _ (c : In-Accepted) where
       let s = c.args.sheet.now in
       sheet_rules s (bytes_all s (λ i. omega (arith, c.type_inv.sheet i))) known
 
+pub slice_bounds-answer_piece-count : goal.slice_bounds-answer_piece-count
+slice_bounds-answer_piece-count c = omega (arith, (known (goal.at.slice_bounds-answer_piece-count c).In-Accepted).whole)
+
 pub slice_bounds-answer_piece-start : goal.slice_bounds-answer_piece-start
 slice_bounds-answer_piece-start c = omega (arith, (known (goal.at.slice_bounds-answer_piece-start c).In-Accepted).whole)
 
 pub answer_piece-requires : goal.answer_piece-requires
 answer_piece-requires c =
     let s = c.args.sheet.now in
-    let told = c.check_noted-checked.ensures.1 in
+    let told = c.check_noted-checked.ensures.check_starts in
     let starts =
     subst (check_starts (drop 3 s) c.check_noted-checked.new.starts) c.in-Accepted.is
     told.0 in (
