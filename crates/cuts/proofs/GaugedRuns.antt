@@ -13,12 +13,11 @@ use Rattle.basics.proofs.Numbers.{le_or_lt}
 use Rattle.basics.proofs.Sorted.{AscendingBy, same_members}
 use Rattle.terms.specs.Term.{on_gauge, gauge_of}
 use Rattle.terms.specs.RuleTests.{Range}
-use Rattle.decision.specs.Runs.{cuts, frame}
+use Rattle.decision.specs.Runs.{cuts}
 use Rattle.decision.proofs.cases.Intervals.{Contains, EndsBefore, Uncut, in_one_only}
-use Rattle.decision.proofs.cases.FramedRuns.{in_frame}
 use Rattle.decision.proofs.cases.RangeOrder.{Filled, range_order, in_order_lem}
 use Rattle.decision.proofs.cases.RangeRuns.{cuts_ascend, wanted_cut}
-use Rattle.decision.proofs.cases.OnGauges.{OneGauge, ranges_on, range_on_lem, gauge_listed}
+use Rattle.decision.proofs.cases.OnGauges.{OneGauge, gauge_listed}
 use Rattle.decision.proofs.cases.GaugeRuns.{gauge_runs, gauge_run, gauge_run_on, gauge_runs_ascend}
 use Rattle.cuts.specs.views.FramedRuns.{gauge_first, gauge_end}
 use Rattle.cuts.proofs.Gauging.{gap_range, gauged_from, gauged_runs, Steady, AllSteady, gap_all, gap_ascends, gap_rest, gap_has}

@@ -24,9 +24,10 @@ mutual
   term_written never ok = (omega arith, tt)
   term_written (symbol a) ok = (omega arith, wide_bytes a [] tt)
   term_written (numbers a b) ok =
-      elim (eqb a b) as (λ c. AreBytes (cond c (number_bytes a) (0x34 ∷ wide_then a (wide_then b []))))
-      [ true ↦ number_written a (omega (arith, ok.0, ok.1))
-      | false ↦ (omega arith, wide_bytes a (wide_then b []) (wide_bytes b [] tt)) ]
+      elim (eqb a b) as (λ c. AreBytes (cond c (number_bytes a) (0x34 ∷ wide_then a (wide_then b [])))) [
+        | true ↦ number_written a (omega (arith, ok.0, ok.1))
+        | false ↦ (omega arith, wide_bytes a (wide_then b []) (wide_bytes b [] tt))
+      ]
   term_written (compound a ts) ok =
       (omega arith, wide_bytes a (count ts ∷ terms_bytes ts) (omega (arith, ok.2), terms_written ts ok.3))
 

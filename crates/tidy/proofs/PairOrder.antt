@@ -15,7 +15,6 @@ use Rattle.terms.specs.RuleTests.{PairTest, both, Occurrence}
 use Rattle.terms.specs.RuleTests.{pairs_with, pairs_of}
 use Rattle.terms.proofs.Ascending.{Ascends, ascends_wider, ascends_from}
 use Rattle.terms.proofs.PairTests.{variable_place, pairs_each}
-use Rattle.tidy.proofs.Occurrences.{later}
 
 -- By the first place, then the second.
 abbrev pub comes_before : PairTest → PairTest → Bool

@@ -23,7 +23,6 @@ use Rattle.terms.proofs.Ascending.{Ascends}
 use Rattle.terms.proofs.PairTests.{variable_place, all_variables_ascend}
 use Rattle.tidy.specs.TidyRule.{is_named, stands_again, is_again, is_repeated}
 use Rattle.tidy.specs.TidyRule.{new_number, single, repeated, tidy_pattern, tidy_patterns, tidy_rule}
-use Rattle.tidy.proofs.Occurrences.{later}
 use Rattle.tidy.proofs.NewNumbers.{numbers_differ}
 use Rattle.tidy.proofs.Series.{series_kept}
 use Rattle.tidy.proofs.Gauges.{gauge_kept}

@@ -32,7 +32,7 @@ use Rattle.tidy.proofs.NewNumbers.{number_lt}
 use Rattle.tidy.proofs.TidyAccepted.{all_names_small}
 use Rattle.tidy.proofs.TidyRecords.{patterns_records, records_spell, single_record, repeated_record, tidy_record, tidy_spelling_lem}
 use Rattle.tidy.proofs.Uses.{uses, repeated_uses}
-use Rattle.rule_rows.specs.views.Words.{packed_word, word_high, word_uses, word_place, Numbering}
+use Rattle.rule_rows.specs.views.Words.{packed_word, number_record, word_high, word_uses, word_place, Numbering}
 use Rattle.tidy_rows.specs.views.TidyRow.{tidy_word, tidy_in, tidy_spelling, met_in, tidy_row}
 use Rattle.tidying.specs.views.TidyRows.{tidy_rows}
 use Rattle.rule_rows.proofs.WordLaws.{word_parts}
@@ -89,8 +89,8 @@ number_names_lem x (Series l h ∷ rs) = number_names_lem x rs
 number_names_lem x (Range l h ∷ rs) = number_names_lem x rs
 number_names_lem x (Gauged g l h ∷ rs) = number_names_lem x rs
 number_names_lem x (Compound a n ∷ rs) = number_names_lem x rs
-number_names_lem x (Variable v ∷ rs) = number_names_lem _ rs
-number_names_lem x (Ranged v l h ∷ rs) = number_names_lem _ rs
+number_names_lem x (Variable v ∷ rs) = number_names_lem (number_record (Variable v) x) rs
+number_names_lem x (Ranged v l h ∷ rs) = number_names_lem (number_record (Ranged v l h) x) rs
 
 uses_times : (v : ℕ) (os : List Occurrence) → times v (map name_at os) ≡ uses v os
 uses_times v [] = refl

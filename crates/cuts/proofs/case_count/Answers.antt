@@ -7,10 +7,9 @@ use native.Mathlib.Omega.{arith}
 use lib.ListN.{length, length-append}
 use mir.Val.{Fits}
 use mir.Syntax.{w64}
-use Rattle.cuts.specs.views.Runs.{Run, runs_in}
-use Rattle.cuts.specs.views.CaseRuns.{union_pairs, gauge_pairs, case_runs, runs_from, GaugeUpTo}
+use Rattle.cuts.specs.views.Runs.{Run}
+use Rattle.cuts.specs.views.CaseRuns.{union_pairs, gauge_pairs, runs_from, GaugeUpTo}
 use Rattle.cuts.proofs.CaseRuns.{cases_counted, cases_most, pairs_counted, gauges_some, gauges_none}
-use borrow.Author.Rules.{rules}
 use Rattle.cuts.proofs.case_count.Goals as goal
 
 -- Of at most 193 runs the pairs, counted twice, are a number of 64 bits.

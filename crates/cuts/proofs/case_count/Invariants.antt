@@ -1,16 +1,9 @@
 -- `cuts::case_count` meets its contract. The loop's invariant: the cases counted and the pairs to come are all cases.
-use Prim.Native.Nat.{ℕ, suc, ◌+◌, ◌*◌, ◌-◌, ◌/◌, ◌≤◌}
-use mathlib.Core.Path.{◌≡◌, sym, ap, ◌∙◌}
-use mathlib.Core.List.{List}
-use native.Mathlib.Nat.{mul-le-mul}
-use native.Mathlib.Omega.{arith}
-use lib.ListN.{length, length-append}
-use mir.Val.{Fits}
-use mir.Syntax.{w64}
-use Rattle.cuts.specs.views.Runs.{Run, runs_in}
-use Rattle.cuts.specs.views.CaseRuns.{union_pairs, gauge_pairs, case_runs, runs_from, GaugeUpTo}
-use Rattle.cuts.proofs.CaseRuns.{cases_counted, cases_most, pairs_counted, gauges_some, gauges_none}
-use borrow.Author.Rules.{rules}
+use Prim.Native.Nat.{◌+◌, ◌-◌, ◌≤◌}
+use mathlib.Core.Path.{◌≡◌}
+use lib.ListN.{length}
+use Rattle.cuts.specs.views.Runs.{runs_in}
+use Rattle.cuts.specs.views.CaseRuns.{gauge_pairs, case_runs, runs_from}
 use Rattle.cuts.proofs.case_count.Given as goal
 
 abbrev pub invariant-loop-first : goal.invariant-loop-first

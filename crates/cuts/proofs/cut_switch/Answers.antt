@@ -10,7 +10,6 @@ use Rattle.cuts.specs.views.FramedRuns.{name_runs}
 use Rattle.cuts.specs.views.CaseRuns.{case_runs, switch_runs}
 use Rattle.cuts.proofs.CaseRuns.{cases_most}
 use Rattle.cuts.proofs.FramedPass.{names_few}
-use borrow.Author.Rules.{rules}
 use Rattle.cuts.proofs.cut_switch.Goals as goal
 
 pub returns : goal.returns

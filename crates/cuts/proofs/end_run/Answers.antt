@@ -5,7 +5,6 @@ use native.Mathlib.Omega.{arith}
 use Rattle.cuts.specs.views.Runs.{Run}
 use Rattle.cuts.specs.views.FramedRuns.{gauge_first}
 use Rattle.cuts.proofs.FramedPass.{ended_gaps, ended_wanted, name_one, name_none}
-use borrow.Author.Rules.{rules}
 use Rattle.cuts.proofs.end_run.Goals as goal
 
 pub returns-then-set-eq0 : goal.returns-then-set-eq0

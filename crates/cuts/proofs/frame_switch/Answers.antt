@@ -6,13 +6,11 @@ use mathlib.Core.List.{[], ◌++◌, map}
 use native.Mathlib.Decide.{ℕ_discrete}
 use native.Mathlib.Omega.{arith}
 use lib.Bits.{bit_and, bit_xor, xor_zero_l}
-use lib.ListN.{length}
 use Rattle.basics.specs.Lists.{count_from}
-use Rattle.cuts.specs.views.Cuts.{count_at, cut_at, cuts_in}
+use Rattle.cuts.specs.views.Cuts.{count_at, cut_at}
 use Rattle.cuts.specs.views.Runs.{runs_in}
-use Rattle.cuts.specs.views.FramedRuns.{gap_run, gauge_first, gauge_end, framed_run, framed_from, name_runs}
-use Rattle.cuts.proofs.FramedPass.{framed_with, names_few, names_more, cut_passed, cut_ended, cut_last, gap_no_name}
-use borrow.Author.Rules.{rules}
+use Rattle.cuts.specs.views.FramedRuns.{gap_run, gauge_first, gauge_end, framed_run, framed_from}
+use Rattle.cuts.proofs.FramedPass.{names_few, names_more, cut_passed, cut_ended, cut_last, gap_no_name}
 use Rattle.cuts.proofs.frame_switch.Goals as goal
 use Rattle.cuts.proofs.frame_switch.Goals.{then-turned-ne0, else-turned-ne0}
 

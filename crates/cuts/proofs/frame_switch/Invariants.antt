@@ -1,19 +1,12 @@
 -- `cuts::frame_switch` meets its contract. The loop's invariant: the runs written and those before the cuts to come are the whole,
 -- and at most three for two cuts, since codes that no live rule wants are over at every second cut at most.
-use Prim.Native.Nat.{ℕ, max, ◌+◌, ◌*◌, ◌-◌, ◌≤◌, ◌<◌}
-use mathlib.Core.Path.{◌≡◌, refl, sym, ap, ◌∙◌}
-use mathlib.Core.Logic.{⊎_elim}
-use mathlib.Core.List.{[], ◌++◌, map}
-use native.Mathlib.Decide.{ℕ_discrete}
-use native.Mathlib.Omega.{arith}
-use lib.Bits.{bit_and, bit_xor, xor_zero_l}
+use Prim.Native.Nat.{◌+◌, ◌*◌, ◌-◌, ◌≤◌, ◌<◌}
+use mathlib.Core.Path.{◌≡◌}
 use lib.ListN.{length}
-use Rattle.basics.specs.Lists.{count_from}
-use Rattle.cuts.specs.views.Cuts.{count_at, cut_at, cuts_in}
+use Rattle.cuts.specs.views.Cuts.{cuts_in}
 use Rattle.cuts.specs.views.Runs.{runs_in}
-use Rattle.cuts.specs.views.FramedRuns.{gap_run, gauge_first, gauge_end, framed_run, framed_from, name_runs}
-use Rattle.cuts.proofs.FramedPass.{framed_with, names_few, names_more, cut_passed, cut_ended, cut_last, gap_no_name}
-use borrow.Author.Rules.{rules}
+use Rattle.cuts.specs.views.FramedRuns.{framed_from, name_runs}
+use Rattle.cuts.proofs.FramedPass.{framed_with}
 use Rattle.cuts.proofs.frame_switch.Given as goal
 
 abbrev pub invariant-loop-k : goal.invariant-loop-k

@@ -1,12 +1,8 @@
 -- `cuts::gauge_end` meets its contract. The loop's invariant: the runs passed are on the gauge of the first.
 use Prim.Native.Nat.{ℕ, ◌-◌, ◌≤◌, ◌<◌}
-use mathlib.Core.Path.{◌≡◌, ap, ◌∙◌}
-use mathlib.Core.Logic.{inl, inr}
-use native.Mathlib.Omega.{arith}
-use Rattle.basics.proofs.Numbers.{le_or_lt}
+use mathlib.Core.Path.{◌≡◌}
 use Rattle.cuts.specs.views.Runs.{run_at}
 use Rattle.cuts.specs.views.CaseRuns.{gauge_at}
-use borrow.Author.Rules.{rules}
 use Rattle.cuts.proofs.gauge_end.Given as goal
 
 abbrev pub invariant-loop-end : goal.invariant-loop-end

@@ -1,12 +1,9 @@
 -- `cuts::move_up` meets its contract. The loop's invariant: what stood from the place on is moved.
-use Prim.Native.Nat.{ℕ, ◌+◌, ◌≤◌}
-use mathlib.Core.Path.{◌≡◌, refl, ap, ◌∙◌}
-use native.Mathlib.Omega.{arith}
-use lib.ListN.{length, length-set}
+use Prim.Native.Nat.{◌+◌, ◌≤◌}
+use mathlib.Core.Path.{◌≡◌}
+use lib.ListN.{length}
 use lib.Seq.{slice}
 use Rattle.records.specs.Writing.{splice}
-use Rattle.cuts.proofs.Splices.{moved_none, IsMoved-more}
-use borrow.Author.Rules.{rules}
 use Rattle.cuts.proofs.move_up.Given as goal
 
 abbrev pub invariant-loop-k : goal.invariant-loop-k

@@ -7,7 +7,6 @@ use lib.ListN.{length}
 use Rattle.cuts.specs.views.Runs.{Run, runs_in}
 use Rattle.cuts.proofs.Cutting.{run_more, with_length}
 use Rattle.cuts.proofs.FramedPass.{gap_none, gap_some}
-use borrow.Author.Rules.{rules}
 use Rattle.cuts.proofs.put_gap.Goals as goal
 
 pub returns-then-next-start : goal.returns-then-next-start

@@ -1,9 +1,6 @@
 -- `cuts::spot_of` meets its contract. The loop's invariant: the cuts passed are below the code.
-use Prim.Native.Nat.{ℕ, ◌-◌, ◌≤◌, ◌<◌}
 use native.Mathlib.Omega.{arith}
 use borrow.Author.Count.{below_more}
-use Rattle.cuts.specs.views.Cuts.{cut_at}
-use borrow.Author.Rules.{rules}
 use Rattle.cuts.proofs.spot_of.Goals as goal
 
 pub loop-k-init : goal.loop-k-init

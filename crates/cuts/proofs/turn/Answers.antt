@@ -5,7 +5,6 @@ use native.Mathlib.Omega.{arith}
 use lib.ListN.{length-set}
 use Rattle.cuts.specs.views.Cuts.{count_at, cut_at, Spot}
 use Rattle.cuts.proofs.Turning.{turn_there, turn_new}
-use borrow.Author.Rules.{rules}
 use Rattle.cuts.proofs.turn.Goals as goal
 use Rattle.cuts.proofs.turn.Goals.{then-k-count+else-c-at, else-k-count}
 

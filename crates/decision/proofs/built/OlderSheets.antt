@@ -1,6 +1,6 @@
 -- "Graphs of older sheets gain a gauge of 0 in each number case" (document 02, request 7): where no rule has pattern 27, a switch
 -- has the cases of request 4, and each number case of the graph is on gauge 0.
-use Prim.Native.Nat.{ℕ, suc, pred, ◌+◌, ◌≤◌, ◌<◌}
+use Prim.Native.Nat.{ℕ, suc, pred, ◌+◌, ◌<◌}
 use mathlib.Core.Path.{◌≡◌, refl, ap, subst, ◌∙◌}
 use mathlib.Core.List.{List, [], ◌∷◌, ◌++◌, map}
 use mathlib.Core.Option.{Option, some, none}
@@ -27,7 +27,7 @@ use Rattle.decision.specs.Node.{Node, CaseEdge, switch, edges, map_case, map_nod
 use Rattle.decision.specs.Edges.{first_in, live_wants, by_case, by_none, by_unknown, ask_node, ask_first, node_of}
 use Rattle.decision.specs.Graph.{number_in, explore, most_nodes, vertices, numbered, numbered_if, graph_in}
 use Rattle.decision.specs.OlderGraph.{Older, Olders, older_cases, OlderCase, OlderNode}
-use Rattle.decision.specs.OlderGraph.{older_ask, older_first, older_node_of, older_vertices, older_numbered, older_graph_in}
+use Rattle.decision.specs.OlderGraph.{older_ask, older_first, older_node_of, older_numbered, older_graph_in}
 use Rattle.decision.proofs.exploring.BreadthFirst.{some_none}
 use Rattle.decision.proofs.rules.TestsOfRules.{want_test}
 use Rattle.decision.proofs.rules.LiveWants.{IfWanted, wants_all}
@@ -35,7 +35,7 @@ use Rattle.decision.proofs.rules.SoundWants.{rule_accepted, wants_sound}
 use Rattle.decision.proofs.cases.WantedRanges.{range_wanted}
 use Rattle.decision.proofs.cases.CaseList.{name_cases}
 use Rattle.decision.proofs.cases.OlderCases.{OnGauge0, older_cases_lem}
-use Rattle.decision.proofs.cases.GaugesSentence.{OnWanted, no_other_gauge}
+use Rattle.decision.proofs.cases.GaugesSentence.{no_other_gauge}
 use Rattle.decision.proofs.built.BuiltNodes.{number_of}
 
 -- What it wants is below 65,536, if it is a number.

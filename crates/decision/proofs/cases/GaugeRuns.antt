@@ -1,7 +1,7 @@
 -- The runs of gauges (document 02, request 7): "each gauge of which a live rule has a range there is cut into runs by itself". The
 -- runs of a gauge lie on it, those of all gauges ascend, and each number of such a gauge is in one of them.
 use Prim.Native.Nat.{ℕ, suc, ◌<◌}
-use mathlib.Core.Path.{◌≡◌, refl}
+use mathlib.Core.Path.{◌≡◌}
 use mathlib.Core.Logic.{◌↔◌, inl, inr}
 use mathlib.Core.List.{List, [], ◌∷◌, ◌++◌}
 use native.Mathlib.Omega.{arith}
@@ -17,9 +17,9 @@ use Rattle.terms.specs.RuleTests.{Range}
 use Rattle.decision.specs.Runs.{gauges_of, runs_on}
 use Rattle.decision.proofs.cases.Intervals.{Contains, EndsBefore}
 use Rattle.decision.proofs.cases.RangeRuns.{meets}
-use Rattle.decision.proofs.cases.FramedRuns.{framed_ascends, framed_covers, framed_inside, framed_meets}
-use Rattle.decision.proofs.cases.OnGauges.{OneGauge, OnGauge, on_gauge_lem, common_gauge, number_on, gauge_order}
-use Rattle.decision.proofs.cases.OnGauges.{gauge_listed, gauges_ascend, ranges_on, range_on_lem, ranges_on_lem}
+use Rattle.decision.proofs.cases.FramedRuns.{framed_ascends, framed_inside, framed_meets}
+use Rattle.decision.proofs.cases.OnGauges.{OneGauge, OnGauge, on_gauge_lem, common_gauge, gauge_order}
+use Rattle.decision.proofs.cases.OnGauges.{gauges_ascend, ranges_on, range_on_lem, ranges_on_lem}
 
 -- What each of some gauges has, one gauge after another.
 abbrev pub of_each : (ℕ → List Range) → List ℕ → List Range

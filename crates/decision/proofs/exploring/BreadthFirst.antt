@@ -1,6 +1,6 @@
 -- Breadth-first numbering: what is met is closed under edges, each thing is met once, each but the first is an edge of one met
 -- earlier, and a thing's number leads back to it.
-use Prim.Native.Nat.{ℕ, zero, suc, ◌+◌}
+use Prim.Native.Nat.{ℕ, zero, suc}
 use mathlib.Core.Path.{◌≡◌, sym, subst, ◌∙◌}
 use mathlib.Core.Bool.{Bool, true, false, cond}
 use mathlib.Core.Logic.{◌⊎◌, inl, inr}

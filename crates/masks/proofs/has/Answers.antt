@@ -1,5 +1,4 @@
 -- `masks::has` meets its contract: the shifted word's lowest bit is the digit that `has` reads. Assumes nothing.
-use borrow.Author.Rules.{rules}
 use Rattle.masks.proofs.Membership.{test_is}
 use Rattle.masks.proofs.has.Goals as goal
 

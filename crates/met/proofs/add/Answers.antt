@@ -1,5 +1,5 @@
 -- `met::add` meets its contract.
-use Rattle.std.proofs.Common.{◌<◌, arith, rules}
+use Rattle.std.proofs.Common.{◌<◌, arith}
 use Rattle.met.proofs.Adding.{keys_added, chained_added}
 use Rattle.met.proofs.add.Goals as goal
 

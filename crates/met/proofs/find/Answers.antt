@@ -1,8 +1,8 @@
 -- `met::find` meets its contract. The loop's invariant: the keys passed are others.
-use Rattle.std.proofs.Common.{◌≡◌, ℕ, ◌<◌, sym, ap, ◌∙◌, subst, arith, rules}
+use Rattle.std.proofs.Common.{◌≡◌, ℕ, ◌<◌, sym, ap, ◌∙◌, subst, arith}
 use Rattle.edges.specs.views.VertexKey.{key_with}
 use Rattle.met.specs.views.KeysMet.{head_at}
-use Rattle.met.proofs.Chains.{Searching, search_starts, search_on, search_here, search_ends}
+use Rattle.met.proofs.Chains.{search_starts, search_on, search_here, search_ends}
 use Rattle.met.proofs.find.Goals as goal
 
 pub head-after-requires : goal.head-after-requires

@@ -1,5 +1,5 @@
 -- `met::hash` meets its contract: five times the live rules and the pending tests, by sums that wrap.
-use Rattle.std.proofs.Common.{◌≡◌, ℕ, ◌+◌, ◌*◌, ◌%◌, ◌^◌, ap, ◌∙◌, arith, rules}
+use Rattle.std.proofs.Common.{◌≡◌, ℕ, ◌+◌, ◌*◌, ◌%◌, ◌^◌, ap, ◌∙◌, arith}
 use Rattle.met.specs.views.KeysMet.{hash_of}
 use Rattle.met.proofs.hash.Goals as goal
 

@@ -1,5 +1,5 @@
 -- `met::is_at` meets its contract.
-use Rattle.std.proofs.Common.{rules, eq-eqb, ne_eqb}
+use Rattle.std.proofs.Common.{eq-eqb, ne_eqb}
 use Rattle.met.proofs.is_at.Goals as goal
 
 pub returns-then-live-t : goal.returns-then-live-t

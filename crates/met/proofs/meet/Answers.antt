@@ -1,5 +1,5 @@
 -- `met::meet` meets its contract.
-use Rattle.std.proofs.Common.{◌∙◌, arith, rules}
+use Rattle.std.proofs.Common.{◌∙◌, arith}
 use Rattle.edges.specs.views.VertexKey.{key_in}
 use Rattle.met.proofs.Meeting.{meet_old, meet_new, new_number_lem, meet_more}
 use Rattle.met.proofs.meet.Goals as goal

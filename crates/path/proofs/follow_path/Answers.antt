@@ -78,8 +78,7 @@ returns-in-Refused c =
     let a = c.args in
     let index = c.requires.index in
     let cells = c.args.cells.now in
-    let both = absurd (stands_some index cells c.loop-edges.invariant.1 (sym c.in-Refused.is ∙ c.step_at-step.ensures)) in
-    record { result_after = both.0; met_len = both.1 }
+    absurd (stands_some index cells c.loop-edges.invariant.1 (sym c.in-Refused.is ∙ c.step_at-step.ensures))
 
 pub loop-edges-preserved : goal.loop-edges-preserved
 loop-edges-preserved c =
@@ -158,5 +157,4 @@ returns-in-Refused-last c =
     let a = c.args in
     let index = c.requires.index in
     let cells = c.args.cells.now in
-    let both = absurd (stands_some index cells c.loop-edges.invariant.1 (sym c.in-Refused-last.is ∙ c.step_at-last.ensures)) in
-    record { result_after = both.0; met_len = both.1 }
+    absurd (stands_some index cells c.loop-edges.invariant.1 (sym c.in-Refused-last.is ∙ c.step_at-last.ensures))

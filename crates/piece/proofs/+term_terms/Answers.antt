@@ -79,7 +79,7 @@ pub term-overflow_add-result : goal.term-overflow_add-result
 term-overflow_add-result t c =
     let s = c.args.s.now in
     let head : term_head s ≡ Whole (Compound c.in-Compound.id c.in-Compound.arity) =
-        sym c.in-Whole.ensures ∙ ap Whole c.in-Compound.is in
+    sym c.in-Whole.ensures ∙ ap Whole c.in-Compound.is in
     let cells = c.terms-arguments.new.cells in
     omega (
       arith,

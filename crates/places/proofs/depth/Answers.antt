@@ -1,5 +1,4 @@
 -- `depth` meets its contract: it takes the remainders that the numbering takes.
-use borrow.Author.Rules.{rules}
 use mathlib.Core.Path.{◌∙◌}
 use Prim.Native.Nat.{◌-◌, ◌%◌}
 use native.Mathlib.Nat.{mod-one}

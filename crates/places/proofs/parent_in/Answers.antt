@@ -1,6 +1,5 @@
 -- `parent_in` meets its contract: the entry is the parent.
 use mathlib.Core.Path.{◌∙◌}
-use borrow.Author.Rules.{rules}
 use Rattle.places.proofs.parent_in.Goals as goal
 
 pub returns : goal.returns

@@ -1,5 +1,4 @@
 -- `step` meets its contract: a power of 4, less 1, divided by 3 is the stride of the levels.
-use borrow.Author.Rules.{rules}
 use mathlib.Core.Path.{ap, ◌∙◌}
 use Prim.Native.Nat.{ℕ, ◌-◌, ◌/◌}
 use native.Mathlib.Omega.{arith}

@@ -1,10 +1,8 @@
 -- `records::copy_in` meets its contract: in each turn the bytes passed are copied.
-use Prim.Native.Nat.{◌-◌, ◌≤◌}
-use mathlib.Core.Path.{◌≡◌, refl, ap, ◌∙◌}
+use mathlib.Core.Path.{refl, ap, ◌∙◌}
 use native.Mathlib.Omega.{arith}
-use borrow.Author.Rules.{rules}
-use lib.ListN.{length, get_or, set, length-set}
-use lib.Seq.{paste, paste-zero}
+use lib.ListN.{get_or, set, length-set}
+use lib.Seq.{paste-zero}
 use Rattle.records.proofs.Writing.{Copied-more, copied}
 use Rattle.records.proofs.copy_in.Goals as goal
 

@@ -1,7 +1,6 @@
 -- `records::put` meets its contract: the part that comes back has the record at its front.
 use mathlib.Core.Path.{refl}
 use Rattle.records.proofs.Writing.{placed}
-use borrow.Author.Rules.{rules}
 use Rattle.records.proofs.put.Goals as goal
 
 pub returns : goal.returns

@@ -1,7 +1,6 @@
 -- A loop over the notes: the rule has turned at what those passed want.
 use Prim.Native.Nat.{ℕ, suc, ◌+◌, ◌*◌, ◌-◌, ◌^◌, ◌≤◌}
 use mathlib.Core.Path.{sym, ap, ◌∙◌, subst}
-use mathlib.Core.Logic.{⊎_elim}
 use native.Mathlib.Omega.{arith}
 use lib.ListN.{length, get_or, drop}
 use Rattle.patterns.specs.declared.PatternRecord.{PatternRecord}
@@ -17,6 +16,7 @@ use Rattle.compiled.specs.views.CutRules.{turn_in}
 use Rattle.compiled.proofs.NoteTurns.{CutsLeft, left_start, left_room, left_some, left_none, left_done}
 use borrow.Author.Rules.{rules}
 use Rattle.compiled.proofs.cut.cut_rule.Goals as goal
+use Rattle.compiled.proofs.cut.cut_rule.Goals.{in-Codes, in_default}
 
 pub loop-k-init : goal.loop-k-init
 loop-k-init c =
@@ -73,21 +73,23 @@ loop-k-preserved c =
     let want =
     c.record_wanted-wanted.ensures
     ∙ ap (λ (r : PatternRecord). wanted_codes (record_want low high r)) c.note_record.ensures in
-    ⊎_elim
-    (λ w.
-    let (v, is, least, most) = wanted_some (record_want low high note.what) (sym w.1.given.1 ∙ want) in
-    let spot = w.4.ensures.0 ∙ ap (λ (p : ℕ). get_or a.numbers.now p 0) w.3.ensures in
-    let from = w.5.ensures ∙ ap (part_at a.rules) spot in (
-      omega arith,
-      left_some a.numbers.now a.rules a.i low high (notes_in notes a.n) a.c.now turn.c _ _ note next turn.invariant.1 v is
-          (w.10
-          ∙ w.7.ensures
-          ∙ (λ j. turn_in (turn_in turn.c (from j) (least j) (2 ^ a.i)) (from j) (suc (most j)) (2 ^ a.i))),
-    ))
-    (λ w.
-    let is = wanted_none (record_want low high note.what) (sym w.1.given.1 ∙ want) in
-    (omega arith, left_none a.numbers.now a.rules a.i low high (notes_in notes a.n) a.c.now turn.c _ _ note next turn.invariant.1 is w.2))
-    c.match-wanted.branch
+    elim c.match-wanted.branch [
+      | in-Codes w ↦
+        let (v, is, least, most) = wanted_some (record_want low high note.what) (sym w.in-Codes.is ∙ want) in
+        let spot = w.place_number.ensures.0 ∙ ap (λ (p : ℕ). get_or a.numbers.now p 0) w.note_place.ensures in
+        let from = w.part-from.ensures ∙ ap (part_at a.rules) spot in (
+          omega arith,
+          left_some a.numbers.now a.rules a.i low high (notes_in notes a.n) a.c.now turn.c _ _ note next turn.invariant.1 v is
+              (w.c-is
+              ∙ w.turn_rule.ensures
+              ∙ (λ j. turn_in (turn_in turn.c (from j) (least j) (2 ^ a.i)) (from j) (suc (most j)) (2 ^ a.i))),
+        )
+      | in_default w ↦
+        let is = wanted_none (record_want low high note.what) (sym w.in_default.is ∙ want) in (
+          omega arith,
+          left_none a.numbers.now a.rules a.i low high (notes_in notes a.n) a.c.now turn.c _ _ note next turn.invariant.1 is w.c-is,
+        )
+    ]
 
 pub shape_of-c : goal.shape_of-c
 shape_of-c c = c.loop-k.invariant.1.long

@@ -26,10 +26,10 @@ cut_rule-requires c =
     let a = c.args in
     let notes = notes_in a.notes.now a.n in
     let pre = c.requires.n_bound in
-    let many = c.rules.ensures in
-    let own = c.ranges-2.ensures in record {
+    let many = c.rules-rules.ensures in
+    let own = c.ranges-ranges.ensures in record {
       n_bound = (pre.0, pre.1, pre.2, pre.3, omega (arith, many, pre.6), pre.4);
-      turns_fit = subst (λ (r : Ranges). TurnsFit a.numbers.now c.rules.result a.i (notes_tests r.low r.high notes) a.c.now)
+      turns_fit = subst (λ (r : Ranges). TurnsFit a.numbers.now c.rules-rules.result a.i (notes_tests r.low r.high notes) a.c.now)
           (sym own)
           (subst (λ (k : ℕ). TurnsFit a.numbers.now k a.i (notes_tests (lows_of notes) (highs_of notes) notes) a.c.now) (sym many) c.requires.turns_fit);
     }
@@ -40,8 +40,8 @@ returns c =
     let notes = notes_in a.notes.now a.n in
     let numbers = c.args.numbers.now in
     let s = c.args.s.now in
-    let many = c.rules.ensures in
-    let own = c.ranges-2.ensures in
+    let many = c.rules-rules.ensures in
+    let own = c.ranges-ranges.ensures in
     let row =
     c.rule_row-row.ensures
     ∙ ap (λ (r : Ranges). row_of numbers (place_tests_in s) (pairs_listed s) r.low r.high notes) own in record {

@@ -1,5 +1,4 @@
 -- `edges::keys::ask` meets its contract: each part is that of what the edges share.
-use borrow.Author.Rules.{rules}
 use Rattle.edges.specs.views.KeysBehind.{minus, without}
 use Rattle.edges.proofs.keys.ask.Goals as goal
 

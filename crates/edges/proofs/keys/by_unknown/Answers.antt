@@ -1,6 +1,5 @@
 -- `edges::keys::by_unknown` meets its contract: all rules stay live, and the tests that the unknown settles are not left.
 use mathlib.Core.Path.{◌∙◌}
-use borrow.Author.Rules.{rules}
 use Rattle.edges.specs.views.KeysBehind.{minus}
 use Rattle.edges.proofs.keys.by_unknown.Goals as goal
 

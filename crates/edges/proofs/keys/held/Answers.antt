@@ -6,7 +6,7 @@ use lib.Bits.{bit_and, bit_or}
 use lib.Count.{trailing_le}
 use borrow.Author.Rules.{rules}
 use Rattle.masks.proofs.LowestMember.{rest_lt, trailing_lt}
-use Rattle.masks.proofs.Loops.{Joining, joining_start}
+use Rattle.masks.proofs.Loops.{joining_start}
 use Rattle.tables.specs.views.Planes.{row_in}
 use Rattle.edges.specs.views.KeysBehind.{held_in}
 use Rattle.edges.proofs.Holding.{in_both, holding_turn, holding_done, holding_all}

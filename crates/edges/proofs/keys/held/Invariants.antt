@@ -1,15 +1,8 @@
 -- `edges::keys::held` meets its contract. The loop's invariant: the tests left of the live rules passed are joined. Where these are
 -- all tests left, no live rule to come has another.
-use Prim.Native.Nat.{◌-◌}
-use native.Mathlib.Omega.{arith}
-use lib.Bits.{bit_and, bit_or}
-use lib.Count.{trailing_le}
-use borrow.Author.Rules.{rules}
-use Rattle.masks.proofs.LowestMember.{rest_lt, trailing_lt}
-use Rattle.masks.proofs.Loops.{Joining, joining_start}
+use Rattle.masks.proofs.Loops.{Joining}
 use Rattle.tables.specs.views.Planes.{row_in}
-use Rattle.edges.specs.views.KeysBehind.{held_in}
-use Rattle.edges.proofs.Holding.{in_both, holding_turn, holding_done, holding_all}
+use Rattle.edges.proofs.Holding.{in_both}
 use Rattle.edges.proofs.keys.held.Given as goal
 
 abbrev pub invariant-loop-to_come : goal.invariant-loop-to_come

@@ -1,6 +1,5 @@
 -- `edges::keys::root` meets its contract: all rules are live, and all tests are left.
 use mathlib.Core.Path.{◌∙◌}
-use borrow.Author.Rules.{rules}
 use Rattle.edges.specs.views.KeysBehind.{full}
 use Rattle.edges.proofs.keys.root.Goals as goal
 

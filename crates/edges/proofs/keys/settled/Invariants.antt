@@ -1,17 +1,11 @@
 -- `edges::keys::settled` meets its contract. The loop's invariant: of the live rules, those are kept that have none of the tests
 -- passed.
 use Prim.Native.Nat.{ℕ}
-use mathlib.Core.Path.{ap}
 use mathlib.Core.Bool.{Bool}
 use mathlib.Core.List.{List}
-use native.Mathlib.Omega.{arith}
-use lib.Count.{trailing_le}
-use borrow.Author.Rules.{rules}
 use Rattle.masks.specs.Mask.{has}
-use Rattle.masks.proofs.LowestMember.{rest_lt, trailing_lt}
 use Rattle.tables.specs.views.Planes.{column_in}
-use Rattle.edges.specs.views.KeysBehind.{settled_in}
-use Rattle.edges.proofs.Dropping.{Dropping, dropping_start, dropping_turn, dropping_done}
+use Rattle.edges.proofs.Dropping.{Dropping}
 use Rattle.edges.proofs.keys.settled.Given as goal
 
 -- rule i has test t

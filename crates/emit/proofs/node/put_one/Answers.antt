@@ -16,7 +16,6 @@ use Rattle.emit.proofs.node.put_one.Goals as goal
 pub put_node-requires : goal.put_node-requires
 put_node-requires c =
     let kind-of = c.kind_of-kind in
-    let kind = c.kind-1 in
     let a = c.args in
     let same =
     leaf_bytes_lem a.s.now a.c.now (keys_in a.keys.now) (key_in a.key) kind-of.result
@@ -29,7 +28,6 @@ ask-asked-requires c = asked_below c.in-Ask.is c.kind_of-kind.ensures.below
 pub put_pair-requires : goal.put_pair-requires
 put_pair-requires c =
     let kind-of = c.kind_of-kind in
-    let kind2 = c.kind-in-Ask-1 in
     let ask = c.ask-asked in
     let place-tests = c.place_tests in
     let if1 = c.if-place_tests-t in
@@ -50,7 +48,6 @@ shape_of-buf-then-place_tests-t c = c.buf-then-place_tests-t-1.given
 pub returns-then-place_tests-t : goal.returns-then-place_tests-t
 returns-then-place_tests-t c =
     let kind-of = c.kind_of-kind in
-    let kind2 = c.kind-in-Ask-1 in
     let ask = c.ask-asked in
     let put-pair = c.put_pair in
     let a = c.args in
@@ -66,7 +63,6 @@ returns-then-place_tests-t c =
 pub put_switch-requires : goal.put_switch-requires
 put_switch-requires c =
     let kind-of = c.kind_of-kind in
-    let kind2 = c.kind-in-Ask-1 in
     let ask = c.ask-asked in
     let place-tests = c.place_tests in
     let if1 = c.if-place_tests-t in
@@ -92,7 +88,6 @@ pub returns-in-End : goal.returns-in-End
 returns-in-End c =
     let put-node = c.put_node in
     let kind-of = c.kind_of-kind in
-    let kind = c.kind-1 in
     let a = c.args in
     let put = c.put_node.ensures in
     let same =
@@ -108,7 +103,6 @@ shape_of-buf-else-place_tests-t c = c.buf-in-Ask-1.given
 pub returns-else-place_tests-t : goal.returns-else-place_tests-t
 returns-else-place_tests-t c =
     let kind-of = c.kind_of-kind in
-    let kind2 = c.kind-in-Ask-1 in
     let ask = c.ask-asked in
     let put-switch = c.put_switch in
     let a = c.args in

@@ -2,7 +2,6 @@
 -- that of the union so far.
 use Prim.Native.Nat.{ℕ, ◌+◌, ◌-◌, ◌≤◌}
 use mathlib.Core.Path.{◌≡◌, refl, sym, ap, ◌∙◌}
-use mathlib.Core.Logic.{⊎_elim}
 use native.Mathlib.Omega.{arith}
 use lib.Bits.{bit_or}
 use lib.ListN.{length}
@@ -17,6 +16,7 @@ use Rattle.emit.specs.views.Laid.{run_bytes}
 use Rattle.emit.proofs.WritingOn.{Left, left_start, left_room, left_next, left_end}
 use Rattle.emit.proofs.AskedBytes.{case_next}
 use Rattle.emit.proofs.node.put_row.Goals as goal
+use Rattle.emit.proofs.node.put_row.Goals.{then-more-set, else-more-set}
 
 pub loop-k-init : goal.loop-k-init
 loop-k-init c =
@@ -51,8 +51,12 @@ put_case-at-requires c =
     let test = c.loop-k-test.true in
     let if1 = c.if-more-set in
     let node_is : if1.node ≡ key_number keys (run_behind s a.asked more) =
-    ⊎_elim (λ w. w.3 ∙ w.2.ensures ∙ ap (key_number keys) w.1.ensures)
-    (λ w. w.1 ∙ at.invariant.2 ∙ ap (λ (set : ℕ). key_number keys (run_behind s a.asked set)) (sym w.0.left)) if1.branch in
+    elim if1.branch [
+      | then-more-set w ↦ w.node-is ∙ w.node_of-node-then-more-set.ensures ∙ ap (key_number keys) w.by_run-then-more-set.ensures
+      | else-more-set w ↦ w.node-is
+          ∙ at.invariant.2
+          ∙ ap (λ (set : ℕ). key_number keys (run_behind s a.asked set)) (sym w.if-more-set.false)
+    ] in
     let run : Run = record { low = low; high = (run_at runs at.k).high; set = more } in
     let next = case_next s keys a.asked run (row_some runs count low at.set at.k test) case.result
     case.ensures node_is in
@@ -76,8 +80,12 @@ loop-k-preserved c =
     let test = c.loop-k-test.true in
     let if1 = c.if-more-set in
     let node_is : if1.node ≡ key_number keys (run_behind s a.asked more) =
-    ⊎_elim (λ w. w.3 ∙ w.2.ensures ∙ ap (key_number keys) w.1.ensures)
-    (λ w. w.1 ∙ at.invariant.2 ∙ ap (λ (set : ℕ). key_number keys (run_behind s a.asked set)) (sym w.0.left)) if1.branch in
+    elim if1.branch [
+      | then-more-set w ↦ w.node-is ∙ w.node_of-node-then-more-set.ensures ∙ ap (key_number keys) w.by_run-then-more-set.ensures
+      | else-more-set w ↦ w.node-is
+          ∙ at.invariant.2
+          ∙ ap (λ (set : ℕ). key_number keys (run_behind s a.asked set)) (sym w.if-more-set.false)
+    ] in
     let run : Run = record { low = low; high = (run_at runs at.k).high; set = more } in
     let next = case_next s keys a.asked run (row_some runs count low at.set at.k test) case.result
     case.ensures node_is in (

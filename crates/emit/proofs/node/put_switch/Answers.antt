@@ -40,7 +40,7 @@ cut_switch-framed-requires c =
     }
 
 pub case_count-count-requires : goal.case_count-count-requires
-case_count-count-requires c = (c.cut-switch.ensures.2, c.cut-switch.ensures.3, c.cut-switch.ensures.4)
+case_count-count-requires c = (c.cut_switch-framed.ensures.2, c.cut_switch-framed.ensures.3, c.cut_switch-framed.ensures.4)
 
 pub by_unknown-requires : goal.by_unknown-requires
 by_unknown-requires c =
@@ -52,7 +52,7 @@ test-requires c =
 
 pub overflow_cast-count : goal.overflow_cast-count
 overflow_cast-count c =
-    let cut = c.cut-switch in
+    let cut = c.cut_switch-framed in
     let count = c.case_count-count in
     let counted = count.ensures ∙ ap (λ (l : List Run). length l) cut.ensures.0 in
     omega (arith, counted, cut.ensures.1)
@@ -61,7 +61,7 @@ pub put_node-behind-requires : goal.put_node-behind-requires
 put_node-behind-requires c =
     let part = c.part in
     let rules = c.rules in
-    let cut = c.cut-switch in
+    let cut = c.cut_switch-framed in
     let count = c.case_count-count in
     let test = c.test in
     let node_of_lem = c.node_of-neither in
@@ -70,7 +70,7 @@ put_node-behind-requires c =
     let by_unknown_lem = c.by_unknown in
     let a = c.args in
     let is = part.ensures ∙ ap (λ (n : ℕ). part_at n a.asked.test) rules.ensures in
-    let runs = c.cut-switch.new.1.1.1.0 in
+    let runs = c.cut_switch-framed.new.runs in
     let cases = case_runs cut.result.names (runs_in runs cut.result.count) in
     let keys = keys_in a.keys.now in
     let joined =
@@ -85,16 +85,16 @@ pub put_runs-requires : goal.put_runs-requires
 put_runs-requires c =
     let part = c.part in
     let rules = c.rules in
-    let cut = c.cut-switch in
-    let count = c.case_count in
+    let cut = c.cut_switch-framed in
+    let count = c.case_count-count in
     let test = c.test in
-    let node_of_lem = c.node_of in
+    let node_of_lem = c.node_of-neither in
     let by_none_lem = c.by_none in
-    let node-of2 = c.node-of2 in
+    let node-of2 = c.node_of-unknown in
     let by_unknown_lem = c.by_unknown in
     let a = c.args in
     let is = part.ensures ∙ ap (λ (n : ℕ). part_at n a.asked.test) rules.ensures in
-    let runs = c.cut-switch.new.1.1.1.0 in
+    let runs = c.cut_switch-framed.new.runs in
     let cases = case_runs cut.result.names (runs_in runs cut.result.count) in
     let keys = keys_in a.keys.now in
     let joined =
@@ -103,27 +103,24 @@ put_runs-requires c =
     let head =
     node_record_bytes (Switch (test.result % 0x1_0000) count.result node_of_lem.result node-of2.result) in
     let tail = run_bytes a.s.now keys a.asked cases in
-    let record-put = c.put-node.ensures in
+    let record-put = c.put_node-behind.ensures in
     let room = second_room a.buf.now a.at head tail joined c.requires.room record-put in
     (c.requires.chained.0, cut.ensures.2, cut.ensures.3, cut.ensures.4, room)
-
-pub shape_of-buf : goal.shape_of-buf
-shape_of-buf c = c.buf-2-1.given ∙ c.buf.given
 
 pub returns : goal.returns
 returns c =
     let part = c.part in
     let rules = c.rules in
-    let cut = c.cut-switch in
-    let count = c.case_count in
+    let cut = c.cut_switch-framed in
+    let count = c.case_count-count in
     let test = c.test in
-    let node_of_lem = c.node_of in
+    let node_of_lem = c.node_of-neither in
     let by_none_lem = c.by_none in
-    let node-of2 = c.node-of2 in
+    let node-of2 = c.node_of-unknown in
     let by_unknown_lem = c.by_unknown in
     let a = c.args in
     let is = part.ensures ∙ ap (λ (n : ℕ). part_at n a.asked.test) rules.ensures in
-    let runs = c.cut-switch.new.1.1.1.0 in
+    let runs = c.cut_switch-framed.new.runs in
     let cases = case_runs cut.result.names (runs_in runs cut.result.count) in
     let keys = keys_in a.keys.now in
     let joined =
@@ -132,7 +129,7 @@ returns c =
     let head =
     node_record_bytes (Switch (test.result % 0x1_0000) count.result node_of_lem.result node-of2.result) in
     let tail = run_bytes a.s.now keys a.asked cases in
-    let record-put = c.put-node.ensures in
+    let record-put = c.put_node-behind.ensures in
     let cases-put = c.put_runs.ensures in record {
       wrote = both_wrote a.buf.now a.at head tail joined c.requires.room record-put cases-put;
       runs_len = cut.ensures.4;

@@ -41,19 +41,18 @@ cut_switch-framed-requires c =
 
 pub meet_runs-met-requires : goal.meet_runs-met-requires
 meet_runs-met-requires c =
-    let cut-switch = c.cut-switch in
+    let cut-switch = c.cut_switch-framed in
     (c.requires.0, cut-switch.ensures.2, cut-switch.ensures.3, cut-switch.ensures.4)
 
 pub returns-in_default : goal.returns-in_default
 returns-in_default c =
     let part = c.part in
     let rules = c.rules in
-    let cut = c.cut-switch in
+    let cut = c.cut_switch-framed in
     let cases = c.meet_runs-met in
-    let enum_told = c.enum_told-1 in
     let a = c.args in
     let is = part.ensures ∙ ap (λ (n : ℕ). part_at n a.asked.test) rules.ensures in
-    let runs = c.cut-switch.new.1.1.1.0 in
+    let runs = c.cut_switch-framed.new.runs in
     let cases_of = case_runs cut.result.names (runs_in runs cut.result.count) in
     let node = switch_is a.s.now a.c.now a.asked c.requires.2 cases_of is cut.ensures.0 in
     let many = switch_many (test_in a.s.now a.asked.test % 0x1_0000)
@@ -70,7 +69,6 @@ by_unknown-unknown-requires c =
 
 pub overflow_add-bytes : goal.overflow_add-bytes
 overflow_add-bytes c =
-    let met = c.met-1 in
     let meet-runs = c.meet_runs-met in
     let few = bytes_most c.in-Bytes.is meet-runs.ensures.chained.1 in
     omega (arith, few)
@@ -82,16 +80,15 @@ pub returns : goal.returns
 returns c =
     let part = c.part in
     let rules = c.rules in
-    let cut = c.cut-switch in
+    let cut = c.cut_switch-framed in
     let cases = c.meet_runs-met in
     let last = c.meet_two in
-    let met = c.met-1 in
     let by_none_lem = c.by_none-neither in
     let by_unknown_lem = c.by_unknown-unknown in
     let a = c.args in
     let is = part.ensures ∙ ap (λ (n : ℕ). part_at n a.asked.test) rules.ensures in
     let few = bytes_most c.in-Bytes.is cases.ensures.chained.1 in
-    let runs = c.cut-switch.new.1.1.1.0 in
+    let runs = c.cut_switch-framed.new.runs in
     let cases_of = case_runs cut.result.names (runs_in runs cut.result.count) in
     let node = switch_is a.s.now a.c.now a.asked c.requires.2 cases_of is cut.ensures.0 in
     let all = switch_met (test_in a.s.now a.asked.test % 0x1_0000)

@@ -13,6 +13,7 @@ use Rattle.keys.specs.declared.Measured.TheVariants.{Bytes, TooMany}
 use Rattle.keys.proofs.EdgesInTurn.{CasesLeft}
 use Rattle.keys.proofs.RowsInTurn.{row_edges, row_left, met_last, row_many, row_start, row_met, row_next, next_many, row_end}
 use Rattle.keys.proofs.expand.meet_row.Goals as goal
+use Rattle.keys.proofs.expand.meet_row.Goals.{then-more-set+else-meet-ge1024-2, else-more-set}
 
 pub meet-requires : goal.meet-requires
 meet-requires c = c.requires.0
@@ -93,26 +94,26 @@ loop-k-preserved c =
     let test = c.loop-k-test.true in
     let size = c.case_length-size.ensures in
     let more = bit_or at.set (run_at runs at.k).set in
-    ⊎_elim
-    (λ w.
-    let same = w.3.ensures.0.0 w.4.left ∙ ap (meet (keys_in at.keys)) w.2.ensures in
-    rw w.5 (
-      omega (arith, test),
-      omega (arith, at.invariant.1, size.1),
-      w.3.ensures.1,
-      met_last (keys_in at.keys) (run_behind s a.asked more) w.3.last.0 same,
-      row_next s a.asked runs count first at.set at.k at.invariant.4 test same (size.0 _),
-    ))
-    (λ w.
-    let same = at.invariant.3 ∙ ap (λ (set : ℕ). meet (keys_in at.keys) (run_behind s a.asked set)) (sym w.0.left) in
-    rw w.1 (
-      omega (arith, test),
-      omega (arith, at.invariant.1, size.1),
-      at.invariant.2,
-      same,
-      row_next s a.asked runs count first at.set at.k at.invariant.4 test same (size.0 _),
-    ))
-    c.if-more-set.branch
+    elim c.if-more-set.branch [
+      | then-more-set+else-meet-ge1024-2 w ↦
+        let same = w.meet-then-more-set.ensures.t_after.0 w.if-meet-ge1024-2.false ∙ ap (meet (keys_in at.keys)) w.by_run-then-more-set.ensures in
+        rw w.keys-is (
+          omega (arith, test),
+          omega (arith, at.invariant.1, size.1),
+          w.meet-then-more-set.ensures.chained,
+          met_last (keys_in at.keys) (run_behind s a.asked more) w.meet-then-more-set.new.t same,
+          row_next s a.asked runs count first at.set at.k at.invariant.4 test same (size.0 _),
+        )
+      | else-more-set w ↦
+        let same = at.invariant.3 ∙ ap (λ (set : ℕ). meet (keys_in at.keys) (run_behind s a.asked set)) (sym w.if-more-set.false) in
+        rw w.keys-is (
+          omega (arith, test),
+          omega (arith, at.invariant.1, size.1),
+          at.invariant.2,
+          same,
+          row_next s a.asked runs count first at.set at.k at.invariant.4 test same (size.0 _),
+        )
+    ]
 
 pub returns : goal.returns
 returns c =

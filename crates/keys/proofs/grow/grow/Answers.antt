@@ -38,18 +38,17 @@ loop-k-init c =
 
 pub expand-met-requires : goal.expand-met-requires
 expand-met-requires c =
-    let at = c.loop in
+    let at = c.loop-k in
     let count = c.count in
     let if1 = c.loop-k-test in
     (at.invariant.0, omega (arith, count.ensures, if1.true), c.requires.1, at.invariant.1)
 
 pub returns-in_default : goal.returns-in_default
 returns-in_default c =
-    let at = c.loop in
+    let at = c.loop-k in
     let behind = c.expand-met in
     let count = c.count in
     let if1 = c.loop-k-test in
-    let enum_told = c.enum_told-1 in
     let a = c.args in
     let below : at.k < count_in at.keys = omega (arith, count.ensures, if1.true) in record {
       grown = grown_many a.s.now a.c.now at.keys at.invariant.4 below at.invariant.0.few behind.result behind.new.keys
@@ -59,8 +58,7 @@ returns-in_default c =
 
 pub overflow_add-bytes : goal.overflow_add-bytes
 overflow_add-bytes c =
-    let at = c.loop in
-    let met = c.met-1 in
+    let at = c.loop-k in
     let expand = c.expand-met in
     let count = c.count in
     let if1 = c.loop-k-test in
@@ -69,23 +67,22 @@ overflow_add-bytes c =
 
 pub overflow_add-k : goal.overflow_add-k
 overflow_add-k c =
-    let at = c.loop in
+    let at = c.loop-k in
     let count = c.count in
     let if1 = c.loop-k-test in
     omega (arith, at.invariant.0.few, count.ensures, if1.true)
 
 pub loop-k-smaller : goal.loop-k-smaller
 loop-k-smaller c =
-    let at = c.loop in
+    let at = c.loop-k in
     let count = c.count in
     let if1 = c.loop-k-test in
     omega (arith, at.invariant.0.few, count.ensures, if1.true)
 
 pub loop-k-preserved : goal.loop-k-preserved
 loop-k-preserved c =
-    let at = c.loop in
+    let at = c.loop-k in
     let behind = c.expand-met in
-    let met = c.met-1 in
     let count = c.count in
     let if1 = c.loop-k-test in
     let a = c.args in
@@ -103,7 +100,7 @@ loop-k-preserved c =
 
 pub returns : goal.returns
 returns c =
-    let at = c.loop in
+    let at = c.loop-k in
     let count = c.count in
     let if1 = c.loop-k-test in
     let a = c.args in record {

@@ -1,5 +1,5 @@
 -- Patterns and rows of patterns, which call each other.
-use Rattle.std.proofs.Common.{◌≡◌, ℕ, ◌+◌, ◌-◌, suc, ◌*◌, ◌≤◌, length, drop, sym, ap, refl, ◌∙◌, arith, inl, inr, ⊎_elim}
+use Rattle.std.proofs.Common.{◌≡◌, ℕ, ◌-◌, suc, drop, sym, ap, refl, ◌∙◌, arith, inl, inr, ⊎_elim}
 use Rattle.places.specs.Numbering.{stride}
 use Rattle.patterns.specs.declared.PatternRecord.TheVariants.{Compound}
 use Rattle.patterns.specs.declared.PatternHead.TheVariants.{Whole}

@@ -1,6 +1,6 @@
 -- What falls from call to call, and what the loop keeps. The levels below fall from a pattern to its arguments, so 2 for each
 -- level and 1 for a row are enough.
-use Rattle.std.proofs.Common.{ℕ, suc, ◌+◌, ◌-◌, ◌*◌, ◌≤◌, ◌≡◌, length}
+use Rattle.std.proofs.Common.{suc, ◌+◌, ◌-◌, ◌*◌, ◌≤◌, ◌≡◌, length}
 use Rattle.places.specs.Numbering.{stride}
 use Rattle.records.proofs.RowSoFar.{row_from}
 use Rattle.sheet.specs.views.NotesBehind.{row_held}

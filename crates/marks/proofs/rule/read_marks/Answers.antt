@@ -4,7 +4,6 @@ use native.Mathlib.Omega.{arith}
 use Rattle.records.proofs.Parts.{rest_length}
 use Rattle.sheet.proofs.Rows.{part_read}
 use Rattle.marks.specs.views.Marks.{marked}
-use borrow.Author.Rules.{rules}
 use Rattle.marks.proofs.rule.read_marks.Goals as goal
 
 pub returns : goal.returns

@@ -10,9 +10,10 @@ use Rattle.packing.specs.Packed.{Packs}
 use Rattle.packing.specs.PackedWalks.{walk_all_fields}
 use borrow.Author.Rules.{rules}
 use Rattle.packing.proofs.answers.pack_walked_all.Goals as goal
+use Rattle.packing.proofs.answers.pack_walked_all.Goals.{In-Walked}
 
 -- The results have room in their field.
-few : (c : goal.In-Walked) → c.before.walked.given.0.0 ≤ most_results
+few : (c : In-Walked) → c.in-Walked.count ≤ most_results
 few c = subst (λ (x : WalkedAll). (left_by x []).results ≤ most_results) c.in-Walked.is (c.requires [])
 
 pub overflow_add-result : goal.overflow_add-result

@@ -7,9 +7,9 @@ use Rattle.pairs.proofs.kept.put_pair.Goals.{then-at-n+else-codes-at, else-at-n}
 
 pub returns-then-put-gt64 : goal.returns-then-put-gt64
 returns-then-put-gt64 c = record {
-      count_after = keep_many c.args.codes.now c.args.put.count c.args.code c.if-put-gt64.true;
-      put_at = c.requires;
-    }
+  count_after = keep_many c.args.codes.now c.args.put.count c.args.code c.if-put-gt64.true;
+  put_at = c.requires;
+}
 
 pub position-at-requires : goal.position-at-requires
 position-at-requires c =

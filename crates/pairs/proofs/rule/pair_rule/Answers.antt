@@ -45,7 +45,7 @@ loop-i-preserved c =
     let kept = pairs_in turn.codes turn.pairs in
     let name = ap name_of (sym note-record.ensures) ∙ sym named.ensures in
     elim c.match-name.branch [
-      in-Of w ↦ (
+      | in-Of w ↦ (
         omega arith,
         omega (arith, w.pairs-is, w.pairs_with-pairs.ensures.upper_bound.0),
         ap length w.codes-is ∙ w.pairs_with-pairs.ensures.upper_bound.1,
@@ -56,7 +56,7 @@ loop-i-preserved c =
             ∙ pairs_named notes n (omega arith) i w.in-Of.v (omega arith) (name ∙ w.in-Of.is) kept
             ∙ inv.3,
       )
-    | in_default w ↦ (
+      | in_default w ↦ (
         omega arith,
         omega (arith, w.pairs-is),
         ap length w.codes-is ∙ inv.2,

@@ -55,16 +55,16 @@ loop-i-preserved c =
     let kept = pairs_in turn.codes turn.put.count in
     let test = ap (names_variable v) (sym note-record.ensures) ∙ sym is-named.ensures in
     elim c.if-is_named.branch [
-      then-is_named w ↦ (
+      | then-is_named w ↦ (
         omega arith,
         subst (λ x. x) (λ j. PutAt (sym w.codes-is j) (sym w.put-is j)) w.put_pair-put.ensures.put_at,
         ap (with_from place v notes n (i + 1))
             ((λ j. pairs_in (w.codes-is j) (w.put-is j).count) ∙ w.put_pair-put.ensures.count_after
-              ∙ ap (λ (k : ℕ). keep k kept) (w.pair_code.ensures ∙ ap (pair_code place) w.note_place.ensures))
+            ∙ ap (λ (k : ℕ). keep k kept) (w.pair_code.ensures ∙ ap (pair_code place) w.note_place.ensures))
             ∙ with_yes place v notes n (omega arith) i (omega arith) (test ∙ w.if-is_named.true) kept
             ∙ inv.2,
       )
-    | else-is_named w ↦ (
+      | else-is_named w ↦ (
         omega arith,
         subst (λ x. x) (λ j. PutAt (sym w.codes-is j) (sym w.put-is j)) inv.1,
         ap (with_from place v notes n (i + 1)) (λ j. pairs_in (w.codes-is j) (w.put-is j).count)

@@ -1,7 +1,6 @@
 -- The record of a note, by the kind that its number holds.
 use borrow.Author.Tests.{ne_eqb}
 use Rattle.patterns.specs.views.NoteCode.{code_record}
-use borrow.Author.Rules.{rules}
 use Rattle.patterns.proofs.note.note_record.Goals as goal
 
 pub returns-in-1 : goal.returns-in-1

@@ -2,7 +2,6 @@
 use mathlib.Core.Path.{refl, ◌∙◌}
 use borrow.Author.Tests.{lt-leb}
 use Rattle.patterns.proofs.Heads.{ends_whole, ends_gauged}
-use borrow.Author.Rules.{rules}
 use Rattle.patterns.proofs.record.ends_head.Goals as goal
 
 pub returns-then-s-at : goal.returns-then-s-at

@@ -1,7 +1,6 @@
 -- The id that the input begins with, of a compound or of a symbol: whole where 4 bytes are there, or 3.
 use borrow.Author.Tests.{lt-leb, le-leb}
 use Rattle.patterns.proofs.Heads.{id_cut}
-use borrow.Author.Rules.{rules}
 use Rattle.patterns.proofs.record.id_head.Goals as goal
 
 pub returns-then-s-lt3 : goal.returns-then-s-lt3

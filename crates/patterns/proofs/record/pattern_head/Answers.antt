@@ -4,7 +4,6 @@ use mathlib.Core.Logic.{inl, inr}
 use native.Mathlib.Omega.{arith}
 use borrow.Author.Tests.{eq-eqb, ne_eqb, lt-leb, le-leb}
 use Rattle.patterns.proofs.Heads.{id_told, ends_told, none_told}
-use borrow.Author.Rules.{rules}
 use Rattle.patterns.proofs.record.pattern_head.Goals as goal
 use Rattle.patterns.proofs.record.pattern_head.Goals.{in-34-1, in_default+else-kind-lt32+then-kind-lt40}
 
@@ -46,5 +45,7 @@ returns-in-34 c =
     let s = c.args.s.now in
     c.ends_head.ensures
     ∙ ends_told s c.if-s-eq0.false
-    (elim c.in-34-1.branch [ in-34-1 w ↦ inl w.in-34-1.keys3
-    | in_default+else-kind-lt32+then-kind-lt40 w ↦ inr (w.in_default-1.rest, w.if-kind-lt32-1.false, w.if-kind-lt40-1.true) ])
+    (elim c.in-34-1.branch [
+      | in-34-1 w ↦ inl w.in-34-1.keys3
+      | in_default+else-kind-lt32+then-kind-lt40 w ↦ inr (w.in_default-1.rest, w.if-kind-lt32-1.false, w.if-kind-lt40-1.true)
+    ])

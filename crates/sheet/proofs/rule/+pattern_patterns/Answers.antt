@@ -1,5 +1,5 @@
 -- Patterns and rows of patterns, which call each other.
-use Rattle.std.proofs.Common.{◌≡◌, ℕ, ◌+◌, ◌-◌, suc, ◌*◌, ◌≤◌, length, drop, sym, ap, refl, ◌∙◌, arith, inl, inr, ⊎_elim}
+use Rattle.std.proofs.Common.{◌≡◌, ℕ, ◌-◌, suc, drop, sym, ap, refl, ◌∙◌, arith, inl, inr, ⊎_elim}
 use Rattle.places.specs.Numbering.{stride}
 use Rattle.patterns.specs.declared.PatternRecord.TheVariants.{Compound}
 use Rattle.patterns.specs.declared.PatternHead.TheVariants.{Whole}
@@ -72,7 +72,7 @@ pub pattern-returns-clause-took_within : goal.pattern-returns-clause-took_within
 pattern-returns-clause-took_within t c =
     let s = c.args.s.now in
     let head : pattern_head s ≡ Whole (Compound c.in-Compound.field-0 c.in-Compound.arity) =
-        sym c.in-Whole.ensures ∙ ap Whole c.in-Compound.is in
+    sym c.in-Whole.ensures ∙ ap Whole c.in-Compound.is in
     omega (
       arith,
       c.patterns-arguments.ensures.took_within,
@@ -128,10 +128,10 @@ patterns-loop-i-preserved t c =
       omega (arith, turn_room a.count own.i (stride (suc a.below)) c.loop-i-test.true, step_is),
       c.pattern-read.ensures.took_within.entries,
       row_goes_on (pattern_row behind a.below) a.s.now own.at _ own.here (notes_in own.notes own.made) _ comes
-      (was_used (notes_in c.pattern-read.new.notes) told
-      (pattern_tried t (goal.at.patterns-loop-i-preserved t c).After-pattern-read))
-      step_is
-      ∙ own.invariant.5,
+          (was_used (notes_in c.pattern-read.new.notes) told
+          (pattern_tried t (goal.at.patterns-loop-i-preserved t c).After-pattern-read))
+          step_is
+          ∙ own.invariant.5,
     )
 
 pub patterns-returns-clause-result_after : goal.patterns-returns-clause-result_after

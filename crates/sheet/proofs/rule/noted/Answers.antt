@@ -6,6 +6,6 @@ use Rattle.sheet.proofs.rule.noted.Goals as goal
 
 pub returns : goal.returns
 returns c = record {
-      result_after = ap (took c.args.bytes) c.put.ensures.n_after;
-      took_within = omega arith;
-    }
+  result_after = ap (took c.args.bytes) c.put.ensures.n_after;
+  took_within = omega arith;
+}

@@ -8,7 +8,6 @@ use Rattle.sheet.specs.declared.Ranges.{Ranges}
 use Rattle.sheet.specs.views.NoteRanges.{for_variables, ends_meet, notes_meet}
 use Rattle.sheet.specs.views.NoteArray.{notes_in}
 use Rattle.sheet.proofs.NoteArrays.{notes_none}
-use borrow.Author.Rules.{rules}
 use Rattle.sheet.proofs.variable.common.Goals as goal
 
 -- Where there is no note, no variable has a range.

@@ -1,14 +1,8 @@
 -- The common ranges in the notes passed so far, note by note.
-use mathlib.Core.Path.{◌≡◌, sym, ap, ◌∙◌}
-use Prim.Native.Nat.{ℕ, ◌-◌, ◌≤◌, ◌<◌}
-use mathlib.Core.Logic.{⊎_elim}
-use native.Mathlib.Omega.{arith}
-use lib.ListN.{length, set}
+use mathlib.Core.Path.{◌≡◌}
+use Prim.Native.Nat.{◌-◌, ◌≤◌}
 use Rattle.sheet.specs.views.NoteArray.{notes_in}
-use Rattle.sheet.specs.views.NoteRanges.{lows_of, highs_of, low_end, high_end}
-use Rattle.sheet.proofs.NoteArrays.{notes_none}
-use Rattle.sheet.proofs.RangeArrays.{lows_none, highs_none, no_range_lem, ranges_kept, low_narrowed, high_narrowed, ranged_fits}
-use borrow.Author.Rules.{rules}
+use Rattle.sheet.specs.views.NoteRanges.{lows_of, highs_of}
 use Rattle.sheet.proofs.variable.ranges.Given as goal
 
 abbrev pub invariant-loop-i : goal.invariant-loop-i

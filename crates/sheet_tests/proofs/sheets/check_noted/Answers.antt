@@ -16,36 +16,36 @@ tests_noted-read-requires c =
 pub overflow_add-result : goal.overflow_add-result
 overflow_add-result c =
     let tests-noted = c.tests_noted-read in
-    let words = c.tests_noted-read.new.codes in
-    let codes = c.tests_noted-read.new.notes in
-    omega (arith, (read_counted words codes c.in-Accepted.is tests-noted.ensures.held.0).1)
+    let words = c.tests_noted-read.new.words in
+    let codes = c.tests_noted-read.new.codes in
+    omega (arith, (read_counted words codes c.in-Accepted.is tests-noted.ensures.held).1)
 
 pub overflow_cast-result : goal.overflow_cast-result
 overflow_cast-result c =
     let tests-noted = c.tests_noted-read in
-    let words = c.tests_noted-read.new.codes in
-    let codes = c.tests_noted-read.new.notes in
-    omega (arith, (read_counted words codes c.in-Accepted.is tests-noted.ensures.held.0).1)
+    let words = c.tests_noted-read.new.words in
+    let codes = c.tests_noted-read.new.codes in
+    omega (arith, (read_counted words codes c.in-Accepted.is tests-noted.ensures.held).1)
 
 pub returns-in-Refused : goal.returns-in-Refused
 returns-in-Refused c =
     let tests-noted = c.tests_noted-read in
-    let words = c.tests_noted-read.new.codes in
-    let codes = c.tests_noted-read.new.notes in record {
+    let words = c.tests_noted-read.new.words in
+    let codes = c.tests_noted-read.new.codes in record {
       result_value = check_no words codes (accept_sheet c.args.s.now) c.in-Refused.is tests-noted.ensures.result_after;
-      check_starts = (tt, tests-noted.ensures.held.1.1);
+      check_starts = (tt, tests-noted.ensures.tests_starts.1);
     }
 
 pub returns-in-Accepted : goal.returns-in-Accepted
 returns-in-Accepted c =
     let tests-noted = c.tests_noted-read in
-    let words = c.tests_noted-read.new.codes in
-    let codes = c.tests_noted-read.new.notes in record {
-      result_value = check_yes words codes c.in-Accepted.is tests-noted.ensures.held.0 (accept_sheet c.args.s.now)
+    let words = c.tests_noted-read.new.words in
+    let codes = c.tests_noted-read.new.codes in record {
+      result_value = check_yes words codes c.in-Accepted.is tests-noted.ensures.held (accept_sheet c.args.s.now)
           tests-noted.ensures.result_after;
       check_starts = (
-        starts_tests (drop 3 c.args.s.now) tests-noted.new.1.1.1.1.0 _ _ _ _ c.in-Accepted.is
-            tests-noted.ensures.held.1.0,
-        tests-noted.ensures.held.1.1,
+        starts_tests (drop 3 c.args.s.now) tests-noted.new.starts _ _ _ _ c.in-Accepted.is
+            tests-noted.ensures.tests_starts.0,
+        tests-noted.ensures.tests_starts.1,
       );
     }

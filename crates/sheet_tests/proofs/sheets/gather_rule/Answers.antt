@@ -28,7 +28,7 @@ pair_rule-requires c =
 
 pub returns : goal.returns
 returns c =
-    let ranges = c.ranges-2 in
+    let ranges = c.ranges-ranges in
     let mark-rule = c.mark_rule in
     let notes = notes_in c.args.notes.now c.args.n in
     let places = places_in c.args.words.now in

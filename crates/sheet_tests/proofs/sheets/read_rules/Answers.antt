@@ -14,109 +14,103 @@ scan_rules-scan-requires c =
 
 pub returns-then-bytes-s : goal.returns-then-bytes-s
 returns-then-bytes-s c =
-    let scan-rules = c.scan_rules-scan in
-    let shared-slice-known = c.shared_slice_known-1 in
-    let scan2 = c.scan-in-Done-1 in
+    let scan = c.scan_rules-scan in
     let s = c.args.s.now in
-    let words = c.scan_rules-scan.new.1.1.1.1.0 in
-    let codes = c.scan_rules-scan.new.1.1.1.1.1.0 in
-    let bytes = bytes_known s (λ i. omega (arith, shared-slice-known.given i)) in
+    let words = c.scan_rules-scan.new.words in
+    let codes = c.scan_rules-scan.new.codes in
+    let bytes = bytes_known s (λ i. omega (arith, c.type_inv.s i)) in
     let none = at_start c.args.arity c.args.rules s c.requires.1 c.requires.2 in
     let read =
     rules_gathered c.args.arity c.args.rules s words codes (omega arith) bytes c.in-Done.is
-    (scan-rules.ensures.result_after ∙ none) in
-    let both = (check_left read c.if-bytes-s.true, (record { all_words = scan-rules.ensures.scanned.0.all_words; all_codes = scan-rules.ensures.scanned.0.all_codes; counted = tt }, (tt, scan-rules.ensures.scanned.1.1))) in
-    record { result_after = both.0; held = both.1; tests_starts = both.2 }
+    (scan.ensures.result_after ∙ none) in
+    record {
+      result_after = check_left read c.if-bytes-s.true;
+      held = record { all_words = scan.ensures.scanned.all_words; all_codes = scan.ensures.scanned.all_codes; counted = tt };
+      tests_starts = (tt, scan.ensures.scan_starts.1);
+    }
 
 pub returns-then-pairs-gt64 : goal.returns-then-pairs-gt64
 returns-then-pairs-gt64 c =
-    let scan-rules = c.scan_rules-scan in
-    let shared-slice-known = c.shared_slice_known-1 in
-    let scan2 = c.scan-in-Done-1 in
+    let scan = c.scan_rules-scan in
     let s = c.args.s.now in
-    let words = c.scan_rules-scan.new.1.1.1.1.0 in
-    let codes = c.scan_rules-scan.new.1.1.1.1.1.0 in
-    let bytes = bytes_known s (λ i. omega (arith, shared-slice-known.given i)) in
+    let words = c.scan_rules-scan.new.words in
+    let codes = c.scan_rules-scan.new.codes in
+    let bytes = bytes_known s (λ i. omega (arith, c.type_inv.s i)) in
     let none = at_start c.args.arity c.args.rules s c.requires.1 c.requires.2 in
     let read =
     rules_gathered c.args.arity c.args.rules s words codes (omega arith) bytes c.in-Done.is
-    (scan-rules.ensures.result_after ∙ none) in
-    let both = (check_many read (omega arith) (tests_many read (omega arith)), (record { all_words = scan-rules.ensures.scanned.0.all_words; all_codes = scan-rules.ensures.scanned.0.all_codes; counted = tt }, (tt, scan-rules.ensures.scanned.1.1))) in
-    record { result_after = both.0; held = both.1; tests_starts = both.2 }
+    (scan.ensures.result_after ∙ none) in
+    record {
+      result_after = check_many read (omega arith) (tests_many read (omega arith));
+      held = record { all_words = scan.ensures.scanned.all_words; all_codes = scan.ensures.scanned.all_codes; counted = tt };
+      tests_starts = (tt, scan.ensures.scan_starts.1);
+    }
 
 pub count_places-places-requires : goal.count_places-places-requires
-count_places-places-requires c = c.scan-rules.ensures.1.0.all_words
+count_places-places-requires c = c.scan_rules-scan.ensures.scanned.all_words
 
 pub overflow_add-places : goal.overflow_add-places
 overflow_add-places c =
-    let scan-rules = c.scan-rules in
-    let words = c.scan-rules.new.1.1.1.1.0 in
-    omega (arith, c.count_places-places.ensures, places_few words, scan-rules.ensures.1.0.all_words)
+    let scan = c.scan_rules-scan in
+    let words = c.scan_rules-scan.new.words in
+    omega (arith, c.count_places-places.ensures, places_few words, scan.ensures.scanned.all_words)
 
 pub returns-then-places-pairs-gt64 : goal.returns-then-places-pairs-gt64
 returns-then-places-pairs-gt64 c =
-    let scan-rules = c.scan-rules in
-    let shared-slice-known = c.shared-slice-known in
-    let scan2 = c.scan2 in
+    let scan = c.scan_rules-scan in
     let s = c.args.s.now in
-    let words = c.scan-rules.new.1.1.1.1.0 in
-    let codes = c.scan-rules.new.1.1.1.1.1.0 in
-    let bytes = bytes_known s (λ i. omega (arith, shared-slice-known.given i)) in
+    let words = c.scan_rules-scan.new.words in
+    let codes = c.scan_rules-scan.new.codes in
+    let bytes = bytes_known s (λ i. omega (arith, c.type_inv.s i)) in
     let none = at_start c.args.arity c.args.rules s c.requires.1 c.requires.2 in
     let read =
-    rules_gathered c.args.arity c.args.rules s words codes (omega arith) bytes scan2.given.1
-    (scan-rules.ensures.0 ∙ none) in
-    let number = tests_number read (omega arith) (omega (arith, scan-rules.ensures.1.0.all_codes)) in
-    let both = (check_many read (omega arith) (omega (arith, c.count_places-places.ensures)), (record { all_words = scan-rules.ensures.1.0.all_words; all_codes = scan-rules.ensures.1.0.all_codes; counted = tt }, (tt, scan-rules.ensures.1.1.1))) in
-    record { result_after = both.0; held = both.1; tests_starts = both.2 }
+    rules_gathered c.args.arity c.args.rules s words codes (omega arith) bytes c.in-Done.is
+    (scan.ensures.result_after ∙ none) in
+    let number = tests_number read (omega arith) (omega (arith, scan.ensures.scanned.all_codes)) in
+    record {
+      result_after = check_many read (omega arith) (omega (arith, c.count_places-places.ensures));
+      held = record { all_words = scan.ensures.scanned.all_words; all_codes = scan.ensures.scanned.all_codes; counted = tt };
+      tests_starts = (tt, scan.ensures.scan_starts.1);
+    }
 
 pub returns-in-Refused : goal.returns-in-Refused
 returns-in-Refused c =
-    let scan-rules = c.scan_rules-scan in
+    let scan = c.scan_rules-scan in
     let s = c.args.s.now in
-    let words = c.scan_rules-scan.new.1.1.1.1.0 in
-    let codes = c.scan_rules-scan.new.1.1.1.1.1.0 in
+    let words = c.scan_rules-scan.new.words in
+    let codes = c.scan_rules-scan.new.codes in
     let none = at_start c.args.arity c.args.rules s c.requires.1 c.requires.2 in
-    let both = (
-      check_refused c.args.arity c.args.rules s words codes c.in-Refused.is
-          (scan-rules.ensures.result_after ∙ none),
-      (
-        record { all_words = scan-rules.ensures.scanned.0.all_words; all_codes = scan-rules.ensures.scanned.0.all_codes; counted = tt },
-        (tt, scan-rules.ensures.scanned.1.1),
-      ),
-    ) in
-    record { result_after = both.0; held = both.1; tests_starts = both.2 }
+    record {
+      result_after = check_refused c.args.arity c.args.rules s words codes c.in-Refused.is
+          (scan.ensures.result_after ∙ none);
+      held = record { all_words = scan.ensures.scanned.all_words; all_codes = scan.ensures.scanned.all_codes; counted = tt };
+      tests_starts = (tt, scan.ensures.scan_starts.1);
+    }
 
 pub returns-else-places-pairs-gt64 : goal.returns-else-places-pairs-gt64
 returns-else-places-pairs-gt64 c =
-    let scan-rules = c.scan-rules in
-    let shared-slice-known = c.shared-slice-known in
-    let scan2 = c.scan2 in
+    let scan = c.scan_rules-scan in
     let s = c.args.s.now in
-    let words = c.scan-rules.new.1.1.1.1.0 in
-    let codes = c.scan-rules.new.1.1.1.1.1.0 in
-    let bytes = bytes_known s (λ i. omega (arith, shared-slice-known.given i)) in
+    let words = c.scan_rules-scan.new.words in
+    let codes = c.scan_rules-scan.new.codes in
+    let bytes = bytes_known s (λ i. omega (arith, c.type_inv.s i)) in
     let none = at_start c.args.arity c.args.rules s c.requires.1 c.requires.2 in
     let read =
-    rules_gathered c.args.arity c.args.rules s words codes (omega arith) bytes scan2.given.1
-    (scan-rules.ensures.0 ∙ none) in
-    let number = tests_number read (omega arith) (omega (arith, scan-rules.ensures.1.0.all_codes)) in
-    let both = (
-      check_accepted read (omega arith) (omega (arith, c.count_places-places.ensures)) (omega arith),
-      (
-        record {
-          all_words = scan-rules.ensures.1.0.all_words;
-          all_codes = scan-rules.ensures.1.0.all_codes;
-          counted = (c.count_places-places.ensures, omega (arith, c.count_places-places.ensures));
-        },
+    rules_gathered c.args.arity c.args.rules s words codes (omega arith) bytes c.in-Done.is
+    (scan.ensures.result_after ∙ none) in
+    let number = tests_number read (omega arith) (omega (arith, scan.ensures.scanned.all_codes)) in
+    record {
+      result_after = check_accepted read (omega arith) (omega (arith, c.count_places-places.ensures)) (omega arith);
+      held = record {
+        all_words = scan.ensures.scanned.all_words;
+        all_codes = scan.ensures.scanned.all_codes;
+        counted = (c.count_places-places.ensures, omega (arith, c.count_places-places.ensures));
+      };
+      tests_starts = (
         (
-          (
-            c.requires.3,
-            starts_done c.args.arity c.args.rules s scan-rules.new.1.1.1.1.1.1.0 scan2.given.1
-                scan-rules.ensures.1.1.0,
-          ),
-          scan-rules.ensures.1.1.1,
+          c.requires.3,
+          starts_done c.args.arity c.args.rules s scan.new.starts c.in-Done.is scan.ensures.scan_starts.0,
         ),
-      ),
-    ) in
-    record { result_after = both.0; held = both.1; tests_starts = both.2 }
+        scan.ensures.scan_starts.1,
+      );
+    }

@@ -37,35 +37,28 @@ returns-in_default c =
     let told = c.in_default.is in
     let words = c.args.words.now in
     let codes = c.args.codes.now in
-    let both = (
-      ap (λ (q : ℕ). tests_found words codes (Refused q)) (c.header_refusal.ensures ∙ ap header_refusal told)
-          ∙ header_refused c.args.s.now words codes (sym (ap header_read told) ∙ read-header.ensures),
-      (
-        record { all_words = zeros 11 c.requires.0; all_codes = zeros 65 c.requires.1; counted = tt },
-        (tt, c.requires.2),
-      ),
-    ) in
-    record { result_after = both.0; held = both.1; tests_starts = both.2 }
+    record {
+      result_after = ap (λ (q : ℕ). tests_found words codes (Refused q)) (c.header_refusal.ensures ∙ ap header_refusal told)
+          ∙ header_refused c.args.s.now words codes (sym (ap header_read told) ∙ read-header.ensures);
+      held = record { all_words = zeros 11 c.requires.0; all_codes = zeros 65 c.requires.1; counted = tt };
+      tests_starts = (tt, c.requires.2);
+    }
 
 pub returns : goal.returns
 returns c =
-    let known = c.header-1 in
     let read-header = c.read_header-header in
     let s = c.args.s.now in
     let header = sym (ap header_read c.in-Of.is) ∙ read-header.ensures in
     let arity = c.in-Of.arity in
     let rules = c.in-Of.rules in
-    let both = (
-      c.read_rules.ensures.result_after
+    record {
+      result_after = c.read_rules.ensures.result_after
           ∙ (λ j. sheet_found (ask_tests (end_sheet arity (rest_length s 3 j) (read_rules arity rules (rest s 3 j)))))
-          ∙ sym (ap sheet_found (header_read_lem s header)),
-      (
-        c.read_rules.ensures.held.0,
-        (
-          subst (λ (l : List ℕ). tests_starts l c.read_rules.new.1.1.1.1.1.1.0 c.read_rules.result) (rest s 3)
-              c.read_rules.ensures.held.1.0,
-          c.read_rules.ensures.held.1.1,
-        ),
-      ),
-    ) in
-    record { result_after = both.0; held = both.1; tests_starts = both.2 }
+          ∙ sym (ap sheet_found (header_read_lem s header));
+      held = c.read_rules.ensures.held;
+      tests_starts = (
+        subst (λ (l : List ℕ). tests_starts l c.read_rules.new.starts c.read_rules.result) (rest s 3)
+            c.read_rules.ensures.tests_starts.0,
+        c.read_rules.ensures.tests_starts.1,
+      );
+    }

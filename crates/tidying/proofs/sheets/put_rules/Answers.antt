@@ -37,7 +37,7 @@ put_rule-moved-requires c =
     let here = c.loop-i-test.true in
     let is = c.meet_row.ensures.words_after in
     let row = ap length (turn_row arity rules s i at here refl is) in
-    let room : end + length (tidy_onward (record { words = c.meet_row.new.1.1.0; count = 0 }) (rule_records arity (drop at s))) ≤ length buf = omega (arith, row, turn_size arity rules s i at here refl, inv.2, inv.3, c.requires.1) in
+    let room : end + length (tidy_onward (record { words = c.meet_row.new.words; count = 0 }) (rule_records arity (drop at s))) ≤ length buf = omega (arith, row, turn_size arity rules s i at here refl, inv.2, inv.3, c.requires.1) in
     (record { inside = inv.1; counted = omega arith }, omega arith, c.meet_row.ensures.words_len, room)
 
 pub loop-i-preserved : goal.loop-i-preserved
@@ -54,11 +54,11 @@ loop-i-preserved c =
     let here = c.loop-i-test.true in
     let is = c.meet_row.ensures.words_after in
     let row = ap length (turn_row arity rules s i at here refl is) in
-    let room : end + length (tidy_onward (record { words = c.meet_row.new.1.1.0; count = 0 }) (rule_records arity (drop at s))) ≤ length buf = omega (arith, row, turn_size arity rules s i at here refl, inv.2, inv.3, c.requires.1) in
+    let room : end + length (tidy_onward (record { words = c.meet_row.new.words; count = 0 }) (rule_records arity (drop at s))) ≤ length buf = omega (arith, row, turn_size arity rules s i at here refl, inv.2, inv.3, c.requires.1) in
     let put = c.put_rule-moved.ensures in
     let from = ap (λ (m : Moved). m.from) put.value in
     let to = ap (λ (m : Moved). m.to) put.value in
-    (omega arith, put.buf_after.1, c.buf-1.given ∙ inv.2, omega (arith, to, row, turn_size arity rules s i at here from, inv.3), turn_written arity rules s i at here from is buf end room put.buf_after.0 to ∙ inv.4)
+    (omega arith, put.from_in_bounds, c.buf-1.given ∙ inv.2, omega (arith, to, row, turn_size arity rules s i at here from, inv.3), turn_written arity rules s i at here from is buf end room put.buf_after to ∙ inv.4)
 
 pub shape_of-buf : goal.shape_of-buf
 shape_of-buf c = c.loop-i.invariant.2

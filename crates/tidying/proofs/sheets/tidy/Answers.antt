@@ -1,7 +1,7 @@
 -- The sheet's questions, then 31; then the header and the rules are written.
 use mathlib.Core.Path.{sym, ap, ◌∙◌}
 use lib.ListN.{length, drop}
-use borrow.Author.Tests.{leb-true, leb-false, not-true, not-false}
+use borrow.Author.Tests.{leb-true, leb-false}
 use native.Mathlib.Omega.{arith}
 use Prim.Native.Nat.{◌+◌, ◌≤◌}
 use Rattle.records.proofs.ByteLists.{bytes_all}
@@ -18,7 +18,6 @@ fits-requires c =
     let s = c.args.sheet.now in
     let buffer = c.args.buffer.now in
     let bytes = bytes_all s (λ i. omega (arith, c.shared_slice_known-1.given i)) in
-    let checked = c.checked-in-Accepted-1.given in
     let told = sym (ap sheet_check_values c.in-Accepted.is) ∙ c.check_sheet-checked.ensures in
     let a = c.in-Accepted.arity in
     let n = c.in-Accepted.rules in
@@ -30,26 +29,24 @@ returns-then-not-fits c =
     let s = c.args.sheet.now in
     let buffer = c.args.buffer.now in
     let bytes = bytes_all s (λ i. omega (arith, c.shared_slice_known-1.given i)) in
-    let checked = c.checked-in-Accepted-1.given in
     let told = sym (ap sheet_check_values c.in-Accepted.is) ∙ c.check_sheet-checked.ensures in
     let a = c.in-Accepted.arity in
     let n = c.in-Accepted.rules in
     let t = c.in-Accepted.field-2 in
     let rows = tidy_rows a n (drop 3 s) in
-    tidy_large s bytes a n t told buffer (leb-false (3 + length rows) (length buffer) (sym c.fits2.ensures ∙ not-true _ c.if-not-fits.true))
+    tidy_large s bytes a n t told buffer (leb-false (3 + length rows) (length buffer) (sym c.fits.ensures ∙ c.if-not-fits.true))
 
 pub put-start-requires : goal.put-start-requires
 put-start-requires c =
     let s = c.args.sheet.now in
     let buffer = c.args.buffer.now in
     let bytes = bytes_all s (λ i. omega (arith, c.shared_slice_known-1.given i)) in
-    let checked = c.checked-in-Accepted-1.given in
     let told = sym (ap sheet_check_values c.in-Accepted.is) ∙ c.check_sheet-checked.ensures in
     let a = c.in-Accepted.arity in
     let n = c.in-Accepted.rules in
     let t = c.in-Accepted.field-2 in
     let rows = tidy_rows a n (drop 3 s) in
-    let room : 3 + length rows ≤ length buffer = leb-true (3 + length rows) (length buffer) (sym c.fits2.ensures ∙ not-false _ c.if-not-fits.false) in
+    let room : 3 + length rows ≤ length buffer = leb-true (3 + length rows) (length buffer) (sym c.fits.ensures ∙ c.if-not-fits.false) in
     omega (arith, room)
 
 pub put_rules-end-requires : goal.put_rules-end-requires
@@ -57,13 +54,12 @@ put_rules-end-requires c =
     let s = c.args.sheet.now in
     let buffer = c.args.buffer.now in
     let bytes = bytes_all s (λ i. omega (arith, c.shared_slice_known-1.given i)) in
-    let checked = c.checked-in-Accepted-1.given in
     let told = sym (ap sheet_check_values c.in-Accepted.is) ∙ c.check_sheet-checked.ensures in
     let a = c.in-Accepted.arity in
     let n = c.in-Accepted.rules in
     let t = c.in-Accepted.field-2 in
     let rows = tidy_rows a n (drop 3 s) in
-    let room : 3 + length rows ≤ length buffer = leb-true (3 + length rows) (length buffer) (sym c.fits2.ensures ∙ not-false _ c.if-not-fits.false) in
+    let room : 3 + length rows ≤ length buffer = leb-true (3 + length rows) (length buffer) (sym c.fits.ensures ∙ c.if-not-fits.false) in
     (sheet_whole s bytes a n t told, omega (arith, c.put-start.ensures.0, c.buffer-1.given, room))
 
 pub overflow_cast-result : goal.overflow_cast-result
@@ -71,7 +67,6 @@ overflow_cast-result c =
     let s = c.args.sheet.now in
     let buffer = c.args.buffer.now in
     let bytes = bytes_all s (λ i. omega (arith, c.shared_slice_known-1.given i)) in
-    let checked = c.checked-in-Accepted-1.given in
     let told = sym (ap sheet_check_values c.in-Accepted.is) ∙ c.check_sheet-checked.ensures in
     let a = c.in-Accepted.arity in
     let n = c.in-Accepted.rules in
@@ -88,11 +83,10 @@ returns-else-not-fits c =
     let s = c.args.sheet.now in
     let buffer = c.args.buffer.now in
     let bytes = bytes_all s (λ i. omega (arith, c.shared_slice_known-1.given i)) in
-    let checked = c.checked-in-Accepted-1.given in
     let told = sym (ap sheet_check_values c.in-Accepted.is) ∙ c.check_sheet-checked.ensures in
     let a = c.in-Accepted.arity in
     let n = c.in-Accepted.rules in
     let t = c.in-Accepted.field-2 in
     let rows = tidy_rows a n (drop 3 s) in
-    let room : 3 + length rows ≤ length buffer = leb-true (3 + length rows) (length buffer) (sym c.fits2.ensures ∙ not-false _ c.if-not-fits.false) in
+    let room : 3 + length rows ≤ length buffer = leb-true (3 + length rows) (length buffer) (sym c.fits.ensures ∙ c.if-not-fits.false) in
     tidy_written s bytes a n t told buffer room c.put-start.ensures.0 c.put-start.ensures.1 c.put_rules-end.ensures.0 c.put_rules-end.ensures.1

@@ -34,7 +34,7 @@ rules_waits-requires c =
     let tests = listed_tests a.kept.now in
     let met = take a.edges a.met.now in
     let pre = c.requires in
-    let numbered = c.number-tests.ensures in
+    let numbered = c.number_tests.ensures in
     let few = numbers_few tests (listed_few a.kept.now pre.arity_bound.3.counted) met pre.met_len.2 in record {
       arity_bound = (pre.arity_bound.0, pre.arity_bound.1, pre.arity_bound.2, pre.arity_bound.3.counted, pre.arity_bound.4);
       numbers_len = (numbered.1, pre.met_len.1, subst (All (λ t. t < 64)) (sym numbered.0) few);
@@ -47,11 +47,11 @@ returns-then-meets_span c =
     let met = take a.edges a.met.now in
     let rules = read_or [] (read_rules a.shape.arity a.shape.rules a.s.now) in
     let span =
-    sym c.meets-span.ensures
-    ∙ c.if1.true in record {
+    sym c.meets_span.ensures
+    ∙ c.if-meets_span.true in record {
       value = list_both tests a.cells.now rules met (search rules) (search rules)
-          c.open-waits.ensures
-          c.number-tests.ensures.0 c.rules_waits.ensures.value span;
+          c.open_waits-open.ensures
+          c.number_tests.ensures.0 c.rules_waits.ensures.value span;
       notes_len = c.rules_waits.ensures.notes_len;
     }
 
@@ -62,6 +62,6 @@ returns c =
     let met = take a.edges a.met.now in
     let rules = read_or [] (read_rules a.shape.arity a.shape.rules a.s.now) in
     let span = sym c.meets_span.ensures ∙ c.if-meets_span.false in record {
-      value = c.open-waits.ensures ∙ list_short tests a.cells.now rules met span;
+      value = c.open_waits-open.ensures ∙ list_short tests a.cells.now rules met span;
       notes_len = c.requires.arity_bound.2;
     }

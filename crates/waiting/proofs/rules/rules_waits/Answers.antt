@@ -42,25 +42,24 @@ returns-in_default c =
     let loop = c.loop-i in
     let call = c.read_rule-read in
     let refused =
-    rule_refused a.shape.arity loop.at a.s.now call.new.1.1.0 call.result call.ensures.result_after
+    rule_refused a.shape.arity loop.at a.s.now call.new.notes call.result call.ensures.result_after
     c.in_default.is in
-    let both = absurd
+    absurd
     (adding_there tests a.cells.now front a.s.now a.shape.arity a.shape.rules loop.invariant.2
-    c.loop-i-test.true refused) in
-    record { value = both.0; notes_len = both.1 }
+    c.loop-i-test.true refused)
 
 pub rule_masks-requires : goal.rule_masks-requires
 rule_masks-requires c =
     let a = c.args in
     let s = c.args.s.now in
-    let loop = c.loop in
-    let call = c.read-rule in
+    let loop = c.loop-i in
+    let call = c.read_rule-read in
     let bytes =
-    bytes_known s (λ k. omega (arith, c.shared-slice-known.given k)) in
+    bytes_known s (λ k. omega (arith, c.type_inv.s k)) in
     let rule =
-    rule_read_lem a.shape.arity loop.at s call.new.1.1.0 call.result call.ensures.0 c.requires.arity_bound.0 bytes
-    c.read.given.1 call.ensures.1 in
-    (rule.made, call.ensures.1.entries, rule.placed, c.requires.arity_bound.3, c.requires.arity_bound.4)
+    rule_read_lem a.shape.arity loop.at s call.new.notes call.result call.ensures.result_after c.requires.arity_bound.0 bytes
+    c.in-Used.is call.ensures.took_within in
+    (rule.made, call.ensures.took_within.entries, rule.placed, c.requires.arity_bound.3, c.requires.arity_bound.4)
 
 pub with_rule-set-requires : goal.with_rule-set-requires
 with_rule-set-requires c =
@@ -70,36 +69,36 @@ pub overflow_add-at : goal.overflow_add-at
 overflow_add-at c =
     let a = c.args in
     let s = c.args.s.now in
-    let loop = c.loop in
-    let call = c.read-rule in
+    let loop = c.loop-i in
+    let call = c.read_rule-read in
     let bytes =
-    bytes_known s (λ k. omega (arith, c.shared-slice-known.given k)) in
+    bytes_known s (λ k. omega (arith, c.type_inv.s k)) in
     let rule =
-    rule_read_lem a.shape.arity loop.at s call.new.1.1.0 call.result call.ensures.0 c.requires.arity_bound.0 bytes
-    c.read.given.1 call.ensures.1 in
+    rule_read_lem a.shape.arity loop.at s call.new.notes call.result call.ensures.result_after c.requires.arity_bound.0 bytes
+    c.in-Used.is call.ensures.took_within in
     omega (arith, rule.used, loop.invariant.2.there)
 
 pub loop-i-preserved : goal.loop-i-preserved
 loop-i-preserved c =
     let a = c.args in
     let s = c.args.s.now in
-    let loop = c.loop in
-    let call = c.read-rule in
+    let loop = c.loop-i in
+    let call = c.read_rule-read in
     let bytes =
-    bytes_known s (λ k. omega (arith, c.shared-slice-known.given k)) in
+    bytes_known s (λ k. omega (arith, c.type_inv.s k)) in
     let rule =
-    rule_read_lem a.shape.arity loop.at s call.new.1.1.0 call.result call.ensures.0 c.requires.arity_bound.0 bytes
-    c.read.given.1 call.ensures.1 in
+    rule_read_lem a.shape.arity loop.at s call.new.notes call.result call.ensures.result_after c.requires.arity_bound.0 bytes
+    c.in-Used.is call.ensures.took_within in
     let tests = listed_tests a.kept.now in
     let cells = c.args.cells.now in
     let front = take a.edges a.numbers.now in
     let masks = c.rule_masks.ensures ∙ ap (notes_masks tests cells) rule.noted in
-    let inside : loop.at + c.read.given.0.0 ≤ length s =
+    let inside : loop.at + c.in-Used.bytes ≤ length s =
     omega (arith, rule.used, loop.invariant.2.there) in (
-      omega (arith, c.if1.true),
-      call.ensures.1.entries,
+      omega (arith, c.loop-i-test.true),
+      call.ensures.took_within.entries,
       adding_more tests cells front s a.shape.arity a.shape.rules loop.invariant.2
-          c.if1.true rule.read inside
+          c.loop-i-test.true rule.read inside
           (c.with_rule-set.ensures ∙ ap (λ (m : Masks). with_rule m front loop.set) masks),
     )
 

@@ -2,7 +2,6 @@
 use Prim.Native.Nat.{ℕ, ◌-◌, ◌≤◌, ◌<◌}
 use mathlib.Core.Bool.{true, false}
 use mathlib.Core.List.{List}
-use mathlib.Core.Logic.{⊎_elim}
 use mathlib.Core.Path.{◌≡◌, sym, ap, ◌∙◌}
 use native.Mathlib.Omega.{arith}
 use lib.ListN.{length, take, drop}
@@ -11,6 +10,7 @@ use Rattle.waiting.specs.views.SpanTests.{with_rule}
 use Rattle.waiting.proofs.AlongTests.{front_done, front_at_lem, rule_out, rule_on}
 use borrow.Author.Rules.{rules}
 use Rattle.waiting.proofs.rules.with_rule.Goals as goal
+use Rattle.waiting.proofs.rules.with_rule.Goals.{then-has-2, else-has-2}
 
 pub has-requires : goal.has-requires
 has-requires c =
@@ -61,10 +61,10 @@ loop-i-preserved c =
     c.loop-i-test.true a.masks loop.all
     c.wide-t.ensures
     (sym c.has.ensures ∙ c.if-has.false) in
-    ⊎_elim
-    (λ w. (omega arith, on true (sym c.has-in-loop-i.ensures ∙ w.0.taken) _ (w.2 ∙ w.1.ensures) ∙ loop.invariant.1))
-    (λ w. (omega arith, on false (sym c.has-in-loop-i.ensures ∙ w.0.left) _ w.1 ∙ loop.invariant.1))
-    c.if-has-2.branch
+    elim c.if-has-2.branch [
+      then-has-2 w ↦ (omega arith, on true (sym c.has-in-loop-i.ensures ∙ w.if-has-2.true) _ (w.all-is ∙ w.insert-all.ensures) ∙ loop.invariant.1)
+    | else-has-2 w ↦ (omega arith, on false (sym c.has-in-loop-i.ensures ∙ w.if-has-2.false) _ w.all-is ∙ loop.invariant.1)
+    ]
 
 pub returns : goal.returns
 returns c =

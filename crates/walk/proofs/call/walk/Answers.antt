@@ -14,8 +14,8 @@ walk_piece-requires c =
     let s = c.args.sheet.now in
     let g = c.args.graph.now in
     let p = c.args.piece.now in
-    let words = c.read_tests-read.new.codes in
-    let codes = c.read_tests-read.new.1.1.0 in
+    let words = c.read_tests-read.new.words in
+    let codes = c.read_tests-read.new.codes in
     let held = c.read_tests-read.ensures.held in
     let counted = subst (CountsTests words) c.in-Accepted.is held.counted in record {
       arrays = record { all_words = held.all_words; all_codes = held.all_codes; few_tests = omega (arith, counted.0, counted.1) };
@@ -28,8 +28,8 @@ returns-in-Refused c =
     let s = c.args.sheet.now in
     let g = c.args.graph.now in
     let p = c.args.piece.now in
-    let words = c.read_tests-read.new.codes in
-    let codes = c.read_tests-read.new.1.1.0 in
+    let words = c.read_tests-read.new.words in
+    let codes = c.read_tests-read.new.codes in
     let held = c.read_tests-read.ensures.held in
     ap reply_values (sheet_refuses s g p (found_refuses s words codes c.read_tests-read.ensures.result_after c.in-Refused.is))
 
@@ -39,8 +39,8 @@ returns-in-Accepted c =
     let s = c.args.sheet.now in
     let g = c.args.graph.now in
     let p = c.args.piece.now in
-    let words = c.read_tests-read.new.codes in
-    let codes = c.read_tests-read.new.1.1.0 in
+    let words = c.read_tests-read.new.words in
+    let codes = c.read_tests-read.new.codes in
     let held = c.read_tests-read.ensures.held in
     let t = found_accepts s words codes c.read_tests-read.ensures.result_after c.in-Accepted.is in
     values_read c.walk_piece.result ∙ ap reply_values (c.walk_piece.ensures t ∙ sheet_accepts s g p t.read.accepted)

@@ -27,7 +27,7 @@ walk_checked-requires c =
     let codes = c.args.codes.now in
     let pairs = c.args.sizes.pairs in
     let index-graph = c.index_graph-index in
-    let starts = c.index_graph-index.new.1.1.1.1.1.1.0 in
+    let starts = c.index_graph-index.new.starts in
     let pre = c.requires.arrays in
     let t = c.requires.accepted_tests in
     let s-bytes = bytes_all s (λ i. omega (arith, c.shared_slice_known-1.given i)) in
@@ -48,7 +48,7 @@ pub returns-in-Refused : goal.returns-in-Refused
 returns-in-Refused c = λ t p k.
     let a = c.args in
     let index-graph = c.index_graph-index in
-    let starts = c.index_graph-index.new.1.1.1.1.1.1.0 in
+    let starts = c.index_graph-index.new.starts in
     graph_refuses t.read.sheet a.graph.now k.piece
     (index_refuses a.sheet.now a.graph.now a.words.now a.codes.now starts t index-graph.result index-graph.ensures.result_after c.in-Refused.is)
 

@@ -33,7 +33,7 @@ suspend_waits-requires c =
     let cells = c.args.cells.now in
     let sizes = c.args.sizes in
     let call = c.follow_path-followed in
-    let ends = sym (ap (ended_of c.follow_path-followed.new.1.1.1.1.0) c.in-Reached.is) ∙ c.follow_path-followed.ensures.result_after in record {
+    let ends = sym (ap (ended_of c.follow_path-followed.new.met) c.in-Reached.is) ∙ c.follow_path-followed.ensures.result_after in record {
       arity_bound = (ready.few_arguments, ready.rules_read, pre.3, ready.listed, pre.1);
       met_len = (
         call.ensures.met_len.0,
@@ -50,7 +50,7 @@ at_execute-requires c =
     let tests = listed_tests a.kept.now in
     let cells = c.args.cells.now in
     let sizes = c.args.sizes in
-    let ends = sym (ap (ended_of c.follow_path-followed.new.1.1.1.1.0) c.in-Reached.is) ∙ c.follow_path-followed.ensures.result_after in
+    let ends = sym (ap (ended_of c.follow_path-followed.new.met) c.in-Reached.is) ∙ c.follow_path-followed.ensures.result_after in
     let inside =
     subst (λ (l : Leaf). LeafIn sizes.rules (leaf_of l)) c.in-Execute.is
     (reached_leaf sizes.rules (nodes_at a.graph.now a.starts.now sizes.nodes) cells ready.leaves ends) in (
@@ -69,7 +69,7 @@ returns-in-Refused c =
     let tests = listed_tests a.kept.now in
     let cells = c.args.cells.now in
     let sizes = c.args.sizes in record {
-      result_value = ap (end_walk (read_or [] (read_rules sizes.arity sizes.rules a.s.now)) tests cells) (sym (ap (ended_of c.follow_path-followed.new.1.1.1.1.0) c.in-Refused.is) ∙ c.follow_path-followed.ensures.result_after);
+      result_value = ap (end_walk (read_or [] (read_rules sizes.arity sizes.rules a.s.now)) tests cells) (sym (ap (ended_of c.follow_path-followed.new.met) c.in-Refused.is) ∙ c.follow_path-followed.ensures.result_after);
       notes_len = pre.3;
     }
 
@@ -81,8 +81,8 @@ returns-in-Fail c =
     let tests = listed_tests a.kept.now in
     let cells = c.args.cells.now in
     let sizes = c.args.sizes in
-    let ends = sym (ap (ended_of c.follow_path-followed.new.1.1.1.1.0) c.in-Reached.is) ∙ c.follow_path-followed.ensures.result_after in record {
-      result_value = ap (end_walk (read_or [] (read_rules sizes.arity sizes.rules a.s.now)) tests cells) (ap (λ (l : Leaf). reached (leaf_of l) c.in-Reached.edges (take c.in-Reached.edges c.follow_path-followed.new.1.1.1.1.0)) (sym c.in-Fail.is) ∙ ends);
+    let ends = sym (ap (ended_of c.follow_path-followed.new.met) c.in-Reached.is) ∙ c.follow_path-followed.ensures.result_after in record {
+      result_value = ap (end_walk (read_or [] (read_rules sizes.arity sizes.rules a.s.now)) tests cells) (ap (λ (l : Leaf). reached (leaf_of l) c.in-Reached.edges (take c.in-Reached.edges c.follow_path-followed.new.met)) (sym c.in-Fail.is) ∙ ends);
       notes_len = pre.3;
     }
 
@@ -94,9 +94,9 @@ returns-in-Suspend c =
     let tests = listed_tests a.kept.now in
     let cells = c.args.cells.now in
     let sizes = c.args.sizes in
-    let ends = sym (ap (ended_of c.follow_path-followed.new.1.1.1.1.0) c.in-Reached.is) ∙ c.follow_path-followed.ensures.result_after in record {
+    let ends = sym (ap (ended_of c.follow_path-followed.new.met) c.in-Reached.is) ∙ c.follow_path-followed.ensures.result_after in record {
       result_value = ap (λ (w : ℕ). took 0 (record { answer = answers.suspend; edges = c.in-Reached.edges; waits = w })) c.suspend_waits.ensures.value
-          ∙ ap (end_walk (read_or [] (read_rules sizes.arity sizes.rules a.s.now)) tests cells) (ap (λ (l : Leaf). reached (leaf_of l) c.in-Reached.edges (take c.in-Reached.edges c.follow_path-followed.new.1.1.1.1.0)) (sym c.in-Suspend.is) ∙ ends);
+          ∙ ap (end_walk (read_or [] (read_rules sizes.arity sizes.rules a.s.now)) tests cells) (ap (λ (l : Leaf). reached (leaf_of l) c.in-Reached.edges (take c.in-Reached.edges c.follow_path-followed.new.met)) (sym c.in-Suspend.is) ∙ ends);
       notes_len = c.suspend_waits.ensures.notes_len;
     }
 
@@ -108,8 +108,8 @@ returns-in-Execute c =
     let tests = listed_tests a.kept.now in
     let cells = c.args.cells.now in
     let sizes = c.args.sizes in
-    let ends = sym (ap (ended_of c.follow_path-followed.new.1.1.1.1.0) c.in-Reached.is) ∙ c.follow_path-followed.ensures.result_after in record {
+    let ends = sym (ap (ended_of c.follow_path-followed.new.met) c.in-Reached.is) ∙ c.follow_path-followed.ensures.result_after in record {
       result_value = c.at_execute.ensures.result_value
-          ∙ ap (end_walk (read_or [] (read_rules sizes.arity sizes.rules a.s.now)) tests cells) (ap (λ (l : Leaf). reached (leaf_of l) c.in-Reached.edges (take c.in-Reached.edges c.follow_path-followed.new.1.1.1.1.0)) (sym c.in-Execute.is) ∙ ends);
+          ∙ ap (end_walk (read_or [] (read_rules sizes.arity sizes.rules a.s.now)) tests cells) (ap (λ (l : Leaf). reached (leaf_of l) c.in-Reached.edges (take c.in-Reached.edges c.follow_path-followed.new.met)) (sym c.in-Execute.is) ∙ ends);
       notes_len = c.at_execute.ensures.notes_len;
     }

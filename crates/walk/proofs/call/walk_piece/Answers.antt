@@ -13,7 +13,7 @@ returns-then-n-sizes c =
     let a = c.args in
     let p = c.args.piece.now in
     let g = c.args.graph.now in
-    let cells = c.read_piece-read.new.1.0 in
+    let cells = c.read_piece-read.new.cells in
     let bytes = bytes_all p (λ i. omega (arith, c.shared_slice_known-3-1.given i)) in
     let k = reader_accepted p cells c.read_piece-read.result c.read_piece-read.ensures c.in-Accepted.is bytes in
     λ t. arities_differ t.read.sheet g p k.read (λ e. c.if-n-sizes.true (sym k.arity_is ∙ e ∙ t.read.arity_is))
@@ -23,7 +23,7 @@ walk_graph-requires c =
     let a = c.args in
     let p = c.args.piece.now in
     let g = c.args.graph.now in
-    let cells = c.read_piece-read.new.1.0 in
+    let cells = c.read_piece-read.new.cells in
     let bytes = bytes_all p (λ i. omega (arith, c.shared_slice_known-3-1.given i)) in
     let k = reader_accepted p cells c.read_piece-read.result c.read_piece-read.ensures c.in-Accepted.is bytes in
     let pre = c.requires in record {
@@ -36,7 +36,7 @@ returns-in-Refused c =
     let a = c.args in
     let p = c.args.piece.now in
     let g = c.args.graph.now in
-    let cells = c.read_piece-read.new.1.0 in
+    let cells = c.read_piece-read.new.cells in
     λ t. piece_refuses t.read.sheet g p (reader_refused p cells c.read_piece-read.result c.read_piece-read.ensures c.in-Refused.is)
 
 pub returns-else-n-sizes : goal.returns-else-n-sizes
@@ -44,7 +44,7 @@ returns-else-n-sizes c =
     let a = c.args in
     let p = c.args.piece.now in
     let g = c.args.graph.now in
-    let cells = c.read_piece-read.new.1.0 in
+    let cells = c.read_piece-read.new.cells in
     let bytes = bytes_all p (λ i. omega (arith, c.shared_slice_known-3-1.given i)) in
     let k = reader_accepted p cells c.read_piece-read.result c.read_piece-read.ensures c.in-Accepted.is bytes in
     λ t.

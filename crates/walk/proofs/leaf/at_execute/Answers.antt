@@ -35,19 +35,19 @@ notes_at-taken-requires c =
 pub returns-in-Refused : goal.returns-in-Refused
 returns-in-Refused c =
     let call = c.notes_at-taken in record {
-      result_value = absurd (something (sym (ap (taken_notes call.new.1.1.1.1.1.0) c.in-Refused.is) ∙ call.ensures.result_after));
+      result_value = absurd (something (sym (ap (taken_notes call.new.notes) c.in-Refused.is) ∙ call.ensures.result_after));
       notes_len = call.ensures.result_bound.1;
     }
 
 pub at_rule-end-requires : goal.at_rule-end-requires
 at_rule-end-requires c =
-    let call = c.notes-at in
-    let few = c.notes-at.ensures.1 in
-    let told = ap notes_taken c.taken2.given.1 in
+    let call = c.notes_at-taken in
+    let few = c.notes_at-taken.ensures.result_bound in
+    let told = ap notes_taken c.in-Used.is in
     let pre = c.requires in (
       omega (arith, few.0, told),
       few.1,
-      subst (λ (n : ℕ). All Placed (notes_in call.new.1.1.1.1.1.0 n)) told few.2,
+      subst (λ (n : ℕ). All Placed (notes_in call.new.notes n)) told few.2,
       pre.2,
       pre.1,
     )
@@ -55,10 +55,10 @@ at_rule-end-requires c =
 pub returns : goal.returns
 returns c =
     let a = c.args in
-    let call = c.notes-at in
-    let noted = same_thing (sym (ap (taken_notes call.new.1.1.1.1.1.0) c.taken2.given.1) ∙ call.ensures.0) in record {
+    let call = c.notes_at-taken in
+    let noted = same_thing (sym (ap (taken_notes call.new.notes) c.in-Used.is) ∙ call.ensures.result_after) in record {
       result_value = ap (λ (e : RuleEnd). took 0 (walk_after a.edges e))
           (c.at_rule-end.ensures
           ∙ ap (λ (l : List Note). executed_by a.rule (notes_masks (listed_tests a.kept.now) a.cells.now l)) noted);
-      notes_len = call.ensures.1.1;
+      notes_len = call.ensures.result_bound.1;
     }

@@ -24,19 +24,19 @@ use Rattle.leaves.specs.views.Seeking.{Begins}
 use Rattle.leaves.proofs.RuleBegins.{none_noted}
 use Rattle.walk.proofs.Replies.{kept_stays, checked_kept}
 use Rattle.walk_all.proofs.Opening.{sheet_unread, sheet_read_lem}
-use borrow.Author.Rules.{rules}
 use Rattle.walk_all.proofs.open.open_graph.Goals as goal
+use Rattle.walk_all.proofs.open.open_graph.Goals.{In-Accepted}
 
 -- Where the sheet's tests were read.
-module _ (c : goal.In-Accepted) where
+module _ (c : In-Accepted) where
   abbrev sheet : List ℕ
   sheet = c.args.sheet.now
 
   abbrev words : List ℕ
-  words = c.read_tests-read.new.codes
+  words = c.read_tests-read.new.words
 
   abbrev codes : List ℕ
-  codes = c.read_tests-read.new.1.1.0
+  codes = c.read_tests-read.new.codes
 
   abbrev arity : ℕ
   arity = c.in-Accepted.arity
@@ -104,7 +104,7 @@ rule_begins-requires c =
       subst (λ (l : List ℕ). IsTook (read_rules (arity (goal.at.rule_begins-requires c).In-Accepted) (rules (goal.at.rule_begins-requires c).In-Accepted) l)) (sym (rest s 3)) took,
       c.requires.1,
       stay.entries,
-      subst (λ (l : List ℕ). Begins l (arity (goal.at.rule_begins-requires c).In-Accepted) (rules (goal.at.rule_begins-requires c).In-Accepted) c.keep_tests.new.1.1.1.0) (sym (rest s 3))
+      subst (λ (l : List ℕ). Begins l (arity (goal.at.rule_begins-requires c).In-Accepted) (rules (goal.at.rule_begins-requires c).In-Accepted) c.keep_tests.new.kept) (sym (rest s 3))
           (subst (Begins (drop 3 s) (arity (goal.at.rule_begins-requires c).In-Accepted) (rules (goal.at.rule_begins-requires c).In-Accepted)) (sym put) (unnoted (goal.at.rule_begins-requires c).In-Accepted)),
     )
 
@@ -112,14 +112,14 @@ pub returns-in-Refused : goal.returns-in-Refused
 returns-in-Refused c =
     let a = c.args in
     let call = c.read_tests-read in
-    let told = check_no call.new.codes call.new.1.1.0 (accept_sheet a.sheet.now) c.in-Refused.is call.ensures.result_after in
+    let told = check_no call.new.words call.new.codes (accept_sheet a.sheet.now) c.in-Refused.is call.ensures.result_after in
     (sheet_unread a.sheet.now a.graph.now (check_refuses a.sheet.now told), c.requires.1)
 
 pub returns-in-Refused-index : goal.returns-in-Refused-index
 returns-in-Refused-index c =
     let graph = c.args.graph.now in
     let call = c.index_graph-index in
-    let starts = c.index_graph-index.new.1.1.1.1.1.1.0 in (
+    let starts = c.index_graph-index.new.starts in (
       sheet_read_lem (sheet (goal.at.returns-in-Refused-index c).In-Accepted) graph (read (goal.at.returns-in-Refused-index c).In-Accepted).read.accepted
           ∙ index_refuses (sheet (goal.at.returns-in-Refused-index c).In-Accepted) graph (words (goal.at.returns-in-Refused-index c).In-Accepted) (codes (goal.at.returns-in-Refused-index c).In-Accepted) starts (read (goal.at.returns-in-Refused-index c).In-Accepted) call.result call.ensures.result_after c.in-Refused-index.is,
       c.requires.1,
@@ -130,9 +130,9 @@ returns-in-Accepted-index c =
     let s = sheet (goal.at.returns-in-Accepted-index c).In-Accepted in
     let graph = c.args.graph.now in
     let call = c.index_graph-index in
-    let starts = c.index_graph-index.new.1.1.1.1.1.1.0 in
+    let starts = c.index_graph-index.new.starts in
     let noted = c.rule_begins.ensures in
-    let kept = c.rule_begins.new.1.1.1.1.0 in
+    let kept = c.rule_begins.new.kept in
     let stay = subst (λ (l : List ℕ). TestsStay l kept) c.keep_tests.ensures noted.1 in
     let made = index_accepts s graph (words (goal.at.returns-in-Accepted-index c).In-Accepted) (codes (goal.at.returns-in-Accepted-index c).In-Accepted) starts (read (goal.at.returns-in-Accepted-index c).In-Accepted) call.result call.ensures.result_after c.in-Accepted-index.is in (
       record {
