@@ -5,7 +5,6 @@ use native.Mathlib.Omega.{arith}
 use Rattle.terms.specs.Accepted.{AcceptedPiece}
 use Rattle.plain.proofs.PiecesRead.{reader_refused, reader_accepted, read_narrow}
 use Rattle.answering.proofs.PieceAnswers.{piece_refused, arities_differ, cells_answer}
-use borrow.Author.Rules.{rules}
 use Rattle.records.proofs.ByteLists.{bytes_all}
 use Rattle.answering.proofs.answer_piece.Goals as goal
 

@@ -1,5 +1,4 @@
 -- `track::order` meets its contract: 37, then 38, then the table.
-use borrow.Author.Rules.{rules}
 use Rattle.track.proofs.PutInOrder.{not_long, no_room, written}
 use Rattle.track.proofs.order.Goals as goal
 

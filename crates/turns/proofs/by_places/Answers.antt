@@ -1,5 +1,5 @@
 -- A loop over the places: those passed have asked their tests.
-use Prim.Native.Nat.{ℕ, ◌-◌, ◌<◌}
+use Prim.Native.Nat.{ℕ, ◌<◌}
 use mathlib.Core.Path.{◌≡◌, sym, ◌∙◌}
 use mathlib.Core.List.{List}
 use native.Mathlib.Omega.{arith}
@@ -8,8 +8,7 @@ use Rattle.basics.specs.Lists.{All}
 use Rattle.basics.proofs.ListLaws.{all_at}
 use Rattle.basics.proofs.Positions.{mem_at}
 use Rattle.turns.specs.views.Turned.{with_asked}
-use Rattle.turns.proofs.Turning.{Turning, turning_start, turning_asks, turning_stays, turning_done}
-use borrow.Author.Rules.{rules}
+use Rattle.turns.proofs.Turning.{turning_start, turning_asks, turning_stays, turning_done}
 use Rattle.turns.proofs.by_places.Goals as goal
 use Rattle.turns.proofs.by_places.Goals.{then-is_test_of, else-is_test_of}
 
@@ -51,13 +50,16 @@ loop-i-preserved c =
     let p = c.wide-p.result in
     let t = c.number-t.result in
     let short : turn.i < length places = omega (arith, c.requires.0, inside) in
-    elim c.if-is_test_of.branch [ then-is_test_of w ↦
-    turning_asks numbers places c.args.s.now turn.s turn.asked turn.i p t turn.invariant short
-    c.wide-p.ensures c.number-t.ensures
-    (sym c.is_test_of.ensures ∙ w.if-is_test_of.true) w.s-is (w.asked-is ∙ w.insert-asked.ensures) | else-is_test_of w ↦
-    turning_stays numbers places c.args.s.now turn.s turn.asked turn.i p t turn.invariant short
-    c.wide-p.ensures c.number-t.ensures
-    (sym c.is_test_of.ensures ∙ w.if-is_test_of.false) w.s-is w.asked-is ]
+    elim c.if-is_test_of.branch [
+      | then-is_test_of w ↦
+          turning_asks numbers places c.args.s.now turn.s turn.asked turn.i p t turn.invariant short
+          c.wide-p.ensures c.number-t.ensures
+          (sym c.is_test_of.ensures ∙ w.if-is_test_of.true) w.s-is (w.asked-is ∙ w.insert-asked.ensures)
+      | else-is_test_of w ↦
+          turning_stays numbers places c.args.s.now turn.s turn.asked turn.i p t turn.invariant short
+          c.wide-p.ensures c.number-t.ensures
+          (sym c.is_test_of.ensures ∙ w.if-is_test_of.false) w.s-is w.asked-is
+    ]
 
 pub returns : goal.returns
 returns c =

@@ -1,16 +1,6 @@
 -- A loop over the places: those passed have asked their tests.
-use Prim.Native.Nat.{ℕ, ◌-◌, ◌<◌}
-use mathlib.Core.Path.{◌≡◌, sym, ◌∙◌}
-use mathlib.Core.List.{List}
-use mathlib.Core.Logic.{⊎_elim}
-use native.Mathlib.Omega.{arith}
-use lib.ListN.{length, get_or}
-use Rattle.basics.specs.Lists.{All}
-use Rattle.basics.proofs.ListLaws.{all_at}
-use Rattle.basics.proofs.Positions.{mem_at}
-use Rattle.turns.specs.views.Turned.{with_asked}
-use Rattle.turns.proofs.Turning.{Turning, turning_start, turning_asks, turning_stays, turning_done}
-use borrow.Author.Rules.{rules}
+use Prim.Native.Nat.{◌-◌}
+use Rattle.turns.proofs.Turning.{Turning}
 use Rattle.turns.proofs.by_places.Given as goal
 
 abbrev pub invariant-loop-i : goal.invariant-loop-i

@@ -12,5 +12,6 @@ pub returns : goal.returns
 returns c =
     let a = c.args in
     elim c.else-rule-ge1.branch [
-      else-rule-ge1-via-then-rule-ge1+else-rule-le64 w ↦ commits_above a.rule a.window.now w.if-rule-le64.false w.if-rule-ge1.true
-    | else-rule-ge1-via-else-rule-ge1 w ↦ commits_below a.rule a.window.now w.if-rule-ge1.false ]
+      | else-rule-ge1-via-then-rule-ge1+else-rule-le64 w ↦ commits_above a.rule a.window.now w.if-rule-le64.false w.if-rule-ge1.true
+      | else-rule-ge1-via-else-rule-ge1 w ↦ commits_below a.rule a.window.now w.if-rule-ge1.false
+    ]

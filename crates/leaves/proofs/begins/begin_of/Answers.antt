@@ -1,7 +1,6 @@
 -- `begin_of` meets its contract.
 use mathlib.Core.Path.{◌∙◌}
 use borrow.Author.Tests.{lt-ltb, le-ltb}
-use borrow.Author.Rules.{rules}
 use Rattle.leaves.proofs.begins.begin_of.Goals as goal
 
 pub returns-then-rule-lt65 : goal.returns-then-rule-lt65

@@ -1,7 +1,6 @@
 -- `note` meets its contract.
 use lib.ListN.{length-set}
 use borrow.Author.Tests.{lt-ltb, le-ltb}
-use borrow.Author.Rules.{rules}
 use Rattle.leaves.proofs.begins.note.Goals as goal
 
 pub returns-then-i-lt64 : goal.returns-then-i-lt64

@@ -1,6 +1,5 @@
 -- `passed` meets its contract.
 use borrow.Author.Tests.{eq-eqb, ne_eqb}
-use borrow.Author.Rules.{rules}
 use Rattle.leaves.proofs.begins.passed.Goals as goal
 
 pub returns-then-begin-eq0 : goal.returns-then-begin-eq0

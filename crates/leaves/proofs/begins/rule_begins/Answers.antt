@@ -1,16 +1,12 @@
 -- `rule_begins` meets its contract: every rule that is left is sought from the current position.
-use Prim.Native.Nat.{ℕ, ◌-◌, ◌≤◌, ◌<◌}
-use mathlib.Core.Path.{◌≡◌, sym, subst}
+use mathlib.Core.Path.{sym, subst}
 use native.Mathlib.Omega.{arith}
-use lib.ListN.{length}
 use Rattle.terms.specs.Pattern.{pnil}
 use Rattle.sheet.specs.ReadSheet.{read_rule}
 use Rattle.sheet_tests.proofs.Scanning.{bytes_known, rule_read_lem}
-use Rattle.rule_masks.specs.views.Kept.{TestsStay}
-use Rattle.leaves.specs.views.Seeking.{Seeking, Begins}
+use Rattle.leaves.specs.views.Seeking.{Begins}
 use Rattle.leaves.proofs.RulesLeft.{seeking_starts, seeking_next}
 use Rattle.leaves.proofs.RuleBegins.{begins_noted, tests_start, tests_stay}
-use borrow.Author.Rules.{rules}
 use Rattle.leaves.proofs.begins.rule_begins.Goals as goal
 
 pub loop-i-init : goal.loop-i-init

@@ -2,7 +2,6 @@
 use mathlib.Core.Path.{ap, ◌∙◌}
 use borrow.Author.Tests.{eq-eqb, ne_eqb}
 use Rattle.leaves.specs.views.LeafAnswers.{executed_by}
-use borrow.Author.Rules.{rules}
 use Rattle.leaves.proofs.rule.at_rule.Goals as goal
 
 pub returns-then-masks-ne0 : goal.returns-then-masks-ne0

@@ -6,12 +6,10 @@ use Rattle.sheet_tests.proofs.Scanning.{bytes_known, rule_read_lem, rule_refused
 use Rattle.sheet.specs.ReadSheet.{read_rule}
 use Rattle.sheet.specs.views.Noted.{rule_notes}
 use Rattle.terms.specs.Pattern.{pnil}
-use lib.ListN.{length}
 use native.Mathlib.Omega.{arith}
-use Prim.Native.Nat.{pred, ◌-◌}
-use mathlib.Core.Path.{◌≡◌, sym, ap, subst, ◌∙◌}
+use Prim.Native.Nat.{pred}
+use mathlib.Core.Path.{sym, ap, subst, ◌∙◌}
 use mathlib.Core.Option.{some}
-use borrow.Author.Rules.{rules}
 use Rattle.leaves.proofs.rule.notes_at.Goals as goal
 
 pub passed-i-requires : goal.passed-i-requires

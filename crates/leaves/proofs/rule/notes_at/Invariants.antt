@@ -1,17 +1,10 @@
 -- `leaves::rule::notes_at` meets its contract: the rule that is sought stands among those that are left.
 use Rattle.leaves.specs.views.Seeking.{Seeking}
-use Rattle.leaves.proofs.RulesLeft.{seeking_there, seeking_found, seeking_next}
-use Rattle.leaves.proofs.RuleBegins.{seeking_from}
-use Rattle.sheet_tests.proofs.Scanning.{bytes_known, rule_read_lem, rule_refused}
 use Rattle.sheet.specs.ReadSheet.{read_rule}
-use Rattle.sheet.specs.views.Noted.{rule_notes}
 use Rattle.terms.specs.Pattern.{pnil}
 use lib.ListN.{length}
-use native.Mathlib.Omega.{arith}
 use Prim.Native.Nat.{pred, ◌-◌}
-use mathlib.Core.Path.{◌≡◌, sym, ap, subst, ◌∙◌}
-use mathlib.Core.Option.{some}
-use borrow.Author.Rules.{rules}
+use mathlib.Core.Path.{◌≡◌}
 use Rattle.leaves.proofs.rule.notes_at.Given as goal
 
 abbrev pub invariant-loop-i : goal.invariant-loop-i

@@ -2,7 +2,6 @@
 use mathlib.Core.Path.{◌≡◌, refl, ap, ◌∙◌}
 use mathlib.Core.List.{List}
 use Prim.Native.Nat.{ℕ}
-use borrow.Author.Rules.{rules}
 use Rattle.order.specs.Table.{check_refusal, table_refusal}
 use Rattle.order.specs.views.TableRead.{table_read}
 use Rattle.order.specs.declared.TableCheck.{TableCheck}

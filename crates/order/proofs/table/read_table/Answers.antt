@@ -1,12 +1,9 @@
 -- `order::table::read_table` meets its contract. What is still to come of the table gets the refusal of the whole table, and the
 -- places passed are stored.
-use Prim.Native.Nat.{◌-◌}
-use mathlib.Core.Path.{◌≡◌, sym, ◌∙◌}
+use mathlib.Core.Path.{sym, ◌∙◌}
 use native.Mathlib.Omega.{arith}
-use borrow.Author.Rules.{rules}
-use lib.ListN.{length}
 use Rattle.order.specs.views.TableRead.{none_down}
-use Rattle.order.proofs.TableLoop.{ReadTo, read_short, read_start, read_next, read_stop, read_late, read_all}
+use Rattle.order.proofs.TableLoop.{read_short, read_start, read_next, read_stop, read_late, read_all}
 use Rattle.order.proofs.TableLoop.{new_inside, late_now, late_still}
 use Rattle.order.proofs.table.read_table.Goals as goal
 use Rattle.order.proofs.table.read_table.Goals.{then-is_late, else-is_late}
@@ -38,8 +35,10 @@ loop-i-preserved c = (
   c.loop-i.invariant.0,
   read_next c.loop-i.invariant.1 c.wide-place.result c.loop-i-test.true c.wide-place.ensures c.if-is_late.late
       (sym c.is_new.ensures ∙ c.if-not-is_new.false)
-      (elim c.if-is_late.branch [ then-is_late w ↦ late_now c.loop-i.late _ _ (sym c.is_late.ensures ∙ w.if-is_late.true) w.late-is
-      | else-is_late w ↦ late_still c.loop-i.late _ _ (sym c.is_late.ensures ∙ w.if-is_late.false) w.late-is ]),
+      (elim c.if-is_late.branch [
+        | then-is_late w ↦ late_now c.loop-i.late _ _ (sym c.is_late.ensures ∙ w.if-is_late.true) w.late-is
+        | else-is_late w ↦ late_still c.loop-i.late _ _ (sym c.is_late.ensures ∙ w.if-is_late.false) w.late-is
+      ]),
 )
 
 pub returns-then-late : goal.returns-then-late

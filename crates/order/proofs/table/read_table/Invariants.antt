@@ -1,14 +1,9 @@
 -- `order::table::read_table` meets its contract. What is still to come of the table gets the refusal of the whole table, and the
 -- places passed are stored.
 use Prim.Native.Nat.{◌-◌}
-use mathlib.Core.Path.{◌≡◌, sym, ◌∙◌}
-use mathlib.Core.Logic.{⊎_elim}
-use native.Mathlib.Omega.{arith}
-use borrow.Author.Rules.{rules}
+use mathlib.Core.Path.{◌≡◌}
 use lib.ListN.{length}
-use Rattle.order.specs.views.TableRead.{none_down}
-use Rattle.order.proofs.TableLoop.{ReadTo, read_short, read_start, read_next, read_stop, read_late, read_all}
-use Rattle.order.proofs.TableLoop.{not_refused_lem, not_new, new_inside, late_now, late_still}
+use Rattle.order.proofs.TableLoop.{ReadTo}
 use Rattle.order.proofs.table.read_table.Given as goal
 
 abbrev pub invariant-loop-i : goal.invariant-loop-i

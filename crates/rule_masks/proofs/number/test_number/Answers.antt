@@ -1,13 +1,11 @@
 -- `rule_masks::number::test_number` meets its contract: what is left to search gives the same number.
-use Prim.Native.Nat.{◌+◌, ◌-◌, ◌≤◌, ◌<◌}
+use Prim.Native.Nat.{◌<◌}
 use mathlib.Core.Path.{◌≡◌, sym, ◌∙◌}
 use native.Mathlib.Omega.{arith}
 use lib.ListN.{length}
 use Rattle.tables.specs.views.Planes.{tests_in}
-use Rattle.rule_masks.specs.views.TestNumbers.{test_number, code_test}
-use Rattle.rule_masks.specs.views.Kept.{listed_codes, listed_tests}
-use Rattle.rule_masks.proofs.CodeNumbers.{number_from, search_here, search_next, search_ends, listed_length, listed_at}
-use borrow.Author.Rules.{rules}
+use Rattle.rule_masks.specs.views.Kept.{listed_codes}
+use Rattle.rule_masks.proofs.CodeNumbers.{search_here, search_next, search_ends, listed_length, listed_at}
 use Rattle.rule_masks.proofs.number.test_number.Goals as goal
 
 pub loop-t-init : goal.loop-t-init

@@ -1,16 +1,13 @@
 -- A loop over the notes: the pairs of those passed are made.
-use Prim.Native.Nat.{ℕ, ◌+◌, ◌-◌, ◌≤◌}
-use mathlib.Core.Path.{◌≡◌, refl, sym, ap, ◌∙◌}
+use Prim.Native.Nat.{ℕ, ◌+◌, ◌≤◌}
+use mathlib.Core.Path.{refl, sym, ap, ◌∙◌}
 use native.Mathlib.Omega.{arith}
-use lib.ListN.{length, drop}
-use Rattle.sheet.specs.views.NoteArray.{notes_in}
-use Rattle.pairs.specs.views.NoteVariables.{name_of, notes_codes, Placed}
+use lib.ListN.{length}
+use Rattle.pairs.specs.views.NoteVariables.{name_of, Placed}
 use Rattle.pairs.proofs.NoteRows.{notes_each}
 use Rattle.rule_masks.specs.declared.Masks.{Masks}
 use Rattle.rule_masks.specs.views.Kept.{listed_tests}
-use Rattle.rule_masks.specs.views.RuleMasks.{after_pairs}
 use Rattle.rule_masks.proofs.MadeTurns.{with_from, pairs_from, pairs_named, pairs_nameless, pairs_end}
-use borrow.Author.Rules.{rules}
 use Rattle.rule_masks.proofs.rule.pair_masks.Goals as goal
 use Rattle.rule_masks.proofs.rule.pair_masks.Goals.{in-Of, in_default}
 
@@ -35,20 +32,23 @@ loop-i-preserved c =
     let within : a.n ≤ length notes = omega (arith, c.requires) in
     let i = c.loop-i.i in
     let name = ap name_of (sym c.note_record.ensures) ∙ sym c.name_of-name.ensures in
-    elim c.match-name.branch [ in-Of w ↦
-    let v = w.in-Of.v in
-    let pairs : ℕ → Masks = λ p. with_from tests cells notes a.n within i p v (i + 1) turn.all in
-    let own = w.pairs_with-all.ensures ∙ ap pairs w.note_place.ensures in (
-      omega arith,
-      ap (pairs_from tests cells notes a.n within i (i + 1)) (w.all-is ∙ own)
-          ∙ pairs_named tests cells notes a.n within i v (omega arith) (name ∙ w.in-Of.is) turn.all
-          ∙ turn.invariant.1,
-    ) | in_default w ↦ (
-      omega arith,
-      ap (pairs_from tests cells notes a.n within i (i + 1)) w.all-is
-          ∙ pairs_nameless tests cells notes a.n within i (omega arith) (name ∙ w.in_default.is) turn.all
-          ∙ turn.invariant.1,
-    ) ]
+    elim c.match-name.branch [
+      | in-Of w ↦
+          let v = w.in-Of.v in
+          let pairs : ℕ → Masks = λ p. with_from tests cells notes a.n within i p v (i + 1) turn.all in
+          let own = w.pairs_with-all.ensures ∙ ap pairs w.note_place.ensures in (
+            omega arith,
+            ap (pairs_from tests cells notes a.n within i (i + 1)) (w.all-is ∙ own)
+                ∙ pairs_named tests cells notes a.n within i v (omega arith) (name ∙ w.in-Of.is) turn.all
+                ∙ turn.invariant.1,
+          )
+      | in_default w ↦ (
+        omega arith,
+        ap (pairs_from tests cells notes a.n within i (i + 1)) w.all-is
+            ∙ pairs_nameless tests cells notes a.n within i (omega arith) (name ∙ w.in_default.is) turn.all
+            ∙ turn.invariant.1,
+      )
+    ]
 
 pub returns : goal.returns
 returns c =

@@ -1,17 +1,11 @@
 -- A loop over the notes: the pairs of those passed are made.
-use Prim.Native.Nat.{ℕ, ◌+◌, ◌-◌, ◌≤◌}
-use mathlib.Core.Path.{◌≡◌, refl, sym, ap, ◌∙◌}
-use mathlib.Core.Logic.{⊎_elim}
-use native.Mathlib.Omega.{arith}
-use lib.ListN.{length, drop}
+use Prim.Native.Nat.{◌-◌, ◌≤◌}
+use mathlib.Core.Path.{◌≡◌}
+use lib.ListN.{drop}
 use Rattle.sheet.specs.views.NoteArray.{notes_in}
-use Rattle.pairs.specs.views.NoteVariables.{name_of, notes_codes, Placed}
-use Rattle.pairs.proofs.NoteRows.{notes_each}
-use Rattle.rule_masks.specs.declared.Masks.{Masks}
+use Rattle.pairs.specs.views.NoteVariables.{notes_codes}
 use Rattle.rule_masks.specs.views.Kept.{listed_tests}
 use Rattle.rule_masks.specs.views.RuleMasks.{after_pairs}
-use Rattle.rule_masks.proofs.MadeTurns.{with_from, pairs_from, pairs_named, pairs_nameless, pairs_end}
-use borrow.Author.Rules.{rules}
 use Rattle.rule_masks.proofs.rule.pair_masks.Given as goal
 
 abbrev pub invariant-loop-i : goal.invariant-loop-i

@@ -1,16 +1,14 @@
 -- A loop over the later notes: the pairs with those passed are made.
-use Prim.Native.Nat.{ℕ, ◌+◌, ◌-◌, ◌≤◌}
-use mathlib.Core.Path.{◌≡◌, refl, sym, ap, ◌∙◌}
+use Prim.Native.Nat.{ℕ, ◌+◌, ◌≤◌}
+use mathlib.Core.Path.{refl, sym, ap, ◌∙◌}
 use native.Mathlib.Omega.{arith}
-use lib.ListN.{length, drop}
-use Rattle.sheet.specs.views.NoteArray.{notes_in}
+use lib.ListN.{length}
 use Rattle.pairs.specs.views.KeptPairs.{pair_code}
-use Rattle.pairs.specs.views.NoteVariables.{names_variable, codes_with, Placed}
+use Rattle.pairs.specs.views.NoteVariables.{names_variable, Placed}
 use Rattle.pairs.proofs.NoteRows.{notes_each}
 use Rattle.rule_masks.specs.views.Kept.{listed_tests}
-use Rattle.rule_masks.specs.views.RuleMasks.{pair_made, with_made, after_pairs}
+use Rattle.rule_masks.specs.views.RuleMasks.{pair_made, with_made}
 use Rattle.rule_masks.proofs.MadeTurns.{with_from, with_yes, with_no, with_end}
-use borrow.Author.Rules.{rules}
 use Rattle.rule_masks.proofs.rule.pairs_with.Goals as goal
 use Rattle.rule_masks.proofs.rule.pairs_with.Goals.{then-is_named, else-is_named}
 
@@ -36,18 +34,21 @@ loop-j-preserved c =
     let within : a.n ≤ length notes = omega (arith, c.requires) in
     let j = c.loop-j.j in
     let test = ap (names_variable v) (sym c.note_record.ensures) ∙ sym c.is_named.ensures in
-    elim c.if-is_named.branch [ then-is_named w ↦
-    let put = w.with_pair-all.ensures ∙ ap (λ (q : ℕ). with_made tests turn.all (pair_made cells (pair_code p q))) w.note_place.ensures in (
-      omega arith,
-      ap (with_from tests cells notes a.n within j p v (j + 1)) (w.all-is ∙ put)
-          ∙ with_yes tests cells notes a.n within j p v (omega arith) (test ∙ w.if-is_named.true) turn.all
-          ∙ turn.invariant.1,
-    ) | else-is_named w ↦ (
-      omega arith,
-      ap (with_from tests cells notes a.n within j p v (j + 1)) w.all-is
-          ∙ with_no tests cells notes a.n within j p v (omega arith) (test ∙ w.if-is_named.false) turn.all
-          ∙ turn.invariant.1,
-    ) ]
+    elim c.if-is_named.branch [
+      | then-is_named w ↦
+          let put = w.with_pair-all.ensures ∙ ap (λ (q : ℕ). with_made tests turn.all (pair_made cells (pair_code p q))) w.note_place.ensures in (
+            omega arith,
+            ap (with_from tests cells notes a.n within j p v (j + 1)) (w.all-is ∙ put)
+                ∙ with_yes tests cells notes a.n within j p v (omega arith) (test ∙ w.if-is_named.true) turn.all
+                ∙ turn.invariant.1,
+          )
+      | else-is_named w ↦ (
+        omega arith,
+        ap (with_from tests cells notes a.n within j p v (j + 1)) w.all-is
+            ∙ with_no tests cells notes a.n within j p v (omega arith) (test ∙ w.if-is_named.false) turn.all
+            ∙ turn.invariant.1,
+      )
+    ]
 
 pub returns : goal.returns
 returns c =

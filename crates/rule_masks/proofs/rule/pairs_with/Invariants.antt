@@ -1,17 +1,11 @@
 -- A loop over the later notes: the pairs with those passed are made.
-use Prim.Native.Nat.{ℕ, ◌+◌, ◌-◌, ◌≤◌}
-use mathlib.Core.Path.{◌≡◌, refl, sym, ap, ◌∙◌}
-use mathlib.Core.Logic.{⊎_elim}
-use native.Mathlib.Omega.{arith}
-use lib.ListN.{length, drop}
+use Prim.Native.Nat.{◌-◌, ◌≤◌}
+use mathlib.Core.Path.{◌≡◌}
+use lib.ListN.{drop}
 use Rattle.sheet.specs.views.NoteArray.{notes_in}
-use Rattle.pairs.specs.views.KeptPairs.{pair_code}
-use Rattle.pairs.specs.views.NoteVariables.{names_variable, codes_with, Placed}
-use Rattle.pairs.proofs.NoteRows.{notes_each}
+use Rattle.pairs.specs.views.NoteVariables.{codes_with}
 use Rattle.rule_masks.specs.views.Kept.{listed_tests}
-use Rattle.rule_masks.specs.views.RuleMasks.{pair_made, with_made, after_pairs}
-use Rattle.rule_masks.proofs.MadeTurns.{with_from, with_yes, with_no, with_end}
-use borrow.Author.Rules.{rules}
+use Rattle.rule_masks.specs.views.RuleMasks.{after_pairs}
 use Rattle.rule_masks.proofs.rule.pairs_with.Given as goal
 
 abbrev pub invariant-loop-j : goal.invariant-loop-j

@@ -1,11 +1,10 @@
 -- A loop over the notes: the place tests of those passed are made.
-use Prim.Native.Nat.{◌+◌, ◌-◌, ◌*◌, ◌≤◌, ◌<◌}
+use Prim.Native.Nat.{◌+◌, ◌*◌, ◌≤◌}
 use mathlib.Core.Path.{◌≡◌, refl, sym, ap, ◌∙◌, subst}
 use native.Mathlib.Omega.{arith}
-use lib.ListN.{length, get_or, drop}
+use lib.ListN.{length, get_or}
 use Rattle.patterns.specs.declared.PatternRecord.{PatternRecord}
 use Rattle.patterns.specs.views.NoteCode.{Fitting, code_place}
-use Rattle.sheet.specs.views.NoteArray.{notes_in}
 use Rattle.patterns.proofs.NoteCodes.{code_fits}
 use Rattle.pairs.specs.views.NoteVariables.{Placed}
 use Rattle.pairs.proofs.NoteRows.{notes_each}
@@ -14,9 +13,8 @@ use Rattle.test_list.specs.views.Tests.{spot_code}
 use Rattle.rows.specs.views.Wants.{record_want, wanted_codes}
 use Rattle.rows.proofs.NotesWanted.{want_here, wanted_some, wanted_none}
 use Rattle.rule_masks.specs.views.Kept.{listed_tests}
-use Rattle.rule_masks.specs.views.RuleMasks.{made, with_made, after_places, no_masks}
+use Rattle.rule_masks.specs.views.RuleMasks.{made, with_made}
 use Rattle.rule_masks.proofs.MadeTurns.{places_from, places_turn, places_skip, places_end}
-use borrow.Author.Rules.{rules}
 use Rattle.rule_masks.proofs.rule.place_masks.Goals as goal
 use Rattle.rule_masks.proofs.rule.place_masks.Goals.{in-Codes, in_default}
 
@@ -58,24 +56,27 @@ loop-i-preserved c =
     let i = c.loop-i.i in
     let what = c.note_record.ensures in
     let want = c.record_wanted-wanted.ensures ∙ ap (λ (r : PatternRecord). wanted_codes (record_want low high r)) what in
-    elim c.match-wanted.branch [ in-Codes w ↦
-    let (v, is, least, most) = wanted_some (want_here low high notes a.n within i) (sym w.in-Codes.is ∙ want) in
-    let spot = w.note_place-place.ensures in
-    let p = code_place (get_or notes i 0) in
-    let code : 0x1_0001 * w.note_place-place.result ≡ spot_code p = omega (arith, spot) in
-    let outcome = w.place_outcome-outcome.ensures ∙ (λ j. place_cells cells (spot j) (least j) (most j)) in (
-      omega arith,
-      ap (places_from tests cells low high notes a.n within i (i + 1))
-          (w.masks-is ∙ w.with_outcome-masks.ensures ∙ (λ j. with_made tests turn.masks (made (code j) (outcome j))))
-          ∙ places_turn tests cells low high notes a.n within i (omega arith) v is turn.masks
-          ∙ turn.invariant.1,
-    ) | in_default w ↦
-    let is = wanted_none (want_here low high notes a.n within i) (sym w.in_default.is ∙ want) in (
-      omega arith,
-      ap (places_from tests cells low high notes a.n within i (i + 1)) w.masks-is
-          ∙ places_skip tests cells low high notes a.n within i (omega arith) is turn.masks
-          ∙ turn.invariant.1,
-    ) ]
+    elim c.match-wanted.branch [
+      | in-Codes w ↦
+          let (v, is, least, most) = wanted_some (want_here low high notes a.n within i) (sym w.in-Codes.is ∙ want) in
+          let spot = w.note_place-place.ensures in
+          let p = code_place (get_or notes i 0) in
+          let code : 0x1_0001 * w.note_place-place.result ≡ spot_code p = omega (arith, spot) in
+          let outcome = w.place_outcome-outcome.ensures ∙ (λ j. place_cells cells (spot j) (least j) (most j)) in (
+            omega arith,
+            ap (places_from tests cells low high notes a.n within i (i + 1))
+                (w.masks-is ∙ w.with_outcome-masks.ensures ∙ (λ j. with_made tests turn.masks (made (code j) (outcome j))))
+                ∙ places_turn tests cells low high notes a.n within i (omega arith) v is turn.masks
+                ∙ turn.invariant.1,
+          )
+      | in_default w ↦
+          let is = wanted_none (want_here low high notes a.n within i) (sym w.in_default.is ∙ want) in (
+            omega arith,
+            ap (places_from tests cells low high notes a.n within i (i + 1)) w.masks-is
+                ∙ places_skip tests cells low high notes a.n within i (omega arith) is turn.masks
+                ∙ turn.invariant.1,
+          )
+    ]
 
 pub returns : goal.returns
 returns c =

@@ -4,7 +4,6 @@ use Rattle.sheet.specs.views.NoteArray.{notes_in}
 use Rattle.pairs.specs.views.NoteVariables.{notes_codes}
 use Rattle.rule_masks.specs.views.Kept.{listed_tests}
 use Rattle.rule_masks.specs.views.RuleMasks.{after_places, after_pairs, no_masks, notes_masks}
-use borrow.Author.Rules.{rules}
 use Rattle.rule_masks.proofs.rule.rule_masks.Goals as goal
 
 pub place_masks-places-requires : goal.place_masks-places-requires

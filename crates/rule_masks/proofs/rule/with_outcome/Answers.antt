@@ -6,7 +6,6 @@ use Rattle.outcomes.specs.views.CellOutcome.{outcome_of}
 use Rattle.rule_masks.specs.views.TestNumbers.{with_if}
 use Rattle.rule_masks.specs.views.Kept.{listed_tests}
 use Rattle.rule_masks.specs.views.RuleMasks.{made, with_made}
-use borrow.Author.Rules.{rules}
 use Rattle.rule_masks.proofs.rule.with_outcome.Goals as goal
 
 pub returns-in-Holds : goal.returns-in-Holds

@@ -6,7 +6,6 @@ use Rattle.pairs.specs.views.KeptPairs.{pair_code}
 use Rattle.outcomes.specs.views.CellOutcome.{pair_cells}
 use Rattle.rule_masks.specs.views.Kept.{listed_tests}
 use Rattle.rule_masks.specs.views.RuleMasks.{made, with_made}
-use borrow.Author.Rules.{rules}
 use Rattle.rule_masks.proofs.rule.with_pair.Goals as goal
 
 pub overflow_mul-p : goal.overflow_mul-p

@@ -3,7 +3,6 @@ use Prim.Native.Nat.{ℕ, ◌-◌, ◌≤◌}
 use mathlib.Core.Path.{sym, subst}
 use native.Mathlib.Omega.{arith}
 use lib.ListN.{set}
-use borrow.Author.Rules.{rules}
 use Rattle.places.proofs.Levels.{depth_range}
 use Rattle.track.proofs.Climb.{Climbing, climb_none, climb_more, climb_all}
 use Rattle.track.proofs.front.climb.Goals as goal

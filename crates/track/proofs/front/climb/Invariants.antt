@@ -1,11 +1,5 @@
 -- `track::front::climb` meets its contract: each turn goes from a place to its parent.
-use Prim.Native.Nat.{ℕ, ◌-◌, ◌≤◌}
-use mathlib.Core.Path.{sym, subst}
-use native.Mathlib.Omega.{arith}
-use lib.ListN.{set}
-use borrow.Author.Rules.{rules}
-use Rattle.places.proofs.Levels.{depth_range}
-use Rattle.track.proofs.Climb.{Climbing, climb_none, climb_more, climb_all}
+use Rattle.track.proofs.Climb.{Climbing}
 use Rattle.track.proofs.front.climb.Given as goal
 
 abbrev pub invariant-loop-q : goal.invariant-loop-q

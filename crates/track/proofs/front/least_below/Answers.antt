@@ -2,7 +2,6 @@
 use Prim.Native.Nat.{◌+◌, ◌≤◌}
 use mathlib.Core.Path.{sym, ◌∙◌}
 use native.Mathlib.Omega.{arith}
-use borrow.Author.Rules.{rules}
 use Rattle.places.proofs.Levels.{depth_range}
 use Rattle.places.proofs.Rows.{step_most}
 use Rattle.track.proofs.Rows.{Row, children, no_children, below_none, least_below}

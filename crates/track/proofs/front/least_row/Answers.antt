@@ -1,8 +1,7 @@
 -- `track::front::least_row` meets its contract: the least of the keys passed.
-use Prim.Native.Nat.{ℕ, ◌+◌, ◌*◌, ◌-◌, ◌≤◌, ◌<◌}
+use Prim.Native.Nat.{ℕ, ◌+◌, ◌<◌}
 use mathlib.Core.Path.{◌≡◌, sym, subst, ◌∙◌, ap}
 use native.Mathlib.Omega.{arith}
-use borrow.Author.Rules.{rules}
 use Rattle.track.specs.views.Front.{LeastOf}
 use Rattle.track.proofs.Rows.{row_next, least_none, least_now, least_still}
 use Rattle.track.proofs.front.least_row.Goals as goal
@@ -35,10 +34,12 @@ loop-i-preserved c =
     let inv = c.loop-i.invariant in (
       omega (arith, c.loop-i-test.true),
       ap (λ (x : ℕ). x + a.step) turn.invariant.1 ∙ row_next a.from turn.i a.step,
-      elim c.if-key-best.branch [ then-key-best w ↦
-          subst least (sym w.best-is) (least_now _ _ _ turn.i turn.q turn.best inv.2 inv.1 w.if-key-best.true)
-      | else-key-best w ↦
-          subst least (sym w.best-is) (least_still _ _ _ turn.i turn.q turn.best inv.2 inv.1 w.if-key-best.false) ],
+      elim c.if-key-best.branch [
+        | then-key-best w ↦
+            subst least (sym w.best-is) (least_now _ _ _ turn.i turn.q turn.best inv.2 inv.1 w.if-key-best.true)
+        | else-key-best w ↦
+            subst least (sym w.best-is) (least_still _ _ _ turn.i turn.q turn.best inv.2 inv.1 w.if-key-best.false)
+      ],
     )
 
 pub returns : goal.returns

@@ -1,11 +1,7 @@
 -- `track::front::least_row` meets its contract: the least of the keys passed.
-use Prim.Native.Nat.{ℕ, ◌+◌, ◌*◌, ◌-◌, ◌≤◌, ◌<◌}
-use mathlib.Core.Path.{◌≡◌, sym, subst, ◌∙◌, ap}
-use mathlib.Core.Logic.{⊎_elim}
-use native.Mathlib.Omega.{arith}
-use borrow.Author.Rules.{rules}
+use Prim.Native.Nat.{◌+◌, ◌*◌, ◌-◌, ◌≤◌}
+use mathlib.Core.Path.{◌≡◌}
 use Rattle.track.specs.views.Front.{LeastOf}
-use Rattle.track.proofs.Rows.{row_next, least_none, least_now, least_still}
 use Rattle.track.proofs.front.least_row.Given as goal
 
 abbrev pub invariant-loop-i : goal.invariant-loop-i

@@ -1,10 +1,7 @@
 -- `track::front::open_row` meets its contract: the places of the row passed have their keys.
-use Prim.Native.Nat.{ℕ, ◌+◌, ◌*◌, ◌-◌, ◌≤◌, ◌<◌}
-use mathlib.Core.Path.{◌≡◌, subst, ◌∙◌, ap}
-use native.Mathlib.Omega.{arith}
-use borrow.Author.Rules.{rules}
+use Prim.Native.Nat.{◌+◌, ◌*◌, ◌-◌, ◌≤◌}
+use mathlib.Core.Path.{◌≡◌}
 use Rattle.track.specs.views.Front.{Opened}
-use Rattle.track.proofs.Rows.{row_next, opened_none, opened_more}
 use Rattle.track.proofs.front.open_row.Given as goal
 
 abbrev pub invariant-loop-i : goal.invariant-loop-i

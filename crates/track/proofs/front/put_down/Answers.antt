@@ -1,7 +1,6 @@
 -- `track::front::put_down` meets its contract: the children of p get their keys, then the places at or above it are climbed.
 use mathlib.Core.Path.{sym, subst}
 use native.Mathlib.Omega.{arith}
-use borrow.Author.Rules.{rules}
 use Rattle.places.proofs.Levels.{depth_range}
 use Rattle.places.proofs.Rows.{step_most}
 use Rattle.track.proofs.Rows.{children, no_children}
@@ -27,14 +26,17 @@ module _ (c : Joined-depth-lt4) where
   fresh =
       let p = c.args.p in
       let depth = c.depth-depth in
-      elim c.if-depth-lt4.branch [ then-depth-lt4 w ↦
-      subst (Fresh c.args.positions.now p c.args.keys.now) (sym w.keys-is)
-      (fresh_row
-      (children p depth.result w.step.result c.requires.3 depth.ensures (omega (arith, w.if-depth-lt4.true)) w.step.ensures)
-      w.open_row.ensures) | else-depth-lt4 w ↦
-      subst (Fresh c.args.positions.now p c.args.keys.now) (sym w.keys-is)
-      (fresh_none _ _ p c.requires.2
-      (no_children p c.requires.3 (omega (arith, w.if-depth-lt4.false, depth.ensures, depth_range p)))) ]
+      elim c.if-depth-lt4.branch [
+        | then-depth-lt4 w ↦
+            subst (Fresh c.args.positions.now p c.args.keys.now) (sym w.keys-is)
+            (fresh_row
+            (children p depth.result w.step.result c.requires.3 depth.ensures (omega (arith, w.if-depth-lt4.true)) w.step.ensures)
+            w.open_row.ensures)
+        | else-depth-lt4 w ↦
+            subst (Fresh c.args.positions.now p c.args.keys.now) (sym w.keys-is)
+            (fresh_none _ _ p c.requires.2
+            (no_children p c.requires.3 (omega (arith, w.if-depth-lt4.false, depth.ensures, depth_range p))))
+      ]
 
 pub climb-requires : goal.climb-requires
 climb-requires c =
