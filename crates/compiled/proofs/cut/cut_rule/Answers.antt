@@ -1,8 +1,8 @@
 -- A loop over the notes: the rule has turned at what those passed want.
-use Prim.Native.Nat.{ℕ, suc, ◌+◌, ◌*◌, ◌-◌, ◌^◌, ◌≤◌}
+use Prim.Native.Nat.{ℕ, suc, ◌+◌, ◌*◌, ◌^◌, ◌≤◌}
 use mathlib.Core.Path.{sym, ap, ◌∙◌, subst}
 use native.Mathlib.Omega.{arith}
-use lib.ListN.{length, get_or, drop}
+use lib.ListN.{length, get_or}
 use Rattle.patterns.specs.declared.PatternRecord.{PatternRecord}
 use Rattle.patterns.specs.views.NoteCode.{Fitting, note_of}
 use Rattle.sheet.specs.views.NoteArray.{notes_in}
@@ -13,8 +13,7 @@ use Rattle.cuts.specs.views.Cuts.{part_at, count_at}
 use Rattle.rows.specs.views.Wants.{record_want, wanted_codes}
 use Rattle.rows.proofs.NotesWanted.{wanted_some, wanted_none}
 use Rattle.compiled.specs.views.CutRules.{turn_in}
-use Rattle.compiled.proofs.NoteTurns.{CutsLeft, left_start, left_room, left_some, left_none, left_done}
-use borrow.Author.Rules.{rules}
+use Rattle.compiled.proofs.NoteTurns.{left_start, left_room, left_some, left_none, left_done}
 use Rattle.compiled.proofs.cut.cut_rule.Goals as goal
 use Rattle.compiled.proofs.cut.cut_rule.Goals.{in-Codes, in_default}
 

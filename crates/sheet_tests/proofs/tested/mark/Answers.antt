@@ -3,7 +3,6 @@ use mathlib.Core.Path.{refl, ap, ◌∙◌}
 use native.Mathlib.Omega.{arith}
 use Rattle.sheet_tests.specs.views.TestedPlaces.{places_in}
 use Rattle.sheet_tests.proofs.PlaceSets.{mark_is}
-use borrow.Author.Rules.{rules}
 use Rattle.sheet_tests.proofs.tested.mark.Goals as goal
 
 pub returns : goal.returns
