@@ -93,23 +93,23 @@ loop-k-preserved c =
     let more = bit_or at.set (run_at runs at.k).set in
     elim c.if-more-set.branch [
       | then-more-set+else-meet-ge1024-2 w ↦
-        let same = w.meet-then-more-set.ensures.t_after.0 w.if-meet-ge1024-2.false ∙ ap (meet (keys_in at.keys)) w.by_run-then-more-set.ensures in
-        rw w.keys-is (
-          omega (arith, test),
-          omega (arith, at.invariant.1, size.1),
-          w.meet-then-more-set.ensures.chained,
-          met_last (keys_in at.keys) (run_behind s a.asked more) w.meet-then-more-set.new.t same,
-          row_next s a.asked runs count first at.set at.k at.invariant.4 test same (size.0 _),
-        )
+          let same = w.meet-then-more-set.ensures.t_after.0 w.if-meet-ge1024-2.false ∙ ap (meet (keys_in at.keys)) w.by_run-then-more-set.ensures in
+          rw w.keys-is (
+            omega (arith, test),
+            omega (arith, at.invariant.1, size.1),
+            w.meet-then-more-set.ensures.chained,
+            met_last (keys_in at.keys) (run_behind s a.asked more) w.meet-then-more-set.new.t same,
+            row_next s a.asked runs count first at.set at.k at.invariant.4 test same (size.0 _),
+          )
       | else-more-set w ↦
-        let same = at.invariant.3 ∙ ap (λ (set : ℕ). meet (keys_in at.keys) (run_behind s a.asked set)) (sym w.if-more-set.false) in
-        rw w.keys-is (
-          omega (arith, test),
-          omega (arith, at.invariant.1, size.1),
-          at.invariant.2,
-          same,
-          row_next s a.asked runs count first at.set at.k at.invariant.4 test same (size.0 _),
-        )
+          let same = at.invariant.3 ∙ ap (λ (set : ℕ). meet (keys_in at.keys) (run_behind s a.asked set)) (sym w.if-more-set.false) in
+          rw w.keys-is (
+            omega (arith, test),
+            omega (arith, at.invariant.1, size.1),
+            at.invariant.2,
+            same,
+            row_next s a.asked runs count first at.set at.k at.invariant.4 test same (size.0 _),
+          )
     ]
 
 pub returns : goal.returns

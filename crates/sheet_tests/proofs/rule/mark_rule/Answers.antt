@@ -46,9 +46,9 @@ loop-i-preserved c =
         ap length w.words-is ∙ w.mark.ensures.words_len,
         ap (places_from ranged notes n (i + 1))
             (
-              ap places_in w.words-is
-              ∙ w.mark.ensures.words_after
-              ∙ ap (λ (p : ℕ). insert_by ltb p (places_in words)) w.note_place.ensures
+            ap places_in w.words-is
+            ∙ w.mark.ensures.words_after
+            ∙ ap (λ (p : ℕ). insert_by ltb p (places_in words)) w.note_place.ensures
             )
             ∙ places_yes ranged notes n (omega arith) i (omega arith) (test ∙ w.if-is_tested.true) (places_in words)
             ∙ inv.2,

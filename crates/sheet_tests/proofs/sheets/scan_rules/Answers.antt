@@ -10,19 +10,18 @@ use Rattle.sheet_tests.proofs.MarkedRules.{names_meets, marked_placed, scan_turn
 use Rattle.sheet_tests.proofs.sheets.scan_rules.Goals as goal
 
 pub loop-i-init : goal.loop-i-init
-loop-i-init c =
-    (
-      omega arith,
-      omega arith,
-      omega arith,
-      c.requires.1,
-      c.requires.2,
-      c.requires.3,
-      scan_start c.args.arity c.args.rules c.args.s.now _,
-      c.requires.5,
-      refl,
-      starts_none c.args.arity c.args.s.now c.args.starts.now,
-    )
+loop-i-init c = (
+  omega arith,
+  omega arith,
+  omega arith,
+  c.requires.1,
+  c.requires.2,
+  c.requires.3,
+  scan_start c.args.arity c.args.rules c.args.s.now _,
+  c.requires.5,
+  refl,
+  starts_none c.args.arity c.args.s.now c.args.starts.now,
+)
 
 pub read_marks-read-requires : goal.read_marks-read-requires
 read_marks-read-requires c =
