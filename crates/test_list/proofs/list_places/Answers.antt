@@ -1,13 +1,12 @@
 -- A loop over the words: the places of those passed are listed.
-use Prim.Native.Nat.{ℕ, ◌+◌, ◌*◌, ◌-◌, ◌≤◌}
-use mathlib.Core.Path.{◌≡◌, refl, ap, ◌∙◌}
+use Prim.Native.Nat.{ℕ, ◌+◌, ◌*◌}
+use mathlib.Core.Path.{refl, ap, ◌∙◌}
 use mathlib.Core.List.{List, ◌++◌, map}
 use native.Mathlib.Omega.{arith}
-use lib.ListN.{length, take, get_or}
-use borrow.Author.Rules.{rules}
+use lib.ListN.{get_or}
 use Rattle.masks.specs.Mask.{members}
-use Rattle.sheet_tests.proofs.PlaceSets.{places_below, places_next, places_all, places_below_few}
-use Rattle.test_list.proofs.WordPlaces.{places_to, places_word, places_part, places_whole}
+use Rattle.sheet_tests.proofs.PlaceSets.{places_next, places_all, places_below_few}
+use Rattle.test_list.proofs.WordPlaces.{places_word, places_part, places_whole}
 use Rattle.test_list.proofs.list_places.Goals as goal
 
 pub loop-i-init : goal.loop-i-init

@@ -3,7 +3,7 @@ use native.Mathlib.Omega.{arith}
 use lib.Count.{trailing_le}
 use borrow.Author.Rules.{rules}
 use Rattle.masks.proofs.LowestMember.{rest_lt}
-use Rattle.test_list.proofs.WordPlaces.{Listing, Listing-start, listing_room, listing_turn, listing_done, listing_number}
+use Rattle.test_list.proofs.WordPlaces.{Listing-start, listing_room, listing_turn, listing_done, listing_number}
 use Rattle.test_list.proofs.list_word.Goals as goal
 
 pub loop-left-init : goal.loop-left-init

@@ -1,6 +1,5 @@
 -- The count of the word, then that of the rule.
 use Rattle.window.specs.Cells.{counted}
-use Rattle.std.proofs.Common.{rules}
 use Rattle.window.proofs.count.Goals as goal
 
 pub returns : goal.returns

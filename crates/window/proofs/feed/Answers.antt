@@ -1,5 +1,5 @@
 -- The steps of a feed, or none.
-use Rattle.std.proofs.Common.{sym, ◌∙◌, rules}
+use Rattle.std.proofs.Common.{sym, ◌∙◌}
 use Rattle.window.specs.LastThousand.{given}
 use Rattle.window.proofs.Steps.{taken_fed, refused_fed}
 use Rattle.window.proofs.feed.Goals as goal

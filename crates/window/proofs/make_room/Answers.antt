@@ -1,5 +1,5 @@
 -- The ring holds one more, or its oldest answer leaves.
-use Rattle.std.proofs.Common.{◌∙◌, arith, rules}
+use Rattle.std.proofs.Common.{◌∙◌, arith}
 use Rattle.window.proofs.Steps.{one_more, oldest_leaves}
 use Rattle.window.proofs.make_room.Goals as goal
 

@@ -1,6 +1,5 @@
 -- The count that stands in the cell, moved.
 use Rattle.window.specs.Cells.{moved_at}
-use Rattle.std.proofs.Common.{rules}
 use Rattle.window.proofs.move_at.Goals as goal
 
 pub returns : goal.returns

@@ -1,5 +1,5 @@
 -- Up or down, modulo 65,536.
-use Rattle.std.proofs.Common.{arith, rules}
+use Rattle.std.proofs.Common.{arith}
 use Rattle.window.proofs.moved_count.Goals as goal
 
 pub returns-then-enters : goal.returns-then-enters

@@ -1,5 +1,5 @@
 -- The next place, or the first.
-use Rattle.std.proofs.Common.{arith, rules, le-ltb, lt-ltb}
+use Rattle.std.proofs.Common.{arith, le-ltb, lt-ltb}
 use Rattle.window.proofs.place_after.Goals as goal
 
 pub returns-then-next-lt999 : goal.returns-then-next-lt999

@@ -1,6 +1,5 @@
 -- The answer in the ring, and the place after it.
 use Rattle.window.specs.Cells.{stored}
-use Rattle.std.proofs.Common.{rules}
 use Rattle.window.proofs.store.Goals as goal
 
 pub returns : goal.returns

@@ -2,7 +2,6 @@
 use mathlib.Core.Path.{sym, ap, ◌∙◌}
 use Rattle.outcomes.specs.views.CellOutcome.{place_cells}
 use Rattle.plain.specs.views.NotesOutcome.{fixed_outcome}
-use borrow.Author.Rules.{rules}
 use Rattle.plain.proofs.rule.fixed_outcome.Goals as goal
 
 pub returns-in-Symbol : goal.returns-in-Symbol

@@ -1,6 +1,6 @@
 -- A loop over the notes: what is gathered and what is left make up all equality tests.
-use Prim.Native.Nat.{ℕ, ◌+◌, ◌-◌, ◌≤◌}
-use mathlib.Core.Path.{◌≡◌, refl, sym, ap, ◌∙◌}
+use Prim.Native.Nat.{ℕ, ◌+◌, ◌≤◌}
+use mathlib.Core.Path.{refl, sym, ap, ◌∙◌}
 use native.Mathlib.Omega.{arith}
 use lib.ListN.{length, get_or, drop}
 use Rattle.terms.specs.RuleTests.{pairs_with}
@@ -13,7 +13,6 @@ use Rattle.outcomes.specs.views.CellOutcome.{outcome_of}
 use Rattle.plain.specs.views.NotesOutcome.{pair_test_cells, pairs_outcome}
 use Rattle.plain.proofs.Gathering.{gathered_more, gathered_all}
 use Rattle.plain.proofs.NoteTurns.{variable_turn, nameless_turn, no_pairs}
-use borrow.Author.Rules.{rules}
 use Rattle.plain.proofs.rule.pairs_outcome.Goals as goal
 use Rattle.plain.proofs.rule.pairs_outcome.Goals.{in-Of, in_default}
 

@@ -1,6 +1,6 @@
 -- A loop over the later notes: what is gathered and what is left make up all pairs of the place.
-use Prim.Native.Nat.{ℕ, ◌+◌, ◌-◌, ◌≤◌}
-use mathlib.Core.Path.{◌≡◌, refl, sym, ap, ◌∙◌}
+use Prim.Native.Nat.{ℕ, ◌+◌, ◌≤◌}
+use mathlib.Core.Path.{refl, sym, ap, ◌∙◌}
 use native.Mathlib.Omega.{arith}
 use lib.ListN.{length, get_or, drop}
 use Rattle.terms.specs.RuleTests.{both, pairs_with}
@@ -13,7 +13,6 @@ use Rattle.outcomes.specs.views.CellOutcome.{outcome_of, pair_cells}
 use Rattle.plain.specs.views.NotesOutcome.{pair_test_cells}
 use Rattle.plain.proofs.Gathering.{gathered_more, gathered_all}
 use Rattle.plain.proofs.NoteTurns.{named_turn, other_turn, no_pair}
-use borrow.Author.Rules.{rules}
 use Rattle.plain.proofs.rule.pairs_with.Goals as goal
 use Rattle.plain.proofs.rule.pairs_with.Goals.{then-is_named, else-is_named}
 

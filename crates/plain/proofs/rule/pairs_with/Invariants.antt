@@ -1,20 +1,13 @@
 -- A loop over the later notes: what is gathered and what is left make up all pairs of the place.
-use Prim.Native.Nat.{ℕ, ◌+◌, ◌-◌, ◌≤◌}
-use mathlib.Core.Path.{◌≡◌, refl, sym, ap, ◌∙◌}
-use mathlib.Core.Logic.{⊎_elim}
-use native.Mathlib.Omega.{arith}
-use lib.ListN.{length, get_or, drop}
-use Rattle.terms.specs.RuleTests.{both, pairs_with}
-use Rattle.terms.specs.Outcome.{Outcome, ◌and◌, together}
-use Rattle.patterns.specs.views.NoteCode.{code_place}
+use Prim.Native.Nat.{◌-◌, ◌≤◌}
+use mathlib.Core.Path.{◌≡◌}
+use lib.ListN.{drop}
+use Rattle.terms.specs.RuleTests.{pairs_with}
+use Rattle.terms.specs.Outcome.{◌and◌, together}
 use Rattle.sheet.specs.views.NoteArray.{notes_in}
-use Rattle.pairs.specs.views.NoteVariables.{names_variable, notes_variables, Placed}
-use Rattle.pairs.proofs.NoteRows.{notes_each}
-use Rattle.outcomes.specs.views.CellOutcome.{outcome_of, pair_cells}
+use Rattle.pairs.specs.views.NoteVariables.{notes_variables}
+use Rattle.outcomes.specs.views.CellOutcome.{outcome_of}
 use Rattle.plain.specs.views.NotesOutcome.{pair_test_cells}
-use Rattle.plain.proofs.Gathering.{gathered_more, gathered_all}
-use Rattle.plain.proofs.NoteTurns.{named_turn, other_turn, no_pair}
-use borrow.Author.Rules.{rules}
 use Rattle.plain.proofs.rule.pairs_with.Given as goal
 
 abbrev pub invariant-loop-j : goal.invariant-loop-j

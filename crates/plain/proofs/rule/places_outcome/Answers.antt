@@ -1,6 +1,6 @@
 -- A loop over the notes: what is gathered and what is left make up all place tests.
-use Prim.Native.Nat.{◌+◌, ◌-◌, ◌≤◌}
-use mathlib.Core.Path.{◌≡◌, refl, sym, ap, ◌∙◌, subst}
+use Prim.Native.Nat.{◌+◌, ◌≤◌}
+use mathlib.Core.Path.{refl, sym, ap, ◌∙◌, subst}
 use native.Mathlib.Omega.{arith}
 use lib.ListN.{length, get_or, drop}
 use Rattle.terms.specs.Outcome.{Outcome, ◌and◌, together}
@@ -10,10 +10,9 @@ use Rattle.patterns.proofs.NoteCodes.{code_fits}
 use Rattle.pairs.specs.views.NoteVariables.{Placed}
 use Rattle.pairs.proofs.NoteRows.{notes_each}
 use Rattle.outcomes.specs.views.CellOutcome.{outcome_of}
-use Rattle.plain.specs.views.NotesOutcome.{record_outcome, note_outcome, places_outcome}
+use Rattle.plain.specs.views.NotesOutcome.{record_outcome, note_outcome}
 use Rattle.plain.proofs.Gathering.{gathered_more, gathered_stops, gathered_all}
 use Rattle.plain.proofs.NoteTurns.{note_turn, no_note}
-use borrow.Author.Rules.{rules}
 use Rattle.plain.proofs.rule.places_outcome.Goals as goal
 
 pub loop-i-init : goal.loop-i-init

@@ -1,19 +1,11 @@
 -- A loop over the notes: what is gathered and what is left make up all place tests.
-use Prim.Native.Nat.{◌+◌, ◌-◌, ◌≤◌}
-use mathlib.Core.Path.{◌≡◌, refl, sym, ap, ◌∙◌, subst}
-use native.Mathlib.Omega.{arith}
-use lib.ListN.{length, get_or, drop}
-use Rattle.terms.specs.Outcome.{Outcome, ◌and◌, together}
-use Rattle.patterns.specs.views.NoteCode.{note_of, Fitting}
+use Prim.Native.Nat.{◌-◌, ◌≤◌}
+use mathlib.Core.Path.{◌≡◌}
+use lib.ListN.{drop}
+use Rattle.terms.specs.Outcome.{◌and◌}
 use Rattle.sheet.specs.views.NoteArray.{notes_in}
-use Rattle.patterns.proofs.NoteCodes.{code_fits}
-use Rattle.pairs.specs.views.NoteVariables.{Placed}
-use Rattle.pairs.proofs.NoteRows.{notes_each}
 use Rattle.outcomes.specs.views.CellOutcome.{outcome_of}
-use Rattle.plain.specs.views.NotesOutcome.{record_outcome, note_outcome, places_outcome}
-use Rattle.plain.proofs.Gathering.{gathered_more, gathered_stops, gathered_all}
-use Rattle.plain.proofs.NoteTurns.{note_turn, no_note}
-use borrow.Author.Rules.{rules}
+use Rattle.plain.specs.views.NotesOutcome.{places_outcome}
 use Rattle.plain.proofs.rule.places_outcome.Given as goal
 
 abbrev pub invariant-loop-i : goal.invariant-loop-i

@@ -5,7 +5,6 @@ use borrow.Author.Tests.{le-leb, lt-leb}
 use Rattle.codes.specs.views.Codes.{number_code}
 use Rattle.outcomes.specs.views.CellOutcome.{place_cells}
 use Rattle.plain.specs.views.NotesOutcome.{tested_if}
-use borrow.Author.Rules.{rules}
 use Rattle.plain.proofs.rule.range_outcome.Goals as goal
 
 pub returns-then-high-gt65535 : goal.returns-then-high-gt65535

@@ -12,7 +12,6 @@ use Rattle.patterns.specs.declared.PatternRecord.TheVariants.{Anything, Symbol, 
 use Rattle.patterns.specs.views.NoteCode.{Fitting}
 use Rattle.patterns.specs.contracts.PatternRecord.{the_type}
 use Rattle.plain.specs.views.NotesOutcome.{fixed_outcome, record_outcome}
-use borrow.Author.Rules.{rules}
 use Rattle.plain.proofs.rule.record_outcome.Goals as goal
 
 -- A variable's tag is none of the others.

@@ -5,7 +5,6 @@ use Rattle.sheet.specs.declared.Ranges.{Ranges}
 use Rattle.sheet.specs.views.NoteArray.{notes_in}
 use Rattle.outcomes.specs.views.CellOutcome.{outcome_of}
 use Rattle.plain.specs.views.NotesOutcome.{places_outcome, pairs_outcome, notes_outcome}
-use borrow.Author.Rules.{rules}
 use Rattle.plain.proofs.rule.rule_outcome.Goals as goal
 
 pub returns-in-Contradicted : goal.returns-in-Contradicted

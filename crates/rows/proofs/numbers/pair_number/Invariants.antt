@@ -1,15 +1,11 @@
 -- A search: each pair passed comes before the pair.
-use Prim.Native.Nat.{ℕ, ◌+◌, ◌-◌, ◌≤◌, ◌<◌}
-use mathlib.Core.Path.{◌≡◌, sym, ap, ◌∙◌}
-use native.Mathlib.Omega.{arith}
-use lib.ListN.{length, get_or, drop, length-drop}
-use lib.Seq.{get_or-drop}
+use Prim.Native.Nat.{◌+◌, ◌-◌, ◌≤◌}
+use mathlib.Core.Path.{◌≡◌}
+use lib.ListN.{drop}
 use Rattle.pairs.specs.views.Slot.{slot}
 use Rattle.pairs.specs.views.KeptPairs.{pair_code}
-use Rattle.pairs.proofs.Slots.{slot_end, slot_found, slot_further}
 use Rattle.tables.specs.views.Planes.{tests_in, place_tests_in}
 use Rattle.test_list.specs.views.Tests.{pairs_listed}
-use borrow.Author.Rules.{rules}
 use Rattle.rows.proofs.numbers.pair_number.Given as goal
 
 abbrev pub invariant-loop-i : goal.invariant-loop-i

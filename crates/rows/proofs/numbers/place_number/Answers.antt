@@ -1,7 +1,6 @@
 -- One load from the table.
 use mathlib.Core.Path.{refl}
 use native.Mathlib.Omega.{arith}
-use borrow.Author.Rules.{rules}
 use Rattle.rows.proofs.numbers.place_number.Goals as goal
 
 pub overflow_cast-result : goal.overflow_cast-result

@@ -1,16 +1,13 @@
 -- A loop over the notes: the pairs of those passed are in the set.
-use Prim.Native.Nat.{ℕ, ◌+◌, ◌-◌, ◌≤◌}
-use mathlib.Core.Path.{◌≡◌, refl, sym, ap, ◌∙◌}
+use Prim.Native.Nat.{ℕ, ◌+◌, ◌≤◌}
+use mathlib.Core.Path.{refl, sym, ap, ◌∙◌}
 use native.Mathlib.Omega.{arith}
-use lib.ListN.{length, drop}
-use Rattle.sheet.specs.views.NoteArray.{notes_in}
-use Rattle.pairs.specs.views.NoteVariables.{name_of, notes_codes, Placed}
+use lib.ListN.{length}
+use Rattle.pairs.specs.views.NoteVariables.{name_of, Placed}
 use Rattle.pairs.proofs.NoteRows.{notes_each}
 use Rattle.tables.specs.views.Planes.{place_tests_in}
 use Rattle.test_list.specs.views.Tests.{pairs_listed}
-use Rattle.rows.specs.views.Row.{with_tests, pair_numbers}
 use Rattle.rows.proofs.RowTurns.{with_from, pairs_from, pairs_named, pairs_nameless, pairs_end}
-use borrow.Author.Rules.{rules}
 use Rattle.rows.proofs.row.pairs_row.Goals as goal
 use Rattle.rows.proofs.row.pairs_row.Goals.{in-Of, in_default}
 

@@ -1,17 +1,12 @@
 -- A loop over the notes: the pairs of those passed are in the set.
-use Prim.Native.Nat.{ℕ, ◌+◌, ◌-◌, ◌≤◌}
-use mathlib.Core.Path.{◌≡◌, refl, sym, ap, ◌∙◌}
-use mathlib.Core.Logic.{⊎_elim}
-use native.Mathlib.Omega.{arith}
-use lib.ListN.{length, drop}
+use Prim.Native.Nat.{◌-◌, ◌≤◌}
+use mathlib.Core.Path.{◌≡◌}
+use lib.ListN.{drop}
 use Rattle.sheet.specs.views.NoteArray.{notes_in}
-use Rattle.pairs.specs.views.NoteVariables.{name_of, notes_codes, Placed}
-use Rattle.pairs.proofs.NoteRows.{notes_each}
+use Rattle.pairs.specs.views.NoteVariables.{notes_codes}
 use Rattle.tables.specs.views.Planes.{place_tests_in}
 use Rattle.test_list.specs.views.Tests.{pairs_listed}
 use Rattle.rows.specs.views.Row.{with_tests, pair_numbers}
-use Rattle.rows.proofs.RowTurns.{with_from, pairs_from, pairs_named, pairs_nameless, pairs_end}
-use borrow.Author.Rules.{rules}
 use Rattle.rows.proofs.row.pairs_row.Given as goal
 
 abbrev pub invariant-loop-i : goal.invariant-loop-i

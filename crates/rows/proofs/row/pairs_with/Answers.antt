@@ -1,17 +1,15 @@
 -- A loop over the later notes: the pairs with those passed are in the set.
-use Prim.Native.Nat.{ℕ, ◌+◌, ◌-◌, ◌≤◌}
-use mathlib.Core.Path.{◌≡◌, refl, sym, ap, ◌∙◌}
+use Prim.Native.Nat.{ℕ, ◌+◌, ◌≤◌}
+use mathlib.Core.Path.{refl, sym, ap, ◌∙◌}
 use native.Mathlib.Omega.{arith}
-use lib.ListN.{length, drop}
-use Rattle.sheet.specs.views.NoteArray.{notes_in}
+use lib.ListN.{length}
 use Rattle.pairs.specs.views.KeptPairs.{pair_code}
-use Rattle.pairs.specs.views.NoteVariables.{names_variable, codes_with, Placed}
+use Rattle.pairs.specs.views.NoteVariables.{names_variable, Placed}
 use Rattle.pairs.proofs.NoteRows.{notes_each}
 use Rattle.tables.specs.views.Planes.{place_tests_in}
 use Rattle.test_list.specs.views.Tests.{pairs_listed}
-use Rattle.rows.specs.views.Row.{with_test, with_tests, pair_number, pair_numbers}
+use Rattle.rows.specs.views.Row.{with_test, pair_number}
 use Rattle.rows.proofs.RowTurns.{with_from, with_yes, with_no, with_end}
-use borrow.Author.Rules.{rules}
 use Rattle.rows.proofs.row.pairs_with.Goals as goal
 use Rattle.rows.proofs.row.pairs_with.Goals.{then-is_named, else-is_named}
 

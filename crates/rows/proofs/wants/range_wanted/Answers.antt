@@ -1,6 +1,5 @@
 -- A range, where the high end is one.
 use Rattle.rows.proofs.NotesWanted.{range_some, range_none}
-use borrow.Author.Rules.{rules}
 use Rattle.rows.proofs.wants.range_wanted.Goals as goal
 
 pub returns-then-high-lt65536 : goal.returns-then-high-lt65536

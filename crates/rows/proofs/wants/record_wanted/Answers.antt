@@ -8,7 +8,6 @@ use Rattle.patterns.specs.declared.PatternRecord.{PatternRecord}
 use Rattle.patterns.specs.views.NoteCode.{Fitting}
 use Rattle.rows.specs.declared.Wanted.TheVariants.{Codes}
 use Rattle.rows.specs.views.Wants.{record_want, wanted_codes}
-use borrow.Author.Rules.{rules}
 use Rattle.rows.proofs.wants.record_wanted.Goals as goal
 
 pub bounds-ranges-u : goal.bounds-ranges-u

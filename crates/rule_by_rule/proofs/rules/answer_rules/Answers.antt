@@ -1,8 +1,8 @@
 -- A loop over the rules: what comes of those left, with what is answered so far, is what comes of all.
-use Prim.Native.Nat.{ℕ, ◌+◌, ◌-◌, ◌≤◌}
+use Prim.Native.Nat.{ℕ, ◌+◌}
 use mathlib.Core.Path.{◌≡◌, refl, sym, ap, ◌∙◌}
 use native.Mathlib.Omega.{arith}
-use lib.ListN.{length, drop}
+use lib.ListN.{drop}
 use Rattle.records.specs.Reading.{map_reading}
 use Rattle.records.proofs.Parts.{rest}
 use Rattle.terms.specs.Answer.{Answer, fail}
@@ -13,7 +13,6 @@ use Rattle.plain.specs.Plain.{PlainValues, answer_of, answer_values, reading_val
 use Rattle.rule_by_rule.specs.views.RuleByRule.{answer_after, moved_by}
 use Rattle.plain.specs.views.NotesOutcome.{cells_outcome}
 use Rattle.rule_by_rule.proofs.RuleTurns.{answer_from, turns_start, turns_end, turns_suspend, turn_next, turn_read}
-use borrow.Author.Rules.{rules}
 use Rattle.rule_by_rule.proofs.rules.answer_rules.Goals as goal
 use Rattle.rule_by_rule.proofs.rules.answer_rules.Goals.{After-moved-answer}
 

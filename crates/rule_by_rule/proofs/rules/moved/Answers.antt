@@ -3,7 +3,6 @@ use mathlib.Core.Path.{sym, ap, ◌∙◌}
 use Rattle.outcomes.specs.views.CellOutcome.{outcome_of}
 use Rattle.plain.specs.Plain.{answer_of}
 use Rattle.rule_by_rule.specs.views.RuleByRule.{answer_after}
-use borrow.Author.Rules.{rules}
 use Rattle.rule_by_rule.proofs.rules.moved.Goals as goal
 
 pub returns-in-Holds : goal.returns-in-Holds

@@ -7,7 +7,6 @@ use Rattle.sheet.proofs.SheetReads.{rule_is}
 use Rattle.sheet_tests.proofs.Scanning.{RuleRead, bytes_known, rule_read_lem, rule_refused}
 use Rattle.plain.specs.views.NotesOutcome.{notes_outcome}
 use Rattle.rule_by_rule.proofs.RuleTurns.{readings_apart, same_rule}
-use borrow.Author.Rules.{rules}
 use Rattle.rule_by_rule.proofs.rules.tried.Goals as goal
 use Rattle.rule_by_rule.proofs.rules.tried.Goals.{In-Used}
 

@@ -3,7 +3,6 @@ use Prim.Native.Nat.{◌≤◌}
 use mathlib.Core.Path.{sym, ◌∙◌}
 use native.Mathlib.Omega.{arith}
 use Rattle.rule_rows.proofs.NextRecords.{ends_last, ends_cut, record_there, goes_next, goes_on}
-use borrow.Author.Rules.{rules}
 use Rattle.rule_rows.proofs.rows.next_record.Goals as goal
 
 pub returns-then-fewer-eq0 : goal.returns-then-fewer-eq0

@@ -1,7 +1,6 @@
 -- Only a variable's record counts.
 use mathlib.Core.Path.{sym, ap, ◌∙◌}
 use Rattle.rule_rows.specs.views.Words.{met_record}
-use borrow.Author.Rules.{rules}
 use Rattle.rule_rows.proofs.words.meet_record.Goals as goal
 
 pub returns-in-Variable : goal.returns-in-Variable

@@ -1,13 +1,11 @@
 -- A loop over the records: what is known, with the records left, is what is known at the end.
-use mathlib.Core.Path.{◌≡◌, refl, sym, ap, ◌∙◌}
+use mathlib.Core.Path.{refl, sym, ap, ◌∙◌}
 use Prim.Native.Nat.{ℕ}
 use mathlib.Core.List.{List}
-use lib.ListN.{length}
 use native.Mathlib.Omega.{arith}
 use Rattle.rule_rows.proofs.NextRecords.{goes, ends, behind_it}
-use Rattle.rule_rows.specs.views.Row.{records_from, Going}
+use Rattle.rule_rows.specs.views.Row.{records_from}
 use Rattle.rule_rows.specs.views.Words.{met_records}
-use borrow.Author.Rules.{rules}
 use Rattle.rule_rows.proofs.words.meet_row.Goals as goal
 
 pub loop-what-init : goal.loop-what-init

@@ -2,7 +2,6 @@
 use Prim.Native.Nat.{◌%◌}
 use mathlib.Core.Path.{ap, ◌∙◌}
 use lib.ListN.{length-set, set}
-use borrow.Author.Rules.{rules}
 use Rattle.rule_rows.proofs.words.meet_variable.Goals as goal
 
 pub returns : goal.returns

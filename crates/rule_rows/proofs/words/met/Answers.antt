@@ -1,6 +1,5 @@
 -- The parts are taken out, met, and put together again.
 use Rattle.rule_rows.proofs.WordLaws.{met_is}
-use borrow.Author.Rules.{rules}
 use Rattle.rule_rows.proofs.words.met.Goals as goal
 
 pub returns : goal.returns

@@ -3,7 +3,6 @@ use mathlib.Core.Path.{sym, ap, ◌∙◌}
 use native.Mathlib.Omega.{arith}
 use Rattle.patterns.specs.declared.PatternRecord.{PatternRecord}
 use Rattle.rule_rows.specs.views.Words.{Numbering, number_record}
-use borrow.Author.Rules.{rules}
 use Rattle.rule_rows.proofs.words.number_record.Goals as goal
 
 pub returns-in-Anything : goal.returns-in-Anything

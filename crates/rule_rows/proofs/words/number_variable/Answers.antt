@@ -4,7 +4,6 @@ use mathlib.Core.Path.{◌∙◌}
 use lib.ListN.{get_or, length-set}
 use native.Mathlib.Omega.{arith}
 use Rattle.rule_rows.proofs.WordLaws.{number_none, number_given}
-use borrow.Author.Rules.{rules}
 use Rattle.rule_rows.proofs.words.number_variable.Goals as goal
 
 pub returns-then-word-ne2 : goal.returns-then-word-ne2

@@ -1,11 +1,10 @@
 -- A loop over the listed places: those passed have their numbers.
-use Prim.Native.Nat.{ℕ, ◌+◌, ◌-◌, ◌≤◌}
-use mathlib.Core.Path.{◌≡◌, refl, sym, ap, ◌∙◌}
+use Prim.Native.Nat.{ℕ, ◌+◌}
+use mathlib.Core.Path.{refl, sym, ap, ◌∙◌}
 use native.Mathlib.Omega.{arith}
 use lib.ListN.{length, take, drop, set, length-set}
 use Rattle.test_list.specs.views.Numbers.{number_all}
 use Rattle.test_list.proofs.PlaceNumbers.{number_turn, number_skip, number_end}
-use borrow.Author.Rules.{rules}
 use Rattle.test_list.proofs.numbers.number_places.Goals as goal
 use Rattle.test_list.proofs.numbers.number_places.Goals.{then-place-lt680, else-place-lt680}
 

@@ -1,12 +1,8 @@
 -- A loop over the listed places: those passed have their numbers.
-use Prim.Native.Nat.{ℕ, ◌+◌, ◌-◌, ◌≤◌}
-use mathlib.Core.Path.{◌≡◌, refl, sym, ap, ◌∙◌}
-use mathlib.Core.Logic.{⊎_elim}
-use native.Mathlib.Omega.{arith}
-use lib.ListN.{length, take, drop, set, length-set}
+use Prim.Native.Nat.{◌-◌, ◌≤◌}
+use mathlib.Core.Path.{◌≡◌}
+use lib.ListN.{length, take, drop}
 use Rattle.test_list.specs.views.Numbers.{number_all}
-use Rattle.test_list.proofs.PlaceNumbers.{number_turn, number_skip, number_end}
-use borrow.Author.Rules.{rules}
 use Rattle.test_list.proofs.numbers.number_places.Given as goal
 
 abbrev pub invariant-loop-t : goal.invariant-loop-t

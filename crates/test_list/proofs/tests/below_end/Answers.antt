@@ -5,7 +5,6 @@ use native.Mathlib.Omega.{arith}
 use Rattle.places.specs.Numbering.{stride}
 use Rattle.places.proofs.Rows.{step_most}
 use Rattle.places.proofs.Levels.{depth_range, levels_by_depth}
-use borrow.Author.Rules.{rules}
 use Rattle.test_list.proofs.tests.below_end.Goals as goal
 
 pub overflow_sub-depth : goal.overflow_sub-depth

@@ -1,11 +1,10 @@
 -- A loop over the pairs: those passed are written down.
-use Prim.Native.Nat.{◌+◌, ◌-◌}
+use Prim.Native.Nat.{◌+◌}
 use mathlib.Core.Path.{◌≡◌, refl, sym, ◌∙◌}
 use native.Mathlib.Omega.{arith}
 use lib.ListN.{length, take}
 use lib.Seq.{length-take-le, get_or-take}
-use Rattle.test_list.proofs.PutLists.{Putting, putting_start, putting_turn, putting_done}
-use borrow.Author.Rules.{rules}
+use Rattle.test_list.proofs.PutLists.{putting_start, putting_turn, putting_done}
 use Rattle.test_list.proofs.tests.put_pairs.Goals as goal
 
 pub loop-t-init : goal.loop-t-init

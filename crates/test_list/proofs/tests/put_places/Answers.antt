@@ -1,13 +1,11 @@
 -- A loop over the listed places: those passed are written down.
-use Prim.Native.Nat.{◌-◌}
 use mathlib.Core.Path.{◌≡◌, refl, sym, ap, ◌∙◌}
 use mathlib.Core.List.{map}
 use native.Mathlib.Omega.{arith}
 use lib.ListN.{length, take, length-map, get_or-map}
 use lib.Seq.{length-take-le, get_or-take}
 use Rattle.test_list.specs.views.Tests.{spot_code}
-use Rattle.test_list.proofs.PutLists.{Putting, putting_start, putting_turn, putting_done}
-use borrow.Author.Rules.{rules}
+use Rattle.test_list.proofs.PutLists.{putting_start, putting_turn, putting_done}
 use Rattle.test_list.proofs.tests.put_places.Goals as goal
 
 pub loop-t-init : goal.loop-t-init

@@ -7,7 +7,6 @@ use lib.ListN.{length, take, set}
 use lib.Seq.{length-take-le}
 use Rattle.test_list.specs.views.Tests.{put_all, spot_code, tests_put}
 use Rattle.test_list.proofs.PutLists.{put_length}
-use borrow.Author.Rules.{rules}
 use Rattle.test_list.proofs.tests.put_tests.Goals as goal
 
 pub put_pairs-requires : goal.put_pairs-requires

@@ -1,16 +1,15 @@
 -- A loop over the place tests: what an unknown at those passed settles is written down.
-use Prim.Native.Nat.{ℕ, ◌-◌, ◌<◌}
+use Prim.Native.Nat.{ℕ, ◌<◌}
 use mathlib.Core.Path.{◌≡◌, refl, sym, ap, ◌∙◌}
-use mathlib.Core.List.{List, map}
+use mathlib.Core.List.{List}
 use native.Mathlib.Omega.{arith}
 use lib.ListN.{length, get_or, length-map}
 use Rattle.basics.specs.Lists.{count_from}
 use Rattle.basics.proofs.Counting.{count_length}
 use Rattle.tables.specs.views.Planes.{place_tests_in}
 use Rattle.test_list.specs.views.Tests.{settled_below, under_put}
-use Rattle.test_list.proofs.PutLists.{Putting, putting_start, putting_turn, putting_done, row_at}
+use Rattle.test_list.proofs.PutLists.{putting_start, putting_turn, putting_done, row_at}
 use Rattle.test_list.proofs.SameTests.{same_counted, same_settled}
-use borrow.Author.Rules.{rules}
 use Rattle.test_list.proofs.tests.put_under.Invariants.{sets}
 use Rattle.test_list.proofs.tests.put_under.Goals as goal
 

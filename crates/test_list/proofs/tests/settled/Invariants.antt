@@ -1,14 +1,9 @@
 -- A loop over the place tests from t on: of those passed, the settled ones are in the set.
 use Prim.Native.Nat.{◌-◌, ◌≤◌}
-use mathlib.Core.Path.{◌≡◌, ◌∙◌}
-use mathlib.Core.Logic.{⊎_elim}
-use native.Mathlib.Omega.{arith}
+use mathlib.Core.Path.{◌≡◌}
 use Rattle.masks.specs.Mask.{mask_of}
-use Rattle.masks.proofs.Loops.{turn_yes, turn_no, turns_done}
 use Rattle.tables.specs.views.Planes.{place_tests_in}
-use Rattle.test_list.specs.views.Tests.{is_settled, settled_below}
-use Rattle.test_list.proofs.SettledTests.{settled_start, settled_here}
-use borrow.Author.Rules.{rules}
+use Rattle.test_list.specs.views.Tests.{is_settled}
 use Rattle.test_list.proofs.tests.settled.Given as goal
 
 abbrev pub invariant-loop-u : goal.invariant-loop-u
