@@ -15,7 +15,6 @@ use Rattle.lines.specs.Lines.{refused_line}
 use Rattle.decision.specs.Walk.{Walk}
 use Rattle.walk.specs.Walking.{walk_reply, walked_reading}
 use Rattle.walk_all.specs.declared.First.{First}
-use Rattle.walk_all.specs.views.Known.{Known}
 use Rattle.walk_all.specs.views.FirstPiece.{first_reply, first_of, first_made, PieceWithin}
 use Rattle.walk_all.proofs.FirstMade.{used_read, some_piece, walked_right, other_right}
 use Rattle.piece_lines.specs.BuiltLines.{first_walk}
