@@ -15,7 +15,6 @@ use Rattle.lines.specs.Lines.{refused_line}
 use Rattle.decision.specs.Walk.{Walk}
 use Rattle.walk.specs.Walking.{walk_reply, walked_reading}
 use Rattle.walk_all.specs.declared.First.{First}
-use Rattle.walk_all.specs.views.Known.{Known}
 use Rattle.walk_all.specs.views.FirstPiece.{first_reply, first_of, first_made, PieceWithin}
 use Rattle.walk_all.proofs.FirstMade.{used_read, some_piece, walked_right, other_right}
 use Rattle.piece_lines.specs.BuiltLines.{first_walk}
@@ -71,13 +70,13 @@ module _ (c : goal.After-put_first-turn) (bytes : (i : ℕ) → IsByte (get_or c
       c.open_graph-opened.ensures.0 c.in-Ready.is in
       let arity = sym c.has_arity.ensures in
       elim c.if-has_arity.branch [
-        then-has_arity w ↦
-          walked_right (pieces c) (cells c) piece_bytes_lem known c.read_prefix-prefix.result c.if-has_arity.walked (prefix_told c)
-          (prefix_there c) (arity ∙ w.if-has_arity.true)
-          (λ t p k. ap walked_reading w.walked-is ∙ w.walk_checked-walked.ensures.result_value t p k)
-      | else-has_arity w ↦
-          other_right (pieces c) (cells c) piece_bytes_lem known c.read_prefix-prefix.result c.if-has_arity.walked (prefix_told c)
-          (prefix_there c) (arity ∙ w.if-has_arity.false) w.walked-is
+        | then-has_arity w ↦
+            walked_right (pieces c) (cells c) piece_bytes_lem known c.read_prefix-prefix.result c.if-has_arity.walked (prefix_told c)
+            (prefix_there c) (arity ∙ w.if-has_arity.true)
+            (λ t p k. ap walked_reading w.walked-is ∙ w.walk_checked-walked.ensures.result_value t p k)
+        | else-has_arity w ↦
+            other_right (pieces c) (cells c) piece_bytes_lem known c.read_prefix-prefix.result c.if-has_arity.walked (prefix_told c)
+            (prefix_there c) (arity ∙ w.if-has_arity.false) w.walked-is
       ]
 
   turn_told : (t : Turn) → Said c t (answered (first_of c.first_of-first.result)) → Said c t (first_walk (reply c) (pieces c))
@@ -169,8 +168,8 @@ loop-from-preserved c =
       at_piece (reply step) c.args.input.now print.new.buf print.result loop.invariant.5 (omega arith) c.loop-from-test.true
           (walk_line loop.n w) (omega (arith, inside.2)) wrote is refl,
       elim c.if-has_arity.branch [
-        then-has_arity w ↦ ap length w.notes-is ∙ w.walk_checked-walked.ensures.notes_len
-      | else-has_arity w ↦ ap length w.notes-is ∙ loop.invariant.6
+        | then-has_arity w ↦ ap length w.notes-is ∙ w.walk_checked-walked.ensures.notes_len
+        | else-has_arity w ↦ ap length w.notes-is ∙ loop.invariant.6
       ],
       subst (λ (k : ℕ). k ≤ 680) used next.0,
       subst (λ (k : ℕ). UsedTo k (cells step)) used next.1,

@@ -5,7 +5,6 @@ use Rattle.walk_all.specs.declared.First.{First}
 use Rattle.walk_all.specs.views.FirstPiece.{first_of, PieceWithin}
 use Rattle.piece_lines.specs.views.Turned.{answered}
 use Rattle.piece_lines.proofs.Turns.{turned_last, Turned-more}
-use borrow.Author.Rules.{rules}
 use Rattle.piece_lines.proofs.put_first.Goals as goal
 
 pub put_refused-requires : goal.put_refused-requires
