@@ -41,19 +41,22 @@ loop-i-preserved c =
     let rest = pairs_outcome cells later in
     let name = ap name_of (sym c.note_record.ensures) ∙ sym c.name_of-name.ensures in
     let inside = c.loop-i-test.true in
-    elim c.match-name.branch [ in-Of w ↦
-    let v = w.in-Of.v in
-    let turn = variable_turn codes a.n within i f v inside (name ∙ w.in-Of.is) in
-    let with_place : ℕ → Outcome = λ p. together f (pairs_with p v (notes_variables later)) in
-    let own = w.pairs_with.ensures ∙ ap with_place w.note_place.ensures in (
-      omega arith,
-      ap (λ (x : Outcome). ◌and◌ x rest) (ap outcome_of w.outcome-is ∙ w.both-outcome.ensures ∙ ap (◌and◌ gathered) own)
-          ∙ gathered_more gathered (with_place (code_place (get_or codes i 0))) rest (sym (ap (◌and◌ gathered) turn) ∙ c.loop-i.invariant.1),
-    ) | in_default w ↦
-    let turn = nameless_turn codes a.n within i f inside (name ∙ w.in_default.is) in (
-      omega arith,
-      ap (λ o. ◌and◌ (outcome_of o) rest) w.outcome-is ∙ sym (ap (◌and◌ gathered) turn) ∙ c.loop-i.invariant.1,
-    ) ]
+    elim c.match-name.branch [
+      | in-Of w ↦
+          let v = w.in-Of.v in
+          let turn = variable_turn codes a.n within i f v inside (name ∙ w.in-Of.is) in
+          let with_place : ℕ → Outcome = λ p. together f (pairs_with p v (notes_variables later)) in
+          let own = w.pairs_with.ensures ∙ ap with_place w.note_place.ensures in (
+            omega arith,
+            ap (λ (x : Outcome). ◌and◌ x rest) (ap outcome_of w.outcome-is ∙ w.both-outcome.ensures ∙ ap (◌and◌ gathered) own)
+                ∙ gathered_more gathered (with_place (code_place (get_or codes i 0))) rest (sym (ap (◌and◌ gathered) turn) ∙ c.loop-i.invariant.1),
+          )
+      | in_default w ↦
+          let turn = nameless_turn codes a.n within i f inside (name ∙ w.in_default.is) in (
+            omega arith,
+            ap (λ o. ◌and◌ (outcome_of o) rest) w.outcome-is ∙ sym (ap (◌and◌ gathered) turn) ∙ c.loop-i.invariant.1,
+          )
+    ]
 
 pub returns : goal.returns
 returns c =

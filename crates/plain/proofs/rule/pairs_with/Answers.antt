@@ -39,18 +39,21 @@ loop-j-preserved c =
     let rest = together f (pairs_with a.place a.v (notes_variables (drop (i + 1) (notes_in codes a.n)))) in
     let named = ap (names_variable a.v) (sym c.note_record.ensures) ∙ sym c.is_named.ensures in
     let inside = c.loop-j-test.true in
-    elim c.if-is_named.branch [ then-is_named w ↦
-    let turn = named_turn codes a.n within i f a.place a.v inside (named ∙ w.if-is_named.true) in
-    let one = w.pair_outcome.ensures ∙ ap (λ (q : ℕ). pair_cells cells a.place q) w.note_place.ensures in (
-      omega arith,
-      ap (λ (x : Outcome). ◌and◌ x rest) (ap outcome_of w.outcome-is ∙ w.both-outcome.ensures ∙ ap (◌and◌ gathered) one)
-          ∙ gathered_more gathered (f (both a.place (code_place (get_or codes i 0)))) rest
-          (sym (ap (◌and◌ gathered) turn) ∙ c.loop-j.invariant.1),
-    ) | else-is_named w ↦
-    let turn = other_turn codes a.n within i f a.place a.v inside (named ∙ w.if-is_named.false) in (
-      omega arith,
-      ap (λ o. ◌and◌ (outcome_of o) rest) w.outcome-is ∙ sym (ap (◌and◌ gathered) turn) ∙ c.loop-j.invariant.1,
-    ) ]
+    elim c.if-is_named.branch [
+      | then-is_named w ↦
+          let turn = named_turn codes a.n within i f a.place a.v inside (named ∙ w.if-is_named.true) in
+          let one = w.pair_outcome.ensures ∙ ap (λ (q : ℕ). pair_cells cells a.place q) w.note_place.ensures in (
+            omega arith,
+            ap (λ (x : Outcome). ◌and◌ x rest) (ap outcome_of w.outcome-is ∙ w.both-outcome.ensures ∙ ap (◌and◌ gathered) one)
+                ∙ gathered_more gathered (f (both a.place (code_place (get_or codes i 0)))) rest
+                (sym (ap (◌and◌ gathered) turn) ∙ c.loop-j.invariant.1),
+          )
+      | else-is_named w ↦
+          let turn = other_turn codes a.n within i f a.place a.v inside (named ∙ w.if-is_named.false) in (
+            omega arith,
+            ap (λ o. ◌and◌ (outcome_of o) rest) w.outcome-is ∙ sym (ap (◌and◌ gathered) turn) ∙ c.loop-j.invariant.1,
+          )
+    ]
 
 pub returns : goal.returns
 returns c =

@@ -32,20 +32,23 @@ loop-i-preserved c =
     let within : a.n ≤ length notes = omega (arith, c.requires) in
     let i = c.loop-i.i in
     let name = ap name_of (sym c.note_record.ensures) ∙ sym c.name_of-name.ensures in
-    elim c.match-name.branch [ in-Of w ↦
-    let v = w.in-Of.v in
-    let pairs : ℕ → ℕ = λ p. with_from notes a.n within i count kept p v (i + 1) turn.all in
-    let own = w.pairs_with-all.ensures ∙ ap pairs w.note_place-p.ensures in (
-      omega arith,
-      ap (pairs_from notes a.n within i count kept (i + 1)) (w.all-is ∙ own)
-          ∙ pairs_named notes a.n within i count kept v (omega arith) (name ∙ w.in-Of.is) turn.all
-          ∙ turn.invariant.1,
-    ) | in_default w ↦ (
-      omega arith,
-      ap (pairs_from notes a.n within i count kept (i + 1)) w.all-is
-          ∙ pairs_nameless notes a.n within i count kept (omega arith) (name ∙ w.in_default.is) turn.all
-          ∙ turn.invariant.1,
-    ) ]
+    elim c.match-name.branch [
+      | in-Of w ↦
+          let v = w.in-Of.v in
+          let pairs : ℕ → ℕ = λ p. with_from notes a.n within i count kept p v (i + 1) turn.all in
+          let own = w.pairs_with-all.ensures ∙ ap pairs w.note_place-p.ensures in (
+            omega arith,
+            ap (pairs_from notes a.n within i count kept (i + 1)) (w.all-is ∙ own)
+                ∙ pairs_named notes a.n within i count kept v (omega arith) (name ∙ w.in-Of.is) turn.all
+                ∙ turn.invariant.1,
+          )
+      | in_default w ↦ (
+        omega arith,
+        ap (pairs_from notes a.n within i count kept (i + 1)) w.all-is
+            ∙ pairs_nameless notes a.n within i count kept (omega arith) (name ∙ w.in_default.is) turn.all
+            ∙ turn.invariant.1,
+      )
+    ]
 
 pub returns : goal.returns
 returns c =

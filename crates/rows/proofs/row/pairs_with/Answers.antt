@@ -33,19 +33,22 @@ loop-j-preserved c =
     let within : a.n ≤ length notes = omega (arith, c.requires) in
     let j = c.loop-j.j in
     let test = ap (names_variable a.v) (sym c.note_record.ensures) ∙ sym c.is_named.ensures in
-    elim c.if-is_named.branch [ then-is_named w ↦
-    let t = w.pair_number.ensures ∙ ap (λ (q : ℕ). pair_number count kept (pair_code a.place q)) w.note_place-q.ensures in (
-      omega arith,
-      ap (with_from notes a.n within j count kept a.place a.v (j + 1))
-          (w.all-is ∙ w.with_test-all.ensures ∙ ap (with_test turn.all) t)
-          ∙ with_yes notes a.n within j count kept a.place a.v (omega arith) (test ∙ w.if-is_named.true) turn.all
-          ∙ turn.invariant.1,
-    ) | else-is_named w ↦ (
-      omega arith,
-      ap (with_from notes a.n within j count kept a.place a.v (j + 1)) w.all-is
-          ∙ with_no notes a.n within j count kept a.place a.v (omega arith) (test ∙ w.if-is_named.false) turn.all
-          ∙ turn.invariant.1,
-    ) ]
+    elim c.if-is_named.branch [
+      | then-is_named w ↦
+          let t = w.pair_number.ensures ∙ ap (λ (q : ℕ). pair_number count kept (pair_code a.place q)) w.note_place-q.ensures in (
+            omega arith,
+            ap (with_from notes a.n within j count kept a.place a.v (j + 1))
+                (w.all-is ∙ w.with_test-all.ensures ∙ ap (with_test turn.all) t)
+                ∙ with_yes notes a.n within j count kept a.place a.v (omega arith) (test ∙ w.if-is_named.true) turn.all
+                ∙ turn.invariant.1,
+          )
+      | else-is_named w ↦ (
+        omega arith,
+        ap (with_from notes a.n within j count kept a.place a.v (j + 1)) w.all-is
+            ∙ with_no notes a.n within j count kept a.place a.v (omega arith) (test ∙ w.if-is_named.false) turn.all
+            ∙ turn.invariant.1,
+      )
+    ]
 
 pub returns : goal.returns
 returns c =

@@ -42,20 +42,23 @@ loop-i-preserved c =
     let i = c.loop-i.i in
     let what = c.note_record.ensures in
     let want = c.record_wanted-wanted.ensures ∙ ap (λ (r : PatternRecord). wanted_codes (record_want low high r)) what in
-    elim c.match-wanted.branch [ in-Codes w ↦
-    let (v, is, least, most) = wanted_some (want_here low high notes a.n within i) (sym w.in-Codes.is ∙ want) in
-    let t = w.place_number.ensures.0 ∙ ap (λ (p : ℕ). get_or numbers p 0) w.note_place.ensures in (
-      omega arith,
-      ap (places_from low high notes a.n within i numbers (i + 1)) (w.row-is ∙ w.with_test-row.ensures ∙ ap (with_test turn.row) t)
-          ∙ places_turn low high notes a.n within i numbers (omega arith) v is turn.row
-          ∙ turn.invariant.1,
-    ) | in_default w ↦
-    let is = wanted_none (want_here low high notes a.n within i) (sym w.in_default.is ∙ want) in (
-      omega arith,
-      ap (places_from low high notes a.n within i numbers (i + 1)) w.row-is
-          ∙ places_skip low high notes a.n within i numbers (omega arith) is turn.row
-          ∙ turn.invariant.1,
-    ) ]
+    elim c.match-wanted.branch [
+      | in-Codes w ↦
+          let (v, is, least, most) = wanted_some (want_here low high notes a.n within i) (sym w.in-Codes.is ∙ want) in
+          let t = w.place_number.ensures.0 ∙ ap (λ (p : ℕ). get_or numbers p 0) w.note_place.ensures in (
+            omega arith,
+            ap (places_from low high notes a.n within i numbers (i + 1)) (w.row-is ∙ w.with_test-row.ensures ∙ ap (with_test turn.row) t)
+                ∙ places_turn low high notes a.n within i numbers (omega arith) v is turn.row
+                ∙ turn.invariant.1,
+          )
+      | in_default w ↦
+          let is = wanted_none (want_here low high notes a.n within i) (sym w.in_default.is ∙ want) in (
+            omega arith,
+            ap (places_from low high notes a.n within i numbers (i + 1)) w.row-is
+                ∙ places_skip low high notes a.n within i numbers (omega arith) is turn.row
+                ∙ turn.invariant.1,
+          )
+    ]
 
 pub returns : goal.returns
 returns c =

@@ -7,15 +7,15 @@ use Rattle.rule_rows.proofs.rows.next_record.Goals as goal
 
 pub returns-then-fewer-eq0 : goal.returns-then-fewer-eq0
 returns-then-fewer-eq0 c = record {
-      row_value = ends_last c.args.s.now c.args.row (sym c.fewer.ensures ∙ c.if-fewer-eq0.true);
-      goes_on = tt;
-    }
+  row_value = ends_last c.args.s.now c.args.row (sym c.fewer.ensures ∙ c.if-fewer-eq0.true);
+  goes_on = tt;
+}
 
 pub returns-in_default : goal.returns-in_default
 returns-in_default c = record {
-      row_value = ends_cut c.args.s.now c.args.row c.pattern_head-head.ensures c.in_default.is;
-      goes_on = tt;
-    }
+  row_value = ends_cut c.args.s.now c.args.row c.pattern_head-head.ensures c.in_default.is;
+  goes_on = tt;
+}
 
 pub overflow_add-result : goal.overflow_add-result
 overflow_add-result c =

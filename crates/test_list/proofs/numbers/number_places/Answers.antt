@@ -19,19 +19,22 @@ loop-t-preserved c =
     let t = c.loop-t.t in
     let numbers = c.loop-t.numbers in
     let is = c.wide-place.ensures in
-    elim c.if-place-lt680.branch [ then-place-lt680 w ↦ (
-      omega arith,
-      ap length w.numbers-is ∙ length-set numbers _ t ∙ turn.invariant.1,
-      ap (number_all (drop (t + 1) (take count places)) (t + 1)) (w.numbers-is ∙ ap (λ (p : ℕ). set numbers p t) is)
-          ∙ number_turn places count t (omega arith) (omega arith) numbers
-          ∙ turn.invariant.2,
-    ) | else-place-lt680 w ↦ (
-      omega arith,
-      ap length w.numbers-is ∙ turn.invariant.1,
-      ap (number_all (drop (t + 1) (take count places)) (t + 1)) w.numbers-is
-          ∙ number_skip places count t (omega arith) (omega arith) numbers (omega (arith, w.if-place-lt680.false, is, turn.invariant.1))
-          ∙ turn.invariant.2,
-    ) ]
+    elim c.if-place-lt680.branch [
+      | then-place-lt680 w ↦ (
+        omega arith,
+        ap length w.numbers-is ∙ length-set numbers _ t ∙ turn.invariant.1,
+        ap (number_all (drop (t + 1) (take count places)) (t + 1)) (w.numbers-is ∙ ap (λ (p : ℕ). set numbers p t) is)
+            ∙ number_turn places count t (omega arith) (omega arith) numbers
+            ∙ turn.invariant.2,
+      )
+      | else-place-lt680 w ↦ (
+        omega arith,
+        ap length w.numbers-is ∙ turn.invariant.1,
+        ap (number_all (drop (t + 1) (take count places)) (t + 1)) w.numbers-is
+            ∙ number_skip places count t (omega arith) (omega arith) numbers (omega (arith, w.if-place-lt680.false, is, turn.invariant.1))
+            ∙ turn.invariant.2,
+      )
+    ]
 
 pub returns : goal.returns
 returns c =

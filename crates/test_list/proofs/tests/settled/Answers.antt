@@ -39,15 +39,18 @@ loop-u-preserved c =
     let test =
     settled_here s t turn.u turn.invariant.0 c.test.ensures c.below_end-end.ensures c.test-in-loop-u.ensures
     c.is_inside.ensures in
-    elim c.if-is_inside.branch [ then-is_inside w ↦ (
-      omega arith,
-      omega (arith, count),
-      w.all-is ∙ turn_yes 64 turn.u (is_settled s t) turn.invariant.2 (omega (arith, count)) (test ∙ w.if-is_inside.true),
-    ) | else-is_inside w ↦ (
-      omega arith,
-      omega (arith, count),
-      w.all-is ∙ turn_no turn.u (is_settled s t) turn.invariant.2 (test ∙ w.if-is_inside.false),
-    ) ]
+    elim c.if-is_inside.branch [
+      | then-is_inside w ↦ (
+        omega arith,
+        omega (arith, count),
+        w.all-is ∙ turn_yes 64 turn.u (is_settled s t) turn.invariant.2 (omega (arith, count)) (test ∙ w.if-is_inside.true),
+      )
+      | else-is_inside w ↦ (
+        omega arith,
+        omega (arith, count),
+        w.all-is ∙ turn_no turn.u (is_settled s t) turn.invariant.2 (test ∙ w.if-is_inside.false),
+      )
+    ]
 
 pub returns : goal.returns
 unfolding settled_below
