@@ -7,7 +7,6 @@ use Rattle.accepted.proofs.FoundTests.{found_accepts, found_refuses}
 use Rattle.decision.specs.Graph.{lowest_first}
 use Rattle.order.specs.Asking.{lowest}
 use Rattle.building.proofs.SheetTables.{few_tests_lem, lowest_listed, outcome_refused, sheet_kept, outcome_kept}
-use borrow.Author.Rules.{rules}
 use Rattle.building.proofs.build.Goals as goal
 
 pub list_sheet-requires : goal.list_sheet-requires

@@ -18,7 +18,6 @@ use Rattle.order.proofs.TableAsks.{Ordering, table_ordering}
 use Rattle.build.proofs.ListedTables.{listed_sizes}
 use Rattle.building.proofs.SheetTables.{few_tests_lem, lowest_listed, ordered_listed, outcome_refused, table_refused}
 use Rattle.building.proofs.SheetTables.{sheet_kept, ordered_kept}
-use borrow.Author.Rules.{rules}
 use Rattle.building.proofs.build_ordered.Goals as goal
 
 -- What is read of an accepted table, and of a refused one.

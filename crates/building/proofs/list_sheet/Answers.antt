@@ -13,7 +13,6 @@ use Rattle.test_list.specs.views.Tests.{put_all, tests_put, Counted, under_put}
 use Rattle.turns.specs.views.Turned.{lower_tests}
 use Rattle.build.specs.views.Tabled.{tests_for}
 use Rattle.building.proofs.SheetTables.{under_counted}
-use borrow.Author.Rules.{rules}
 use Rattle.building.proofs.list_sheet.Goals as goal
 
 -- The tables have room for all tests from the start.

@@ -62,31 +62,31 @@ loop-k-preserved c =
     let passed = cut_passed cuts a.from count a.base a.live at.runs n at.start at.set at.k in
     elim c.if-turned-ne0.branch [
       | then-turned-ne0 w ↦
-        let end = w.end_run-framed.ensures in
-        let after = w.end_run-framed.new.runs in
-        let result = w.end_run-framed.result in
-        let few = twice n result.count at.k at.set (bit_and (cut_at cuts a.from at.k).turns a.live)
-        w.if-turned-ne0.true inv.1 inv.2 end.2 end.3 in
-        rw (w.runs-is, w.framed-is, w.start-is, w.set-is) (
-          omega arith,
-          few.0,
-          few.1,
-          (c.requires.by_index at.k (omega arith)).1,
-          names_more a.base at.framed.names result.names (runs_in at.runs at.framed.count)
-              (runs_in after result.count) (framed_run a.base at.start code at.set []) inv.4 end.1 end.0,
-          end.4,
-          sym (ended after result.count more w.if-turned-ne0.true end.0) ∙ inv.6,
-        )
+          let end = w.end_run-framed.ensures in
+          let after = w.end_run-framed.new.runs in
+          let result = w.end_run-framed.result in
+          let few = twice n result.count at.k at.set (bit_and (cut_at cuts a.from at.k).turns a.live)
+          w.if-turned-ne0.true inv.1 inv.2 end.2 end.3 in
+          rw (w.runs-is, w.framed-is, w.start-is, w.set-is) (
+            omega arith,
+            few.0,
+            few.1,
+            (c.requires.by_index at.k (omega arith)).1,
+            names_more a.base at.framed.names result.names (runs_in at.runs at.framed.count)
+                (runs_in after result.count) (framed_run a.base at.start code at.set []) inv.4 end.1 end.0,
+            end.4,
+            sym (ended after result.count more w.if-turned-ne0.true end.0) ∙ inv.6,
+          )
       | else-turned-ne0 w ↦
-        rw (w.runs-is, w.framed-is, w.start-is, w.set-is) (
-          omega arith,
-          omega (arith, inv.1),
-          λ d. omega (arith, inv.2 d),
-          inv.3,
-          inv.4,
-          inv.5,
-          sym (passed more w.if-turned-ne0.false) ∙ inv.6,
-        )
+          rw (w.runs-is, w.framed-is, w.start-is, w.set-is) (
+            omega arith,
+            omega (arith, inv.1),
+            λ d. omega (arith, inv.2 d),
+            inv.3,
+            inv.4,
+            inv.5,
+            sym (passed more w.if-turned-ne0.false) ∙ inv.6,
+          )
     ]
 
 pub put_gap-all-requires : goal.put_gap-all-requires

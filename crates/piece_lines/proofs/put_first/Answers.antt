@@ -5,7 +5,6 @@ use Rattle.walk_all.specs.declared.First.{First}
 use Rattle.walk_all.specs.views.FirstPiece.{first_of, PieceWithin}
 use Rattle.piece_lines.specs.views.Turned.{answered}
 use Rattle.piece_lines.proofs.Turns.{turned_last, Turned-more}
-use borrow.Author.Rules.{rules}
 use Rattle.piece_lines.proofs.put_first.Goals as goal
 
 pub put_refused-requires : goal.put_refused-requires
@@ -20,9 +19,9 @@ put_piece_line-end-requires c = c.requires
 pub returns-in-Unread : goal.returns-in-Unread
 returns-in-Unread c =
     let a = c.args in
-    let call = c.Put-refused in record {
-      out_after = turned_last a.out.now a.at a.number call.ensures.0 (ap (λ (x : First). answered (first_of x)) c.in-Unread.is);
-      by_index = λ bytes w. omega (arith, call.ensures.1);
+    let call = c.put_refused in record {
+      out_after = turned_last a.out.now a.at a.number call.ensures.value (ap (λ (x : First). answered (first_of x)) c.in-Unread.is);
+      by_index = λ bytes w. omega (arith, call.ensures.upper_bound);
     }
 
 pub returns-in-Refused : goal.returns-in-Refused

@@ -4,9 +4,9 @@ use Rattle.build.proofs.graph_of.+build_in.Goals as goal
 
 pub build_small-requires : goal.build_small-requires
 build_small-requires t c =
-    let (order, all, g) = c.requires in
-    (
-      order, all,
+    let (order, all, g) = c.requires in (
+      order,
+      all,
       small_compiling g 320 c.rules.ensures c.place_tests.ensures c.part-words.ensures c.if-words-gt320.false,
     )
 
@@ -17,9 +17,9 @@ returns-then-room-eq0 t c order all g =
 
 pub build_middle-requires : goal.build_middle-requires
 build_middle-requires t c =
-    let (order, all, g) = c.requires in
-    (
-      order, all,
+    let (order, all, g) = c.requires in (
+      order,
+      all,
       small_compiling g 8256 c.rules.ensures c.place_tests.ensures c.part-words.ensures c.if-words-gt8256.false,
     )
 

@@ -1,7 +1,6 @@
 -- The rules are put into tables and cuts, and the graph is grown from these.
 use mathlib.Core.Path.{◌∙◌}
 use Rattle.build.proofs.GrownBytes.{compiled_written, compiled_parted}
-use borrow.Author.Rules.{rules}
 use Rattle.build.proofs.graph_of.build_cut.Goals as goal
 
 pub build_tables-requires : goal.build_tables-requires

@@ -2,7 +2,6 @@
 use native.Mathlib.Omega.{arith}
 use Rattle.tables.specs.views.Planes.{rules_in}
 use Rattle.build.proofs.GrownBytes.{grown_none, grown_some, grown_most, graph_size, built_many, built_short, built_whole}
-use borrow.Author.Rules.{rules}
 use Rattle.build.proofs.graph_of.build_tables.Goals as goal
 
 pub returns-in_default : goal.returns-in_default

@@ -1,8 +1,8 @@
 -- A loop over the notes: the rule has turned at what those passed want.
-use Prim.Native.Nat.{ℕ, suc, ◌+◌, ◌*◌, ◌-◌, ◌^◌, ◌≤◌}
+use Prim.Native.Nat.{ℕ, suc, ◌+◌, ◌*◌, ◌^◌, ◌≤◌}
 use mathlib.Core.Path.{sym, ap, ◌∙◌, subst}
 use native.Mathlib.Omega.{arith}
-use lib.ListN.{length, get_or, drop}
+use lib.ListN.{length, get_or}
 use Rattle.patterns.specs.declared.PatternRecord.{PatternRecord}
 use Rattle.patterns.specs.views.NoteCode.{Fitting, note_of}
 use Rattle.sheet.specs.views.NoteArray.{notes_in}
@@ -13,8 +13,7 @@ use Rattle.cuts.specs.views.Cuts.{part_at, count_at}
 use Rattle.rows.specs.views.Wants.{record_want, wanted_codes}
 use Rattle.rows.proofs.NotesWanted.{wanted_some, wanted_none}
 use Rattle.compiled.specs.views.CutRules.{turn_in}
-use Rattle.compiled.proofs.NoteTurns.{CutsLeft, left_start, left_room, left_some, left_none, left_done}
-use borrow.Author.Rules.{rules}
+use Rattle.compiled.proofs.NoteTurns.{left_start, left_room, left_some, left_none, left_done}
 use Rattle.compiled.proofs.cut.cut_rule.Goals as goal
 use Rattle.compiled.proofs.cut.cut_rule.Goals.{in-Codes, in_default}
 
@@ -75,20 +74,20 @@ loop-k-preserved c =
     ∙ ap (λ (r : PatternRecord). wanted_codes (record_want low high r)) c.note_record.ensures in
     elim c.match-wanted.branch [
       | in-Codes w ↦
-        let (v, is, least, most) = wanted_some (record_want low high note.what) (sym w.in-Codes.is ∙ want) in
-        let spot = w.place_number.ensures.0 ∙ ap (λ (p : ℕ). get_or a.numbers.now p 0) w.note_place.ensures in
-        let from = w.part-from.ensures ∙ ap (part_at a.rules) spot in (
-          omega arith,
-          left_some a.numbers.now a.rules a.i low high (notes_in notes a.n) a.c.now turn.c _ _ note next turn.invariant.1 v is
-              (w.c-is
-              ∙ w.turn_rule.ensures
-              ∙ (λ j. turn_in (turn_in turn.c (from j) (least j) (2 ^ a.i)) (from j) (suc (most j)) (2 ^ a.i))),
-        )
+          let (v, is, least, most) = wanted_some (record_want low high note.what) (sym w.in-Codes.is ∙ want) in
+          let spot = w.place_number.ensures.0 ∙ ap (λ (p : ℕ). get_or a.numbers.now p 0) w.note_place.ensures in
+          let from = w.part-from.ensures ∙ ap (part_at a.rules) spot in (
+            omega arith,
+            left_some a.numbers.now a.rules a.i low high (notes_in notes a.n) a.c.now turn.c _ _ note next turn.invariant.1 v is
+                (w.c-is
+                ∙ w.turn_rule.ensures
+                ∙ (λ j. turn_in (turn_in turn.c (from j) (least j) (2 ^ a.i)) (from j) (suc (most j)) (2 ^ a.i))),
+          )
       | in_default w ↦
-        let is = wanted_none (record_want low high note.what) (sym w.in_default.is ∙ want) in (
-          omega arith,
-          left_none a.numbers.now a.rules a.i low high (notes_in notes a.n) a.c.now turn.c _ _ note next turn.invariant.1 is w.c-is,
-        )
+          let is = wanted_none (record_want low high note.what) (sym w.in_default.is ∙ want) in (
+            omega arith,
+            left_none a.numbers.now a.rules a.i low high (notes_in notes a.n) a.c.now turn.c _ _ note next turn.invariant.1 is w.c-is,
+          )
     ]
 
 pub shape_of-c : goal.shape_of-c

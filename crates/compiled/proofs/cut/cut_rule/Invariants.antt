@@ -1,21 +1,8 @@
 -- A loop over the notes: the rule has turned at what those passed want.
-use Prim.Native.Nat.{ℕ, suc, ◌+◌, ◌*◌, ◌-◌, ◌^◌, ◌≤◌}
-use mathlib.Core.Path.{sym, ap, ◌∙◌, subst}
-use mathlib.Core.Logic.{⊎_elim}
-use native.Mathlib.Omega.{arith}
-use lib.ListN.{length, get_or, drop}
-use Rattle.patterns.specs.declared.PatternRecord.{PatternRecord}
-use Rattle.patterns.specs.views.NoteCode.{Fitting, note_of}
+use Prim.Native.Nat.{◌-◌, ◌≤◌}
+use lib.ListN.{drop}
 use Rattle.sheet.specs.views.NoteArray.{notes_in}
-use Rattle.patterns.proofs.NoteCodes.{code_fits}
-use Rattle.pairs.specs.views.NoteVariables.{Placed}
-use Rattle.pairs.proofs.NoteRows.{notes_next, notes_end, notes_each}
-use Rattle.cuts.specs.views.Cuts.{part_at, count_at}
-use Rattle.rows.specs.views.Wants.{record_want, wanted_codes}
-use Rattle.rows.proofs.NotesWanted.{wanted_some, wanted_none}
-use Rattle.compiled.specs.views.CutRules.{turn_in}
-use Rattle.compiled.proofs.NoteTurns.{CutsLeft, left_start, left_room, left_some, left_none, left_done}
-use borrow.Author.Rules.{rules}
+use Rattle.compiled.proofs.NoteTurns.{CutsLeft}
 use Rattle.compiled.proofs.cut.cut_rule.Given as goal
 
 abbrev pub invariant-loop-k : goal.invariant-loop-k

@@ -9,7 +9,6 @@ use Rattle.masks.proofs.Operations.{shl_one}
 use Rattle.cuts.specs.views.Cuts.{count_at}
 use Rattle.compiled.specs.views.CutRules.{turn_in}
 use Rattle.compiled.proofs.TurnedCuts.{turn_again}
-use borrow.Author.Rules.{rules}
 use Rattle.compiled.proofs.cut.turn_rule.Goals as goal
 
 pub turn-requires-2 : goal.turn-requires-2

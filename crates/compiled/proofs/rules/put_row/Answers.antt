@@ -6,7 +6,7 @@ use lib.Count.{trailing_le}
 use lib.ListN.{length-set}
 use Rattle.masks.proofs.LowestMember.{rest_lt, trailing_lt}
 use Rattle.rows.specs.views.Row.{with_test}
-use Rattle.compiled.proofs.ColumnTurns.{Columning, columning_start, columning_turn, columning_done}
+use Rattle.compiled.proofs.ColumnTurns.{columning_start, columning_turn, columning_done}
 use borrow.Author.Rules.{rules}
 use Rattle.compiled.proofs.rules.put_row.Goals as goal
 

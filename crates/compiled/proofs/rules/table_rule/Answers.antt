@@ -13,7 +13,6 @@ use Rattle.rows.specs.views.Wants.{notes_tests}
 use Rattle.rows.specs.views.Row.{row_of}
 use Rattle.compiled.specs.views.Columns.{Columned}
 use Rattle.compiled.specs.views.CutRules.{turn_all, TurnsFit}
-use borrow.Author.Rules.{rules}
 use Rattle.compiled.proofs.rules.table_rule.Goals as goal
 
 -- The row as another number.

@@ -1,6 +1,5 @@
 -- `node::node_of` meets its contract: the number is at most 1,024.
 use native.Mathlib.Omega.{arith}
-use borrow.Author.Rules.{rules}
 use Rattle.edges.specs.views.VertexKey.{key_in}
 use Rattle.met.proofs.Meeting.{number_few}
 use Rattle.emit.proofs.node.node_of.Goals as goal

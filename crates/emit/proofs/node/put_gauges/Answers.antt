@@ -1,13 +1,11 @@
 -- `node::put_gauges` meets its contract. The loop's invariant: the pairs of the gauges from run `first` on are left to be written.
-use Prim.Native.Nat.{◌-◌, ◌≤◌}
-use mathlib.Core.Path.{◌≡◌, refl, ap, ◌∙◌}
+use mathlib.Core.Path.{refl, ap, ◌∙◌}
 use native.Mathlib.Omega.{arith}
-use lib.ListN.{length}
 use Rattle.cuts.specs.views.CaseRuns.{union_pairs, gauge_pairs, runs_from}
 use Rattle.cuts.proofs.CaseRuns.{gauges_none}
 use Rattle.met.specs.views.KeysMet.{keys_in}
 use Rattle.emit.specs.views.Laid.{run_bytes}
-use Rattle.emit.proofs.WritingOn.{Left, left_start, left_room, left_next, left_end}
+use Rattle.emit.proofs.WritingOn.{left_start, left_room, left_next, left_end}
 use Rattle.emit.proofs.InTurn.{gauges_bytes}
 use Rattle.emit.proofs.node.put_gauges.Goals as goal
 

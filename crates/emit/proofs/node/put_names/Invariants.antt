@@ -1,17 +1,12 @@
 -- `node::put_names` meets its contract. The loop's invariant: the cases from case k on are left to be written.
-use Prim.Native.Nat.{◌+◌, ◌-◌, ◌≤◌}
-use mathlib.Core.Path.{◌≡◌, refl, ap, ◌∙◌}
-use native.Mathlib.Omega.{arith}
+use Prim.Native.Nat.{◌-◌, ◌≤◌}
+use mathlib.Core.Path.{◌≡◌}
 use lib.ListN.{length}
-use borrow.Author.Rules.{rules}
-use Rattle.graph.specs.views.WriteNode.{case_record_bytes}
-use Rattle.cuts.specs.views.Runs.{run_at, runs_in}
+use Rattle.cuts.specs.views.Runs.{runs_in}
 use Rattle.cuts.specs.views.CaseRuns.{runs_from}
-use Rattle.cuts.proofs.CaseRuns.{from_first_lem, from_some, from_none}
-use Rattle.met.specs.views.KeysMet.{key_number, keys_in}
+use Rattle.met.specs.views.KeysMet.{keys_in}
 use Rattle.emit.specs.views.Laid.{run_bytes}
-use Rattle.emit.proofs.WritingOn.{Left, left_start, left_room, left_next, left_end}
-use Rattle.emit.proofs.AskedBytes.{case_next}
+use Rattle.emit.proofs.WritingOn.{Left}
 use Rattle.emit.proofs.node.put_names.Given as goal
 
 abbrev pub invariant-loop-k : goal.invariant-loop-k

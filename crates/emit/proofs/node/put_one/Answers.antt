@@ -3,7 +3,6 @@ use Prim.Native.Nat.{◌+◌, ◌≤◌}
 use mathlib.Core.Path.{ap, ◌∙◌}
 use native.Mathlib.Omega.{arith}
 use lib.ListN.{length}
-use borrow.Author.Rules.{rules}
 use Rattle.records.specs.Writing.{splice}
 use Rattle.tables.specs.views.Planes.{place_tests_in}
 use Rattle.edges.specs.declared.Asked.{Asked}

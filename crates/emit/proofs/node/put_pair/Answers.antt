@@ -2,7 +2,6 @@
 use Prim.Native.Nat.{◌+◌}
 use mathlib.Core.Path.{ap, ◌∙◌}
 use lib.ListN.{length}
-use borrow.Author.Rules.{rules}
 use Rattle.records.specs.Writing.{splice}
 use Rattle.met.specs.views.KeysMet.{keys_in}
 use Rattle.emit.proofs.AskedBytes.{pair_bytes}

@@ -1,14 +1,11 @@
 -- `node::put_pairs` meets its contract. The loop's invariant: the pairs of the first runs from `first` on are left to be written.
-use Prim.Native.Nat.{◌+◌, ◌-◌, ◌≤◌}
-use mathlib.Core.Path.{◌≡◌, refl, ap, ◌∙◌}
-use native.Mathlib.Omega.{arith}
+use Prim.Native.Nat.{◌-◌, ◌≤◌}
+use mathlib.Core.Path.{◌≡◌}
 use lib.ListN.{length}
-use Rattle.cuts.specs.views.CaseRuns.{union_pairs, runs_from, pairs_row}
-use Rattle.cuts.proofs.CaseRuns.{pairs_none}
+use Rattle.cuts.specs.views.CaseRuns.{union_pairs, runs_from}
 use Rattle.met.specs.views.KeysMet.{keys_in}
 use Rattle.emit.specs.views.Laid.{run_bytes}
-use Rattle.emit.proofs.WritingOn.{Left, left_start, left_room, left_next, left_end}
-use Rattle.emit.proofs.InTurn.{pairs_bytes}
+use Rattle.emit.proofs.WritingOn.{Left}
 use Rattle.emit.proofs.node.put_pairs.Given as goal
 
 abbrev pub invariant-loop-first : goal.invariant-loop-first

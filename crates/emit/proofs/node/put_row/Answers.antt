@@ -1,11 +1,9 @@
 -- `node::put_row` meets its contract. The loop's invariant: the pairs from last run k on are left to be written, and the node is
 -- that of the union so far.
-use Prim.Native.Nat.{ℕ, ◌+◌, ◌-◌, ◌≤◌}
+use Prim.Native.Nat.{ℕ, ◌+◌}
 use mathlib.Core.Path.{◌≡◌, refl, sym, ap, ◌∙◌}
 use native.Mathlib.Omega.{arith}
 use lib.Bits.{bit_or}
-use lib.ListN.{length}
-use borrow.Author.Rules.{rules}
 use Rattle.graph.specs.views.WriteNode.{case_record_bytes}
 use Rattle.cuts.specs.views.Runs.{Run, run_at}
 use Rattle.cuts.specs.views.CaseRuns.{union_row, runs_from, pairs_row}
@@ -13,7 +11,7 @@ use Rattle.cuts.proofs.CaseRuns.{row_begun, row_some, row_none}
 use Rattle.edges.specs.views.KeysBehind.{run_behind}
 use Rattle.met.specs.views.KeysMet.{key_number, keys_in}
 use Rattle.emit.specs.views.Laid.{run_bytes}
-use Rattle.emit.proofs.WritingOn.{Left, left_start, left_room, left_next, left_end}
+use Rattle.emit.proofs.WritingOn.{left_start, left_room, left_next, left_end}
 use Rattle.emit.proofs.AskedBytes.{case_next}
 use Rattle.emit.proofs.node.put_row.Goals as goal
 use Rattle.emit.proofs.node.put_row.Goals.{then-more-set, else-more-set}

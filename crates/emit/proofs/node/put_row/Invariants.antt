@@ -1,21 +1,14 @@
 -- `node::put_row` meets its contract. The loop's invariant: the pairs from last run k on are left to be written, and the node is
 -- that of the union so far.
-use Prim.Native.Nat.{ℕ, ◌+◌, ◌-◌, ◌≤◌}
-use mathlib.Core.Path.{◌≡◌, refl, sym, ap, ◌∙◌}
-use mathlib.Core.Logic.{⊎_elim}
-use native.Mathlib.Omega.{arith}
-use lib.Bits.{bit_or}
+use Prim.Native.Nat.{◌-◌, ◌≤◌}
+use mathlib.Core.Path.{◌≡◌}
 use lib.ListN.{length}
-use borrow.Author.Rules.{rules}
-use Rattle.graph.specs.views.WriteNode.{case_record_bytes}
-use Rattle.cuts.specs.views.Runs.{Run, run_at}
+use Rattle.cuts.specs.views.Runs.{run_at}
 use Rattle.cuts.specs.views.CaseRuns.{union_row, runs_from, pairs_row}
-use Rattle.cuts.proofs.CaseRuns.{row_begun, row_some, row_none}
 use Rattle.edges.specs.views.KeysBehind.{run_behind}
 use Rattle.met.specs.views.KeysMet.{key_number, keys_in}
 use Rattle.emit.specs.views.Laid.{run_bytes}
-use Rattle.emit.proofs.WritingOn.{Left, left_start, left_room, left_next, left_end}
-use Rattle.emit.proofs.AskedBytes.{case_next}
+use Rattle.emit.proofs.WritingOn.{Left}
 use Rattle.emit.proofs.node.put_row.Given as goal
 
 abbrev pub invariant-loop-k : goal.invariant-loop-k

@@ -1,6 +1,5 @@
 -- `node::put_runs` meets its contract: the runs that are cases by themselves, and the pairs behind them.
 use native.Mathlib.Omega.{arith}
-use borrow.Author.Rules.{rules}
 use Rattle.cuts.specs.views.Runs.{runs_in}
 use Rattle.cuts.specs.views.CaseRuns.{gauge_pairs, runs_from}
 use Rattle.met.specs.views.KeysMet.{keys_in}

@@ -4,7 +4,6 @@ use mathlib.Core.Path.{sym, ap, subst, ◌∙◌}
 use mathlib.Core.List.{List}
 use native.Mathlib.Omega.{arith}
 use lib.ListN.{length}
-use borrow.Author.Rules.{rules}
 use Rattle.graph.specs.declared.NodeRecord.TheVariants.{Switch}
 use Rattle.graph.specs.views.WriteNode.{node_record_bytes}
 use Rattle.cuts.specs.views.Cuts.{part_at, count_at, cut_at}

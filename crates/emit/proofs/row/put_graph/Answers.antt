@@ -1,5 +1,4 @@
 -- `row::put_graph` meets its contract: the header, and the nodes behind it.
-use borrow.Author.Rules.{rules}
 use Rattle.tables.specs.views.Planes.{rules_in}
 use Rattle.met.specs.views.KeysMet.{keys_in}
 use Rattle.emit.specs.views.Laid.{keys_bytes}

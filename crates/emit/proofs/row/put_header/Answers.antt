@@ -1,5 +1,4 @@
 -- `row::put_header` meets its contract.
-use borrow.Author.Rules.{rules}
 use Rattle.emit.proofs.row.put_header.Goals as goal
 
 pub shape_of-buf : goal.shape_of-buf

@@ -1,13 +1,11 @@
 -- `row::put_nodes` meets its contract. The loop's invariant: the nodes of the keys from a number on are left to be written.
-use Prim.Native.Nat.{◌+◌, ◌-◌}
-use mathlib.Core.Path.{◌≡◌, refl, ◌∙◌}
+use Prim.Native.Nat.{◌+◌}
+use mathlib.Core.Path.{refl, ◌∙◌}
 use native.Mathlib.Omega.{arith}
-use lib.ListN.{length}
-use borrow.Author.Rules.{rules}
 use Rattle.edges.specs.views.VertexKey.{key_in}
-use Rattle.met.specs.views.KeysMet.{count_in, keys_in}
+use Rattle.met.specs.views.KeysMet.{keys_in}
 use Rattle.emit.specs.views.Laid.{key_bytes, keys_bytes}
-use Rattle.emit.proofs.WritingOn.{Left, left_start, left_room, left_next, left_end}
+use Rattle.emit.proofs.WritingOn.{left_start, left_room, left_next, left_end}
 use Rattle.emit.proofs.InTurn.{keys_left, keys_first, keys_next, keys_last}
 use Rattle.emit.proofs.row.put_nodes.Goals as goal
 

@@ -1,7 +1,6 @@
 -- `expand::expand` meets its contract, for each kind of node.
 use mathlib.Core.Path.{sym, ap, subst}
 use native.Mathlib.Omega.{arith}
-use borrow.Author.Rules.{rules}
 use Rattle.decision.specs.Key.{Key}
 use Rattle.decision.specs.Node.{Node}
 use Rattle.edges.specs.declared.Asked.{Asked}

@@ -1,6 +1,5 @@
 -- `expand::expand_pair` meets its contract.
 use native.Mathlib.Omega.{arith}
-use borrow.Author.Rules.{rules}
 use Rattle.keys.proofs.EdgesInTurn.{most_more, pair_met}
 use Rattle.keys.proofs.expand.expand_pair.Goals as goal
 

@@ -1,10 +1,8 @@
 -- `expand::meet_gauges` meets its contract. The loop's invariant: the pairs of the gauges from run `first` on are still to come.
-use Prim.Native.Nat.{◌+◌, ◌-◌, ◌*◌, ◌≤◌}
+use Prim.Native.Nat.{◌-◌, ◌*◌}
 use mathlib.Core.Path.{refl}
 use native.Mathlib.Omega.{arith}
-use borrow.Author.Rules.{rules}
-use Rattle.met.specs.views.KeysMet.{keys_in, Chained}
-use Rattle.keys.proofs.EdgesInTurn.{bytes_most, many_most, CasesLeft, cases_start, cases_end, part_met, part_many}
+use Rattle.keys.proofs.EdgesInTurn.{bytes_most, many_most, cases_start, cases_end, part_met, part_many}
 use Rattle.keys.proofs.RowsInTurn.{pairs_left, gauges_left, gauges_next, gauges_end}
 use Rattle.keys.proofs.expand.meet_gauges.Goals as goal
 

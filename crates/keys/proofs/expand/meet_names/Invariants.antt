@@ -1,17 +1,11 @@
 -- `expand::meet_names` meets its contract. The loop's invariant: the cases from case k on are still to come.
 use Prim.Native.Nat.{◌-◌, ◌*◌, ◌≤◌}
-use mathlib.Core.Path.{ap, ◌∙◌}
 use mathlib.Core.List.{map}
-use native.Mathlib.Omega.{arith}
-use lib.ListN.{length}
-use borrow.Author.Rules.{rules}
-use Rattle.decision.specs.Key.{Key}
-use Rattle.cuts.specs.views.Runs.{run_at, runs_in}
+use Rattle.cuts.specs.views.Runs.{runs_in}
 use Rattle.cuts.specs.views.CaseRuns.{runs_from}
-use Rattle.cuts.proofs.CaseRuns.{from_first_lem, from_some, from_none}
 use Rattle.edges.specs.views.NodeIn.{run_edge}
-use Rattle.met.specs.views.KeysMet.{meet, keys_in, Chained}
-use Rattle.keys.proofs.EdgesInTurn.{CasesLeft, cases_start, cases_next, cases_many, cases_end}
+use Rattle.met.specs.views.KeysMet.{keys_in, Chained}
+use Rattle.keys.proofs.EdgesInTurn.{CasesLeft}
 use Rattle.keys.proofs.expand.meet_names.Given as goal
 
 abbrev pub invariant-loop-k : goal.invariant-loop-k

@@ -1,17 +1,14 @@
 -- `expand::meet_row` meets its contract. The loop's invariant: the pairs from last run k on are still to come, and the key behind
 -- the union so far is met.
-use Prim.Native.Nat.{ℕ, ◌-◌, ◌*◌, ◌≤◌}
-use mathlib.Core.Path.{◌≡◌, sym, ap, ◌∙◌}
-use mathlib.Core.Logic.{⊎_elim}
+use Prim.Native.Nat.{ℕ}
+use mathlib.Core.Path.{sym, ap, ◌∙◌}
 use native.Mathlib.Omega.{arith}
 use lib.Bits.{bit_or}
-use borrow.Author.Rules.{rules}
 use Rattle.cuts.specs.views.Runs.{run_at}
 use Rattle.edges.specs.views.KeysBehind.{run_behind}
-use Rattle.met.specs.views.KeysMet.{meet, keys_in, Chained}
+use Rattle.met.specs.views.KeysMet.{meet, keys_in}
 use Rattle.keys.specs.declared.Measured.TheVariants.{Bytes, TooMany}
-use Rattle.keys.proofs.EdgesInTurn.{CasesLeft}
-use Rattle.keys.proofs.RowsInTurn.{row_edges, row_left, met_last, row_many, row_start, row_met, row_next, next_many, row_end}
+use Rattle.keys.proofs.RowsInTurn.{met_last, row_many, row_start, row_met, row_next, next_many, row_end}
 use Rattle.keys.proofs.expand.meet_row.Goals as goal
 use Rattle.keys.proofs.expand.meet_row.Goals.{then-more-set+else-meet-ge1024-2, else-more-set}
 
@@ -96,23 +93,23 @@ loop-k-preserved c =
     let more = bit_or at.set (run_at runs at.k).set in
     elim c.if-more-set.branch [
       | then-more-set+else-meet-ge1024-2 w ↦
-        let same = w.meet-then-more-set.ensures.t_after.0 w.if-meet-ge1024-2.false ∙ ap (meet (keys_in at.keys)) w.by_run-then-more-set.ensures in
-        rw w.keys-is (
-          omega (arith, test),
-          omega (arith, at.invariant.1, size.1),
-          w.meet-then-more-set.ensures.chained,
-          met_last (keys_in at.keys) (run_behind s a.asked more) w.meet-then-more-set.new.t same,
-          row_next s a.asked runs count first at.set at.k at.invariant.4 test same (size.0 _),
-        )
+          let same = w.meet-then-more-set.ensures.t_after.0 w.if-meet-ge1024-2.false ∙ ap (meet (keys_in at.keys)) w.by_run-then-more-set.ensures in
+          rw w.keys-is (
+            omega (arith, test),
+            omega (arith, at.invariant.1, size.1),
+            w.meet-then-more-set.ensures.chained,
+            met_last (keys_in at.keys) (run_behind s a.asked more) w.meet-then-more-set.new.t same,
+            row_next s a.asked runs count first at.set at.k at.invariant.4 test same (size.0 _),
+          )
       | else-more-set w ↦
-        let same = at.invariant.3 ∙ ap (λ (set : ℕ). meet (keys_in at.keys) (run_behind s a.asked set)) (sym w.if-more-set.false) in
-        rw w.keys-is (
-          omega (arith, test),
-          omega (arith, at.invariant.1, size.1),
-          at.invariant.2,
-          same,
-          row_next s a.asked runs count first at.set at.k at.invariant.4 test same (size.0 _),
-        )
+          let same = at.invariant.3 ∙ ap (λ (set : ℕ). meet (keys_in at.keys) (run_behind s a.asked set)) (sym w.if-more-set.false) in
+          rw w.keys-is (
+            omega (arith, test),
+            omega (arith, at.invariant.1, size.1),
+            at.invariant.2,
+            same,
+            row_next s a.asked runs count first at.set at.k at.invariant.4 test same (size.0 _),
+          )
     ]
 
 pub returns : goal.returns

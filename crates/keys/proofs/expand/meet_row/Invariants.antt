@@ -1,17 +1,11 @@
 -- `expand::meet_row` meets its contract. The loop's invariant: the pairs from last run k on are still to come, and the key behind
 -- the union so far is met.
-use Prim.Native.Nat.{ℕ, ◌-◌, ◌*◌, ◌≤◌}
-use mathlib.Core.Path.{◌≡◌, sym, ap, ◌∙◌}
-use mathlib.Core.Logic.{⊎_elim}
-use native.Mathlib.Omega.{arith}
-use lib.Bits.{bit_or}
-use borrow.Author.Rules.{rules}
-use Rattle.cuts.specs.views.Runs.{run_at}
+use Prim.Native.Nat.{◌-◌, ◌*◌, ◌≤◌}
+use mathlib.Core.Path.{◌≡◌}
 use Rattle.edges.specs.views.KeysBehind.{run_behind}
 use Rattle.met.specs.views.KeysMet.{meet, keys_in, Chained}
-use Rattle.keys.specs.declared.Measured.TheVariants.{Bytes, TooMany}
 use Rattle.keys.proofs.EdgesInTurn.{CasesLeft}
-use Rattle.keys.proofs.RowsInTurn.{row_edges, row_left, met_last, row_many, row_start, row_met, row_next, next_many, row_end}
+use Rattle.keys.proofs.RowsInTurn.{row_edges, row_left}
 use Rattle.keys.proofs.expand.meet_row.Given as goal
 
 abbrev pub invariant-loop-k : goal.invariant-loop-k

@@ -1,7 +1,6 @@
 -- `expand::meet_runs` meets its contract: the keys behind the names are met, then those behind the pairs.
 use mathlib.Core.List.{map}
 use native.Mathlib.Omega.{arith}
-use borrow.Author.Rules.{rules}
 use Rattle.cuts.specs.views.Runs.{runs_in}
 use Rattle.edges.specs.views.NodeIn.{run_edge}
 use Rattle.keys.proofs.EdgesInTurn.{bytes_most, most_more, first_many, then_many, both_met}

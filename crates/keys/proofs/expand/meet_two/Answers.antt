@@ -2,7 +2,6 @@
 use mathlib.Core.Path.{refl}
 use mathlib.Core.List.{[], ◌∷◌}
 use native.Mathlib.Omega.{arith}
-use borrow.Author.Rules.{rules}
 use Rattle.edges.specs.views.VertexKey.{key_in}
 use Rattle.met.specs.views.KeysMet.{keys_in}
 use Rattle.keys.proofs.EdgesInTurn.{one_many, second_many, second_met}

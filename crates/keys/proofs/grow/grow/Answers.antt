@@ -1,16 +1,14 @@
 -- `grow::grow` meets its contract. The loop's invariant: what is left to look at from the keys met gives all.
-use Prim.Native.Nat.{◌-◌, ◌*◌, ◌≤◌, ◌<◌}
-use mathlib.Core.Path.{◌≡◌, refl}
+use Prim.Native.Nat.{◌*◌, ◌<◌}
+use mathlib.Core.Path.{refl}
 use native.Mathlib.Omega.{arith}
-use lib.ListN.{length}
-use borrow.Author.Rules.{rules}
 use Rattle.edges.specs.views.VertexKey.{key_in}
-use Rattle.met.specs.views.KeysMet.{count_in, keys_in, Chained}
+use Rattle.met.specs.views.KeysMet.{count_in}
 use Rattle.met.proofs.Chains.{zeros_chained}
 use Rattle.met.proofs.Meeting.{new_number_lem}
 use Rattle.keys.specs.views.Expanded.{most_length}
 use Rattle.keys.proofs.EdgesInTurn.{bytes_most, many_most}
-use Rattle.keys.proofs.GrowingKeys.{Growing, root_added, growing_start, grown_all, grown_turn, grown_many}
+use Rattle.keys.proofs.GrowingKeys.{root_added, growing_start, grown_all, grown_turn, grown_many}
 use Rattle.keys.proofs.grow.grow.Goals as goal
 
 pub add-requires : goal.add-requires

@@ -75,7 +75,7 @@ pub pattern-returns-clause-took_within : goal.pattern-returns-clause-took_within
 pattern-returns-clause-took_within t c =
     let s = c.args.s.now in
     let head : pattern_head s ≡ Whole (Compound c.in-Compound.field-0 c.in-Compound.arity) =
-        sym c.in-Whole.ensures ∙ ap Whole c.in-Compound.is in
+    sym c.in-Whole.ensures ∙ ap Whole c.in-Compound.is in
     omega (
       arith,
       c.patterns-arguments.ensures.took_within,
@@ -133,10 +133,10 @@ patterns-loop-i-preserved t c =
       c.pattern-read.ensures.took_within.0.entries,
       c.pattern-read.ensures.took_within.1,
       row_goes_on (pattern_row marked a.below) a.s.now own.at _ own.here (marks_in own.words own.notes own.made) _ comes
-      (was_used (marks_in c.pattern-read.new.words c.pattern-read.new.notes) told
-      (pattern_tried t (goal.at.patterns-loop-i-preserved t c).After-pattern-read))
-      step_is
-      ∙ own.invariant.6,
+          (was_used (marks_in c.pattern-read.new.words c.pattern-read.new.notes) told
+          (pattern_tried t (goal.at.patterns-loop-i-preserved t c).After-pattern-read))
+          step_is
+          ∙ own.invariant.6,
     )
 
 pub patterns-returns-clause-result_after : goal.patterns-returns-clause-result_after

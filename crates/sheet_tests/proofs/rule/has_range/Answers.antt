@@ -1,6 +1,5 @@
 -- A variable below 16 has a range where its high end is one.
 use borrow.Author.Tests.{lt-ltb, le-ltb}
-use borrow.Author.Rules.{rules}
 use Rattle.sheet_tests.proofs.rule.has_range.Goals as goal
 
 pub returns-then-i-lt16 : goal.returns-then-i-lt16

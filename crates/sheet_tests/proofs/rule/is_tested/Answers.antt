@@ -1,7 +1,6 @@
 -- A place test, by the kind of the record.
 use mathlib.Core.Path.{sym, ap, ◌∙◌}
 use Rattle.sheet_tests.specs.views.NoteTests.{is_tested, has_range}
-use borrow.Author.Rules.{rules}
 use Rattle.sheet_tests.proofs.rule.is_tested.Goals as goal
 
 pub returns-in-Variable : goal.returns-in-Variable

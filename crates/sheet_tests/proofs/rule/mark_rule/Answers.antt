@@ -1,6 +1,6 @@
 -- A loop over the notes: the places of those passed are in the set.
-use Prim.Native.Nat.{ℕ, ◌+◌, ◌-◌, ◌≤◌}
-use mathlib.Core.Path.{◌≡◌, refl, sym, ap, ◌∙◌}
+use Prim.Native.Nat.{ℕ, ◌+◌}
+use mathlib.Core.Path.{refl, sym, ap, ◌∙◌}
 use mathlib.Core.List.{List}
 use native.Mathlib.Omega.{arith}
 use lib.Dec.{ltb}
@@ -11,7 +11,6 @@ use Rattle.pairs.specs.views.NoteVariables.{Placed}
 use Rattle.sheet_tests.specs.views.NoteTests.{is_tested, has_range}
 use Rattle.pairs.proofs.NoteRows.{notes_each}
 use Rattle.sheet_tests.proofs.PlaceRows.{places_from, places_yes, places_no, places_end}
-use borrow.Author.Rules.{rules}
 use Rattle.sheet_tests.proofs.rule.mark_rule.Goals as goal
 use Rattle.sheet_tests.proofs.rule.mark_rule.Goals.{then-is_tested, else-is_tested}
 
@@ -47,9 +46,9 @@ loop-i-preserved c =
         ap length w.words-is ∙ w.mark.ensures.words_len,
         ap (places_from ranged notes n (i + 1))
             (
-              ap places_in w.words-is
-              ∙ w.mark.ensures.words_after
-              ∙ ap (λ (p : ℕ). insert_by ltb p (places_in words)) w.note_place.ensures
+            ap places_in w.words-is
+            ∙ w.mark.ensures.words_after
+            ∙ ap (λ (p : ℕ). insert_by ltb p (places_in words)) w.note_place.ensures
             )
             ∙ places_yes ranged notes n (omega arith) i (omega arith) (test ∙ w.if-is_tested.true) (places_in words)
             ∙ inv.2,

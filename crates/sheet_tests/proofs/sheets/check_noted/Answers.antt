@@ -5,7 +5,6 @@ use native.Mathlib.Omega.{arith}
 use Rattle.sheet_tests.proofs.Starting.{starts_tests}
 use Rattle.sheet_tests.specs.CheckSheet.{accept_sheet}
 use Rattle.sheet_tests.proofs.Checking.{read_counted, check_no, check_yes}
-use borrow.Author.Rules.{rules}
 use Rattle.sheet_tests.proofs.sheets.check_noted.Goals as goal
 
 pub tests_noted-read-requires : goal.tests_noted-read-requires

@@ -9,7 +9,6 @@ use Rattle.sheet_tests.specs.views.Gathered.{gather_notes, held}
 use Rattle.sheet_tests.specs.views.TestedPlaces.{places_in, insert_all}
 use Rattle.sheet_tests.specs.views.NoteTests.{tested_places, has_range}
 use native.Mathlib.Omega.{arith}
-use borrow.Author.Rules.{rules}
 use Rattle.sheet_tests.proofs.sheets.gather_rule.Goals as goal
 
 -- Where there is no note, nothing is gathered.

@@ -4,7 +4,6 @@ use native.Mathlib.Omega.{arith}
 use Rattle.sheet_tests.proofs.Scanning.{bytes_known}
 use Rattle.sheet_tests.proofs.Starting.{starts_done}
 use Rattle.sheet_tests.proofs.Checking.{zeros, at_start, rules_gathered, check_refused, places_few, tests_many, tests_number, check_left, check_many, check_accepted}
-use borrow.Author.Rules.{rules}
 use Rattle.sheet_tests.proofs.sheets.read_rules.Goals as goal
 
 pub scan_rules-scan-requires : goal.scan_rules-scan-requires

@@ -10,6 +10,6 @@ tests_noted-requires c =
 
 pub returns : goal.returns
 returns c = record {
-      result_after = c.tests_noted.ensures.result_after;
-      held = c.tests_noted.ensures.held;
-    }
+  result_after = c.tests_noted.ensures.result_after;
+  held = c.tests_noted.ensures.held;
+}

@@ -1,34 +1,27 @@
 -- A loop over the rules: what comes of those left, with what is gathered, is what comes of all.
-use Prim.Native.Nat.{◌-◌, ◌≤◌}
-use mathlib.Core.Path.{◌≡◌, refl, sym, ◌∙◌}
+use mathlib.Core.Path.{refl, sym, ◌∙◌}
 use native.Mathlib.Omega.{arith}
-use lib.ListN.{length, length-set}
-use Rattle.records.specs.Fields.{AreBytes}
-use Rattle.records.specs.Reading.{map_reading}
-use Rattle.sheet.specs.ReadSheet.{read_rules}
-use Rattle.sheet_tests.specs.views.Gathered.{gather, held}
-use Rattle.sheet_tests.specs.views.Starts.{rule_start, StartsIn}
+use lib.ListN.{length-set}
+use Rattle.sheet_tests.specs.views.Gathered.{held}
 use Rattle.sheet_tests.proofs.Starting.{starts_none, starts_put, start_next}
-use Rattle.sheet_tests.proofs.Scanning.{bytes_known, scan_from, scan_start, scan_end, scan_refused}
-use Rattle.sheet_tests.proofs.MarkedRules.{RuleMarked, rule_marked, marks_refused, names_apart}
+use Rattle.sheet_tests.proofs.Scanning.{bytes_known, scan_start, scan_end, scan_refused}
+use Rattle.sheet_tests.proofs.MarkedRules.{rule_marked, marks_refused, names_apart}
 use Rattle.sheet_tests.proofs.MarkedRules.{names_meets, marked_placed, scan_turn}
-use borrow.Author.Rules.{rules}
 use Rattle.sheet_tests.proofs.sheets.scan_rules.Goals as goal
 
 pub loop-i-init : goal.loop-i-init
-loop-i-init c =
-    (
-      omega arith,
-      omega arith,
-      omega arith,
-      c.requires.1,
-      c.requires.2,
-      c.requires.3,
-      scan_start c.args.arity c.args.rules c.args.s.now _,
-      c.requires.5,
-      refl,
-      starts_none c.args.arity c.args.s.now c.args.starts.now,
-    )
+loop-i-init c = (
+  omega arith,
+  omega arith,
+  omega arith,
+  c.requires.1,
+  c.requires.2,
+  c.requires.3,
+  scan_start c.args.arity c.args.rules c.args.s.now _,
+  c.requires.5,
+  refl,
+  starts_none c.args.arity c.args.s.now c.args.starts.now,
+)
 
 pub read_marks-read-requires : goal.read_marks-read-requires
 read_marks-read-requires c =

@@ -1,19 +1,12 @@
 -- A loop over the rules: what comes of those left, with what is gathered, is what comes of all.
 use Prim.Native.Nat.{◌-◌, ◌≤◌}
-use mathlib.Core.Path.{◌≡◌, refl, sym, ◌∙◌}
-use native.Mathlib.Omega.{arith}
-use lib.ListN.{length, length-set}
-use borrow.Author.Tests.{not-true, not-false}
-use Rattle.records.specs.Fields.{AreBytes}
+use mathlib.Core.Path.{◌≡◌}
+use lib.ListN.{length}
 use Rattle.records.specs.Reading.{map_reading}
 use Rattle.sheet.specs.ReadSheet.{read_rules}
 use Rattle.sheet_tests.specs.views.Gathered.{gather, held}
 use Rattle.sheet_tests.specs.views.Starts.{rule_start, StartsIn}
-use Rattle.sheet_tests.proofs.Starting.{starts_none, starts_put, start_next}
-use Rattle.sheet_tests.proofs.Scanning.{bytes_known, scan_from, scan_start, scan_end, scan_refused}
-use Rattle.sheet_tests.proofs.MarkedRules.{RuleMarked, rule_marked, marks_refused, names_apart}
-use Rattle.sheet_tests.proofs.MarkedRules.{names_meets, marked_placed, scan_turn}
-use borrow.Author.Rules.{rules}
+use Rattle.sheet_tests.proofs.Scanning.{scan_from}
 use Rattle.sheet_tests.proofs.sheets.scan_rules.Given as goal
 
 abbrev pub invariant-loop-i : goal.invariant-loop-i

@@ -11,7 +11,6 @@ use Rattle.sheet_tests.specs.views.Starts.{tests_starts}
 use Rattle.sheet_tests.specs.views.TestsRead.{tests_found, sheet_found}
 use Rattle.sheet_tests.specs.declared.TestsRead.TheVariants.{Refused}
 use Rattle.sheet_tests.proofs.Checking.{zeros, header_refused, header_known, header_read_lem}
-use borrow.Author.Rules.{rules}
 use Rattle.sheet_tests.proofs.sheets.tests_noted.Goals as goal
 
 pub slice_bounds-read_rules-count : goal.slice_bounds-read_rules-count

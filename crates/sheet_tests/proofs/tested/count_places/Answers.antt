@@ -1,9 +1,8 @@
 -- A loop over the words that adds up the members of each.
-use Prim.Native.Nat.{◌+◌, ◌-◌, ◌≤◌}
-use mathlib.Core.Path.{◌≡◌, ◌∙◌}
+use Prim.Native.Nat.{◌+◌}
+use mathlib.Core.Path.{◌∙◌}
 use native.Mathlib.Omega.{arith}
-use Rattle.sheet_tests.proofs.PlaceSets.{places_below, places_below_few, places_next, places_all}
-use borrow.Author.Rules.{rules}
+use Rattle.sheet_tests.proofs.PlaceSets.{places_below_few, places_next, places_all}
 use Rattle.sheet_tests.proofs.tested.count_places.Goals as goal
 
 pub loop-i-init : goal.loop-i-init

@@ -1,9 +1,7 @@
 -- A loop over the words that adds up the members of each.
-use Prim.Native.Nat.{◌+◌, ◌-◌, ◌≤◌}
-use mathlib.Core.Path.{◌≡◌, ◌∙◌}
-use native.Mathlib.Omega.{arith}
-use Rattle.sheet_tests.proofs.PlaceSets.{places_below, places_below_few, places_next, places_all}
-use borrow.Author.Rules.{rules}
+use Prim.Native.Nat.{◌-◌, ◌≤◌}
+use mathlib.Core.Path.{◌≡◌}
+use Rattle.sheet_tests.proofs.PlaceSets.{places_below}
 use Rattle.sheet_tests.proofs.tested.count_places.Given as goal
 
 abbrev pub invariant-loop-i : goal.invariant-loop-i

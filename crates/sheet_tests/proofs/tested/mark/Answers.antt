@@ -3,11 +3,10 @@ use mathlib.Core.Path.{refl, ap, ◌∙◌}
 use native.Mathlib.Omega.{arith}
 use Rattle.sheet_tests.specs.views.TestedPlaces.{places_in}
 use Rattle.sheet_tests.proofs.PlaceSets.{mark_is}
-use borrow.Author.Rules.{rules}
 use Rattle.sheet_tests.proofs.tested.mark.Goals as goal
 
 pub returns : goal.returns
 returns c = record {
-      words_after = ap places_in c.mark.ensures.words_after ∙ mark_is c.args.words.now c.args.place _ (omega arith) refl;
-      words_len = c.mark.ensures.words_len;
-    }
+  words_after = ap places_in c.mark.ensures.words_after ∙ mark_is c.args.words.now c.args.place _ (omega arith) refl;
+  words_len = c.mark.ensures.words_len;
+}
