@@ -3,7 +3,6 @@ use mathlib.Core.Path.{sym, ap, subst, ◌∙◌}
 use Rattle.basics.proofs.Clash.{clash}
 use Rattle.number_search.specs.views.NumberRows.{SoughtRight}
 use Rattle.steps.specs.declared.Led.TheVariants.{To}
-use borrow.Author.Rules.{rules}
 use Rattle.steps.proofs.cases.find_case.Goals as goal
 use Rattle.steps.proofs.cases.find_case.Goals.{then-high-lt-NUMBERS, else-high-lt-NUMBERS}
 

@@ -1,14 +1,12 @@
 -- `waiting::rules::with_rule` meets its contract: the tests that are left, added to the set so far, give the whole.
-use Prim.Native.Nat.{ℕ, ◌-◌, ◌≤◌, ◌<◌}
+use Prim.Native.Nat.{ℕ, ◌≤◌, ◌<◌}
 use mathlib.Core.Bool.{true, false}
 use mathlib.Core.List.{List}
-use mathlib.Core.Path.{◌≡◌, sym, ap, ◌∙◌}
+use mathlib.Core.Path.{sym, ap, ◌∙◌}
 use native.Mathlib.Omega.{arith}
-use lib.ListN.{length, take, drop}
-use Rattle.masks.specs.Mask.{has}
+use lib.ListN.{length}
 use Rattle.waiting.specs.views.SpanTests.{with_rule}
 use Rattle.waiting.proofs.AlongTests.{front_done, front_at_lem, rule_out, rule_on}
-use borrow.Author.Rules.{rules}
 use Rattle.waiting.proofs.rules.with_rule.Goals as goal
 use Rattle.waiting.proofs.rules.with_rule.Goals.{then-has-2, else-has-2}
 
