@@ -12,7 +12,7 @@ returns-in-To c =
     let right = SoughtRight a.graph.now a.start a.count a.low a.high a.neither in
     let told = sym c.in-To.is in
     elim c.if-high-lt-NUMBERS.branch [
-      then-high-lt-NUMBERS w ↦ let never = told ∙ w.sought-is in clash (cc)
-    | else-high-lt-NUMBERS w ↦
-      ap To (sym (subst right (sym told) (subst right (sym w.sought-is) w.find_number-sought.ensures)))
+      | then-high-lt-NUMBERS w ↦ let never = told ∙ w.sought-is in clash (cc)
+      | else-high-lt-NUMBERS w ↦
+          ap To (sym (subst right (sym told) (subst right (sym w.sought-is) w.find_number-sought.ensures)))
     ]

@@ -61,14 +61,14 @@ loop-i-preserved c =
     let whole = ap case_head (sym (rest s c.loop-i.at)) ∙ sym c.case_head-head.ensures ∙ c.in-Whole.is in
     let low_enough = c.if-low-range.false in
     elim c.if-both.branch [
-      then-both w ↦
-      passed_better s a.neither a.low a.high c.loop-i.invariant c.requires.ordered.ascend next first whole
-      c.case_range-range.ensures
-      low_enough (sym c.both.ensures ∙ w.if-both.true) w.begun-is w.node-is
-    | else-both w ↦
-      passed_still s a.neither a.low a.high c.loop-i.invariant c.requires.ordered.ascend next first whole
-      c.case_range-range.ensures
-      low_enough (sym c.both.ensures ∙ w.if-both.false) w.begun-is w.node-is
+      | then-both w ↦
+          passed_better s a.neither a.low a.high c.loop-i.invariant c.requires.ordered.ascend next first whole
+          c.case_range-range.ensures
+          low_enough (sym c.both.ensures ∙ w.if-both.true) w.begun-is w.node-is
+      | else-both w ↦
+          passed_still s a.neither a.low a.high c.loop-i.invariant c.requires.ordered.ascend next first whole
+          c.case_range-range.ensures
+          low_enough (sym c.both.ensures ∙ w.if-both.false) w.begun-is w.node-is
     ]
 
 pub returns : goal.returns

@@ -60,8 +60,8 @@ loop-i-preserved c =
     c.wide-t.ensures
     (sym c.has.ensures ∙ c.if-has.false) in
     elim c.if-has-2.branch [
-      then-has-2 w ↦ (omega arith, on true (sym c.has-in-loop-i.ensures ∙ w.if-has-2.true) _ (w.all-is ∙ w.insert-all.ensures) ∙ loop.invariant.1)
-    | else-has-2 w ↦ (omega arith, on false (sym c.has-in-loop-i.ensures ∙ w.if-has-2.false) _ w.all-is ∙ loop.invariant.1)
+      | then-has-2 w ↦ (omega arith, on true (sym c.has-in-loop-i.ensures ∙ w.if-has-2.true) _ (w.all-is ∙ w.insert-all.ensures) ∙ loop.invariant.1)
+      | else-has-2 w ↦ (omega arith, on false (sym c.has-in-loop-i.ensures ∙ w.if-has-2.false) _ w.all-is ∙ loop.invariant.1)
     ]
 
 pub returns : goal.returns
