@@ -22,7 +22,7 @@ use Rattle.graph.specs.declared.CaseRecord.TheVariants.{Symbols, Compound, Numbe
 use Rattle.graph.specs.declared.CaseHead.{CaseHead}
 use Rattle.graph.specs.declared.CaseHead.TheVariants.{Whole, Refused}
 use Rattle.graph.specs.views.NodeRecord.{whole_case, case_head}
-use Rattle.graph.specs.ReadGraph.{edge, read_cases, read_case}
+use Rattle.graph.specs.ReadGraph.{read_cases, read_case}
 use Rattle.graph.specs.views.Rewriting.{IsTook, read_or}
 use Rattle.graph.proofs.SpelledCases.{kind_holds}
 use Rattle.graph.proofs.RowsLeft.{row_there, others_left, first_others}

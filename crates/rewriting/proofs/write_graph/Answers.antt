@@ -8,7 +8,6 @@ use Rattle.decision.specs.GraphBytes.{nodes_bytes}
 use Rattle.graph.specs.views.Rewriting.{IsTook, read_or, read_records}
 use Rattle.rewriting.specs.declared.Copied.TheVariants.{To}
 use Rattle.node_check.proofs.CopiedNodes.{both_written}
-use borrow.Author.Rules.{rules}
 use Rattle.graph.specs.views.WriteNode.{header_bytes}
 use Rattle.rewriting.proofs.write_graph.Goals as goal
 

@@ -4,7 +4,6 @@ use Rattle.records.specs.Writing.{splice}
 use Rattle.walk_all.specs.WalkAll.{result_bytes}
 use Rattle.walk_all.specs.views.FirstPiece.{first_of}
 use Rattle.walk_all.proofs.Turns.{turned_full, Turned-more, turned_last}
-use borrow.Author.Rules.{rules}
 use Rattle.walk_all.proofs.put_first.Goals as goal
 
 pub returns-then-left-bytes : goal.returns-then-left-bytes

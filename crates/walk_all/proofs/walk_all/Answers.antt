@@ -78,12 +78,12 @@ module _ (c : After-put_first-turn) where
   first_right =
       let arity = sym c.has_arity.ensures in
       elim c.if-has_arity.branch [
-        then-has_arity w ↦
-        walked_right input cells_read bytes ready.known prefix c.if-has_arity.walked read there
-        (arity ∙ w.if-has_arity.true) (λ t p k. ap walked_reading w.walked-is ∙ w.walk_checked-walked.ensures.result_value t p k)
-      | else-has_arity w ↦
-        other_right input cells_read bytes ready.known prefix c.if-has_arity.walked read there
-        (arity ∙ w.if-has_arity.false) w.walked-is
+        | then-has_arity w ↦
+            walked_right input cells_read bytes ready.known prefix c.if-has_arity.walked read there
+            (arity ∙ w.if-has_arity.true) (λ t p k. ap walked_reading w.walked-is ∙ w.walk_checked-walked.ensures.result_value t p k)
+        | else-has_arity w ↦
+            other_right input cells_read bytes ready.known prefix c.if-has_arity.walked read there
+            (arity ∙ w.if-has_arity.false) w.walked-is
       ]
 
   first : pieces_in (room - n) left input ≡ piece_then input left more (read_prefix input)
@@ -129,8 +129,8 @@ module _ (c : After-put_first-turn) where
   notes_there : length c.if-has_arity.notes ≡ 680
   notes_there =
       elim c.if-has_arity.branch [
-        then-has_arity w ↦ ap length w.notes-is ∙ w.walk_checked-walked.ensures.notes_len
-      | else-has_arity w ↦ ap length w.notes-is ∙ c.loop-n.invariant.5
+        | then-has_arity w ↦ ap length w.notes-is ∙ w.walk_checked-walked.ensures.notes_len
+        | else-has_arity w ↦ ap length w.notes-is ∙ c.loop-n.invariant.5
       ]
 
 pub loop-n-init : goal.loop-n-init

@@ -1,7 +1,6 @@
 -- `graph::record::case_head` meets its contract: the kind tells the record.
 use mathlib.Core.Path.{sym}
 use borrow.Author.Tests.{ne_eqb}
-use borrow.Author.Rules.{rules}
 use Rattle.graph.proofs.ShortCases.{short_case, not_zero}
 use Rattle.graph.proofs.record.case_head.Goals as goal
 

@@ -1,6 +1,5 @@
 -- `graph::record::compound_head` meets its contract.
 use borrow.Author.Tests.{le-leb}
-use borrow.Author.Rules.{rules}
 use Rattle.graph.proofs.record.compound_head.Goals as goal
 
 pub returns : goal.returns

@@ -1,6 +1,5 @@
 -- `graph::record::node_head` meets its contract: the kind tells the record, which is whole where its bytes are there.
 use borrow.Author.Tests.{eq-eqb, ne_eqb, le-leb, lt-leb}
-use borrow.Author.Rules.{rules}
 use Rattle.graph.proofs.record.node_head.Goals as goal
 
 pub returns-then-s-eq0 : goal.returns-then-s-eq0

@@ -1,6 +1,5 @@
 -- `graph::record::numbers_head` meets its contract: the record is whole where its bytes are there.
 use borrow.Author.Tests.{le-leb, lt-leb}
-use borrow.Author.Rules.{rules}
 use Rattle.graph.proofs.record.numbers_head.Goals as goal
 
 pub returns-then-s-lt8 : goal.returns-then-s-lt8

@@ -1,6 +1,5 @@
 -- `graph::record::symbols_head` meets its contract: the record is whole where its bytes are there.
 use borrow.Author.Tests.{le-leb, lt-leb}
-use borrow.Author.Rules.{rules}
 use Rattle.graph.proofs.record.symbols_head.Goals as goal
 
 pub returns-then-s-lt7 : goal.returns-then-s-lt7

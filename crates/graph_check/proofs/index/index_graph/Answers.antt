@@ -8,7 +8,6 @@ use Rattle.graph.specs.ReadGraph.{has_header}
 use Rattle.node_check.specs.views.CheckNode.{kept_test, checked_nodes}
 use Rattle.graph_check.specs.views.GraphIndex.{indexed}
 use Rattle.graph_check.proofs.Indexing.{count_header, count_refused, header_known, header_refused, nodes_refused, bytes_left, graph_indexed}
-use borrow.Author.Rules.{rules}
 use Rattle.graph_check.proofs.index.index_graph.Goals as goal
 
 pub returns-in_default : goal.returns-in_default

@@ -3,7 +3,6 @@ use mathlib.Core.Path.{sym, ap, ◌∙◌}
 use borrow.Author.Tests.{lt-leb}
 use Rattle.graph_check.specs.views.GraphIndex.{count_if}
 use Rattle.graph_check.proofs.Indexing.{count_told}
-use borrow.Author.Rules.{rules}
 use Rattle.graph.proofs.ByKinds.{header_by_kind}
 use Rattle.graph_check.proofs.index.node_count.Goals as goal
 

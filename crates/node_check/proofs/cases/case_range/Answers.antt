@@ -1,5 +1,4 @@
 -- `case_range` meets its contract, for each case.
-use borrow.Author.Rules.{rules}
 use Rattle.node_check.proofs.cases.case_range.Goals as goal
 
 pub returns-in-Symbols : goal.returns-in-Symbols

@@ -1,16 +1,11 @@
 -- `graph::cases::check_cases` meets its contract: what was found and what is still to be read give what all cases give.
-use Rattle.node_check.proofs.CasesPass.{resume, case_fits, pass_starts, pass_next, pass_refused, pass_ends}
-use Rattle.node_check.specs.views.CaseRanges.{cases_found}
-use Rattle.graph.specs.ReadGraph.{read_cases}
+use Rattle.node_check.proofs.CasesPass.{case_fits, pass_starts, pass_next, pass_refused, pass_ends}
 use Rattle.graph.specs.views.NodeRecord.{case_head, case_refusal}
 use Rattle.graph.specs.declared.CaseHead.TheVariants.{Whole}
 use Rattle.records.proofs.Parts.{rest}
-use Rattle.records.specs.Reading.{map_reading}
-use lib.ListN.{length, drop, length-drop}
+use lib.ListN.{drop, length-drop}
 use native.Mathlib.Omega.{arith}
 use mathlib.Core.Path.{◌≡◌, sym, ap, ◌∙◌}
-use Prim.Native.Nat.{◌-◌, ◌≤◌}
-use borrow.Author.Rules.{rules}
 use Rattle.records.proofs.ByteLists.{bytes_all}
 use Rattle.node_check.proofs.cases.check_cases.Goals as goal
 

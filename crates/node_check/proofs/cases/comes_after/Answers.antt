@@ -1,5 +1,4 @@
 -- `comes_after` meets its contract.
-use borrow.Author.Rules.{rules}
 use Rattle.node_check.proofs.cases.comes_after.Goals as goal
 
 pub returns : goal.returns

@@ -1,6 +1,5 @@
 -- `graph::check::check_leaf` meets its contract, for each leaf.
 use mathlib.Core.Path.{sym, ◌∙◌}
-use borrow.Author.Rules.{rules}
 use Rattle.node_check.proofs.check.check_leaf.Goals as goal
 
 pub returns-in-Fail : goal.returns-in-Fail

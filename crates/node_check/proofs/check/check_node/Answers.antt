@@ -8,7 +8,6 @@ use Rattle.records.proofs.Parts.{rest}
 use lib.Dec.{ltb}
 use mathlib.Core.Bool.{◌&&◌}
 use mathlib.Core.Path.{sym, ap, ◌∙◌}
-use borrow.Author.Rules.{rules}
 use Rattle.graph.proofs.ByKinds.{node_read_by}
 use Rattle.graph.specs.views.NodeRecord.{switch_length, node_refusal}
 use Rattle.node_check.proofs.check.check_node.Goals as goal

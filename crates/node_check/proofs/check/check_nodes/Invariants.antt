@@ -1,17 +1,12 @@
 -- `graph::check::check_nodes` meets its contract: where the passed nodes begin and what is still to be read give where all begin.
-use Rattle.node_check.proofs.NodesPass.{resume_at, nodes_left, nodes_start, nodes_end, nodes_refused, nodes_next, node_few, node_inside, start_stored}
+use Rattle.node_check.proofs.NodesPass.{resume_at, nodes_left}
 use Rattle.decision.specs.views.GraphSize.{most_node_bytes}
-use Rattle.node_check.specs.views.CheckNode.{kept_test, checked, starts_from, checked_nodes}
-use Rattle.graph.specs.ReadGraph.{read_node, read_nodes}
-use Rattle.node_check.specs.declared.NodeCheck.TheVariants.{Used, Refused}
-use Rattle.records.proofs.Parts.{rest}
+use Rattle.node_check.specs.views.CheckNode.{kept_test, starts_from}
+use Rattle.graph.specs.ReadGraph.{read_nodes}
 use Rattle.records.specs.Reading.{after}
-use lib.ListN.{length, take, drop, length-set}
+use lib.ListN.{length, take, drop}
 use Prim.Native.Nat.{◌+◌, ◌*◌, ◌-◌, ◌≤◌}
-use native.Mathlib.Omega.{arith}
-use mathlib.Core.Path.{◌≡◌, sym, ap, ◌∙◌}
-use borrow.Author.Rules.{rules}
-use Rattle.records.proofs.ByteLists.{bytes_all}
+use mathlib.Core.Path.{◌≡◌}
 use Rattle.node_check.proofs.check.check_nodes.Given as goal
 
 abbrev pub invariant-loop-i : goal.invariant-loop-i

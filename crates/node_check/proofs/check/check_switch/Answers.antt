@@ -2,7 +2,6 @@
 use native.Mathlib.Omega.{arith}
 use Rattle.node_check.proofs.Switches.{switch_none, switch_refused, switch_bytes, switch_outside, switch_unordered, switch_right}
 use mathlib.Core.Path.{sym, ◌∙◌, ap}
-use borrow.Author.Rules.{rules}
 use Rattle.node_check.specs.views.CaseRanges.{cases_refusal}
 use Rattle.node_check.proofs.check.check_switch.Goals as goal
 

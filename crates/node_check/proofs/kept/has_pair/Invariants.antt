@@ -1,12 +1,8 @@
 -- `graph::kept::has_pair` meets its contract: what is left to search gives the same answer.
-use Rattle.node_check.proofs.KeptTests.{among, among_here, among_next, among_none}
-use Rattle.node_check.specs.views.CheckNode.{is_code, has_pair}
-use lib.ListN.{take}
+use Rattle.node_check.proofs.KeptTests.{among}
+use Rattle.node_check.specs.views.CheckNode.{has_pair}
 use Prim.Native.Nat.{◌-◌, ◌≤◌}
-use native.Mathlib.Omega.{arith}
-use mathlib.Core.Path.{◌≡◌, sym, ap, ◌∙◌}
-use borrow.Author.Rules.{rules}
-use Rattle.basics.specs.Lists.{any_of}
+use mathlib.Core.Path.{◌≡◌}
 use Rattle.node_check.proofs.kept.has_pair.Given as goal
 
 abbrev pub invariant-loop-i : goal.invariant-loop-i

@@ -1,12 +1,10 @@
 -- `number_search::names::find_number` meets its contract: the cases that are left lead where all do.
-use Prim.Native.Nat.{◌-◌}
 use mathlib.Core.Path.{sym, ap, ◌∙◌}
 use native.Mathlib.Omega.{arith}
 use Rattle.records.proofs.Parts.{rest}
 use Rattle.graph.specs.views.NodeRecord.{case_head}
-use Rattle.number_search.proofs.NamesPassed.{Passed, passed_starts, passed_ends, passed_sought}
+use Rattle.number_search.proofs.NamesPassed.{passed_starts, passed_ends, passed_sought}
 use Rattle.number_search.proofs.NamesPassed.{passed_whole, passed_inside, passed_numbers, passed_on}
-use borrow.Author.Rules.{rules}
 use Rattle.number_search.proofs.names.find_number.Goals as goal
 
 pub loop-i-init : goal.loop-i-init

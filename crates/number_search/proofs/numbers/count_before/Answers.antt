@@ -1,9 +1,8 @@
 -- `number_search::numbers::count_before` meets its contract: the part in which the first of the others stands is halved.
-use Prim.Native.Nat.{ℕ, ◌-◌, ◌<◌, ◌≤◌}
+use Prim.Native.Nat.{ℕ, ◌<◌, ◌≤◌}
 use mathlib.Core.Path.{subst}
 use native.Mathlib.Omega.{arith}
-use Rattle.number_search.proofs.Halving.{Halved, halved_starts, halved_ends, halved_behind, halved_front}
-use borrow.Author.Rules.{rules}
+use Rattle.number_search.proofs.Halving.{halved_starts, halved_ends, halved_behind, halved_front}
 use Rattle.number_search.proofs.numbers.count_before.Goals as goal
 
 pub loop-from-init : goal.loop-from-init

@@ -1,11 +1,10 @@
 -- `number_search::numbers::narrowest` meets its contract: the case that two searches find is the narrowest.
-use Prim.Native.Nat.{ℕ, ◌+◌, ◌*◌, ◌-◌, ◌/◌, ◌≤◌}
+use Prim.Native.Nat.{ℕ, ◌+◌, ◌*◌, ◌/◌, ◌≤◌}
 use mathlib.Core.Path.{sym, ap, ◌∙◌}
 use native.Mathlib.Omega.{arith}
 use Rattle.number_search.proofs.WideFields.{wide_there}
 use Rattle.number_search.proofs.Halving.{row_shorter}
 use Rattle.number_search.proofs.Narrowest.{none_begun, last_begins, lower_gauge, found_missed, found_leads}
-use borrow.Author.Rules.{rules}
 use Rattle.number_search.proofs.numbers.narrowest.Goals as goal
 
 pub returns-then-begun-eq0 : goal.returns-then-begun-eq0

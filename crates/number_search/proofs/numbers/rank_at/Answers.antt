@@ -6,7 +6,6 @@ use Rattle.terms.specs.Term.{on_gauge}
 use Rattle.codes.specs.views.Codes.{number_code}
 use Rattle.node_check.specs.views.CaseRanges.{rank_of}
 use Rattle.number_search.proofs.WideFields.{wide_there}
-use borrow.Author.Rules.{rules}
 use Rattle.number_search.proofs.numbers.rank_at.Goals as goal
 
 pub returns : goal.returns

@@ -4,7 +4,6 @@ use native.Mathlib.Omega.{arith}
 use Rattle.plain.specs.declared.Plain.{Plain}
 use Rattle.plain.specs.Plain.{plain_values}
 use Rattle.packing.specs.Packed.{Packs, plain_fields}
-use borrow.Author.Rules.{rules}
 use Rattle.packing.proofs.answers.pack_plain.Goals as goal
 
 pub returns-in-Answered : goal.returns-in-Answered

@@ -4,7 +4,6 @@ use native.Mathlib.Omega.{arith}
 use Rattle.walk.specs.declared.Walked.{Walked}
 use Rattle.walk.specs.Walking.{walked_values}
 use Rattle.packing.specs.Packed.{Packs, walk_fields}
-use borrow.Author.Rules.{rules}
 use Rattle.packing.proofs.answers.pack_walked.Goals as goal
 
 pub returns-in-Answered : goal.returns-in-Answered

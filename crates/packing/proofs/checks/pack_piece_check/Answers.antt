@@ -4,7 +4,6 @@ use native.Mathlib.Omega.{arith}
 use Rattle.piece.specs.declared.PieceCheck.{PieceCheck}
 use Rattle.piece.specs.CheckPiece.{piece_check_values}
 use Rattle.packing.specs.Packed.{Packs, piece_fields}
-use borrow.Author.Rules.{rules}
 use Rattle.packing.proofs.checks.pack_piece_check.Goals as goal
 
 pub returns-in-Accepted : goal.returns-in-Accepted

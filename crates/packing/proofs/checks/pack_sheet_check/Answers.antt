@@ -3,7 +3,6 @@ use mathlib.Core.Path.{sym, subst}
 use Rattle.sheet_tests.specs.declared.SheetCheck.{SheetCheck}
 use Rattle.sheet_tests.specs.CheckSheet.{sheet_check_values}
 use Rattle.packing.specs.Packed.{Packs, sheet_fields}
-use borrow.Author.Rules.{rules}
 use Rattle.packing.proofs.checks.pack_sheet_check.Goals as goal
 
 pub returns-in-Accepted : goal.returns-in-Accepted

@@ -3,7 +3,6 @@ use mathlib.Core.Path.{sym, subst}
 use Rattle.build.specs.declared.Built.{Built}
 use Rattle.build.specs.BuildOutcome.{built_values}
 use Rattle.packing.specs.Packed.{Packs, built_fields}
-use borrow.Author.Rules.{rules}
 use Rattle.packing.proofs.writers.pack_built.Goals as goal
 
 pub returns-in-Written : goal.returns-in-Written

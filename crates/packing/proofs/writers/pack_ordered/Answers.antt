@@ -3,7 +3,6 @@ use mathlib.Core.Path.{sym, subst}
 use Rattle.track.specs.declared.Ordered.{Ordered}
 use Rattle.track.specs.views.HandedBack.{left_by}
 use Rattle.packing.specs.Packed.{Packs, written_fields}
-use borrow.Author.Rules.{rules}
 use Rattle.packing.proofs.writers.pack_ordered.Goals as goal
 
 pub returns-in-Written : goal.returns-in-Written

@@ -3,7 +3,6 @@ use mathlib.Core.Path.{sym, subst}
 use Rattle.graph_check.specs.declared.Rewrote.{Rewrote}
 use Rattle.graph_check.specs.Rewritten.{left_by}
 use Rattle.packing.specs.Packed.{Packs, written_fields}
-use borrow.Author.Rules.{rules}
 use Rattle.packing.proofs.writers.pack_rewrote.Goals as goal
 
 pub returns-in-Written : goal.returns-in-Written

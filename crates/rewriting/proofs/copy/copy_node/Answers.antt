@@ -17,7 +17,6 @@ use lib.ListN.{length, drop, length-drop}
 use Prim.Native.Nat.{◌+◌}
 use native.Mathlib.Omega.{arith}
 use mathlib.Core.Path.{◌≡◌, refl, sym, ap, subst, ◌∙◌}
-use borrow.Author.Rules.{rules}
 use Rattle.records.proofs.ByteLists.{bytes_all, bytes_drop}
 use Rattle.rewriting.proofs.copy.copy_node.Goals as goal
 

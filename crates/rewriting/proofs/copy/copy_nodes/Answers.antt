@@ -1,16 +1,14 @@
 -- `graph::rewrite::copy_nodes` meets its contract: the nodes that are left, written behind those that were, complete them.
 use Rattle.rewriting.specs.declared.Copied.TheVariants.{To}
-use Rattle.node_check.proofs.Copying.{PartCopied, copied_starts, first_there, read_there, Copied-next, copied_ends}
+use Rattle.node_check.proofs.Copying.{copied_starts, first_there, read_there, Copied-next, copied_ends}
 use Rattle.rewriting.proofs.CopyEnds.{end_of, not_refused_lem}
 use Rattle.graph.proofs.SpelledNodes.{NodeFields, node_spelled}
 use Rattle.decision.specs.GraphBytes.{node_bytes, nodes_bytes}
 use Rattle.decision.specs.Node.{end}
 use Rattle.decision.specs.Key.{fail_node}
-use lib.ListN.{length, drop}
-use Prim.Native.Nat.{◌-◌}
+use lib.ListN.{drop}
 use native.Mathlib.Omega.{arith}
-use mathlib.Core.Path.{◌≡◌, refl, sym, ap, ◌∙◌}
-use borrow.Author.Rules.{rules}
+use mathlib.Core.Path.{refl, sym, ap, ◌∙◌}
 use Rattle.graph.specs.ReadGraph.{read_record}
 use Rattle.records.proofs.ByteLists.{bytes_all}
 use Rattle.rewriting.proofs.copy.copy_nodes.Goals as goal

@@ -1,13 +1,11 @@
 -- `steps::cases::pass_cases` meets its contract: with the best so far, the cases that are left lead where all do.
 use mathlib.Core.Path.{sym, ap, ◌∙◌}
-use Prim.Native.Nat.{◌-◌}
 use native.Mathlib.Omega.{arith}
 use Rattle.records.proofs.Parts.{rest}
 use Rattle.graph.specs.views.NodeRecord.{case_head}
 use Rattle.steps.specs.declared.Led.TheVariants.{To}
-use Rattle.steps.proofs.CasesLeft.{Passed, passed_starts, passed_ends, passed_whole}
+use Rattle.steps.proofs.CasesLeft.{passed_starts, passed_ends, passed_whole}
 use Rattle.steps.proofs.CasesLeft.{passed_inside, passed_above, passed_better, passed_still}
-use borrow.Author.Rules.{rules}
 use Rattle.steps.proofs.cases.pass_cases.Goals as goal
 use Rattle.steps.proofs.cases.pass_cases.Goals.{then-both, else-both}
 
@@ -63,14 +61,14 @@ loop-i-preserved c =
     let whole = ap case_head (sym (rest s c.loop-i.at)) ∙ sym c.case_head-head.ensures ∙ c.in-Whole.is in
     let low_enough = c.if-low-range.false in
     elim c.if-both.branch [
-      then-both w ↦
-      passed_better s a.neither a.low a.high c.loop-i.invariant c.requires.ordered.ascend next first whole
-      c.case_range-range.ensures
-      low_enough (sym c.both.ensures ∙ w.if-both.true) w.begun-is w.node-is
-    | else-both w ↦
-      passed_still s a.neither a.low a.high c.loop-i.invariant c.requires.ordered.ascend next first whole
-      c.case_range-range.ensures
-      low_enough (sym c.both.ensures ∙ w.if-both.false) w.begun-is w.node-is
+      | then-both w ↦
+          passed_better s a.neither a.low a.high c.loop-i.invariant c.requires.ordered.ascend next first whole
+          c.case_range-range.ensures
+          low_enough (sym c.both.ensures ∙ w.if-both.true) w.begun-is w.node-is
+      | else-both w ↦
+          passed_still s a.neither a.low a.high c.loop-i.invariant c.requires.ordered.ascend next first whole
+          c.case_range-range.ensures
+          low_enough (sym c.both.ensures ∙ w.if-both.false) w.begun-is w.node-is
     ]
 
 pub returns : goal.returns

@@ -7,7 +7,6 @@ use Rattle.outcomes.specs.views.Look.{look}
 use Rattle.outcomes.specs.views.CellOutcome.{outcome_of, pair_cells}
 use Rattle.steps.specs.declared.Step.TheVariants.{GoTo}
 use Rattle.steps.proofs.NodeSteps.{pair_lacking, pair_there}
-use borrow.Author.Rules.{rules}
 use Rattle.steps.proofs.node.pair_step.Goals as goal
 
 pub returns-then-look-eq0 : goal.returns-then-look-eq0

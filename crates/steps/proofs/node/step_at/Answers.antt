@@ -17,7 +17,6 @@ use Rattle.steps.specs.declared.Step.TheVariants.{Stop}
 use Rattle.steps.specs.views.CodeSteps.{step_made, node_step, NearNode, OrderedNode, run_step}
 use Rattle.steps.proofs.StepsMade.{leaf_back}
 use Rattle.steps.proofs.NodeSteps.{leaf_node, pair_node_lem, switch_node, cases_inside_lem, cases_begin, cases_read}
-use borrow.Author.Rules.{rules}
 use Rattle.steps.proofs.node.step_at.Goals as goal
 
 pub returns-in_default : goal.returns-in_default

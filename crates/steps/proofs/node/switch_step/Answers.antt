@@ -11,7 +11,6 @@ use Rattle.graph.specs.ReadGraph.{read_cases}
 use Rattle.steps.specs.declared.Step.TheVariants.{GoTo}
 use Rattle.number_search.specs.views.CodeCases.{follow_code}
 use Rattle.steps.proofs.NodeSteps.{led_to, switch_lacking, switch_on}
-use borrow.Author.Rules.{rules}
 use Rattle.steps.proofs.node.switch_step.Goals as goal
 
 pub returns-then-run-eq0 : goal.returns-then-run-eq0

@@ -1,5 +1,4 @@
 -- The bytes of a record of a byte and two ends.
-use borrow.Author.Rules.{rules}
 use Rattle.tidy_rows.proofs.rules.put_byte_and_ends.Goals as goal
 
 pub returns : goal.returns

@@ -1,5 +1,4 @@
 -- For each kind of record, its bytes.
-use borrow.Author.Rules.{rules}
 use Rattle.tidy_rows.proofs.rules.put_record.Goals as goal
 
 pub put-requires : goal.put-requires

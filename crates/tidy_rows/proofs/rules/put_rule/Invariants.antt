@@ -1,18 +1,11 @@
 -- A loop over the records: what is left, written behind what was written, makes the whole.
-use mathlib.Core.Path.{◌≡◌, refl, sym, ap, ◌∙◌}
+use mathlib.Core.Path.{◌≡◌}
 use Prim.Native.Nat.{◌+◌, ◌≤◌}
-use lib.ListN.{length, length-append}
-use native.Mathlib.Omega.{arith}
+use lib.ListN.{length}
 use Rattle.records.specs.Writing.{splice}
-use Rattle.records.proofs.Writing.{splice_none}
-use Rattle.patterns.specs.declared.PatternRecord.{PatternRecord}
-use Rattle.patterns.specs.views.PatternRecord.{record_spelling}
 use Rattle.rule_rows.specs.views.Row.{records_from, Going}
-use Rattle.rule_rows.specs.views.Words.{Numbering}
-use Rattle.tidy_rows.specs.views.TidyRow.{tidy_in, tidy_onward}
-use Rattle.rule_rows.proofs.NextRecords.{goes, ends, behind_it}
-use Rattle.tidy_rows.proofs.RowSteps.{end_from, ends_here, nothing_onward, ends_same, onward_next, Written-next}
-use borrow.Author.Rules.{rules}
+use Rattle.tidy_rows.specs.views.TidyRow.{tidy_onward}
+use Rattle.tidy_rows.proofs.RowSteps.{end_from}
 use Rattle.tidy_rows.proofs.rules.put_rule.Given as goal
 
 abbrev pub invariant-loop-what : goal.invariant-loop-what

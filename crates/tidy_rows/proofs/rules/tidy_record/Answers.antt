@@ -1,7 +1,6 @@
 -- Only a series' record, that of a range on a gauge and a variable's change.
 use mathlib.Core.Path.{sym, ap, ◌∙◌}
 use Rattle.tidy_rows.specs.views.TidyRow.{tidy_in}
-use borrow.Author.Rules.{rules}
 use Rattle.tidy_rows.proofs.rules.tidy_record.Goals as goal
 
 pub returns-in-Series : goal.returns-in-Series

@@ -2,7 +2,6 @@
 use mathlib.Core.Bool.{true, false}
 use borrow.Author.Tests.{lt-ltb, le-ltb, eq-eqb, ne_eqb}
 use Rattle.tidy_rows.proofs.TidyWords.{tidy_by}
-use borrow.Author.Rules.{rules}
 use Rattle.tidy_rows.proofs.rules.tidy_variable.Goals as goal
 
 pub returns-then-ranged : goal.returns-then-ranged

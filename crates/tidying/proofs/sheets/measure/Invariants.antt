@@ -1,12 +1,9 @@
 -- A loop over the rules: what is measured, with those left, is the whole.
-use mathlib.Core.Path.{◌≡◌, refl, ap}
+use mathlib.Core.Path.{◌≡◌}
 use Prim.Native.Nat.{◌+◌, ◌*◌, ◌-◌, ◌≤◌}
 use lib.ListN.{length, drop}
-use native.Mathlib.Omega.{arith}
-use Rattle.tidy_rows.specs.declared.Moved.{Moved}
-use Rattle.tidying.proofs.RuleTurns.{rows_from, rows_all, rows_done, turn_measured}
+use Rattle.tidying.proofs.RuleTurns.{rows_from}
 use Rattle.tidying.specs.views.TidyRows.{tidy_rows}
-use borrow.Author.Rules.{rules}
 use Rattle.tidying.proofs.sheets.measure.Given as goal
 
 abbrev pub invariant-loop-i : goal.invariant-loop-i

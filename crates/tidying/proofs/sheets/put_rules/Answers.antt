@@ -1,6 +1,6 @@
 -- A loop over the rules: those left, written behind what was written, make the whole.
 use Rattle.rule_rows.specs.views.Row.{rule_records}
-use Prim.Native.Nat.{ℕ, ◌+◌, ◌-◌, ◌≤◌}
+use Prim.Native.Nat.{ℕ, ◌+◌, ◌≤◌}
 use mathlib.Core.Path.{◌≡◌, refl, sym, ap, ◌∙◌}
 use mathlib.Core.List.{List}
 use lib.ListN.{length, drop}
@@ -10,8 +10,7 @@ use Rattle.records.proofs.Writing.{splice_none}
 use Rattle.tidy_rows.specs.declared.Moved.{Moved}
 use Rattle.tidy_rows.specs.views.TidyRow.{tidy_onward}
 use Rattle.tidying.specs.views.TidyRows.{tidy_rows}
-use Rattle.tidying.proofs.RuleTurns.{rows_from, rows_all, rows_done, turn_size, turn_row, turn_written}
-use borrow.Author.Rules.{rules}
+use Rattle.tidying.proofs.RuleTurns.{rows_all, rows_done, turn_size, turn_row, turn_written}
 use Rattle.tidying.proofs.sheets.put_rules.Goals as goal
 
 pub loop-i-init : goal.loop-i-init

@@ -1,17 +1,10 @@
 -- A loop over the rules: those left, written behind what was written, make the whole.
-use Rattle.rule_rows.specs.views.Row.{rule_records}
-use Prim.Native.Nat.{ℕ, ◌+◌, ◌-◌, ◌≤◌}
-use mathlib.Core.Path.{◌≡◌, refl, sym, ap, ◌∙◌}
-use mathlib.Core.List.{List}
+use Prim.Native.Nat.{◌+◌, ◌-◌, ◌≤◌}
+use mathlib.Core.Path.{◌≡◌}
 use lib.ListN.{length, drop}
-use native.Mathlib.Omega.{arith}
 use Rattle.records.specs.Writing.{splice}
-use Rattle.records.proofs.Writing.{splice_none}
-use Rattle.tidy_rows.specs.declared.Moved.{Moved}
-use Rattle.tidy_rows.specs.views.TidyRow.{tidy_onward}
 use Rattle.tidying.specs.views.TidyRows.{tidy_rows}
-use Rattle.tidying.proofs.RuleTurns.{rows_from, rows_all, rows_done, turn_size, turn_row, turn_written}
-use borrow.Author.Rules.{rules}
+use Rattle.tidying.proofs.RuleTurns.{rows_from}
 use Rattle.tidying.proofs.sheets.put_rules.Given as goal
 
 abbrev pub invariant-loop-i : goal.invariant-loop-i

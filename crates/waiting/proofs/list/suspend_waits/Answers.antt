@@ -12,7 +12,6 @@ use Rattle.rule_masks.specs.views.TestNumbers.{KeptCode}
 use Rattle.rule_masks.specs.views.Kept.{listed_tests}
 use Rattle.waiting.proofs.AlongTests.{code_first_lem}
 use Rattle.waiting.proofs.ListParts.{numbers_few, list_short, list_both}
-use borrow.Author.Rules.{rules}
 use Rattle.waiting.proofs.list.suspend_waits.Goals as goal
 
 pub meets_span-requires : goal.meets_span-requires

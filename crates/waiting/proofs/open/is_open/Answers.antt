@@ -8,7 +8,6 @@ use Rattle.decision.specs.Walk.{is_not_known}
 use Rattle.rule_masks.specs.views.TestNumbers.{NearTest}
 use Rattle.waiting.specs.views.OpenTests.{open_cells}
 use Rattle.rule_masks.proofs.CodeNumbers.{code_place_lem, code_pair_lem}
-use borrow.Author.Rules.{rules}
 use Rattle.waiting.proofs.open.is_open.Goals as goal
 
 pub look-requires : goal.look-requires

@@ -1,12 +1,11 @@
 -- `waiting::open::open_waits` meets its contract: a loop over the tests met that builds the set.
-use Prim.Native.Nat.{ℕ, ◌-◌, ◌≤◌}
+use Prim.Native.Nat.{ℕ}
 use mathlib.Core.Path.{◌≡◌, ap, ◌∙◌}
 use native.Mathlib.Omega.{arith}
 use lib.ListN.{take}
 use Rattle.rule_masks.specs.views.Kept.{listed_tests}
 use Rattle.waiting.specs.views.OpenTests.{met_waits}
 use Rattle.waiting.proofs.MetTests.{met_none, met_at_lem, met_turn}
-use borrow.Author.Rules.{rules}
 use Rattle.waiting.proofs.open.open_waits.Goals as goal
 
 pub loop-i-init : goal.loop-i-init

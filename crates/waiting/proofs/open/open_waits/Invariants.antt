@@ -1,12 +1,9 @@
 -- `waiting::open::open_waits` meets its contract: a loop over the tests met that builds the set.
-use Prim.Native.Nat.{ℕ, ◌-◌, ◌≤◌}
-use mathlib.Core.Path.{◌≡◌, ap, ◌∙◌}
-use native.Mathlib.Omega.{arith}
+use Prim.Native.Nat.{◌-◌, ◌≤◌}
+use mathlib.Core.Path.{◌≡◌}
 use lib.ListN.{take}
 use Rattle.rule_masks.specs.views.Kept.{listed_tests}
 use Rattle.waiting.specs.views.OpenTests.{met_waits}
-use Rattle.waiting.proofs.MetTests.{met_none, met_at_lem, met_turn}
-use borrow.Author.Rules.{rules}
 use Rattle.waiting.proofs.open.open_waits.Given as goal
 
 abbrev pub invariant-loop-i : goal.invariant-loop-i

@@ -1,6 +1,6 @@
 -- `waiting::rules::rules_waits` meets its contract: the rules that are left, added to the set so far, give the whole.
-use Prim.Native.Nat.{◌+◌, ◌-◌, ◌≤◌}
-use mathlib.Core.Path.{◌≡◌, ap, ◌∙◌}
+use Prim.Native.Nat.{◌+◌, ◌≤◌}
+use mathlib.Core.Path.{ap, ◌∙◌}
 use native.Mathlib.Omega.{arith}
 use lib.ListN.{length, take}
 use Rattle.sheet_tests.proofs.Scanning.{bytes_known, rule_read_lem, rule_refused}
@@ -8,8 +8,7 @@ use Rattle.rule_masks.specs.views.RuleMasks.{notes_masks}
 use Rattle.rule_masks.specs.declared.Masks.{Masks}
 use Rattle.rule_masks.specs.views.Kept.{listed_tests}
 use Rattle.waiting.specs.views.SpanTests.{with_rule}
-use Rattle.waiting.proofs.RulesAdded.{Adding, adding_starts, adding_done, adding_there, adding_more}
-use borrow.Author.Rules.{rules}
+use Rattle.waiting.proofs.RulesAdded.{adding_starts, adding_done, adding_there, adding_more}
 use Rattle.waiting.proofs.rules.rules_waits.Goals as goal
 
 pub loop-i-init : goal.loop-i-init

@@ -1,14 +1,12 @@
 -- `waiting::rules::with_rule` meets its contract: the tests that are left, added to the set so far, give the whole.
-use Prim.Native.Nat.{ℕ, ◌-◌, ◌≤◌, ◌<◌}
+use Prim.Native.Nat.{ℕ, ◌≤◌, ◌<◌}
 use mathlib.Core.Bool.{true, false}
 use mathlib.Core.List.{List}
-use mathlib.Core.Path.{◌≡◌, sym, ap, ◌∙◌}
+use mathlib.Core.Path.{sym, ap, ◌∙◌}
 use native.Mathlib.Omega.{arith}
-use lib.ListN.{length, take, drop}
-use Rattle.masks.specs.Mask.{has}
+use lib.ListN.{length}
 use Rattle.waiting.specs.views.SpanTests.{with_rule}
 use Rattle.waiting.proofs.AlongTests.{front_done, front_at_lem, rule_out, rule_on}
-use borrow.Author.Rules.{rules}
 use Rattle.waiting.proofs.rules.with_rule.Goals as goal
 use Rattle.waiting.proofs.rules.with_rule.Goals.{then-has-2, else-has-2}
 
@@ -62,8 +60,8 @@ loop-i-preserved c =
     c.wide-t.ensures
     (sym c.has.ensures ∙ c.if-has.false) in
     elim c.if-has-2.branch [
-      then-has-2 w ↦ (omega arith, on true (sym c.has-in-loop-i.ensures ∙ w.if-has-2.true) _ (w.all-is ∙ w.insert-all.ensures) ∙ loop.invariant.1)
-    | else-has-2 w ↦ (omega arith, on false (sym c.has-in-loop-i.ensures ∙ w.if-has-2.false) _ w.all-is ∙ loop.invariant.1)
+      | then-has-2 w ↦ (omega arith, on true (sym c.has-in-loop-i.ensures ∙ w.if-has-2.true) _ (w.all-is ∙ w.insert-all.ensures) ∙ loop.invariant.1)
+      | else-has-2 w ↦ (omega arith, on false (sym c.has-in-loop-i.ensures ∙ w.if-has-2.false) _ w.all-is ∙ loop.invariant.1)
     ]
 
 pub returns : goal.returns

@@ -6,7 +6,6 @@ use borrow.Author.Tests.{eq-eqb, ne_eqb}
 use lib.ListN.{get_or}
 use lib.Dec.{leb}
 use Rattle.codes.specs.views.Codes.{unknown_run}
-use borrow.Author.Rules.{rules}
 use Rattle.waiting.proofs.spans.is_span.Goals as goal
 
 pub returns-then-run-eq-UNKNOWN : goal.returns-then-run-eq-UNKNOWN

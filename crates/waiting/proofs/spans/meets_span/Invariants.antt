@@ -1,12 +1,9 @@
 -- `waiting::spans::meets_span` meets its contract: a span is met among the tests that are left, or nowhere.
-use Prim.Native.Nat.{ℕ, ◌-◌, ◌/◌, ◌≤◌, ◌<◌}
-use mathlib.Core.Path.{◌≡◌, sym, ap, ◌∙◌}
-use native.Mathlib.Omega.{arith}
-use lib.ListN.{length, take, drop}
+use Prim.Native.Nat.{◌-◌, ◌≤◌}
+use mathlib.Core.Path.{◌≡◌}
+use lib.ListN.{take, drop}
 use Rattle.basics.specs.Lists.{any_of}
 use Rattle.waiting.specs.views.SpanTests.{span_at}
-use Rattle.waiting.proofs.AlongTests.{front_done, front_at_lem, sought_here, sought_on}
-use borrow.Author.Rules.{rules}
 use Rattle.waiting.proofs.spans.meets_span.Given as goal
 
 abbrev pub invariant-loop-i : goal.invariant-loop-i

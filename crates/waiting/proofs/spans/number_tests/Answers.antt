@@ -1,5 +1,5 @@
 -- `waiting::spans::number_tests` meets its contract: the tests before the current one are numbered, the others as they were.
-use Prim.Native.Nat.{ℕ, ◌-◌, ◌≤◌, ◌<◌}
+use Prim.Native.Nat.{ℕ, ◌<◌}
 use mathlib.Core.List.{map}
 use mathlib.Core.Path.{◌≡◌, sym, ap, ◌∙◌}
 use native.Mathlib.Omega.{arith}
@@ -7,8 +7,7 @@ use lib.ListN.{length, take}
 use Rattle.rule_masks.proofs.CodeNumbers.{listed_few}
 use Rattle.rule_masks.specs.views.TestNumbers.{test_number, code_test}
 use Rattle.rule_masks.specs.views.Kept.{listed_tests}
-use Rattle.waiting.proofs.AlongTests.{number_most, Changed, changed_none, changed_more}
-use borrow.Author.Rules.{rules}
+use Rattle.waiting.proofs.AlongTests.{number_most, changed_none, changed_more}
 use Rattle.waiting.proofs.spans.number_tests.Goals as goal
 
 pub loop-i-init : goal.loop-i-init

@@ -16,7 +16,6 @@ use Rattle.walk.specs.views.LeafWalks.{end_walk}
 use Rattle.walk.specs.views.Ready.{Ready}
 use Rattle.walk.specs.Walking.{graph_reply}
 use Rattle.walk.proofs.Replies.{same_sheet, ready_made, graph_walked}
-use borrow.Author.Rules.{rules}
 use Rattle.walk.proofs.call.walk_checked.Goals as goal
 
 pub slice_bounds-walk_nodes-count : goal.slice_bounds-walk_nodes-count

@@ -8,7 +8,6 @@ use Rattle.graph_check.proofs.FoundGraph.{index_accepts, index_refuses}
 use Rattle.leaves.specs.views.Seeking.{Begins}
 use Rattle.leaves.proofs.RuleBegins.{none_noted}
 use Rattle.walk.proofs.Replies.{graph_refuses, checked_kept, kept_stays}
-use borrow.Author.Rules.{rules}
 use Rattle.walk.proofs.call.walk_graph.Goals as goal
 
 pub index_graph-index-requires : goal.index_graph-index-requires

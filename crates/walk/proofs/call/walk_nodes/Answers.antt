@@ -14,7 +14,6 @@ use Rattle.path.specs.views.Following.{reached, nodes_at, ended_of, edges_of}
 use Rattle.rule_masks.specs.views.Kept.{listed_tests}
 use Rattle.walk.specs.views.LeafWalks.{LeafIn, end_walk}
 use Rattle.walk.proofs.LeafRules.{reached_leaf, reached_kept}
-use borrow.Author.Rules.{rules}
 use Rattle.walk.proofs.call.walk_nodes.Goals as goal
 
 pub follow_path-followed-requires : goal.follow_path-followed-requires

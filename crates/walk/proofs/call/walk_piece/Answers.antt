@@ -5,7 +5,6 @@ use Rattle.records.proofs.ByteLists.{bytes_all}
 use Rattle.plain.specs.views.ReadAs.{ReadAs}
 use Rattle.plain.proofs.PiecesRead.{reader_refused, reader_accepted}
 use Rattle.walk.proofs.Replies.{piece_refuses, arities_differ, piece_accepts}
-use borrow.Author.Rules.{rules}
 use Rattle.walk.proofs.call.walk_piece.Goals as goal
 
 pub returns-then-n-sizes : goal.returns-then-n-sizes

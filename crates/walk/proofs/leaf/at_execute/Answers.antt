@@ -15,7 +15,6 @@ use Rattle.leaves.specs.views.TakenNotes.{taken_notes, notes_taken}
 use Rattle.rule_masks.specs.views.RuleMasks.{notes_masks}
 use Rattle.leaves.specs.views.LeafAnswers.{RuleEnd, executed_by}
 use Rattle.walk.specs.views.LeafWalks.{walk_after}
-use borrow.Author.Rules.{rules}
 use Rattle.walk.proofs.leaf.at_execute.Goals as goal
 
 pub begin_of-begin-requires : goal.begin_of-begin-requires

@@ -1,6 +1,5 @@
 -- `first_of` meets its contract: a piece that could not be read, one whose walk was refused, one with an answer.
 use mathlib.Core.Path.{sym, ap, ap₂}
-use borrow.Author.Rules.{rules}
 use Rattle.piece.specs.declared.Prefix.{Prefix}
 use Rattle.walk_all.specs.views.FirstPiece.{first_made}
 use Rattle.walk_all.proofs.first_piece.first_of.Goals as goal

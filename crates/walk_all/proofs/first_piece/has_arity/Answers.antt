@@ -1,6 +1,5 @@
 -- `has_arity` meets its contract: a piece that was read, or one that was not.
 use mathlib.Core.Path.{sym, ap}
-use borrow.Author.Rules.{rules}
 use Rattle.piece.specs.declared.Prefix.{Prefix}
 use Rattle.walk_all.specs.views.FirstPiece.{has_arity}
 use Rattle.walk_all.proofs.first_piece.has_arity.Goals as goal

@@ -1,6 +1,5 @@
 -- `used_by` meets its contract: a piece that was read, or one that was not.
 use mathlib.Core.Path.{sym, ap}
-use borrow.Author.Rules.{rules}
 use Rattle.piece.specs.views.LaidOut.{used_by}
 use Rattle.walk_all.proofs.first_piece.used_by.Goals as goal
 
