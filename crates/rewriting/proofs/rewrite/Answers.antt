@@ -6,7 +6,6 @@ use Rattle.records.proofs.ByteLists.{bytes_all}
 use Rattle.rewriting.proofs.CopyEnds.{end_of, not_refused_lem}
 use Rattle.graph_check.proofs.Headers.{header_of}
 use Rattle.graph_check.proofs.WrittenAgain.{rewrite_refused, rewrite_large, rewrite_written, graph_whole, graph_small, records_there, again_size}
-use borrow.Author.Rules.{rules}
 use Rattle.graph_check.specs.views.Header.{fields_read}
 use Rattle.rewriting.proofs.rewrite.Goals as goal
 

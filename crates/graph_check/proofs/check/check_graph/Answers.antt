@@ -2,7 +2,6 @@
 use mathlib.Core.Path.{sym, ap, ◌∙◌}
 use lib.ListN.{length}
 use Rattle.graph_check.proofs.Headers.{fields_values, values_same}
-use borrow.Author.Rules.{rules}
 use Rattle.graph_check.specs.views.Header.{fields_read}
 use Rattle.graph_check.proofs.check.check_graph.Goals as goal
 

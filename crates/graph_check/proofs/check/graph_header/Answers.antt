@@ -7,7 +7,6 @@ use Rattle.sheet_tests.specs.views.TestsRead.{CountsTests}
 use Rattle.accepted.proofs.FoundTests.{found_accepts, found_refuses}
 use Rattle.graph_check.proofs.FoundGraph.{index_accepts, index_refuses}
 use Rattle.graph_check.proofs.Headers.{sheet_refuses, graph_refuses, graph_accepts}
-use borrow.Author.Rules.{rules}
 use Rattle.graph_check.proofs.check.graph_header.Goals as goal
 
 pub index_graph-index-requires : goal.index_graph-index-requires

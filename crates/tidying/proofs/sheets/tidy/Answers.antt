@@ -10,7 +10,6 @@ use Rattle.accepted.proofs.CheckedSheets.{check_refuses}
 use Rattle.tidying.specs.views.TidyRows.{tidy_rows}
 use Rattle.tidying.proofs.RowBounds.{rows_few}
 use Rattle.tidying.proofs.TidiedSheets.{tidy_refused, sheet_whole, tidy_large, tidy_written}
-use borrow.Author.Rules.{rules}
 use Rattle.tidying.proofs.sheets.tidy.Goals as goal
 
 pub fits-requires : goal.fits-requires
