@@ -13,12 +13,14 @@ use Rattle.build.specs.declared.Built.TheVariants.{Written}
 use Rattle.build.specs.BuildOutcome.{build_outcome}
 use Rattle.piece_lines.proofs.Turns.{from_start}
 use Rattle.output.proofs.Cuts.{counted}
-use Rattle.output.proofs.Outcomes.{outcome, empty_graph, built_refused, built_written, built_fits, built_accepted, bytes_take, cut_both}
+use Rattle.output.proofs.Outcomes.{outcome, empty_graph, built_refused, built_written, built_fits, built_accepted}
+use Rattle.output.proofs.Outcomes.{bytes_take, cut_both}
 use Rattle.output.proofs.listing.Goals as goal
 
 -- Where the graph was built, its bytes are in the buffer.
 graph_fits
-    : (s : List ℕ) {n b : ℕ} {g : List ℕ} → outcome (Written n b) g ≡ build_outcome s empty_graph → length g ≡ most_bytes → b ≤ length g
+    : (s : List ℕ) {n b : ℕ} {g : List ℕ} → outcome (Written n b) g ≡ build_outcome s empty_graph → length g ≡ most_bytes
+    → b ≤ length g
 graph_fits s e long = omega (arith, built_fits s empty_graph e, length-replicate {A = ℕ} most_bytes 0, long)
 
 pub slice_bounds-graph-end : goal.slice_bounds-graph-end
