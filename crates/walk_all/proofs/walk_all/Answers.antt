@@ -1,7 +1,7 @@
 -- `walk_all` meets its contract: in each turn the results so far stand at the front of the buffer.
-use Prim.Native.Nat.{ℕ, ◌+◌, ◌-◌, ◌*◌, ◌≤◌, ◌<◌}
+use Prim.Native.Nat.{ℕ, ◌+◌, ◌-◌, ◌*◌, ◌≤◌}
 use mathlib.Core.Path.{◌≡◌, refl, ap, sym, subst, ◌∙◌}
-use mathlib.Core.List.{List, []}
+use mathlib.Core.List.{List}
 use native.Mathlib.Omega.{arith}
 use lib.ListN.{length, get_or, drop, length-drop}
 use Rattle.records.specs.Fields.{IsByte}
@@ -12,7 +12,7 @@ use Rattle.piece.specs.views.LaidOut.{lay_out, prefix_read, prefix_bytes, UsedTo
 use Rattle.piece.proofs.Emptying.{none_used}
 use Rattle.decision.specs.Walk.{Walk}
 use Rattle.walk.specs.Walking.{walk_reply, walked_reading}
-use Rattle.walk_all.specs.WalkAll.{most_results, most_taken, piece_then, pieces_in, WalkAll, walk_all}
+use Rattle.walk_all.specs.WalkAll.{most_results, most_taken, piece_then, pieces_in}
 use Rattle.walk_all.specs.declared.First.{First}
 use Rattle.walk_all.specs.declared.Turn.{Turn}
 use Rattle.walk_all.specs.declared.WalkedAll.TheVariants.{Walked}
@@ -21,7 +21,7 @@ use Rattle.walk_all.specs.views.FirstPiece.{first_reply, first_of, first_made}
 use Rattle.walk_all.specs.views.Turns.{turned, left_by}
 use Rattle.walk_all.proofs.FirstMade.{Right, some_piece, used_read, walked_right, other_right}
 use Rattle.walk_all.proofs.Pieces.{pieces_roomless, pieces_none, pieces_turn}
-use Rattle.walk_all.proofs.Progress.{Progress, whole, rest_from, at_start, at_last, at_piece, all_refused}
+use Rattle.walk_all.proofs.Progress.{at_start, at_last, at_piece, all_refused}
 use Rattle.walk_all.proofs.Turns.{told, told_full, told_last, Told-more, within_more, more_read}
 use Rattle.walk_all.proofs.WalkAllPlaces.{few, all_done, ended, input_bytes, prefix_told, prefix_there}
 use Rattle.walk_all.proofs.walk_all.Goals as goal

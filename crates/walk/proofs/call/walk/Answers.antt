@@ -5,7 +5,6 @@ use Rattle.sheet_tests.specs.views.TestsRead.{CountsTests}
 use Rattle.accepted.proofs.FoundTests.{found_accepts, found_refuses}
 use Rattle.walk.specs.Walking.{reply_values}
 use Rattle.walk.proofs.Replies.{values_read, sheet_refuses, sheet_accepts}
-use borrow.Author.Rules.{rules}
 use Rattle.walk.proofs.call.walk.Goals as goal
 
 pub walk_piece-requires : goal.walk_piece-requires
