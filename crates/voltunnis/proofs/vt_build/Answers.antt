@@ -2,7 +2,6 @@
 use mathlib.Core.Path.{ap, subst}
 use Rattle.build.specs.BuildOutcome.{BuildOutcome}
 use Rattle.packing.specs.Packed.{Packs, built_fields}
-use borrow.Author.Rules.{rules}
 use Rattle.voltunnis.proofs.vt_build.Goals as goal
 
 pub returns : goal.returns

@@ -2,7 +2,6 @@
 use mathlib.Core.Path.{subst}
 use Rattle.graph_check.specs.CheckGraph.{GraphValues}
 use Rattle.packing.specs.Packed.{Packs, graph_fields}
-use borrow.Author.Rules.{rules}
 use Rattle.voltunnis.proofs.vt_check_graph.Goals as goal
 
 pub returns : goal.returns

@@ -2,7 +2,6 @@
 use mathlib.Core.Path.{subst}
 use Rattle.piece.specs.CheckPiece.{PieceValues}
 use Rattle.packing.specs.Packed.{Packs, piece_fields}
-use borrow.Author.Rules.{rules}
 use Rattle.voltunnis.proofs.vt_check_piece.Goals as goal
 
 pub returns : goal.returns

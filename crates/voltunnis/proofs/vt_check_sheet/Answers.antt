@@ -2,7 +2,6 @@
 use mathlib.Core.Path.{subst}
 use Rattle.sheet_tests.specs.CheckSheet.{SheetValues}
 use Rattle.packing.specs.Packed.{Packs, sheet_fields}
-use borrow.Author.Rules.{rules}
 use Rattle.voltunnis.proofs.vt_check_sheet.Goals as goal
 
 pub returns : goal.returns

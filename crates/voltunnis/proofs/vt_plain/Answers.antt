@@ -2,7 +2,6 @@
 use mathlib.Core.Path.{subst}
 use Rattle.plain.specs.Plain.{PlainValues}
 use Rattle.packing.specs.Packed.{Packs, plain_fields}
-use borrow.Author.Rules.{rules}
 use Rattle.voltunnis.proofs.vt_plain.Goals as goal
 
 pub returns : goal.returns

@@ -3,7 +3,6 @@ use mathlib.Core.Path.{ap, subst, ◌∙◌}
 use Rattle.records.specs.Written.{Result}
 use Rattle.packing.specs.Packed.{Packs, written_fields}
 use Rattle.voltunnis.proofs.LeftBuffers.{tidied_buffer}
-use borrow.Author.Rules.{rules}
 use Rattle.voltunnis.proofs.vt_tidy.Goals as goal
 
 pub returns : goal.returns

@@ -1,7 +1,6 @@
 -- The wait list of the walk.
 use mathlib.Core.Path.{ap, ◌∙◌}
 use Rattle.walk.specs.Walking.{WalkValues}
-use borrow.Author.Rules.{rules}
 use Rattle.voltunnis.proofs.vt_wait.Goals as goal
 
 pub returns : goal.returns

@@ -2,7 +2,6 @@
 use mathlib.Core.Path.{subst}
 use Rattle.walk.specs.Walking.{WalkValues}
 use Rattle.packing.specs.Packed.{Packs, walk_fields}
-use borrow.Author.Rules.{rules}
 use Rattle.voltunnis.proofs.vt_walk.Goals as goal
 
 pub returns : goal.returns

@@ -6,7 +6,6 @@ use Rattle.walk_all.proofs.FewResults.{all_few}
 use Rattle.packing.specs.Packed.{Packs}
 use Rattle.packing.specs.PackedWalks.{walk_all_fields}
 use Rattle.voltunnis.proofs.LeftBuffers.{walked_buffer, walked_results}
-use borrow.Author.Rules.{rules}
 use Rattle.voltunnis.proofs.walk_all_calls.vt_walk_all.Goals as goal
 
 pub pack_walked_all-requires : goal.pack_walked_all-requires

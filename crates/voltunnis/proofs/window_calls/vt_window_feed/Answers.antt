@@ -3,7 +3,6 @@ use mathlib.Core.Path.{ap, ◌∙◌}
 use Rattle.window.specs.LastThousand.{given}
 use Rattle.window.specs.Handed.{refusal_in}
 use Rattle.window.proofs.Steps.{fed_refusal}
-use borrow.Author.Rules.{rules}
 use Rattle.voltunnis.proofs.window_calls.vt_window_feed.Goals as goal
 
 pub returns : goal.returns

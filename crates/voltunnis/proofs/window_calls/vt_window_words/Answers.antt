@@ -1,7 +1,6 @@
 -- The counts, packed.
 use mathlib.Core.Path.{ap, ◌∙◌}
 use Rattle.packing.specs.PackedWords.{packed_words}
-use borrow.Author.Rules.{rules}
 use Rattle.voltunnis.proofs.window_calls.vt_window_words.Goals as goal
 
 pub returns : goal.returns
