@@ -30,7 +30,8 @@ module _ (buffer : List ℕ) {room : ℕ} (rooms : room ≡ min (length buffer /
       (omega (arith, rooms, most), omega (arith, rooms, least))
 
   -- The graph is accepted for the sheet.
-  module _ {sheet graph starts kept : List ℕ} {sizes : Sizes} (ready : ReadyAs sheet graph starts kept sizes) (pieces : List ℕ) where
+  module _ {sheet graph starts kept : List ℕ} {sizes : Sizes} (ready : ReadyAs sheet graph starts kept sizes)
+      (pieces : List ℕ) where
     abbrev reply : List ℕ → Reading Walk
     reply = walk_reply sheet graph
 

@@ -80,7 +80,8 @@ module _ (c : After-put_first-turn) where
       elim c.if-has_arity.branch [
         | then-has_arity w ↦
             walked_right input cells_read bytes ready.known prefix c.if-has_arity.walked read there
-            (arity ∙ w.if-has_arity.true) (λ t p k. ap walked_reading w.walked-is ∙ w.walk_checked-walked.ensures.result_value t p k)
+            (arity ∙ w.if-has_arity.true)
+            (λ t p k. ap walked_reading w.walked-is ∙ w.walk_checked-walked.ensures.result_value t p k)
         | else-has_arity w ↦
             other_right input cells_read bytes ready.known prefix c.if-has_arity.walked read there
             (arity ∙ w.if-has_arity.false) w.walked-is
@@ -219,7 +220,8 @@ pub returns-in-Last : goal.returns-in-Last
 returns-in-Last c =
     let now = (goal.at.returns-in-Last c).After-put_first-turn in
     let l = c.loop-n in
-    let (q, last, wrote) = told_last (reply now) (input now) l.results (16 * l.n) (left now) (more now) (turn_told now c.in-Last.is) in
+    let (q, last, wrote) = told_last (reply now) (input now) l.results (16 * l.n) (left now) (more now)
+    (turn_told now c.in-Last.is) in
     at_last (reply now) (pieces now) (buffer now) (room now) l.invariant.4 (fits now) (first now ∙ last) wrote
     ∙ all_done (buffer now) c.room_for-room.ensures (ready now) (pieces now)
 
@@ -230,7 +232,8 @@ pub loop-n-preserved : goal.loop-n-preserved
 loop-n-preserved c =
     let now = (goal.at.loop-n-preserved c).After-put_first-turn in
     let l = c.loop-n in
-    let (next, may, wrote) = Told-more (reply now) (input now) l.results (16 * l.n) (left now) (more now) (turn_told now c.in-More.is) in
+    let (next, may, wrote) = Told-more (reply now) (input now) l.results (16 * l.n) (left now) (more now)
+    (turn_told now c.in-More.is) in
     let used = sym c.used_by-used.ensures in (
       omega (arith, c.loop-n-test.true),
       (inside now c.in-More.is).0,
