@@ -3,23 +3,27 @@ use Prim.Native.Nat.{ℕ}
 use mathlib.Core.Path.{◌≡◌, sym, ap, ◌∙◌}
 use mathlib.Core.List.{List}
 use lib.ListN.{length}
+use Rattle.std.specs.Prelude.{Result, Ok, Err}
 use Rattle.records.specs.Reading.{refused}
+use Rattle.records.specs.Refusals.{number}
+use Rattle.records.specs.declared.refusal.Refusal.{Refusal}
 use Rattle.sheet_tests.specs.declared.TestsRead.{TestsRead}
-use Rattle.sheet_tests.specs.declared.TestsRead.TheVariants.{Accepted, Refused}
 use Rattle.sheet_tests.specs.CheckSheet.{accept_sheet}
 use Rattle.sheet_tests.specs.views.TestsRead.{TestsFound, kept_tests, tests_found, sheet_found, found_values}
 use Rattle.sheet_tests.proofs.Checking.{values_found}
 use Rattle.accepted.specs.views.AcceptedAs.{AcceptedTests}
 use Rattle.accepted.proofs.CheckedSheets.{check_accepts, check_refuses}
 
-module _ (s words codes : List ℕ) {r : TestsRead} (found : tests_found words codes r ≡ sheet_found (accept_sheet s)) where
+module _ (s words codes : List ℕ) {r : Result TestsRead Refusal}
+    (found : tests_found words codes r ≡ sheet_found (accept_sheet s)) where
   -- Where the tests were read the sheet is accepted, and the tests are its own,
   pub found_accepts
-      : {arity count places pairs : ℕ} → r ≡ Accepted arity count places pairs → AcceptedTests s words codes arity count pairs
-  found_accepts {arity} {count} {places} {pairs} same =
+      : {t : TestsRead} → r ≡ Ok t → AcceptedTests s words codes t.arity t.rules t.pairs
+  found_accepts {t} same =
       let e = sym (ap (tests_found words codes) same) ∙ found in
       let read =
-      check_accepts s arity count (length (kept_tests words codes pairs)) (ap found_values e ∙ values_found (accept_sheet s)) in
+      check_accepts s (record { arity = t.arity; rules = t.rules; tests = length (kept_tests words codes t.pairs) })
+      (ap found_values e ∙ values_found (accept_sheet s)) in
       let known = e ∙ ap sheet_found read.accepted in
       record {
         read = read;
@@ -28,7 +32,7 @@ module _ (s words codes : List ℕ) {r : TestsRead} (found : tests_found words c
       }
 
   -- and where reading was refused so is the sheet.
-  pub found_refuses : {q : ℕ} → r ≡ Refused q → accept_sheet s ≡ refused q
-  found_refuses same =
-      check_refuses s
+  pub found_refuses : {x : Refusal} → r ≡ Err x → accept_sheet s ≡ refused (number x)
+  found_refuses {x} same =
+      check_refuses s x
       (ap found_values (sym (ap (tests_found words codes) same) ∙ found) ∙ values_found (accept_sheet s))

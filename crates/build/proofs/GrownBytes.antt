@@ -8,6 +8,8 @@ use native.Mathlib.Omega.{arith}
 use lib.Dec.{leb}
 use lib.ListN.{length, length-map}
 use borrow.Author.Tests.{le-leb, lt-leb}
+use Rattle.std.specs.Prelude as std
+use Rattle.std.specs.Prelude.{Some, None, Ok}
 use Rattle.terms.specs.Pattern.{Patterns}
 use Rattle.terms.specs.Accepted.{AcceptedRule}
 use Rattle.basics.specs.Lists.{All, count_from}
@@ -24,14 +26,11 @@ use Rattle.edges.proofs.Nodes.{node_is}
 use Rattle.compiled.specs.views.Compiling.{Compiled}
 use Rattle.compiled.proofs.SoundCodes.{rules_sound}
 use Rattle.met.specs.views.KeysMet.{key_number, key_at, count_in, keys_in}
-use Rattle.keys.specs.declared.Measured.{Measured}
-use Rattle.keys.specs.declared.Measured.TheVariants.{Bytes, TooMany}
 use Rattle.keys.specs.views.Expanded.{AtMost}
 use Rattle.keys.specs.views.Grown.{keys_from, nodes_from, Grown}
 use Rattle.keys.proofs.GraphGrown.{graph_grown, graph_none}
 use Rattle.emit.specs.views.Written.{Wrote}
 use Rattle.build.specs.BuildOutcome.{not_built, written_if, graph_written, left_by}
-use Rattle.build.specs.declared.Built.TheVariants.{Written}
 use Rattle.build.specs.views.Tabled.{nodes_if, grown_in}
 
 -- What is grown from the tables and cuts of accepted rules is their graph.
@@ -65,15 +64,15 @@ pub compiled_parted
 compiled_parted {rules} {order} {s} {c} t = subst (λ (r : ℕ). Parted r (place_tests_in s) c) (sym t.tables_are.rules_are) t.parted
 
 -- What growing says where it met all keys, and where there are too many.
-module _ (s c t : List ℕ) (r : Measured) (grown : Grown s c r t) where
-  pub grown_none : r ≡ TooMany → keys_from s c ≡ none
-  grown_none e = subst (λ (x : Measured). Grown s c x t) e grown
+module _ (s c t : List ℕ) (r : std.Option ℕ) (grown : Grown s c r t) where
+  pub grown_none : r ≡ None → keys_from s c ≡ none
+  grown_none e = subst (λ (x : std.Option ℕ). Grown s c x t) e grown
 
   pub grown_some
-      : {n : ℕ} → r ≡ Bytes n → (keys_from s c ≡ some (keys_in t)) × (n ≡ length (nodes_bytes (nodes_from s c (keys_in t))))
-  grown_some e = subst (λ (x : Measured). Grown s c x t) e grown
+      : {n : ℕ} → r ≡ Some n → (keys_from s c ≡ some (keys_in t)) × (n ≡ length (nodes_bytes (nodes_from s c (keys_in t))))
+  grown_some e = subst (λ (x : std.Option ℕ). Grown s c x t) e grown
 
-pub grown_most : (most : ℕ) (r : Measured) {n : ℕ} → AtMost most r → r ≡ Bytes n → n ≤ most
+pub grown_most : (most : ℕ) (r : std.Option ℕ) {n : ℕ} → AtMost most r → r ≡ Some n → n ≤ most
 grown_most most r h e = subst (AtMost most) e h
 
 module _ (arity rules : ℕ) (s c buffer : List ℕ) where
@@ -112,7 +111,7 @@ module _ (arity rules : ℕ) (s c buffer : List ℕ) where
     -- The graph fits and was written.
     pub built_whole
         : (count end : ℕ) (after : List ℕ) → 5 + bytes ≤ length buffer → count ≡ count_in t → Wrote buffer 0 graph end after
-        → left_by (Written count end) after ≡ graph_written arity rules (grown_in s c) buffer
+        → left_by (Ok (record { nodes = count; bytes = end })) after ≡ graph_written arity rules (grown_in s c) buffer
     built_whole count end after h many wrote =
         let nodesAre : count ≡ length nodes = many ∙ sym count_is_lem in
         let bytesAre : end ≡ length graph = omega (arith, wrote.0) in

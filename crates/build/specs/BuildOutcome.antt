@@ -1,9 +1,11 @@
 -- What building a sheet's graph answers, and the buffer that it leaves (document 01, "Questions at the counter": "Building, after
 -- the sheet").
-use Rattle.std.specs.Prelude.{ℕ, Bool, true, false, List, leb, length}
+use Rattle.std.specs.Prelude.{ℕ, Bool, true, false, List, leb, length, Result, Ok, Err}
 use Rattle.std.proofs.Math.Option.{Option, some, none}
 use Rattle.records.specs.Reading.{Reading, took, refused}
+use Rattle.records.specs.Refusals.{number}
 use Rattle.records.specs.Writing.{splice}
+use Rattle.records.specs.declared.refusal.Refusal.{Refusal}
 use Rattle.terms.specs.Pattern.{Patterns}
 use Rattle.sheet.specs.Sheet.{Sheet}
 use Rattle.sheet_tests.specs.CheckSheet.{accept_sheet}
@@ -12,7 +14,6 @@ use Rattle.decision.specs.Graph.{graph_in}
 use Rattle.decision.specs.GraphBytes.{graph_bytes}
 use Rattle.order.specs.Asking.{Asking, lowest, by_table, read_asking}
 use Rattle.build.specs.declared.Built.{Built}
-use Rattle.build.specs.declared.Built.TheVariants.{Written, Refused}
 
 -- "When accepted, .. a build nodes and bytes written"; "Every other result field is then 0" beside a refusal's number.
 pub record BuildValues : Type 0 where
@@ -62,10 +63,10 @@ abbrev pub ordered_outcome : List ℕ → List ℕ → List ℕ → BuildOutcome
 ordered_outcome s table buffer = outcome_in (by_table table) s buffer
 
 -- The values of what is handed back.
-abbrev pub built_values : Built → BuildValues
-built_values (Written nodes bytes) = record { refusal = 0; nodes = nodes; bytes = bytes }
-built_values (Refused q) = record { refusal = q; nodes = 0; bytes = 0 }
+abbrev pub built_values : Result Built Refusal → BuildValues
+built_values (Ok b) = record { refusal = 0; nodes = b.nodes; bytes = b.bytes }
+built_values (Err r) = record { refusal = number r; nodes = 0; bytes = 0 }
 
 -- What is handed back, with the buffer as it is then.
-abbrev pub left_by : Built → List ℕ → BuildOutcome
+abbrev pub left_by : Result Built Refusal → List ℕ → BuildOutcome
 left_by built buffer = record { values = built_values built; buffer = buffer }

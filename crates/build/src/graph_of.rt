@@ -1,6 +1,6 @@
 // The graph of rules whose tests are listed: they are put into tables and cuts, all keys found with the graph's size, and only then
 // are bytes written (document 01, "Nodes", "Questions at the counter", 18 and 19).
-ghost use Rattle.std.specs.Prelude.{◌≡◌, List, ℕ, length, replicate};
+ghost use Rattle.std.specs.Prelude.{◌≡◌, ◌≤◌, List, ℕ, length, replicate};
 ghost use Rattle.terms.specs.Pattern.{Patterns};
 ghost use Rattle.decision.specs.Graph.{graph_in};
 ghost use Rattle.tables.specs.views.Planes.{rules_in, place_tests_in};
@@ -11,27 +11,29 @@ ghost use Rattle.build.specs.views.Tabled.{ListedRules, grown_in};
 
 use crate::Built;
 use emit::row::put_graph;
-use keys::Measured;
 use keys::grow::grow;
+use records::Refusal;
 use tables::Tables;
 
 // The graph that is grown from tables and cuts: questions 18 and 19. Not a graph of other tables, nor a byte changed behind it.
-fn build_tables(arity: u8, s: &Tables, c: &[u64], buf: &mut [u8]) -> Built
+fn build_tables(arity: u8, s: &Tables, c: &[u64], buf: &mut [u8]) -> Result<Built, Refusal>
     requires { Parted (rules_in s.now) (place_tests_in s.now) c.now }
     ensures { left_by result buf.new
         ≡ graph_written arity (rules_in s.now) (grown_in s.now c.now) buf.old }
 {
     let mut keys = [0u64; 4097];
     let mut runs = [0u64; 579];
-    let grown = grow(&mut keys, s, c, &mut runs);
-    let Measured::Bytes(bytes) = grown else {
-        return Built::Refused(18);
+    let Some(bytes) = grow(&mut keys, s, c, &mut runs) else {
+        return Err(Refusal::TooManyNodes);
     };
     if buf.len() < 5 + bytes {
-        return Built::Refused(19);
+        return Err(Refusal::GraphTooLong);
     }
     let end = put_graph(buf, arity, s, c, &mut runs, &keys);
-    Built::Written(met::count(&keys) as u16, end as u32)
+    Ok(Built {
+        nodes: met::count(&keys) as u16,
+        bytes: end as u32,
+    })
 }
 
 // The graph of the rules that the input begins with, whose tests are listed: the rules are put into tables and cuts.
@@ -42,7 +44,7 @@ fn build_cut(
     s: &mut Tables,
     c: &mut [u64],
     buf: &mut [u8],
-) -> Built
+) -> Result<Built, Refusal>
     requires { (order : List ℕ) × (all : List Patterns) × Compiling arity b.now numbers.now s.old c.old order all }
     ensures { (order : List ℕ) (all : List Patterns)
         → Compiling arity b.now numbers.now s.old c.old order all
@@ -52,38 +54,23 @@ fn build_cut(
     build_tables(arity, s, c, buf)
 }
 
-// The same in room for the cuts of a small sheet, of every sheet with up to 32 rules, and of every sheet: a large array takes
-// longer to clear than a small graph to build.
-fn build_small(b: &[u8], arity: u8, numbers: &[u8; 680], s: &mut Tables, buf: &mut [u8]) -> Built
-    requires { (order : List ℕ) × (all : List Patterns)
-        × Compiling arity b.now numbers.now s.old (replicate 320 0) order all }
+// The same in room for so many words of cuts: of a small sheet, of every sheet with up to 32 rules, and of every sheet. A large
+// array takes longer to clear than a small graph to build.
+fn build_within<const WORDS: usize>(
+    b: &[u8],
+    arity: u8,
+    numbers: &[u8; 680],
+    s: &mut Tables,
+    buf: &mut [u8],
+) -> Result<Built, Refusal>
+    requires few_words { WORDS ≤ 16448 }
+    requires compiling { (order : List ℕ) × (all : List Patterns)
+        × Compiling arity b.now numbers.now s.old (replicate WORDS 0) order all }
     ensures { (order : List ℕ) (all : List Patterns)
-        → Compiling arity b.now numbers.now s.old (replicate 320 0) order all
+        → Compiling arity b.now numbers.now s.old (replicate WORDS 0) order all
         → left_by result buf.new ≡ graph_written arity (length all) (graph_in all order) buf.old }
 {
-    let mut c = [0u64; 320];
-    build_cut(b, arity, numbers, s, &mut c, buf)
-}
-
-fn build_middle(b: &[u8], arity: u8, numbers: &[u8; 680], s: &mut Tables, buf: &mut [u8]) -> Built
-    requires { (order : List ℕ) × (all : List Patterns)
-        × Compiling arity b.now numbers.now s.old (replicate 8256 0) order all }
-    ensures { (order : List ℕ) (all : List Patterns)
-        → Compiling arity b.now numbers.now s.old (replicate 8256 0) order all
-        → left_by result buf.new ≡ graph_written arity (length all) (graph_in all order) buf.old }
-{
-    let mut c = [0u64; 8256];
-    build_cut(b, arity, numbers, s, &mut c, buf)
-}
-
-fn build_large(b: &[u8], arity: u8, numbers: &[u8; 680], s: &mut Tables, buf: &mut [u8]) -> Built
-    requires { (order : List ℕ) × (all : List Patterns)
-        × Compiling arity b.now numbers.now s.old (replicate 16448 0) order all }
-    ensures { (order : List ℕ) (all : List Patterns)
-        → Compiling arity b.now numbers.now s.old (replicate 16448 0) order all
-        → left_by result buf.new ≡ graph_written arity (length all) (graph_in all order) buf.old }
-{
-    let mut c = [0u64; 16448];
+    let mut c = [0u64; WORDS];
     build_cut(b, arity, numbers, s, &mut c, buf)
 }
 
@@ -97,7 +84,7 @@ fn build_in(
     numbers: &[u8; 680],
     s: &mut Tables,
     buf: &mut [u8],
-) -> Built
+) -> Result<Built, Refusal>
     requires { (order : List ℕ) × (all : List Patterns) × ListedRules arity b.now numbers.now s.old order all }
     ensures { (order : List ℕ) (all : List Patterns)
         → ListedRules arity b.now numbers.now s.old order all
@@ -108,15 +95,15 @@ fn build_in(
         if 320 < words {
             return build_in(1, b, arity, numbers, s, buf);
         }
-        return build_small(b, arity, numbers, s, buf);
+        return build_within::<320>(b, arity, numbers, s, buf);
     }
     if room == 1 {
         if 8256 < words {
             return build_in(2, b, arity, numbers, s, buf);
         }
-        return build_middle(b, arity, numbers, s, buf);
+        return build_within::<8256>(b, arity, numbers, s, buf);
     }
-    build_large(b, arity, numbers, s, buf)
+    build_within::<16448>(b, arity, numbers, s, buf)
 }
 
 // The graph of the rules that the input begins with, whose tests are listed, asked in the order that the tables have. Not the graph
@@ -127,7 +114,7 @@ pub fn build_listed(
     numbers: &[u8; 680],
     s: &mut Tables,
     buf: &mut [u8],
-) -> Built
+) -> Result<Built, Refusal>
     requires { (order : List ℕ) × (all : List Patterns) × ListedRules arity b.now numbers.now s.old order all }
     ensures { (order : List ℕ) (all : List Patterns)
         → ListedRules arity b.now numbers.now s.old order all

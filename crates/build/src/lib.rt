@@ -3,9 +3,9 @@
 
 pub mod graph_of; // from rules to the graph's bytes
 
-// What building answers: the nodes of the graph and its bytes, or the number of the question that got a no.
+// A built graph: its nodes, and its bytes at the front of the buffer.
 #[derive(Clone, Copy)]
-pub enum Built {
-    Written(u16, u32),
-    Refused(u8),
+pub struct Built {
+    pub nodes: u16,
+    pub bytes: u32,
 }

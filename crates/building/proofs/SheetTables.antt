@@ -6,7 +6,10 @@ use mathlib.Core.Logic.{inl}
 use native.Mathlib.Omega.{arith}
 use lib.ListN.{length, take, drop, set, replicate, length-set, length-replicate}
 use lib.Seq.{length-take-le, get_or-set_same, get_or-set_other}
+use Rattle.std.specs.Prelude.{Result, Ok, Err}
 use Rattle.records.specs.Fields.{IsByte}
+use Rattle.records.specs.Refusals.{number}
+use Rattle.records.specs.declared.refusal.Refusal.{Refusal}
 use Rattle.records.specs.Reading.{Reading, took, refused, map_reading}
 use Rattle.basics.specs.Lists.{All, count_from}
 use Rattle.basics.proofs.Counting.{mem_count}
@@ -17,7 +20,6 @@ use Rattle.sheet.specs.ReadSheet.{read_rules}
 use Rattle.sheet_tests.specs.SheetTests.{sheet_tests}
 use Rattle.sheet_tests.specs.views.TestedPlaces.{places_in}
 use Rattle.sheet_tests.specs.declared.TestsRead.{TestsRead}
-use Rattle.sheet_tests.specs.declared.TestsRead.TheVariants.{Accepted}
 use Rattle.sheet_tests.specs.CheckSheet.{accept_sheet}
 use Rattle.sheet_tests.specs.views.TestsRead.{Held}
 use Rattle.sheet_tests.proofs.Checking.{read_counted}
@@ -43,7 +45,6 @@ use Rattle.turns.proofs.SameListed.{Same, listed_stays}
 use Rattle.turns.proofs.LowestTurns.{Lower, lower_turns, lowered_same, lowered_lower}
 use Rattle.turns.proofs.PlaceTurns.{places_turned}
 use Rattle.turns.proofs.OrderTurns.{order_turns}
-use Rattle.build.specs.declared.Built.TheVariants.{Refused}
 use Rattle.order.specs.Asking.{Asking, by_table, read_asking}
 use Rattle.build.specs.BuildOutcome.{graph_written, sheet_built, outcome_in, ordered_outcome, left_by}
 use Rattle.build.specs.views.Tabled.{SheetHeld, tests_for, ListedRules}
@@ -160,23 +161,23 @@ module _ {s words codes : List ℕ} {arity count pairs : ℕ} {sheet : Sheet} (k
 
 -- There are few tests.
 pub few_tests_lem
-    : (words codes : List ℕ) {r : TestsRead} {arity count places pairs : ℕ} → r ≡ Accepted arity count places pairs
-    → Held words codes r → length (places_in words) + pairs ≤ 64
+    : (words codes : List ℕ) {r : Result TestsRead Refusal} {t : TestsRead} → r ≡ Ok t → Held words codes r
+    → length (places_in words) + t.pairs ≤ 64
 few_tests_lem words codes same held = let counted = read_counted words codes same held in omega (arith, counted.0, counted.1)
 
 -- Where the sheet is refused so is the build, however the tests are asked,
 pub outcome_refused
-    : (asking : Asking) (s buffer : List ℕ) {q : ℕ} → accept_sheet s ≡ refused q
-    → left_by (Refused q) buffer ≡ outcome_in asking s buffer
+    : (asking : Asking) (s buffer : List ℕ) (r : Refusal) → accept_sheet s ≡ refused (number r)
+    → left_by (Err r) buffer ≡ outcome_in asking s buffer
 unfolding outcome_in
-outcome_refused asking s buffer e = sym (ap (λ (r : Reading Sheet). sheet_built r (read_asking asking) buffer) e)
+outcome_refused asking s buffer r e = sym (ap (λ (x : Reading Sheet). sheet_built x (read_asking asking) buffer) e)
 
 -- and where it is accepted and the table refused.
 pub table_refused
-    : (table s buffer : List ℕ) {k q : ℕ} {sheet : Sheet} → accept_sheet s ≡ took k sheet → read_table table ≡ refused q
-    → left_by (Refused q) buffer ≡ ordered_outcome s table buffer
+    : (table s buffer : List ℕ) (r : Refusal) {k : ℕ} {sheet : Sheet} → accept_sheet s ≡ took k sheet
+    → read_table table ≡ refused (number r) → left_by (Err r) buffer ≡ ordered_outcome s table buffer
 unfolding outcome_in
-table_refused table s buffer e d =
+table_refused table s buffer r e d =
     sym (λ i. sheet_built (e i) (map_reading order_by (d i)) buffer)
 
 module _ (s words codes : List ℕ) (arity count pairs : ℕ) (found : AcceptedTests s words codes arity count pairs) where

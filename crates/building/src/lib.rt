@@ -10,8 +10,7 @@ ghost use Rattle.build.specs.views.Tabled.{tests_for};
 
 use build::Built;
 use build::graph_of::build_listed;
-use order::TableCheck;
-use sheet_tests::TestsRead;
+use records::Refusal;
 use tables::Tables;
 
 // Lists the tests of a sheet of so many rules in its tables, asked lowest first. Not the tests of another sheet, nor asked in the
@@ -36,47 +35,32 @@ fn list_sheet(
 
 // Builds the graph of a sheet: the sheet's questions, then 18, then 19. Not a root that always suspends, one stored graph for every
 // sheet, nor a buffer with a byte changed behind the graph or on a refusal.
-pub fn build(sheet: &[u8], buf: &mut [u8]) -> Built
+pub fn build(sheet: &[u8], buf: &mut [u8]) -> Result<Built, Refusal>
     ensures { left_by result buf.new ≡ build_outcome sheet.now buf.old }
 {
     let mut words = [0u64; 11];
     let mut codes = [0u32; 65];
-    let read = sheet_tests::read_tests(sheet, &mut words, &mut codes);
-    match read {
-        TestsRead::Refused(q) => Built::Refused(q),
-        TestsRead::Accepted(arity, rules, _, pairs) => {
-            let mut s = [0u64; 324];
-            let mut numbers = [0u8; 680];
-            list_sheet(rules, &words, &codes, pairs, &mut s, &mut numbers);
-            build_listed(&sheet[3..], arity, &numbers, &mut s, buf)
-        }
-    }
+    let read = sheet_tests::read_tests(sheet, &mut words, &mut codes)?;
+    let mut s = [0u64; 324];
+    let mut numbers = [0u8; 680];
+    list_sheet(read.rules, &words, &codes, read.pairs, &mut s, &mut numbers);
+    build_listed(&sheet[3..], read.arity, &numbers, &mut s, buf)
 }
 
 // Builds the graph of a sheet in the order of a table: the sheet's questions, the table's, then 18, then 19. Not the tests in
 // ascending order under every table, nor a table's refusal before the sheet's.
-pub fn build_ordered(sheet: &[u8], table: &[u8], buf: &mut [u8]) -> Built
+pub fn build_ordered(sheet: &[u8], table: &[u8], buf: &mut [u8]) -> Result<Built, Refusal>
     ensures { left_by result buf.new
         ≡ ordered_outcome sheet.now table.now buf.old }
 {
     let mut words = [0u64; 11];
     let mut codes = [0u32; 65];
-    let read = sheet_tests::read_tests(sheet, &mut words, &mut codes);
-    match read {
-        TestsRead::Refused(q) => Built::Refused(q),
-        TestsRead::Accepted(arity, rules, _, pairs) => {
-            let mut places = [0u16; 680];
-            let checked = order::read_table(table, &mut places);
-            match checked {
-                TableCheck::Refused(q) => Built::Refused(q),
-                TableCheck::Accepted => {
-                    let mut s = [0u64; 324];
-                    let mut numbers = [0u8; 680];
-                    list_sheet(rules, &words, &codes, pairs, &mut s, &mut numbers);
-                    turns::by_places(&places, &numbers, &mut s);
-                    build_listed(&sheet[3..], arity, &numbers, &mut s, buf)
-                }
-            }
-        }
-    }
+    let read = sheet_tests::read_tests(sheet, &mut words, &mut codes)?;
+    let mut places = [0u16; 680];
+    order::read_table(table, &mut places)?;
+    let mut s = [0u64; 324];
+    let mut numbers = [0u8; 680];
+    list_sheet(read.rules, &words, &codes, read.pairs, &mut s, &mut numbers);
+    turns::by_places(&places, &numbers, &mut s);
+    build_listed(&sheet[3..], read.arity, &numbers, &mut s, buf)
 }

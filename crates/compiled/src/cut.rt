@@ -8,7 +8,6 @@ ghost use Rattle.test_list.specs.views.Numbers.{Small};
 ghost use Rattle.rows.specs.views.Wants.{notes_tests};
 ghost use Rattle.compiled.specs.views.CutRules.{turn_in, TurnsFit, turn_all};
 
-use rows::Wanted;
 use rows::numbers::place_number;
 use rows::wants::record_wanted;
 use sheet::Ranges;
@@ -42,14 +41,11 @@ pub fn cut_rule(
         ≡ turn_all numbers.now rules i
         (notes_tests ranges.low ranges.high (notes_in notes.now n)) c.old }
 {
-    let mut k: usize = 0;
-    while k < n {
+    for k in 0..n {
         let code = notes[k];
-        let wanted = record_wanted(patterns::note_record(code), ranges);
-        if let Wanted::Codes(least, most) = wanted {
+        if let Some(wanted) = record_wanted(patterns::note_record(code), ranges) {
             let from = cuts::part(rules, place_number(numbers, patterns::note_place(code)));
-            turn_rule(c, from, least, most, i);
+            turn_rule(c, from, wanted.low, wanted.high, i);
         }
-        k += 1;
     }
 }

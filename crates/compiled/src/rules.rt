@@ -13,7 +13,6 @@ ghost use Rattle.compiled.specs.views.CutRules.{wants_of, TurnsFit, turn_all};
 ghost use Rattle.compiled.specs.views.Compiling.{Compiling, Compiled};
 
 use crate::cut::cut_rule;
-use sheet::Took;
 use tables::Tables;
 
 // Rule i has these tests: its row, and the rule in the column of each. Not in the column of another test, nor the row of another
@@ -74,16 +73,11 @@ pub fn table_rules(b: &[u8], arity: usize, numbers: &[u8; 680], s: &mut Tables, 
     let rules = tables::rules(s);
     let mut notes = [0u64; 680];
     let mut at: usize = 0;
-    let mut i: usize = 0;
-    while i < rules {
-        let read = sheet::read_rule(&b[at..], arity, &mut notes);
-        match read {
-            Took::Refused(_) => return,
-            Took::Used(bytes, n) => {
-                table_rule(&notes, n, i, numbers, s, c);
-                at += bytes;
-            }
-        }
-        i += 1;
+    for i in 0..rules {
+        let Ok(read) = sheet::read_rule(&b[at..], arity, &mut notes) else {
+            return;
+        };
+        table_rule(&notes, read.notes, i, numbers, s, c);
+        at += read.bytes;
     }
 }

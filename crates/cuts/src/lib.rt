@@ -2,7 +2,7 @@
 // and a switch takes those of its live rules in one pass.
 #![tactic(auto)]
 
-ghost use Rattle.std.specs.Prelude.{◌≡◌, List, [], ◌++◌, ℕ, min, max, ◌+◌, ◌*◌, ◌≤◌, ◌<◌, length};
+ghost use Rattle.std.specs.Prelude.{◌≡◌, List, [], ◌++◌, ℕ, ◌+◌, ◌*◌, ◌≤◌, ◌<◌, length};
 ghost use Rattle.std.proofs.Math.Seq.{slice};
 ghost use Rattle.records.specs.Writing.{splice};
 ghost use Rattle.cuts.specs.views.Cuts.{part_at, count_at, cut_at, cuts_in, part_words, toggle, Spot};
@@ -13,13 +13,6 @@ ghost use Rattle.cuts.specs.views.CaseRuns.{case_runs, switch_runs, GaugeUpTo};
 // The runs of one switch: for each the lowest code, the highest and the live rules that want it. Whatever
 // the cuts of 64 rules are, they make no more than 193.
 pub type Runs = [u64; 579];
-
-// The same number at another width.
-fn wide(x: u64) -> usize
-    ensures { result ≡ x }
-{
-    x as usize
-}
 
 // Where the part of test t begins, of a sheet with so many rules. Not within the part before it, nor where a rule would have room
 // for one cut only.
@@ -36,12 +29,10 @@ fn spot_of(c: &[u64], from: usize, count: usize, code: u64) -> usize
     requires { from + 1 + 2 * count ≤ length c.now }
     ensures { Spot c.now from count code result }
 {
-    let mut k: usize = 0;
-    while k < count {
+    for k in 0..count {
         if code <= c[from + 1 + 2 * k] {
             return k;
         }
-        k += 1;
     }
     count
 }
@@ -51,11 +42,7 @@ fn move_up(c: &mut [u64], from: usize, to: usize)
     requires { (from ≤ to) × (to + 2 ≤ length c.old) }
     ensures { c.new ≡ splice c.old (from + 2) (slice from to c.old) }
 {
-    let mut k = to;
-    while from < k {
-        c[k + 1] = c[k - 1];
-        k -= 1;
-    }
+    c.copy_within(from..to, from + 2);
 }
 
 // Some rules turn at a code in a part. Not a second cut at a code that is there, nor a cut behind one with a higher code.
@@ -64,14 +51,12 @@ pub fn turn(c: &mut [u64], from: usize, code: u64, bit: u64)
     ensures { c.new
         ≡ splice c.old from (part_words (toggle code bit (cuts_in c.old from))) }
 {
-    let count = wide(c[from]);
+    let count = c[from] as usize;
     let k = spot_of(c, from, count, code);
     let at = from + 1 + 2 * k;
-    if k < count {
-        if c[at] == code {
-            c[at + 1] = c[at + 1] ^ bit;
-            return;
-        }
+    if k < count && c[at] == code {
+        c[at + 1] ^= bit;
+        return;
     }
     move_up(c, at, from + 1 + 2 * count);
     c[at + 1] = bit;
@@ -91,26 +76,6 @@ pub struct Framed {
 pub struct Row {
     pub first: usize,
     pub count: usize,
-}
-
-// The higher of two codes.
-fn higher(x: u64, y: u64) -> u64
-    ensures { result ≡ max x y }
-{
-    if x < y {
-        return y;
-    }
-    x
-}
-
-// The lower of two codes.
-fn lower(x: u64, y: u64) -> u64
-    ensures { result ≡ min x y }
-{
-    if x < y {
-        return x;
-    }
-    y
 }
 
 // The first code of the gauge that a code is on. Not of the next gauge.
@@ -157,12 +122,12 @@ fn end_run(runs: &mut Runs, done: Framed, base: u64, start: u64, next: u64, set:
     let n = done.count;
     let names = done.names;
     if set == 0 {
-        let from = higher(start, base);
+        let from = start.max(base);
         let end = gauge_first(from + 0xffff);
-        let m = put_gap(runs, n, from, lower(next, end));
+        let m = put_gap(runs, n, from, next.min(end));
         return Framed {
-            count: put_gap(runs, m, higher(end, gauge_first(next)), next),
-            names: names,
+            count: put_gap(runs, m, end.max(gauge_first(next)), next),
+            names,
         };
     }
     put_run(runs, n, start, next - 1, set);
@@ -174,7 +139,7 @@ fn end_run(runs: &mut Runs, done: Framed, base: u64, start: u64, next: u64, set:
     }
     Framed {
         count: n + 1,
-        names: names,
+        names,
     }
 }
 
@@ -190,12 +155,11 @@ fn frame_switch(c: &[u64], from: usize, live: u64, base: u64, runs: &mut Runs) -
         × (result.names ≡ length (name_runs base (runs_in runs.new result.count)))
         × (result.count ≤ 193) × (length runs.new ≡ 579) }
 {
-    let count = wide(c[from]);
+    let count = c[from] as usize;
     let mut framed = Framed { count: 0, names: 0 };
     let mut start: u64 = 0;
     let mut set: u64 = 0;
-    let mut k: usize = 0;
-    while k < count {
+    for k in 0..count {
         let turned = c[from + 2 + 2 * k] & live;
         if turned != 0 {
             let code = c[from + 1 + 2 * k];
@@ -203,16 +167,12 @@ fn frame_switch(c: &[u64], from: usize, live: u64, base: u64, runs: &mut Runs) -
             set ^= turned;
             start = code;
         }
-        k += 1;
     }
     let names = framed.names;
-    let last = higher(start, base);
+    let last = start.max(base);
     let end = gauge_first(last + 0xffff);
     let all = put_gap(runs, framed.count, last, end);
-    Framed {
-        count: all,
-        names: names,
-    }
+    Framed { count: all, names }
 }
 
 // The code of the first number: from it on all codes of a gauge are in runs, whose pairs are cases.
@@ -240,14 +200,12 @@ pub fn gauge_end(runs: &Runs, k: usize, count: usize) -> usize
     ensures { GaugeUpTo runs.now count k result }
 {
     let gauge = runs[3 * k] / 0x1_0000;
-    let mut end = k + 1;
-    while end < count {
+    for end in k + 1..count {
         if runs[3 * end] / 0x1_0000 != gauge {
             return end;
         }
-        end += 1;
     }
-    end
+    count
 }
 
 // How many cases the runs of a switch make. Not one for each run where there are pairs, nor a pair of runs on two gauges.

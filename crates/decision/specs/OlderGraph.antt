@@ -23,14 +23,9 @@ use Rattle.decision.specs.GraphBytes.{leaf_bytes, case_bytes}
 -- A pattern, and a rule, of an older sheet: pattern 27 is in none.
 abbrev mutual
   pub Older : Pattern → Type 0
-  Older anything = Unit
-  Older (the_symbol a) = Unit
-  Older (the_series l h) = Unit
-  Older (the_range l h) = Unit
   Older (the_gauged g l h) = ⊥
   Older (the_compound a ps) = Olders ps
-  Older (variable v) = Unit
-  Older (ranged_variable v l h) = Unit
+  Older _ = Unit
 
   pub Olders : Patterns → Type 0
   Olders pnil = Unit
@@ -77,20 +72,17 @@ module _ (rules : List Patterns) (order : List ℕ) where
 
 -- What the record of a number case could hold, and a node of any maker with such cases.
 abbrev pub OlderCase : Case → Type 0
-OlderCase (symbols_case l h) = Unit
-OlderCase (compound_case a n) = Unit
 OlderCase (numbers_case x y) = Wide x × Wide y
+OlderCase _ = Unit
 
 abbrev pub OlderNode : Node ℕ → Type 0
-OlderNode (end l) = Unit
 OlderNode (switch n cs x y) = All (λ (c : CaseEdge ℕ). OlderCase c.case) cs
-OlderNode (pair_node p q x y) = Unit
+OlderNode _ = Unit
 
 -- The bytes that a graph had: "46 numbers (wide low, wide high, wide node)"; the other records are as they were.
 abbrev pub older_case_bytes : Case → ℕ → List ℕ
-older_case_bytes (symbols_case l h) n = case_bytes (symbols_case l h) n
-older_case_bytes (compound_case a k) n = case_bytes (compound_case a k) n
 older_case_bytes (numbers_case l h) n = 0x46 ∷ wide_then l (wide_then h (wide_then n []))
+older_case_bytes c n = case_bytes c n
 
 abbrev pub older_cases_bytes : List (CaseEdge ℕ) → List ℕ
 older_cases_bytes [] = []

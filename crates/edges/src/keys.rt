@@ -14,7 +14,7 @@ fn settled(s: &Tables, live: u64, left: u64) -> u64
     let mut all = live;
     let mut to_come = left;
     while to_come != 0 {
-        let t = u64::trailing_zeros(to_come) as usize;
+        let t = to_come.trailing_zeros() as usize;
         all = masks::minus(all, column(s, t));
         to_come &= to_come - 1;
     }
@@ -28,7 +28,7 @@ fn held(s: &Tables, live: u64, left: u64) -> u64
     let mut all: u64 = 0;
     let mut to_come = live;
     while to_come != 0 {
-        let i = u64::trailing_zeros(to_come) as usize;
+        let i = to_come.trailing_zeros() as usize;
         all |= row(s, i) & left;
         if all == left {
             return left;
@@ -49,11 +49,8 @@ fn lead(s: &Tables, live: u64, left: u64, settled: u64) -> Key
             pending: 0,
         };
     }
-    if u64::count_ones(live) == 1 {
-        return Key {
-            live: live,
-            pending: 0,
-        };
+    if live.count_ones() == 1 {
+        return Key { live, pending: 0 };
     }
     if 1 < masks::size(masks::intersect(live, settled)) {
         return Key {
@@ -62,7 +59,7 @@ fn lead(s: &Tables, live: u64, left: u64, settled: u64) -> Key
         };
     }
     Key {
-        live: live,
+        live,
         pending: held(s, live, left),
     }
 }

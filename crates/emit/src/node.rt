@@ -66,11 +66,9 @@ fn put_names(
         (run_bytes s.now (keys_in keys.now) asked (runs_in runs.now count)) result buf.new }
 {
     let mut at = start;
-    let mut k: usize = 0;
-    while k < count {
+    for k in 0..count {
         let node = node_of(keys, by_run(s, asked, runs[3 * k + 2]));
         at = put_case(buf, at, case_record(runs[3 * k], runs[3 * k + 1], node));
-        k += 1;
     }
     at
 }
@@ -97,15 +95,13 @@ fn put_row(
     let mut set = runs[3 * first + 2];
     let mut node = node_of(keys, by_run(s, asked, set));
     let mut at = start;
-    let mut k = first;
-    while k < count {
+    for k in first..count {
         let more = set | runs[3 * k + 2];
         if more != set {
             node = node_of(keys, by_run(s, asked, more));
         }
         set = more;
         at = put_case(buf, at, case_record(low, runs[3 * k + 1], node));
-        k += 1;
     }
     at
 }
@@ -129,14 +125,9 @@ fn put_pairs(
 {
     let count = all.count;
     let mut at = start;
-    let mut first = all.first;
-    while first < count {
-        let row = Row {
-            first: first,
-            count: count,
-        };
+    for first in all.first..count {
+        let row = Row { first, count };
         at = put_row(buf, at, s, asked, runs, row, keys);
-        first += 1;
     }
     at
 }
@@ -162,18 +153,7 @@ fn put_gauges(
     let mut first = framed.names;
     while first < framed.count {
         let end = gauge_end(runs, first, framed.count);
-        at = put_pairs(
-            buf,
-            at,
-            s,
-            asked,
-            runs,
-            Row {
-                first: first,
-                count: end,
-            },
-            keys,
-        );
+        at = put_pairs(buf, at, s, asked, runs, Row { first, count: end }, keys);
         first = end;
     }
     at

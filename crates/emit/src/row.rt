@@ -48,10 +48,8 @@ fn put_nodes(
         buf.new }
 {
     let mut at = start;
-    let mut i: usize = 0;
-    while i < count(keys) {
+    for i in 0..count(keys) {
         at = put_one(buf, at, key_at(keys, i), s, c, runs, keys);
-        i += 1;
     }
     at
 }

@@ -9,6 +9,8 @@ use native.Mathlib.Omega.{arith}
 use borrow.Author.Tests.{ne_eqb, eq-eqb, le-leb}
 use lib.Dec.{T, leb, eqb, eqb→eq, leb→le, le→leb}
 use lib.ListN.{length, get_or}
+use Rattle.std.specs.Prelude.{Result, Ok}
+use Rattle.records.specs.declared.refusal.Refusal.{Refusal}
 use Rattle.records.specs.Fields.{wide_at}
 use Rattle.records.specs.Kinds.{record_length, kind_of, is_whole}
 use Rattle.records.specs.Reading.{Reading, took, refused, ask}
@@ -18,14 +20,10 @@ use Rattle.decision.specs.Graph.{most_nodes}
 use Rattle.graph.specs.declared.Leaf.TheVariants.{Execute}
 use Rattle.graph.specs.declared.NodeRecord.{NodeRecord}
 use Rattle.graph.specs.declared.CaseRecord.{CaseRecord}
-use Rattle.graph.specs.declared.NodeHead.TheVariants as node
-use Rattle.graph.specs.declared.CaseHead.TheVariants as case
 use Rattle.graph.specs.declared.NodeRecord.TheVariants.{End, Pair}
 use Rattle.graph.specs.declared.CaseRecord.TheVariants.{Symbols, Compound, Numbers}
 use Rattle.graph.specs.ReadGraph.{read_case, read_switch, read_record, has_header}
 use Rattle.graph.specs.views.NodeRecord.{whole_node, whole_case, switch_length, switch_record, node_head, case_head, on_case, on_node}
-use Rattle.graph.specs.declared.CaseHead.{CaseHead}
-use Rattle.graph.specs.declared.NodeHead.{NodeHead}
 
 -- Where the answer is no the question's number is given.
 ask_no : {A : Type 0} (q : ℕ) (b : Bool) (r : Reading A) → (T b → ⊥) → ask q b r ≡ refused q
@@ -61,13 +59,13 @@ whole_one k s =
 
 -- A whole case, and a whole node of one record.
 case_whole
-    : (b : Bool) (c : CaseRecord) (n : ℕ) (e : CaseEdge ℕ) → on_case (case.Whole c) ≡ took n e
+    : (b : Bool) (c : CaseRecord) (n : ℕ) (e : CaseEdge ℕ) → on_case (Ok c) ≡ took n e
     → ask 22 b (took n e) ≡ on_case (whole_case b c)
 case_whole true c n e same = sym same
 case_whole false c n e same = refl
 
 node_whole
-    : (s : List ℕ) (b : Bool) (r : NodeRecord) (x : Reading (Node ℕ)) → on_node s (node.Whole r) ≡ x
+    : (s : List ℕ) (b : Bool) (r : NodeRecord) (x : Reading (Node ℕ)) → on_node s (Ok r) ≡ x
     → ask 22 (b || false) x ≡ on_node s (whole_node b r)
 node_whole s true r x same = sym same
 node_whole s false r x same = refl
@@ -178,10 +176,10 @@ node_by_kind (x ∷ s) =
     no_node s x a b c d e)))))
 
 -- What was read, where the record is told.
-pub case_read_by : (s : List ℕ) {h : CaseHead} → case_head s ≡ h → read_case s ≡ on_case h
+pub case_read_by : (s : List ℕ) {h : Result CaseRecord Refusal} → case_head s ≡ h → read_case s ≡ on_case h
 case_read_by s e = case_by_kind s ∙ ap on_case e
 
-pub node_read_by : (s : List ℕ) {h : NodeHead} → node_head s ≡ h → read_record s ≡ on_node s h
+pub node_read_by : (s : List ℕ) {h : Result NodeRecord Refusal} → node_head s ≡ h → read_record s ≡ on_node s h
 node_read_by s e = node_by_kind s ∙ ap (on_node s) e
 
 -- The first record of a graph is told by its length and its kind.

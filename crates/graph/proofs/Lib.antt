@@ -1,5 +1,4 @@
 -- The laws of graphs' bytes, for the proofs of this crate and of those that use it.
-pub mod ShortCases
 pub mod FieldBytes
 pub mod GaugedCases
 pub mod ByKinds

@@ -7,6 +7,8 @@ use native.Mathlib.Omega.{arith}
 use borrow.Author.Tests.{le-leb, ne_eqb}
 use lib.Dec.{T, leb, eqb, eqb→eq, leb→le}
 use lib.ListN.{length, get_or, drop}
+use Rattle.std.specs.Prelude.{Result, Ok}
+use Rattle.records.specs.declared.refusal.Refusal.{Refusal}
 use Rattle.records.specs.Fields.{IsByte, wide_at}
 use Rattle.records.specs.Reading.{took}
 use Rattle.records.proofs.WideFields.{wide_of_lem}
@@ -19,8 +21,6 @@ use Rattle.decision.specs.GraphBytes.{case_bytes, cases_bytes}
 use Rattle.decision.specs.AcceptedGraph.{CaseFields}
 use Rattle.graph.specs.declared.CaseRecord.{CaseRecord}
 use Rattle.graph.specs.declared.CaseRecord.TheVariants.{Symbols, Compound, Numbers}
-use Rattle.graph.specs.declared.CaseHead.{CaseHead}
-use Rattle.graph.specs.declared.CaseHead.TheVariants.{Whole}
 use Rattle.graph.specs.views.NodeRecord.{whole_case, case_head, on_case}
 use Rattle.graph.specs.ReadGraph.{read_cases, edge, read_case}
 use Rattle.graph.proofs.ByKinds.{case_by_kind}
@@ -69,10 +69,10 @@ case_brought (numbers_case l u) n rest h k =
     ) (ap (λ (c : Case). took 8 (edge c n)) own)
 
 module _ (s : List ℕ) (h : All IsByte s) where
-  abbrev Told : CaseHead → Type 0
+  abbrev Told : Result CaseRecord Refusal → Type 0
   Told r = Reads edge_bytes EdgeFields s (on_case r)
 
-  whole_told : (b : Bool) (r : CaseRecord) → (T b → Told (Whole r)) → Told (whole_case b r)
+  whole_told : (b : Bool) (r : CaseRecord) → (T b → Told (Ok r)) → Told (whole_case b r)
   whole_told true r f = f tt
   whole_told false r f = tt
 

@@ -8,6 +8,8 @@ use borrow.Author.Tests.{le-leb, ne_eqb}
 use lib.Dec.{T, leb, eqb, eqb→eq, leb→le}
 use lib.ListN.{length, get_or, drop}
 use lib.Seq.{drop-drop}
+use Rattle.std.specs.Prelude.{Result, Ok}
+use Rattle.records.specs.declared.refusal.Refusal.{Refusal}
 use Rattle.records.specs.Fields.{IsByte, wide_at}
 use Rattle.records.specs.Reading.{Reading, took, refused, ask, after}
 use Rattle.records.proofs.WideFields.{wide_of_lem}
@@ -19,8 +21,6 @@ use Rattle.decision.specs.GraphBytes.{most_cases, cases_bytes, node_bytes}
 use Rattle.graph.specs.declared.Leaf.TheVariants.{Execute}
 use Rattle.graph.specs.declared.NodeRecord.{NodeRecord}
 use Rattle.graph.specs.declared.NodeRecord.TheVariants.{End, Switch, Pair}
-use Rattle.graph.specs.declared.NodeHead.{NodeHead}
-use Rattle.graph.specs.declared.NodeHead.TheVariants.{Whole}
 use Rattle.graph.specs.views.NodeRecord.{whole_node, switch_length, switch_record, node_head, on_node}
 use Rattle.graph.specs.views.WriteNode.{node_record_bytes}
 use Rattle.graph.specs.ReadGraph.{read_cases, read_record}
@@ -73,10 +73,10 @@ node_brought (pair_node p q x y) rest h =
     )
 
 module _ (s : List ℕ) (h : All IsByte s) where
-  abbrev Told : NodeHead → Type 0
+  abbrev Told : Result NodeRecord Refusal → Type 0
   Told r = Reads node_bytes NodeFields s (on_node s r)
 
-  whole_told : (b : Bool) (r : NodeRecord) → (T b → Told (Whole r)) → Told (whole_node b r)
+  whole_told : (b : Bool) (r : NodeRecord) → (T b → Told (Ok r)) → Told (whole_node b r)
   whole_told true r f = f tt
   whole_told false r f = tt
 

@@ -3,7 +3,7 @@
 
 pub mod record; // the record that the input begins with
 
-pub use record::{case_head, case_refusal, node_head, node_refusal};
+pub use record::{case_head, node_head};
 
 // How many bytes a switch's record has, its cases not counted.
 pub const SWITCH_BYTES: usize = 9;
@@ -30,18 +30,4 @@ pub enum CaseRecord {
     Symbols(u16, u16, u16),
     Compound(u16, u8, u16),
     Numbers(u16, u16, u16, u8),
-}
-
-// The node record that the input begins with, or the number of the question that it got a no from.
-#[derive(Clone, Copy)]
-pub enum NodeHead {
-    Whole(NodeRecord),
-    Refused(u8),
-}
-
-// The case record that the input begins with, or the number of the question that it got a no from.
-#[derive(Clone, Copy)]
-pub enum CaseHead {
-    Whole(CaseRecord),
-    Refused(u8),
 }

@@ -9,9 +9,8 @@ use Rattle.sheet.specs.Sheet.{Sheet}
 use Rattle.sheet_tests.specs.CheckSheet.{accept_sheet}
 use Rattle.decision.specs.Node.{Node}
 use Rattle.graph.specs.ReadGraph.{read_graph}
-use Rattle.graph_check.specs.declared.GraphHeader.TheVariants.{Of, Refused}
 use Rattle.graph_check.specs.CheckGraph.{GraphValues, graph_reading, graph_values}
-use Rattle.graph_check.specs.views.Header.{HeaderFields, fields_of, fields_reading, fields_read}
+use Rattle.graph_check.specs.views.Header.{HeaderFields, fields_of, fields_reading}
 
 -- The values of the check, off the header's fields.
 abbrev pub fields_values : Reading HeaderFields → GraphValues
@@ -20,7 +19,7 @@ fields_values (refused q) = record { refusal = q; nodes = 0 }
 
 module _ (s g : List ℕ) where
   -- Where the sheet is refused so is the graph.
-  pub sheet_refuses : {q : ℕ} → accept_sheet s ≡ refused q → fields_read (length g) (Refused q) ≡ fields_reading s g
+  pub sheet_refuses : {q : ℕ} → accept_sheet s ≡ refused q → refused q ≡ fields_reading s g
   sheet_refuses e = sym (ap (λ r. and_then r (λ _ sheet. map_reading (fields_of sheet) (read_graph sheet g))) e)
 
   module _ {k : ℕ} {sheet : Sheet} (accepted : accept_sheet s ≡ took k sheet) where
@@ -28,13 +27,14 @@ module _ (s g : List ℕ) where
     for_graph = sym (ap (λ r. and_then r (λ _ x. map_reading (fields_of x) (read_graph x g))) accepted)
 
     -- Where the graph is refused there is no header,
-    pub graph_refuses : {q : ℕ} → read_graph sheet g ≡ refused q → fields_read (length g) (Refused q) ≡ fields_reading s g
+    pub graph_refuses : {q : ℕ} → read_graph sheet g ≡ refused q → refused q ≡ fields_reading s g
     graph_refuses e = sym (ap (map_reading (fields_of sheet)) e) ∙ for_graph
 
     -- and where it is accepted there is.
     pub graph_accepts
         : {nodes : List (Node ℕ)} {a r n : ℕ} → read_graph sheet g ≡ took (length g) nodes → sheet.arity ≡ a
-        → length sheet.rules ≡ r → length nodes ≡ n → fields_read (length g) (Of a r n) ≡ fields_reading s g
+        → length sheet.rules ≡ r → length nodes ≡ n
+        → took (length g) (record { arity = a; rules = r; nodes = n }) ≡ fields_reading s g
     graph_accepts e arity rules count =
         sym
         (ap (map_reading (fields_of sheet)) e
@@ -52,12 +52,12 @@ module _ (s g : List ℕ) where
     pub rules_is : length sheet.rules ≡ r
     pub nodes_is : length nodes ≡ n
 
-  pub header_of : {a r n : ℕ} → fields_read (length g) (Of a r n) ≡ fields_reading s g → HeaderOf a r n
+  pub header_of : {a r n : ℕ} → took (length g) (record { arity = a; rules = r; nodes = n }) ≡ fields_reading s g → HeaderOf a r n
   header_of {a} {r} {n} e = go (accept_sheet s) refl e
     where
       inner
           : (k : ℕ) (sheet : Sheet) → accept_sheet s ≡ took k sheet → (x : Reading (List (Node ℕ))) → read_graph sheet g ≡ x
-          → fields_read (length g) (Of a r n) ≡ map_reading (fields_of sheet) x → HeaderOf a r n
+          → took (length g) (record { arity = a; rules = r; nodes = n }) ≡ map_reading (fields_of sheet) x → HeaderOf a r n
       inner k sheet d (took b nodes) f h =
           let size : length g ≡ b = cc in
           let same : ◌≡◌ {A = HeaderFields} (record { arity = a; rules = r; nodes = n }) (fields_of sheet nodes) = cc in
@@ -75,7 +75,8 @@ module _ (s g : List ℕ) where
 
       go
           : (x : Reading Sheet) → accept_sheet s ≡ x
-          → fields_read (length g) (Of a r n) ≡ and_then x (λ _ sheet. map_reading (fields_of sheet) (read_graph sheet g))
+          → took (length g) (record { arity = a; rules = r; nodes = n })
+          ≡ and_then x (λ _ sheet. map_reading (fields_of sheet) (read_graph sheet g))
           → HeaderOf a r n
       go (took k sheet) d h = inner k sheet d (read_graph sheet g) refl h
       go (refused q) d h = let z : ◌≡◌ {A = ℕ} 0 1 = cc in absurd (omega arith)

@@ -8,7 +8,10 @@ use borrow.Author.Tests.{le-leb, eq-eqb, ne_eqb}
 use lib.Dec.{T, leb, eqb, leb→le}
 use lib.ListN.{length, get_or, take, drop}
 use lib.Seq.{length-take-le}
+use Rattle.std.specs.Prelude.{Ok, Err}
 use Rattle.records.specs.Fields.{wide_at}
+use Rattle.records.specs.Refusals.{number, refusal_in}
+use Rattle.records.specs.declared.refusal.Refusal.{Refusal}
 use Rattle.records.specs.Reading.{Reading, took, refused, ask, after, map_reading}
 use Rattle.records.proofs.Rows.{after_took}
 use Rattle.basics.proofs.Booleans.{both_true}
@@ -18,7 +21,6 @@ use Rattle.decision.specs.Graph.{most_nodes}
 use Rattle.decision.specs.GraphBytes.{node_bytes}
 use Rattle.graph.specs.ReadGraph.{read_nodes, end_graph, has_header, read_by}
 use Rattle.node_check.specs.views.CheckNode.{starts_from}
-use Rattle.graph_check.specs.declared.GraphCheck.TheVariants.{Accepted, Refused}
 use Rattle.graph_check.specs.views.GraphIndex.{count_if, GraphIndex, graph_index}
 use Rattle.graph.proofs.ByKinds.{header_by_kind}
 
@@ -28,13 +30,13 @@ starts_count at [] = refl
 starts_count at (n ∷ ns) = ap suc (starts_count (at + length (node_bytes n)) ns)
 
 -- What the count of the nodes says of the header.
-pub count_header : (b : Bool) (n : ℕ) {m : ℕ} → Accepted m ≡ count_if b n → (b ≡ true) × (n ≡ m)
+pub count_header : (b : Bool) (n : ℕ) {m : ℕ} → Ok m ≡ count_if b n → (b ≡ true) × (n ≡ m)
 count_header true n e = (refl, (cc))
-count_header false n e = let z : ◌≡◌ {A = ℕ} 0 1 = cc in absurd (omega arith)
+count_header false n e = absurd (cc)
 
-pub count_refused : (b : Bool) (n : ℕ) {q : ℕ} → Refused q ≡ count_if b n → (b ≡ false) × (q ≡ 21)
-count_refused true n e = let z : ◌≡◌ {A = ℕ} 0 1 = cc in absurd (omega arith)
-count_refused false n e = (refl, (cc))
+pub count_refused : (b : Bool) (n : ℕ) {r : Refusal} → Err r ≡ count_if b n → (b ≡ false) × (number r ≡ 21)
+count_refused true n e = absurd (cc)
+count_refused false n e = (refl, ap refusal_in e)
 
 -- A whole header, and 1 to 1,024 nodes.
 pub header_known
@@ -53,24 +55,6 @@ header_known arity rules g e =
     let (b2, t3) = both_true (f1 && f2) f3 b3 in
     let (t1, t2) = both_true f1 f2 b2 in
     (leb→le 5 (length g) t1, leb→le 1 (wide_at g 3) t5, leb→le (wide_at g 3) most_nodes t6)
-
--- The count that a whole header gives, from the tests of its fields.
-pub count_told
-    : (arity rules : ℕ) (g : List ℕ) → 5 ≤ length g → (nodes : ℕ) → nodes ≡ wide_at g 3 → (b1 b2 b3 b4 : Bool)
-    → b1 ≡ (eqb (get_or g 0 0) 0x12 && eqb (get_or g 1 0) arity) → b2 ≡ (b1 && eqb (get_or g 2 0) rules) → b3 ≡ (b2 && leb 1 nodes)
-    → b4 ≡ (b3 && leb nodes most_nodes) → count_if b4 nodes ≡ count_if (has_header arity rules g) (wide_at g 3)
-count_told arity rules g whole nodes e b1 b2 b3 b4 e1 e2 e3 e4 =
-    let f2 = eqb (get_or g 0 0) 0x12 in
-    let f3 = eqb (get_or g 1 0) arity in
-    let f4 = eqb (get_or g 2 0) rules in
-    let same : b4 ≡ has_header arity rules g =
-    e4
-    ∙ ap (λ (b : Bool). b && leb nodes most_nodes)
-    (e3 ∙ ap (λ (b : Bool). b && leb 1 nodes) (e2 ∙ ap (λ (b : Bool). b && f4) e1))
-    ∙ (λ i. f2 && f3 && f4 && leb 1 (e i) && leb (e i) most_nodes)
-    ∙ ap (λ (b : Bool). b && f2 && f3 && f4 && leb 1 (wide_at g 3) && leb (wide_at g 3) most_nodes) (sym (le-leb 5 (length g) whole))
-    ∙ sym (header_by_kind arity rules g) in
-    λ i. count_if (same i) (e i)
 
 module _ (test : Test → Bool) (arity rules : ℕ) (g : List ℕ) where
   abbrev read : Reading GraphIndex

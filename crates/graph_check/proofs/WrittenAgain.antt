@@ -19,35 +19,34 @@ use Rattle.decision.specs.views.GraphSize.{most_graph_bytes}
 use Rattle.decision.specs.GraphBytes.{nodes_bytes, graph_bytes}
 use Rattle.graph.specs.ReadGraph.{read_graph}
 use Rattle.graph.specs.views.Rewriting.{IsTook, read_or, read_records}
-use Rattle.graph_check.specs.declared.GraphHeader.TheVariants.{Refused}
-use Rattle.graph_check.specs.declared.Rewrote.TheVariants as rewrote
+use Rattle.std.specs.Prelude.{Ok}
 use Rattle.graph_check.specs.Rewritten.{rewritten, left_by}
 use Rattle.graph_check.proofs.Headers.{HeaderOf}
 use Rattle.graph_check.proofs.AcceptedBytes as accepted
-use Rattle.graph_check.specs.views.Header.{fields_of, fields_reading, fields_read}
+use Rattle.graph_check.specs.views.Header.{fields_of, fields_reading}
 use Rattle.graph.specs.views.WriteNode.{header_bytes}
 
 -- A graph that was refused before question 19.
 module _ (s g buffer : List ℕ) where
   pub rewrite_refused
-      : {q : ℕ} → fields_read (length g) (Refused q) ≡ fields_reading s g → left_by (rewrote.Refused q) buffer ≡ rewritten s g buffer
+      : {q : ℕ} → refused q ≡ fields_reading s g → result_of buffer (refused q) ≡ rewritten s g buffer
   unfolding rewritten
   rewrite_refused {q} e = go (accept_sheet s) e
     where
       left : Reading (List ℕ) → Type 0
-      left x = left_by (rewrote.Refused q) buffer ≡ result_of buffer (and_then x (λ _ bytes. ask_fits 19 buffer bytes))
+      left x = result_of buffer (refused q) ≡ result_of buffer (and_then x (λ _ bytes. ask_fits 19 buffer bytes))
 
       inner
           : (sheet : Sheet) (x : Reading (List (Node ℕ))) → refused q ≡ map_reading (fields_of sheet) x
           → left (map_reading (graph_bytes sheet.arity (length sheet.rules)) x)
       inner sheet (took k nodes) h = let z : ◌≡◌ {A = ℕ} 0 1 = cc in absurd (omega arith)
-      inner sheet (refused p) h = let same : q ≡ p = cc in ap (λ (n : ℕ). left_by (rewrote.Refused n) buffer) same
+      inner sheet (refused p) h = let same : q ≡ p = cc in ap (λ (n : ℕ). result_of buffer (refused n)) same
 
       go
           : (x : Reading Sheet) → refused q ≡ and_then x (λ _ sheet. map_reading (fields_of sheet) (read_graph sheet g))
           → left (and_then x (λ _ sheet. map_reading (graph_bytes sheet.arity (length sheet.rules)) (read_graph sheet g)))
       go (took k sheet) h = inner sheet (read_graph sheet g) h
-      go (refused p) h = let same : q ≡ p = cc in ap (λ (n : ℕ). left_by (rewrote.Refused n) buffer) same
+      go (refused p) h = let same : q ≡ p = cc in ap (λ (n : ℕ). result_of buffer (refused n)) same
 
 module _ (s g : List ℕ) (s-bytes : All IsByte s) (g-bytes : All IsByte g) {a r n : ℕ} (h : HeaderOf s g a r n) where
   abbrev sheet : Sheet
@@ -98,21 +97,21 @@ module _ (s g : List ℕ) (s-bytes : All IsByte s) (g-bytes : All IsByte g) {a r
         ∙ ap (λ (l : List ℕ). result_of buffer (ask_fits 19 buffer l)) (accepted.written_same sheet sound g g-bytes h.read)
 
     -- Question 19 got a no: it does not fit.
-    pub rewrite_large : length buffer < length g → left_by (rewrote.Refused 19) buffer ≡ rewritten s g buffer
+    pub rewrite_large : length buffer < length g → result_of buffer (refused 19) ≡ rewritten s g buffer
     rewrite_large more =
         sym
         (asked ∙ ap (λ (b : Bool). result_of buffer (ask 19 b (took (length g) g))) (lt-leb (length g) (length buffer) more))
 
     -- The graph's bytes are written.
-    pub rewrite_fits : length g ≤ length buffer → left_by (rewrote.Written (length g)) (splice buffer 0 g) ≡ rewritten s g buffer
+    pub rewrite_fits : length g ≤ length buffer → left_by (Ok (length g)) (splice buffer 0 g) ≡ rewritten s g buffer
     rewrite_fits fits =
         sym
         (asked ∙ ap (λ (b : Bool). result_of buffer (ask 19 b (took (length g) g))) (le-leb (length g) (length buffer) fits))
 
     pub rewrite_written
         : {end : ℕ} {left : List ℕ} → length g ≤ length buffer → end ≡ length again → left ≡ splice buffer 0 again
-        → left_by (rewrote.Written end) left ≡ rewritten s g buffer
+        → left_by (Ok end) left ≡ rewritten s g buffer
     rewrite_written fits e f =
         let size = e ∙ again_size in
         let bytes = f ∙ ap (splice buffer 0) again_same in
-        (λ i. left_by (rewrote.Written (size i)) (bytes i)) ∙ rewrite_fits fits
+        (λ i. left_by (Ok (size i)) (bytes i)) ∙ rewrite_fits fits

@@ -1,11 +1,11 @@
 -- What the check of a graph says (document 01, "Questions at the counter", 21 to 25).
-use Rattle.std.specs.Prelude.{ℕ, List, length}
+use Rattle.std.specs.Prelude.{ℕ, List, Result, Ok, Err, length}
 use Rattle.records.specs.Reading.{Reading, took, refused, and_then}
+use Rattle.records.specs.Refusals.{number}
+use Rattle.records.specs.declared.refusal.Refusal.{Refusal}
 use Rattle.sheet_tests.specs.CheckSheet.{accept_sheet}
 use Rattle.decision.specs.Node.{Node}
 use Rattle.graph.specs.ReadGraph.{read_graph}
-use Rattle.graph_check.specs.declared.GraphCheck.{GraphCheck}
-use Rattle.graph_check.specs.declared.GraphCheck.TheVariants as check
 
 -- "Checking a graph alone asks the sheet's questions, then 21 to 25": how bytes g are read as a graph for the sheet of bytes s.
 unfoldable pub graph_reading : List ℕ → List ℕ → Reading (List (Node ℕ))
@@ -16,9 +16,9 @@ pub record GraphValues : Type 0 where
   pub refusal : ℕ
   pub nodes : ℕ
 
-abbrev pub graph_check_values : GraphCheck → GraphValues
-graph_check_values (check.Accepted n) = record { refusal = 0; nodes = n }
-graph_check_values (check.Refused q) = record { refusal = q; nodes = 0 }
+abbrev pub graph_check_values : Result ℕ Refusal → GraphValues
+graph_check_values (Ok n) = record { refusal = 0; nodes = n }
+graph_check_values (Err r) = record { refusal = number r; nodes = 0 }
 
 abbrev pub graph_values : Reading (List (Node ℕ)) → GraphValues
 graph_values (took k nodes) = record { refusal = 0; nodes = length nodes }

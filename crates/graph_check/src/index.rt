@@ -6,26 +6,23 @@ ghost use Rattle.graph.specs.ReadGraph.{has_header, read_by};
 ghost use Rattle.node_check.specs.views.CheckNode.{kept_test};
 ghost use Rattle.graph_check.specs.views.GraphIndex.{count_if, graph_index, indexed};
 
-use crate::GraphCheck;
-use node_check::NodeCheck;
-use node_check::cases::both;
+use records::Refusal;
 
 // "1 to 1,024 nodes".
 const MOST_NODES: u16 = 1024;
 
 // How many nodes the record says that the graph begins with: question 21. Not the count of a record for another arity, nor 0.
-fn node_count(g: &[u8], arity: u8, rules: u8) -> GraphCheck
+fn node_count(g: &[u8], arity: u8, rules: u8) -> Result<u16, Refusal>
     ensures { result ≡ count_if (has_header arity rules g.now) (wide_at g.now 3) }
 {
-    if g.len() < 5 {
-        return GraphCheck::Refused(21);
-    }
-    let nodes = records::wide(g[3], g[4]);
-    let for_sheet = both(both(g[0] == 0x12, g[1] == arity), g[2] == rules);
-    if both(both(for_sheet, 1 <= nodes), nodes <= MOST_NODES) {
-        GraphCheck::Accepted(nodes)
+    let &[0x12, of_arity, of_rules, high, low, ..] = g else {
+        return Err(Refusal::NotAGraph);
+    };
+    let nodes = records::wide(high, low);
+    if of_arity == arity && of_rules == rules && 1 <= nodes && nodes <= MOST_NODES {
+        Ok(nodes)
     } else {
-        GraphCheck::Refused(21)
+        Err(Refusal::NotAGraph)
     }
 }
 
@@ -39,25 +36,17 @@ pub fn index_graph(
     arity: u8,
     rules: u8,
     starts: &mut [u32; 1024],
-) -> GraphCheck
+) -> Result<u16, Refusal>
     requires { (length words.now ≡ 11) × (pairs ≤ 65) × (length codes.now ≡ 65) × (length starts.old ≡ 1024) }
     ensures result_after { indexed (length g.now) starts.new result
         ≡ map_reading graph_index
         (read_by (kept_test words.now codes.now pairs) arity rules g.now) }
     ensures starts_len { length starts.new ≡ 1024 }
 {
-    let counted = node_count(g, arity, rules);
-    let GraphCheck::Accepted(nodes) = counted else {
-        return counted;
-    };
-    let checked = node_check::check_nodes(g, words, codes, pairs, rules, nodes, starts);
-    match checked {
-        NodeCheck::Refused(q) => GraphCheck::Refused(q),
-        NodeCheck::Used(end) => {
-            if end != g.len() {
-                return GraphCheck::Refused(25);
-            }
-            counted
-        }
+    let nodes = node_count(g, arity, rules)?;
+    let end = node_check::check_nodes(g, words, codes, pairs, rules, nodes, starts)?;
+    if end != g.len() {
+        return Err(Refusal::BytesAfterGraph);
     }
+    Ok(nodes)
 }

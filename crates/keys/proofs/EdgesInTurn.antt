@@ -16,20 +16,16 @@ use Rattle.edges.specs.views.KeysBehind.{none_behind, other_behind}
 use Rattle.edges.specs.views.NodeIn.{ask_in}
 use Rattle.met.specs.views.KeysMet.{meet, meet_all, keys_in}
 use Rattle.met.proofs.Meeting.{meet_longer, meet_join, meet_again}
-use Rattle.keys.specs.declared.Measured.{Measured}
-use Rattle.keys.specs.declared.Measured.TheVariants.{Bytes, TooMany}
+use Rattle.std.specs.Prelude.{Option, Some, None}
 use Rattle.keys.specs.views.Expanded.{cases_length, AtMost, Met, CasesMet, EdgesMet}
 
 -- The bytes measured are at most what they may be.
-pub bytes_most : {most n : ℕ} {r : Measured} → r ≡ Bytes n → AtMost most r → n ≤ most
+pub bytes_most : {most n : ℕ} {r : Option ℕ} → r ≡ Some n → AtMost most r → n ≤ most
 bytes_most {most} e a = subst (AtMost most) e a
 
-pub many_most : (most : ℕ) {r : Measured} → r ≡ TooMany → AtMost most r
-many_most most e = subst (AtMost most) (sym e) tt
-
-pub most_more : {most more : ℕ} (r : Measured) → most ≤ more → AtMost most r → AtMost more r
-most_more (Bytes n) h a = omega arith
-most_more TooMany h a = tt
+pub most_more : {most more : ℕ} (r : Option ℕ) → most ≤ more → AtMost most r → AtMost more r
+most_more (Some n) h a = omega arith
+most_more None h a = tt
 
 -- Where one key is too many, those after it change nothing,
 pub one_many : (keys : List Key) (key : Key) (more : List Key) → most_nodes < length (meet keys key)
@@ -63,7 +59,7 @@ cases_start e t = record {
 -- The key behind the first may be met before all of them, since meeting it again changes nothing.
 pub met_begun
     : {all more : List (CaseEdge Key)} (edge : CaseEdge Key) → all ≡ edge ∷ more → (t u : List ℕ)
-    → keys_in u ≡ meet (keys_in t) edge.target → (r : Measured) (w : List ℕ) → CasesMet all (keys_in u) r w
+    → keys_in u ≡ meet (keys_in t) edge.target → (r : Option ℕ) (w : List ℕ) → CasesMet all (keys_in u) r w
     → CasesMet all (keys_in t) r w
 met_begun {all} {more} edge is t u met r w m = go r m
   where
@@ -74,13 +70,13 @@ met_begun {all} {more} edge is t u met r w m = go r m
         (ap (λ (l : List Key). meet l edge.target) met ∙ meet_again (keys_in t) edge.target)
         ∙ ap (λ (l : List (CaseEdge Key)). meet_all (keys_in t) (targets l)) (sym is)
 
-    go : (r : Measured) → CasesMet all (keys_in u) r w → CasesMet all (keys_in t) r w
-    go (Bytes n) l = (l.0 ∙ same, l.1)
-    go TooMany l = omega (arith, l, ap length same)
+    go : (r : Option ℕ) → CasesMet all (keys_in u) r w → CasesMet all (keys_in t) r w
+    go (Some n) l = (l.0 ∙ same, l.1)
+    go None l = omega (arith, l, ap length same)
 
 module _ {all : List (CaseEdge Key)} {keys : List Key} {t : List ℕ} {bytes : ℕ} where
   -- Where none is left, all keys are met.
-  pub cases_end : {rest : List (CaseEdge Key)} → rest ≡ [] → CasesLeft all rest keys t bytes → CasesMet all keys (Bytes bytes) t
+  pub cases_end : {rest : List (CaseEdge Key)} → rest ≡ [] → CasesLeft all rest keys t bytes → CasesMet all keys (Some bytes) t
   cases_end e state =
       let done : CasesLeft all [] keys t bytes = subst (λ (l : List (CaseEdge Key)). CasesLeft all l keys t bytes) e state in
       (done.left, omega (arith, done.lengths))
@@ -129,37 +125,35 @@ module _ {all before : List (CaseEdge Key)} {keys : List Key} {t : List ℕ} {by
       ∙ state.left
 
   pub part_met
-      : (r : Measured) {more : ℕ} (u : List ℕ) → r ≡ Bytes more → CasesMet part (keys_in t) r u
+      : (r : Option ℕ) {more : ℕ} (u : List ℕ) → r ≡ Some more → CasesMet part (keys_in t) r u
       → CasesLeft all rest keys u (bytes + more)
   part_met r {more} u e met =
-      let done : CasesMet part (keys_in t) (Bytes more) u = subst (λ (x : Measured). CasesMet part (keys_in t) x u) e met in
+      let done : CasesMet part (keys_in t) (Some more) u = subst (λ (x : Option ℕ). CasesMet part (keys_in t) x u) e met in
       record {
         left = ap (λ (l : List Key). meet_all l (targets rest)) done.0 ∙ parted;
         lengths = omega (arith, state.lengths, done.1, ap cases_length is, cases_length_lem part rest);
       }
 
   pub part_many
-      : (r : Measured) (u : List ℕ) → r ≡ TooMany → CasesMet part (keys_in t) r u → CasesMet all keys r u
+      : (r : Option ℕ) (u : List ℕ) → r ≡ None → CasesMet part (keys_in t) r u → CasesMet all keys None u
   part_many r u e met =
-      let many : CasesMet part (keys_in t) TooMany u = subst (λ (x : Measured). CasesMet part (keys_in t) x u) e met in
-      let all-many : CasesMet all keys TooMany u =
-      omega (arith, many, meet_longer (meet_all (keys_in t) (targets part)) (targets rest), ap length parted) in
-      subst (λ (x : Measured). CasesMet all keys x u) (sym e) all-many
+      let many : CasesMet part (keys_in t) None u = subst (λ (x : Option ℕ). CasesMet part (keys_in t) x u) e met in
+      omega (arith, many, meet_longer (meet_all (keys_in t) (targets part)) (targets rest), ap length parted)
 
 -- Two parts, one after the other, are all.
 module _ {all : List (CaseEdge Key)} (first second : List (CaseEdge Key)) (is : all ≡ first ++ second) (t : List ℕ)
-    (r : Measured) (u : List ℕ) (met : CasesMet first (keys_in t) r u) where
-  pub first_many : r ≡ TooMany → CasesMet all (keys_in t) r u
+    (r : Option ℕ) (u : List ℕ) (met : CasesMet first (keys_in t) r u) where
+  pub first_many : r ≡ None → CasesMet all (keys_in t) None u
   first_many e = part_many first second is (cases_start refl t) r u e met
 
-  module _ {bytes : ℕ} (e : r ≡ Bytes bytes) (q : Measured) (w : List ℕ) (last : CasesMet second (keys_in u) q w) where
+  module _ {bytes : ℕ} (e : r ≡ Some bytes) (q : Option ℕ) (w : List ℕ) (last : CasesMet second (keys_in u) q w) where
     behind : CasesLeft all second (keys_in t) u (0 + bytes)
     behind = part_met first second is (cases_start refl t) r u e met
 
-    pub then_many : q ≡ TooMany → CasesMet all (keys_in t) q w
+    pub then_many : q ≡ None → CasesMet all (keys_in t) None w
     then_many d = part_many second [] (sym (append-nil second)) behind q w d last
 
-    pub both_met : {more : ℕ} → q ≡ Bytes more → CasesMet all (keys_in t) (Bytes (bytes + more)) w
+    pub both_met : {more : ℕ} → q ≡ Some more → CasesMet all (keys_in t) (Some (bytes + more)) w
     both_met {more} d =
         let done = cases_end refl (part_met second [] (sym (append-nil second)) behind q w d last) in
         (done.0, omega (arith, done.1))
@@ -167,7 +161,7 @@ module _ {all : List (CaseEdge Key)} (first second : List (CaseEdge Key)) (is : 
 -- A pair's edges are taken as no, other, and its record is 9 bytes.
 pub pair_met
     : (s c : List ℕ) (asked : Asked) → place_tests_in s ≤ asked.test → {differ other : Key} → differ ≡ none_behind s asked
-    → other ≡ other_behind s asked → (keys : List Key) (r : Measured) (t : List ℕ)
+    → other ≡ other_behind s asked → (keys : List Key) (r : Option ℕ) (t : List ℕ)
     → Met keys (differ ∷ other ∷ []) 9 r t → EdgesMet (ask_in s c asked) keys r t
 pair_met s c asked h e d keys r t met =
     let pair : Node Key = pair_node (test_in s asked.test / 0x1_0000 % 0x1_0000) (test_in s asked.test % 0x1_0000)
@@ -181,36 +175,34 @@ module _ (place : ℕ) (cs : List (CaseEdge Key)) (keys : List Key) (neither unk
   node = switch place cs neither unknown
 
   -- Where too many keys are behind a switch's cases, they are too many,
-  pub switch_many : (r : Measured) (t : List ℕ) → r ≡ TooMany → CasesMet cs keys r t → EdgesMet node keys r t
+  pub switch_many : (r : Option ℕ) (t : List ℕ) → r ≡ None → CasesMet cs keys r t → EdgesMet node keys None t
   switch_many r t e met =
-      let many : CasesMet cs keys TooMany t = subst (λ (x : Measured). CasesMet cs keys x t) e met in
-      let all : EdgesMet node keys TooMany t =
+      let many : CasesMet cs keys None t = subst (λ (x : Option ℕ). CasesMet cs keys x t) e met in
       omega (
         arith,
         many,
         meet_longer (meet_all keys (targets cs)) (neither ∷ unknown ∷ []),
         ap length (meet_join keys (targets cs) (neither ∷ unknown ∷ [])),
-      ) in
-      subst (λ (x : Measured). EdgesMet node keys x t) (sym e) all
+      )
 
   -- and else the keys behind neither and unknown are met after them, and the record is 9 bytes and the cases.
   pub switch_met
-      : (r : Measured) {bytes : ℕ} (t : List ℕ) → r ≡ Bytes bytes → CasesMet cs keys r t → (q : Measured) (u : List ℕ)
+      : (r : Option ℕ) {bytes : ℕ} (t : List ℕ) → r ≡ Some bytes → CasesMet cs keys r t → (q : Option ℕ) (u : List ℕ)
       → {x y : Key} → x ≡ neither → y ≡ unknown → Met (keys_in t) (x ∷ y ∷ []) (bytes + 9) q u → EdgesMet node keys q u
   switch_met r {bytes} t e met q u d f last =
-      let first : CasesMet cs keys (Bytes bytes) t = subst (λ (x : Measured). CasesMet cs keys x t) e met in
+      let first : CasesMet cs keys (Some bytes) t = subst (λ (x : Option ℕ). CasesMet cs keys x t) e met in
       go q (subst (λ (l : List Key). Met (keys_in t) l (bytes + 9) q u) (λ i. d i ∷ f i ∷ []) last) first
     where
       go
-          : (q : Measured) → Met (keys_in t) (neither ∷ unknown ∷ []) (bytes + 9) q u → CasesMet cs keys (Bytes bytes) t
+          : (q : Option ℕ) → Met (keys_in t) (neither ∷ unknown ∷ []) (bytes + 9) q u → CasesMet cs keys (Some bytes) t
           → EdgesMet node keys q u
-      go (Bytes n) l f = (
+      go (Some n) l f = (
         l.0
             ∙ ap (λ (k : List Key). meet_all k (neither ∷ unknown ∷ [])) f.0
             ∙ sym (meet_join keys (targets cs) (neither ∷ unknown ∷ [])),
         omega (arith, l.1, f.1),
       )
-      go TooMany l f =
+      go None l f =
           omega (
             arith,
             l,

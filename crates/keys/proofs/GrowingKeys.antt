@@ -17,8 +17,7 @@ use Rattle.edges.specs.views.KeysBehind.{root_in}
 use Rattle.edges.specs.views.NodeIn.{node_in}
 use Rattle.met.specs.views.KeysMet.{key_number, meet_all, key_at, count_in, keys_in}
 use Rattle.met.proofs.Meeting.{keys_length, key_at_lem, meet_all_lem, meet_longer}
-use Rattle.keys.specs.declared.Measured.{Measured}
-use Rattle.keys.specs.declared.Measured.TheVariants.{Bytes, TooMany}
+use Rattle.std.specs.Prelude.{Option, Some, None}
 use Rattle.keys.specs.views.Expanded.{node_length, EdgesMet}
 use Rattle.keys.specs.views.Grown.{keys_from, Grown}
 use Rattle.keys.proofs.Targets.{length_anywhere}
@@ -87,14 +86,14 @@ module _ (s c : List ℕ) where
 
   module _ (t : List ℕ) {k bytes : ℕ} (state : Growing (keys_in t) k bytes) where
     -- Where all keys have their edges met, those are all,
-    pub grown_all : count_in t ≤ k → Grown s c (Bytes bytes) t
+    pub grown_all : count_in t ≤ k → Grown s c (Some bytes) t
     grown_all h =
         let end : length (keys_in t) ≤ k = omega (arith, keys_length t) in (
           sym state.left ∙ left_done same_key next_in most_nodes k (keys_in t) end,
           state.size ∙ ap records_length (take_all k (keys_in t) end) ∙ records_bytes (key_number (keys_in t)) (keys_in t),
         )
 
-    module _ (h : k < count_in t) (small : count_in t ≤ 1024) (r : Measured) (u : List ℕ)
+    module _ (h : k < count_in t) (small : count_in t ≤ 1024) (r : Option ℕ) (u : List ℕ)
         (met : EdgesMet (node_in s c (key_at t k)) (keys_in t) r u) where
       turned : Growing (meet_all (keys_in t) (next_in (key_at t k))) (k + 1) (bytes + node_length (node_in s c (key_at t k)))
       turned =
@@ -103,10 +102,10 @@ module _ (s c : List ℕ) where
           (growing_turn (key_at t 0) (keys_in t) k bytes state (omega (arith, keys_length t)) (omega arith))
 
       -- where the edges of one more are met one is left less to look at,
-      pub grown_turn : {more : ℕ} → r ≡ Bytes more → Growing (keys_in u) (k + 1) (bytes + more) × (count_in t ≤ count_in u)
+      pub grown_turn : {more : ℕ} → r ≡ Some more → Growing (keys_in u) (k + 1) (bytes + more) × (count_in t ≤ count_in u)
       grown_turn {more} e =
-          let m : EdgesMet (node_in s c (key_at t k)) (keys_in t) (Bytes more) u =
-          subst (λ (x : Measured). EdgesMet (node_in s c (key_at t k)) (keys_in t) x u) e met in
+          let m : EdgesMet (node_in s c (key_at t k)) (keys_in t) (Some more) u =
+          subst (λ (x : Option ℕ). EdgesMet (node_in s c (key_at t k)) (keys_in t) x u) e met in
           let size : bytes + node_length (node_in s c (key_at t k)) ≡ bytes + more = omega (arith, m.1) in (
             subst (λ (n : ℕ). Growing (keys_in u) (k + 1) n) size
                 (subst (λ (l : List Key). Growing l (k + 1) (bytes + node_length (node_in s c (key_at t k)))) (sym m.0) turned),
@@ -114,10 +113,10 @@ module _ (s c : List ℕ) where
           )
 
       -- and where too many are, there is no graph.
-      pub grown_many : r ≡ TooMany → Grown s c r u
+      pub grown_many : r ≡ None → Grown s c None u
       grown_many e =
-          let m : EdgesMet (node_in s c (key_at t k)) (keys_in t) TooMany u =
-          subst (λ (x : Measured). EdgesMet (node_in s c (key_at t k)) (keys_in t) x u) e met in
+          let m : EdgesMet (node_in s c (key_at t k)) (keys_in t) None u =
+          subst (λ (x : Option ℕ). EdgesMet (node_in s c (key_at t k)) (keys_in t) x u) e met in
           let none_left =
           left_many same_key next_in most_nodes same_key_lem key_same (k + 1) (meet_all (keys_in t) (next_in (key_at t k))) (omega arith) m in
-          subst (λ (x : Measured). Grown s c x u) (sym e) (sym turned.left ∙ none_left)
+          sym turned.left ∙ none_left

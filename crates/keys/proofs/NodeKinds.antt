@@ -20,7 +20,7 @@ use Rattle.edges.specs.views.NodeIn.{ask_in, node_with, node_in}
 use Rattle.keys.specs.declared.Kind.{Kind}
 use Rattle.keys.specs.declared.Kind.TheVariants.{End, Ask}
 use Rattle.met.specs.views.KeysMet.{keys_in}
-use Rattle.keys.specs.declared.Measured.TheVariants.{Bytes}
+use Rattle.std.specs.Prelude.{Some}
 use Rattle.keys.specs.views.Expanded.{kind_node, Below, EdgesMet}
 
 module _ (s c : List ℕ) (key : Key) where
@@ -80,8 +80,8 @@ module _ (s c : List ℕ) {key at : Key} (kind : Kind) (same : key ≡ at)
   -- which has no edges,
   pub leaf_met
       : {l : Leaf} (t : List ℕ) {n : ℕ} → kind ≡ End l → n ≡ length (leaf_bytes (leaf_of l))
-      → EdgesMet (node_in s c at) (keys_in t) (Bytes n) t
-  leaf_met t {n} e size = subst (λ (node : Node Key). EdgesMet node (keys_in t) (Bytes n) t) (sym (node_leaf e)) (refl, size)
+      → EdgesMet (node_in s c at) (keys_in t) (Some n) t
+  leaf_met t {n} e size = subst (λ (node : Node Key). EdgesMet node (keys_in t) (Some n) t) (sym (node_leaf e)) (refl, size)
 
   -- and of one that asks.
   pub node_asks : {t : ℕ} {asked : Asked} → kind ≡ Ask t → asked ≡ asked_in s key t → node_in s c at ≡ ask_in s c asked

@@ -19,8 +19,7 @@ use Rattle.edges.specs.views.KeysBehind.{run_behind}
 use Rattle.edges.specs.views.NodeIn.{run_edge}
 use Rattle.met.specs.views.KeysMet.{meet, keys_in}
 use Rattle.met.proofs.Meeting.{meet_again}
-use Rattle.keys.specs.declared.Measured.{Measured}
-use Rattle.keys.specs.declared.Measured.TheVariants.{Bytes, TooMany}
+use Rattle.std.specs.Prelude.{Option, Some, None}
 use Rattle.keys.specs.views.Expanded.{CasesMet}
 use Rattle.keys.proofs.EdgesInTurn.{CasesLeft, cases_start, cases_next, cases_many, cases_end, met_begun}
 
@@ -50,7 +49,7 @@ module _ (s : List ℕ) (asked : Asked) (runs : List ℕ) (count first : ℕ) wh
     -- The first key is one too many,
     pub row_many
         : (t u : List ℕ) {key : Key} → key ≡ behind (run_at runs first).set → most_nodes < length (meet (keys_in t) key)
-        → CasesMet row_edges (keys_in t) TooMany u
+        → CasesMet row_edges (keys_in t) None u
     row_many t u e many =
         cases_many first_edge row_head (cases_start refl t)
         (subst (λ (k : Key). most_nodes < length (meet (keys_in t) k)) e many)
@@ -62,7 +61,7 @@ module _ (s : List ℕ) (asked : Asked) (runs : List ℕ) (count first : ℕ) wh
     -- which is as without it.
     pub row_met
         : (t u : List ℕ) {key : Key} → key ≡ behind (run_at runs first).set → keys_in u ≡ meet (keys_in t) key
-        → (r : Measured) (w : List ℕ) → CasesMet row_edges (keys_in u) r w → CasesMet row_edges (keys_in t) r w
+        → (r : Option ℕ) (w : List ℕ) → CasesMet row_edges (keys_in u) r w → CasesMet row_edges (keys_in t) r w
     row_met t u e met r w m = met_begun first_edge row_head t u (met ∙ ap (meet (keys_in t)) e) r w m
 
   module _ {keys : List Key} {t : List ℕ} {bytes : ℕ} (set k : ℕ) (state : CasesLeft row_edges (row_left set k) keys t bytes) where
@@ -84,12 +83,12 @@ module _ (s : List ℕ) (asked : Asked) (runs : List ℕ) (count first : ℕ) wh
 
     -- or is one too many,
     pub next_many : (u : List ℕ) → k < count → {key : Key} → key ≡ behind more → most_nodes < length (meet (keys_in t) key)
-        → CasesMet row_edges keys TooMany u
+        → CasesMet row_edges keys None u
     next_many u h e many =
         cases_many next_edge (next_head h) state (subst (λ (k : Key). most_nodes < length (meet (keys_in t) k)) e many)
 
     -- and behind the last run the row is over.
-    pub row_end : count ≤ k → CasesMet row_edges keys (Bytes bytes) t
+    pub row_end : count ≤ k → CasesMet row_edges keys (Some bytes) t
     row_end h = cases_end (ap (map (run_edge s asked)) (row_none runs count (run_at runs first).low set k h)) state
 
 -- The pairs of all first runs from run k on are the row of run k and those of the first runs behind it.

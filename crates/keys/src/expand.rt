@@ -11,8 +11,8 @@ ghost use Rattle.edges.specs.views.NodeIn.{run_edge, ask_in, node_in};
 ghost use Rattle.met.specs.views.KeysMet.{key_at, count_in, keys_in, Chained};
 ghost use Rattle.keys.specs.views.Expanded.{AtMost, most_length, Met, CasesMet, EdgesMet};
 
+use crate::Kind;
 use crate::node::kind_of;
-use crate::{Kind, Measured};
 use cuts::{Framed, Row, Runs, cut_switch, gauge_end, part};
 use edges::keys::{ask, by_none, by_other, by_run, by_unknown};
 use edges::{Asked, Key};
@@ -46,43 +46,41 @@ fn case_length(code: u64) -> usize
 }
 
 // Meets two keys, one after the other, where so many bytes are measured. Not the second first, nor the first alone.
-fn meet_two(keys: &mut Keys, first: Key, second: Key, bytes: usize) -> Measured
+fn meet_two(keys: &mut Keys, first: Key, second: Key, bytes: usize) -> Option<usize>
     requires { Chained keys.old }
     ensures met { Met (keys_in keys.old) (key_in first ∷ (key_in second ∷ [])) bytes result keys.new }
     ensures chained { Chained keys.new × AtMost bytes result }
 {
     if 1024 <= meet(keys, first) {
-        return Measured::TooMany;
+        return None;
     }
     if 1024 <= meet(keys, second) {
-        return Measured::TooMany;
+        return None;
     }
-    Measured::Bytes(bytes)
+    Some(bytes)
 }
 
 // Meets the keys behind the runs that are cases by themselves, in their order, and counts the bytes of their records. Not a case
 // that the runs have not, nor the case that ends first before one that begins first.
-fn meet_names(keys: &mut Keys, s: &Tables, asked: Asked, runs: &Runs, count: usize) -> Measured
+fn meet_names(keys: &mut Keys, s: &Tables, asked: Asked, runs: &Runs, count: usize) -> Option<usize>
     requires { Chained keys.old × (count ≤ 193) }
     ensures cases_met { CasesMet (map (run_edge s.now asked) (runs_in runs.now count))
         (keys_in keys.old) result keys.new }
     ensures chained { Chained keys.new × AtMost (8 * count) result }
 {
     let mut bytes: usize = 0;
-    let mut k: usize = 0;
-    while k < count {
+    for k in 0..count {
         if 1024 <= meet(keys, by_run(s, asked, runs[3 * k + 2])) {
-            return Measured::TooMany;
+            return None;
         }
         bytes += case_length(runs[3 * k]);
-        k += 1;
     }
-    Measured::Bytes(bytes)
+    Some(bytes)
 }
 
 // Meets the keys behind a row of pairs, in their order, and counts the bytes of their records. Where the next run adds no rule, its
 // key was just met. Not a pair without the rules of its first run, nor the row without the pair of the first run with itself.
-fn meet_row(keys: &mut Keys, s: &Tables, asked: Asked, runs: &Runs, row: Row) -> Measured
+fn meet_row(keys: &mut Keys, s: &Tables, asked: Asked, runs: &Runs, row: Row) -> Option<usize>
     requires { Chained keys.old × (row.first < row.count) × (row.count ≤ 193) }
     ensures cases_met { CasesMet (map (run_edge s.now asked) (pairs_row runs.now row.count row.first))
         (keys_in keys.old) result keys.new }
@@ -93,27 +91,25 @@ fn meet_row(keys: &mut Keys, s: &Tables, asked: Asked, runs: &Runs, row: Row) ->
     let size = case_length(runs[3 * first]);
     let mut set = runs[3 * first + 2];
     if 1024 <= meet(keys, by_run(s, asked, set)) {
-        return Measured::TooMany;
+        return None;
     }
     let mut bytes: usize = 0;
-    let mut k = first;
-    while k < count {
+    for k in first..count {
         let more = set | runs[3 * k + 2];
         if more != set {
             if 1024 <= meet(keys, by_run(s, asked, more)) {
-                return Measured::TooMany;
+                return None;
             }
         }
         set = more;
         bytes += size;
-        k += 1;
     }
-    Measured::Bytes(bytes)
+    Some(bytes)
 }
 
 // Meets the keys behind the pairs of runs on one gauge, row after row. Not a row before that of an earlier first run, nor the first
 // row alone.
-fn meet_pairs(keys: &mut Keys, s: &Tables, asked: Asked, runs: &Runs, all: Row) -> Measured
+fn meet_pairs(keys: &mut Keys, s: &Tables, asked: Asked, runs: &Runs, all: Row) -> Option<usize>
     requires { Chained keys.old × (all.first ≤ all.count) × (all.count ≤ 193) }
     ensures cases_met { CasesMet (map (run_edge s.now asked)
         (union_pairs (runs_from runs.now all.count all.first)))
@@ -122,25 +118,22 @@ fn meet_pairs(keys: &mut Keys, s: &Tables, asked: Asked, runs: &Runs, all: Row) 
 {
     let count = all.count;
     let mut bytes: usize = 0;
-    let mut first = all.first;
-    while first < count {
-        let row = Row {
-            first: first,
-            count: count,
-        };
-        let met = meet_row(keys, s, asked, runs, row);
-        let Measured::Bytes(more) = met else {
-            return met;
-        };
-        bytes += more;
-        first += 1;
+    for first in all.first..count {
+        let row = Row { first, count };
+        bytes += meet_row(keys, s, asked, runs, row)?;
     }
-    Measured::Bytes(bytes)
+    Some(bytes)
 }
 
 // Meets the keys behind the pairs of the runs that are not cases by themselves, gauge after gauge. Not a pair of runs on two
 // gauges, nor the first gauge alone.
-fn meet_gauges(keys: &mut Keys, s: &Tables, asked: Asked, runs: &Runs, framed: Framed) -> Measured
+fn meet_gauges(
+    keys: &mut Keys,
+    s: &Tables,
+    asked: Asked,
+    runs: &Runs,
+    framed: Framed,
+) -> Option<usize>
     requires { Chained keys.old × (framed.names ≤ framed.count) × (framed.count ≤ 193) × (length runs.now ≡ 579) }
     ensures cases_met { CasesMet (map (run_edge s.now asked)
         (gauge_pairs (runs_from runs.now framed.count framed.names)))
@@ -151,7 +144,7 @@ fn meet_gauges(keys: &mut Keys, s: &Tables, asked: Asked, runs: &Runs, framed: F
     let mut first = framed.names;
     while first < framed.count {
         let end = gauge_end(runs, first, framed.count);
-        let met = meet_pairs(
+        bytes += meet_pairs(
             keys,
             s,
             asked,
@@ -160,55 +153,54 @@ fn meet_gauges(keys: &mut Keys, s: &Tables, asked: Asked, runs: &Runs, framed: F
                 first: first,
                 count: end,
             },
-        );
-        let Measured::Bytes(more) = met else {
-            return met;
-        };
-        bytes += more;
+        )?;
         first = end;
     }
-    Measured::Bytes(bytes)
+    Some(bytes)
 }
 
 // Meets the keys behind a switch's cases, in their order, and counts the bytes of their records. Not a pair before a run that is a
 // case by itself, nor the pairs alone.
-fn meet_runs(keys: &mut Keys, s: &Tables, asked: Asked, runs: &Runs, framed: Framed) -> Measured
+fn meet_runs(
+    keys: &mut Keys,
+    s: &Tables,
+    asked: Asked,
+    runs: &Runs,
+    framed: Framed,
+) -> Option<usize>
     requires { Chained keys.old × (framed.names ≤ framed.count) × (framed.count ≤ 193) × (length runs.now ≡ 579) }
     ensures cases_met { CasesMet (map (run_edge s.now asked)
         (case_runs framed.names (runs_in runs.now framed.count)))
         (keys_in keys.old) result keys.new }
     ensures chained { Chained keys.new × AtMost (8 * 193 * 193) result }
 {
-    let names = meet_names(keys, s, asked, runs, framed.names);
-    let Measured::Bytes(bytes) = names else {
-        return names;
-    };
-    let pairs = meet_gauges(keys, s, asked, runs, framed);
-    let Measured::Bytes(more) = pairs else {
-        return pairs;
-    };
-    Measured::Bytes(bytes + more)
+    let bytes = meet_names(keys, s, asked, runs, framed.names)?;
+    let more = meet_gauges(keys, s, asked, runs, framed)?;
+    Some(bytes + more)
 }
 
 // A switch. Not neither before a case, nor unknown before neither.
-fn expand_switch(keys: &mut Keys, s: &Tables, c: &[u64], asked: Asked, runs: &mut Runs) -> Measured
+fn expand_switch(
+    keys: &mut Keys,
+    s: &Tables,
+    c: &[u64],
+    asked: Asked,
+    runs: &mut Runs,
+) -> Option<usize>
     requires { Chained keys.old × Parted (rules_in s.now) (place_tests_in s.now) c.now
         × (asked.test < place_tests_in s.now) × (length runs.old ≡ 579) }
     ensures edges_met { EdgesMet (ask_in s.now c.now asked) (keys_in keys.old) result keys.new }
     ensures chained { Chained keys.new × AtMost most_length result × (length runs.new ≡ 579) }
 {
     let framed = cut_switch(c, part(tables::rules(s), asked.test), asked.live, runs);
-    let met = meet_runs(keys, s, asked, runs, framed);
-    let Measured::Bytes(bytes) = met else {
-        return met;
-    };
+    let bytes = meet_runs(keys, s, asked, runs, framed)?;
     let neither = by_none(s, asked);
     let unknown = by_unknown(s, asked);
     meet_two(keys, neither, unknown, bytes + graph::SWITCH_BYTES)
 }
 
 // A pair. Not other before no, nor the bytes of a switch.
-fn expand_pair(keys: &mut Keys, s: &Tables, asked: Asked) -> Measured
+fn expand_pair(keys: &mut Keys, s: &Tables, asked: Asked) -> Option<usize>
     requires { Chained keys.old × (place_tests_in s.now ≤ asked.test) }
     ensures by_index { (c : List ℕ)
         → EdgesMet (ask_in s.now c asked) (keys_in keys.old) result keys.new }
@@ -221,7 +213,7 @@ fn expand_pair(keys: &mut Keys, s: &Tables, asked: Asked) -> Measured
 
 // Meets the keys behind the edges of node k, in their order, and measures its record with its cases. Not a key before one behind an
 // earlier edge, nor the length of a switch's record without its cases.
-pub fn expand(keys: &mut Keys, k: usize, s: &Tables, c: &[u64], runs: &mut Runs) -> Measured
+pub fn expand(keys: &mut Keys, k: usize, s: &Tables, c: &[u64], runs: &mut Runs) -> Option<usize>
     requires { Chained keys.old × (k < count_in keys.old) × Parted (rules_in s.now) (place_tests_in s.now) c.now
         × (length runs.old ≡ 579) }
     ensures edges_met { EdgesMet (node_in s.now c.now (key_at keys.old k)) (keys_in keys.old)
@@ -231,7 +223,7 @@ pub fn expand(keys: &mut Keys, k: usize, s: &Tables, c: &[u64], runs: &mut Runs)
     let key = key_at(keys, k);
     let kind = kind_of(s, key);
     match kind {
-        Kind::End(leaf) => Measured::Bytes(leaf_length(leaf)),
+        Kind::End(leaf) => Some(leaf_length(leaf)),
         Kind::Ask(t) => {
             let asked = ask(s, key, t);
             if tables::place_tests(s) <= t {

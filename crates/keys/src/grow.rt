@@ -6,7 +6,6 @@ ghost use Rattle.met.specs.views.KeysMet.{Chained};
 ghost use Rattle.keys.specs.views.Expanded.{AtMost, most_length};
 ghost use Rattle.keys.specs.views.Grown.{Grown};
 
-use crate::Measured;
 use crate::expand::expand;
 use cuts::Runs;
 use edges::keys::root;
@@ -15,7 +14,7 @@ use tables::Tables;
 
 // Meets all keys of a graph, each at its node's number, and adds up the lengths of their records. Not the keys behind the root's
 // edges alone, nor a key before one behind an earlier node's edges.
-pub fn grow(keys: &mut Keys, s: &Tables, c: &[u64], runs: &mut Runs) -> Measured
+pub fn grow(keys: &mut Keys, s: &Tables, c: &[u64], runs: &mut Runs) -> Option<usize>
     requires { (keys.old ≡ replicate 4097 0) × Parted (rules_in s.now) (place_tests_in s.now) c.now
         × (length runs.old ≡ 579) }
     ensures grown { Grown s.now c.now result keys.new }
@@ -26,12 +25,8 @@ pub fn grow(keys: &mut Keys, s: &Tables, c: &[u64], runs: &mut Runs) -> Measured
     let mut bytes: usize = 0;
     let mut k: usize = 0;
     while k < count(keys) {
-        let met = expand(keys, k, s, c, runs);
-        let Measured::Bytes(more) = met else {
-            return met;
-        };
-        bytes += more;
+        bytes += expand(keys, k, s, c, runs)?;
         k += 1;
     }
-    Measured::Bytes(bytes)
+    Some(bytes)
 }

@@ -14,10 +14,3 @@ pub enum Kind {
     End(Leaf),
     Ask(usize),
 }
-
-// The bytes of records, or that there are more than 1,024 keys.
-#[derive(Clone, Copy)]
-pub enum Measured {
-    Bytes(usize),
-    TooMany,
-}

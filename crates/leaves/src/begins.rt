@@ -5,15 +5,8 @@ ghost use Rattle.graph.specs.views.Rewriting.{IsTook};
 ghost use Rattle.rule_masks.specs.views.Kept.{TestsStay};
 ghost use Rattle.leaves.specs.views.Seeking.{Begins, begin_of, noted_in, passed_by};
 
-use sheet::{Took, read_rule};
+use sheet::read_rule;
 use tables::Tables;
-
-// The same number at another width.
-fn wide(x: u64) -> usize
-    ensures { result ≡ x }
-{
-    x as usize
-}
 
 // Where a rule, from 1, begins; 0 where that is not noted. Not where the rule after it begins.
 pub fn begin_of(kept: &Tables, rule: u8) -> usize
@@ -21,7 +14,7 @@ pub fn begin_of(kept: &Tables, rule: u8) -> usize
     ensures { result ≡ begin_of kept.now rule }
 {
     if rule < 65 {
-        return wide(kept[67 + rule as usize]);
+        return kept[67 + rule as usize] as usize;
     }
     0
 }
@@ -45,15 +38,12 @@ pub fn rule_begins(s: &[u8], arity: usize, count: u8, notes: &mut [u64; 680], ke
         × TestsStay kept.old kept.new × (length notes.new ≡ 680) }
 {
     let mut at: usize = 0;
-    let mut i: u8 = 0;
-    while i < count {
+    for i in 0..count {
         note(kept, i as usize, at);
-        let read = read_rule(&s[at..], arity, notes);
-        let Took::Used(bytes, _) = read else {
+        let Ok(read) = read_rule(&s[at..], arity, notes) else {
             return;
         };
-        at += bytes;
-        i += 1;
+        at += read.bytes;
     }
 }
 

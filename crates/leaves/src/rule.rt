@@ -21,6 +21,7 @@ use crate::Executed;
 use crate::begins::passed;
 use piece::Cells;
 use plain::Answer;
+use records::Refusal;
 use rule_masks::rule::rule_masks;
 use sheet::Took;
 use tables::Tables;
@@ -35,7 +36,7 @@ pub fn notes_at(
     rule: u8,
     begin: usize,
     notes: &mut [u64; 680],
-) -> Took
+) -> Result<Took, Refusal>
     requires rule_read { RuleRead s.now arity count rule × (length notes.old ≡ 680) }
     requires begin_at { BeginAt s.now arity count rule begin }
     ensures result_after { taken_notes notes.new result
@@ -44,19 +45,17 @@ pub fn notes_at(
         × All Placed (notes_in notes.new (notes_taken result)) }
 {
     let mut at = begin;
-    let mut i = passed(begin, rule);
-    while i < count {
-        let read = sheet::read_rule(&s[at..], arity, notes);
-        let Took::Used(bytes, _) = read else {
-            return read;
-        };
-        i += 1;
-        if i == rule {
-            return read;
+    for i in passed(begin, rule)..count {
+        let read = sheet::read_rule(&s[at..], arity, notes)?;
+        if i + 1 == rule {
+            return Ok(read);
         }
-        at += bytes;
+        at += read.bytes;
     }
-    Took::Used(at, 0)
+    Ok(Took {
+        bytes: at,
+        notes: 0,
+    })
 }
 
 // The answer at an execute of the rule with these notes: all its tests are made. Not commit where a test is not known, nor a wait

@@ -8,10 +8,10 @@ ghost use Rattle.sheet.specs.views.NotesBehind.{leaf_held, pattern_held, row_hel
 ghost use Rattle.marks.specs.views.Marks.{marked, marks_in};
 
 use crate::set::mark;
-use patterns::record::head_refusal;
-use patterns::{PatternHead, PatternRecord};
+use patterns::PatternRecord;
+use records::Refusal;
 use sheet::Took;
-use sheet::rule::{after, noted};
+use sheet::rule::noted;
 
 // A record that is no compound: question 7, then 8.
 fn leaf(
@@ -20,54 +20,47 @@ fn leaf(
     n: usize,
     notes: &mut [u64; 680],
     words: &mut [u64; 11],
-) -> Took
+) -> Result<Took, Refusal>
     requires { (n ≤ place) × (place < 680) × (length notes.old ≡ 680) × (length words.old ≡ 11) }
     ensures result_after { took_as (marks_in words.new notes.new) result
         ≡ leaf_held marked place (marks_in words.old notes.old n) what }
     ensures took_within { TookWithin (record_bytes what) (n + 1) notes.new result × (length words.new ≡ 11) }
 {
     match what {
-        PatternRecord::Anything => Took::Used(1, n),
-        PatternRecord::Symbol(_id) => {
+        PatternRecord::Anything => Ok(Took { bytes: 1, notes: n }),
+        PatternRecord::Symbol(_) => {
             mark(words, place);
-            Took::Used(3, n)
+            Ok(Took { bytes: 3, notes: n })
         }
-        PatternRecord::Range(low, high) => {
+        PatternRecord::Range(low, high) | PatternRecord::Series(low, high) => {
             if high < low {
-                return Took::Refused(7);
+                return Err(Refusal::LowAboveHigh);
             }
             mark(words, place);
-            Took::Used(5, n)
+            Ok(Took { bytes: 5, notes: n })
         }
-        PatternRecord::Compound(_, _) => Took::Refused(5),
+        PatternRecord::Compound(_, _) => Err(Refusal::PatternTooDeep),
         PatternRecord::Variable(v) => {
             if 15 < v {
-                return Took::Refused(8);
+                return Err(Refusal::NoSuchVariable);
             }
             noted(2, place, what, n, notes)
         }
         PatternRecord::Ranged(v, low, high) => {
             if high < low {
-                return Took::Refused(7);
+                return Err(Refusal::LowAboveHigh);
             }
             if 15 < v {
-                return Took::Refused(8);
+                return Err(Refusal::NoSuchVariable);
             }
             noted(6, place, what, n, notes)
         }
-        PatternRecord::Series(low, high) => {
-            if high < low {
-                return Took::Refused(7);
-            }
-            mark(words, place);
-            Took::Used(5, n)
-        }
         PatternRecord::Gauged(_, low, high) => {
             if high < low {
-                return Took::Refused(7);
+                return Err(Refusal::LowAboveHigh);
             }
             mark(words, place);
-            Took::Used(6, n)
+            Ok(Took { bytes: 6, notes: n })
         }
     }
 }
@@ -81,7 +74,7 @@ fn pattern(
     n: usize,
     notes: &mut [u64; 680],
     words: &mut [u64; 11],
-) -> Took
+) -> Result<Took, Refusal>
     requires { (below < 4) × (place + stride (suc below) ≤ 680) × (n ≤ place) × (length notes.old ≡ 680)
         × (length words.old ≡ 11) }
     ensures result_after { took_as (marks_in words.new notes.new) result
@@ -89,18 +82,15 @@ fn pattern(
     ensures took_within { TookWithin (length s.now) (place + stride (suc below)) notes.new result
         × (length words.new ≡ 11) }
 {
-    let head = patterns::pattern_head(s);
-    let PatternHead::Whole(what) = head else {
-        return Took::Refused(head_refusal(head));
-    };
+    let what = patterns::pattern_head(s)?;
     let PatternRecord::Compound(_, arity) = what else {
         return leaf(what, place, n, notes, words);
     };
     if below == 0 {
-        return Took::Refused(5);
+        return Err(Refusal::PatternTooDeep);
     }
     if arity < 1 || 4 < arity {
-        return Took::Refused(6);
+        return Err(Refusal::PatternArity);
     }
     mark(words, place);
     let arguments = patterns(
@@ -111,8 +101,11 @@ fn pattern(
         n,
         notes,
         words,
-    );
-    after(4, arguments)
+    )?;
+    Ok(Took {
+        bytes: 4 + arguments.bytes,
+        notes: arguments.notes,
+    })
 }
 
 // The count patterns that the input begins with, the first at a place, each with so many levels below it.
@@ -125,7 +118,7 @@ fn patterns(
     n: usize,
     notes: &mut [u64; 680],
     words: &mut [u64; 11],
-) -> Took
+) -> Result<Took, Refusal>
     requires { (below < 4) × (place + count * stride (suc below) ≤ 680) × (n ≤ place) × (length notes.old ≡ 680)
         × (length words.old ≡ 11) }
     ensures result_after { took_as (marks_in words.new notes.new) result
@@ -137,23 +130,26 @@ fn patterns(
     let mut at: usize = 0;
     let mut here = place;
     let mut made = n;
-    let mut i: usize = 0;
-    while i < count {
-        let read = pattern(&s[at..], below, here, made, notes, words);
-        let Took::Used(bytes, more) = read else {
-            return read;
-        };
-        at += bytes;
+    for _ in 0..count {
+        let read = pattern(&s[at..], below, here, made, notes, words)?;
+        at += read.bytes;
         here += step;
-        made = more;
-        i += 1;
+        made = read.notes;
     }
-    Took::Used(at, made)
+    Ok(Took {
+        bytes: at,
+        notes: made,
+    })
 }
 
 // The patterns of the rule that the input begins with, of so many arguments. Not a variable's place marked as that of a symbol,
 // nor the notes of the rule before.
-pub fn read_marks(s: &[u8], arity: usize, notes: &mut [u64; 680], words: &mut [u64; 11]) -> Took
+pub fn read_marks(
+    s: &[u8],
+    arity: usize,
+    notes: &mut [u64; 680],
+    words: &mut [u64; 11],
+) -> Result<Took, Refusal>
     requires { (arity ≤ 8) × (length notes.old ≡ 680) × (length words.old ≡ 11) }
     ensures result_after { took_as (marks_in words.new notes.new) result
         ≡ row_held marked 3 arity 0 (marks_in words.old notes.old 0) s.now }

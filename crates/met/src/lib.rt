@@ -8,23 +8,15 @@ ghost use Rattle.edges.specs.views.VertexKey.{key_with, key_in};
 ghost use Rattle.met.specs.views.KeysMet.{key_number, meet, hash_of, key_at, link_at, head_at, count_in, keys_in, Chained};
 
 use edges::Key;
-use std::num::wrapping_add_u64;
 
 // Room for 1,024 keys with their links, a head for each hash, and the count.
 pub type Keys = [u64; 4097];
-
-// The same number at another width.
-fn wide(x: u64) -> usize
-    ensures { result ≡ x }
-{
-    x as usize
-}
 
 // How many keys there are. Not the room for keys, nor the number of the last.
 pub fn count(t: &Keys) -> usize
     ensures { result ≡ count_in t.now }
 {
-    wide(t[4096])
+    t[4096] as usize
 }
 
 // Key i. Not its tests as its rules, nor the key after it.
@@ -42,10 +34,7 @@ pub fn key_at(t: &Keys, i: usize) -> Key
 fn hash(live: u64, pending: u64) -> usize
     ensures { (result ≡ hash_of (key_with live pending)) × (result < 1024) }
 {
-    let twice = wrapping_add_u64(live, live);
-    let four = wrapping_add_u64(twice, twice);
-    let five = wrapping_add_u64(four, live);
-    (wrapping_add_u64(five, pending) % 1021) as usize
+    (live.wrapping_mul(5).wrapping_add(pending) % 1021) as usize
 }
 
 // The number after that of the last key on a chain. Not that key's own number, nor that of the first.
@@ -53,7 +42,7 @@ fn head(t: &Keys, h: usize) -> usize
     requires { h < 1024 }
     ensures { result ≡ head_at t.now h }
 {
-    wide(t[3072 + h])
+    t[3072 + h] as usize
 }
 
 // The same of the key before key i on its chain. Not of the key after it, nor of the one before it in the array.
@@ -61,7 +50,7 @@ fn link(t: &Keys, i: usize) -> usize
     requires { i < 1024 }
     ensures { result ≡ link_at t.now i }
 {
-    wide(t[2048 + i])
+    t[2048 + i] as usize
 }
 
 // Is key i this one? Not where only the live rules are the same, nor where only the pending tests are.
@@ -69,10 +58,7 @@ fn is_at(t: &Keys, i: usize, live: u64, pending: u64) -> bool
     requires { i < 1024 }
     ensures { result ≡ same_key (key_with live pending) (key_at t.now i) }
 {
-    if live == t[i] {
-        return pending == t[1024 + i];
-    }
-    false
+    live == t[i] && pending == t[1024 + i]
 }
 
 // The number of a key, the count where it is not among them. Not the head of its chain, whatever key that is, nor the number of a

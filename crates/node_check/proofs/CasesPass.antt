@@ -8,7 +8,10 @@ use native.Mathlib.Nat.{add_assoc}
 use lib.Dec.{T, leb, ltb, eqb, leb→le}
 use lib.ListN.{length, get_or, drop}
 use lib.Seq.{drop-drop}
+use Rattle.std.specs.Prelude.{Result, Ok, Err}
 use Rattle.records.specs.Fields.{IsByte, wide_at}
+use Rattle.records.specs.Refusals.{number}
+use Rattle.records.specs.declared.refusal.Refusal.{Refusal}
 use Rattle.records.specs.Reading.{Reading, took, refused, map_reading, after}
 use Rattle.records.proofs.Rows.{row_none, row_refused, row_next}
 use Rattle.basics.specs.Lists.{All}
@@ -18,8 +21,6 @@ use Rattle.decision.specs.Node.{CaseEdge}
 use Rattle.decision.specs.GraphBytes.{cases_bytes}
 use Rattle.graph.specs.declared.CaseRecord.{CaseRecord}
 use Rattle.graph.specs.declared.CaseRecord.TheVariants.{Symbols, Compound, Numbers}
-use Rattle.graph.specs.declared.CaseHead.{CaseHead}
-use Rattle.graph.specs.declared.CaseHead.TheVariants.{Whole, Refused}
 use Rattle.graph.specs.views.NodeRecord.{whole_case, case_head}
 use Rattle.graph.specs.ReadGraph.{read_cases, edge, all_inside, read_case}
 use Rattle.decision.specs.views.CaseCodes.{case_low, case_high}
@@ -31,9 +32,9 @@ use Rattle.node_check.proofs.CodeOrder.{ascend_after, ascend_codes, and_assoc}
 use Rattle.graph.proofs.ByKinds.{case_read_by}
 
 -- What the head of a case says of its bytes: they are there, or question 22 got a no.
-abbrev pub HeadFits : List ℕ → CaseHead → Type 0
-HeadFits s (Whole c) = (range_of c).bytes ≤ length s
-HeadFits s (Refused q) = 22 ≡ q
+abbrev pub HeadFits : List ℕ → Result CaseRecord Refusal → Type 0
+HeadFits s (Ok c) = (range_of c).bytes ≤ length s
+HeadFits s (Err r) = 22 ≡ number r
 
 pub head_fits : (s : List ℕ) → HeadFits s (case_head s)
 head_fits s =
@@ -50,12 +51,12 @@ head_fits s =
     whole false c f = refl
 
 -- The bytes of a whole case are there.
-pub case_fits : (s : List ℕ) {c : CaseRecord} → case_head s ≡ Whole c → (range_of c).bytes ≤ length s
+pub case_fits : (s : List ℕ) {c : CaseRecord} → case_head s ≡ Ok c → (range_of c).bytes ≤ length s
 case_fits s e = subst (HeadFits s) e (head_fits s)
 
 -- A case that is not whole is refused by question 22.
-pub case_refused : (s : List ℕ) {q : ℕ} → case_head s ≡ Refused q → read_case s ≡ refused 22
-case_refused s {q} e = case_read_by s e ∙ ap refused (sym (subst (HeadFits s) e (head_fits s)))
+pub case_refused : (s : List ℕ) {r : Refusal} → case_head s ≡ Err r → read_case s ≡ refused 22
+case_refused s e = case_read_by s e ∙ ap refused (sym (subst (HeadFits s) e (head_fits s)))
 
 module _ (nodes : ℕ) where
   -- What all cases give where at bytes were read before, the last case had this end, and this was found of them.
@@ -119,7 +120,7 @@ module _ (nodes : ℕ) where
 
     -- A whole case is passed.
     pub pass_next
-        : (c : CaseRecord) → case_head (drop at s) ≡ Whole c
+        : (c : CaseRecord) → case_head (drop at s) ≡ Ok c
         → Going
         (resume (at + (range_of c).bytes) (range_of c).end (inside && ltb (range_of c).node nodes)
         (ascend && comes_after end (range_of c).first (range_of c).last)
@@ -130,11 +131,10 @@ module _ (nodes : ℕ) where
         read_next 8 (edge (numbers_case (on_gauge g l) (on_gauge g h)) n) (case_read_by (drop at s) e)
 
     -- At a case that is not whole the pass is refused.
-    pub pass_refused : {q r : ℕ} → case_head (drop at s) ≡ Refused q → r ≡ q → Going (refused r)
-    pass_refused e d =
+    pub pass_refused : {r : Refusal} → case_head (drop at s) ≡ Err r → Going (refused (number r))
+    pass_refused e =
         ap (resume at end inside ascend)
         (row_refused [] ◌∷◌ read_case (count - i) (drop at s) some_left (case_read_by (drop at s) e))
-        ∙ ap refused (sym d)
 
   -- After the last case all was found.
   pub pass_ends

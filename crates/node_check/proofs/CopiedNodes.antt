@@ -6,6 +6,8 @@ use mathlib.Core.List.{List, [], ◌++◌}
 use native.Mathlib.Omega.{arith}
 use lib.Dec.{leb}
 use lib.ListN.{length, drop, length-append}
+use Rattle.std.specs.Prelude.{Ok, Err}
+use Rattle.records.specs.declared.refusal.Refusal.{Refusal}
 use Rattle.records.specs.Fields.{IsByte}
 use Rattle.records.specs.Reading.{Reading, took, refused, ask, after}
 use Rattle.records.specs.Writing.{splice}
@@ -17,7 +19,6 @@ use Rattle.decision.specs.GraphBytes.{cases_bytes, node_bytes}
 use Rattle.graph.specs.declared.Leaf.{Leaf}
 use Rattle.graph.specs.declared.Leaf.TheVariants.{Fail, Suspend, Execute}
 use Rattle.graph.specs.declared.NodeRecord.TheVariants.{End, Switch, Pair}
-use Rattle.graph.specs.declared.NodeHead.TheVariants.{Whole, Refused}
 use Rattle.graph.specs.views.NodeRecord.{switch_length, node_head}
 use Rattle.graph.specs.ReadGraph.{read_cases, read_record}
 use Rattle.graph.specs.views.WriteNode.{node_record_bytes}
@@ -48,20 +49,20 @@ written_node s = node_bytes (read_or (end fail_node) (read_record s))
 
 module _ (s : List ℕ) where
   -- A node that is there to be read is not refused.
-  pub node_there : IsTook (read_record s) → {q : ℕ} → node_head s ≡ Refused q → ⊥
+  pub node_there : IsTook (read_record s) → {r : Refusal} → node_head s ≡ Err r → ⊥
   node_there there e = subst IsTook (node_refused s e) there
 
   -- A leaf and a pair are their records.
-  pub leaf_bytes_lem : (l : Leaf) → node_head s ≡ Whole (End l) → node_record_bytes (End l) ≡ written_node s
+  pub leaf_bytes_lem : (l : Leaf) → node_head s ≡ Ok (End l) → node_record_bytes (End l) ≡ written_node s
   leaf_bytes_lem Fail e = sym (ap (λ r. node_bytes (read_or (end fail_node) r)) (node_read_by s e))
   leaf_bytes_lem Suspend e = sym (ap (λ r. node_bytes (read_or (end fail_node) r)) (node_read_by s e))
   leaf_bytes_lem (Execute i) e = sym (ap (λ r. node_bytes (read_or (end fail_node) r)) (node_read_by s e))
 
-  pub pair_bytes : {p q x y : ℕ} → node_head s ≡ Whole (Pair p q x y) → node_record_bytes (Pair p q x y) ≡ written_node s
+  pub pair_bytes : {p q x y : ℕ} → node_head s ≡ Ok (Pair p q x y) → node_record_bytes (Pair p q x y) ≡ written_node s
   pair_bytes e = sym (ap (λ r. node_bytes (read_or (end fail_node) r)) (node_read_by s e))
 
   -- A switch is its record and its cases, which are there to be read.
-  module _ {n count x y : ℕ} (e : node_head s ≡ Whole (Switch n count x y)) (there : IsTook (read_record s)) where
+  module _ {n count x y : ℕ} (e : node_head s ≡ Ok (Switch n count x y)) (there : IsTook (read_record s)) where
     abbrev Cases : Reading (List (CaseEdge ℕ)) → Reading (Node ℕ)
     Cases r = after switch_length (λ cs. switch n cs x y) r
 

@@ -8,7 +8,7 @@ use Rattle.decision.specs.Cases.{symbols_case, compound_case, numbers_case}
 use Rattle.decision.specs.Node.{CaseEdge}
 use Rattle.graph.specs.declared.CaseRecord.{CaseRecord}
 use Rattle.graph.specs.declared.CaseRecord.TheVariants.{Symbols, Compound, Numbers}
-use Rattle.graph.specs.declared.CaseHead.TheVariants.{Whole}
+use Rattle.std.specs.Prelude.{Ok}
 use Rattle.graph.specs.views.NodeRecord.{case_head}
 use Rattle.graph.specs.ReadGraph.{edge, read_case}
 use Rattle.node_check.specs.views.CaseRanges.{range_of}
@@ -23,7 +23,7 @@ edge_of (Compound a k n) = edge (compound_case a k) n
 edge_of (Numbers l h n g) = edge (numbers_case (on_gauge g l) (on_gauge g h)) n
 
 -- It is read from the record,
-pub edge_read : (s : List ℕ) (c : CaseRecord) → case_head s ≡ Whole c → read_case s ≡ took (range_of c).bytes (edge_of c)
+pub edge_read : (s : List ℕ) (c : CaseRecord) → case_head s ≡ Ok c → read_case s ≡ took (range_of c).bytes (edge_of c)
 edge_read s (Symbols l h n) e = case_read_by s e
 edge_read s (Compound a k n) e = case_read_by s e
 edge_read s (Numbers l h n g) e = case_read_by s e

@@ -19,20 +19,19 @@ use Rattle.decision.specs.Key.{fail_node, suspend_node, execute_node}
 use Rattle.decision.specs.GraphBytes.{case_bytes, cases_bytes, node_bytes}
 use Rattle.decision.specs.views.GraphSize.{most_node_bytes}
 use Rattle.decision.specs.Cases.{Case, symbols_case, compound_case, numbers_case}
-use Rattle.node_check.specs.declared.NodeCheck.TheVariants.{Used, Refused}
 use Rattle.graph.specs.ReadGraph.{read_node, read_nodes}
-use Rattle.node_check.specs.views.CheckNode.{checked, starts_from}
+use Rattle.node_check.specs.views.CheckNode.{bytes_read, starts_from}
 use Rattle.graph.proofs.Spelling.{Begins, begins_read, begins_length}
 use Rattle.graph.proofs.SpelledNodes.{NodeFields, node_spelled}
 use Rattle.node_check.proofs.NodeHeads.{node_read}
 use Rattle.records.proofs.ByteLists.{bytes_drop}
 
 -- What was read where the check used so many bytes, and that it was refused where the check was.
-pub checked_took : {A : Type 0} (r : Reading A) {a : ℕ} → Used a ≡ checked r → (x : A) × (r ≡ took a x)
+pub checked_took : {A : Type 0} (r : Reading A) {a : ℕ} → took a tt ≡ bytes_read r → (x : A) × (r ≡ took a x)
 checked_took (took b x) {a} e = let same : b ≡ a = cc in (x, ap (λ (k : ℕ). took k x) same)
 checked_took (refused q) e = let z : ◌≡◌ {A = ℕ} 0 1 = cc in absurd (omega arith)
 
-pub checked_refused : {A : Type 0} (r : Reading A) {q : ℕ} → Refused q ≡ checked r → r ≡ refused q
+pub checked_refused : {A : Type 0} (r : Reading A) {q : ℕ} → refused q ≡ bytes_read r → r ≡ refused q
 checked_refused (took b x) e = let z : ◌≡◌ {A = ℕ} 0 1 = cc in absurd (omega arith)
 checked_refused (refused q) e = cc
 
@@ -91,11 +90,11 @@ module _ (test : Test → Bool) (rules nodes : ℕ) (s : List ℕ) where
     some e = omega arith
 
     -- A node that is refused.
-    pub nodes_refused : {q : ℕ} → Refused q ≡ checked (one (drop at s)) → resume_at at done (nodes_left i at) ≡ refused q
+    pub nodes_refused : {q : ℕ} → refused q ≡ bytes_read (one (drop at s)) → resume_at at done (nodes_left i at) ≡ refused q
     nodes_refused e =
         ap (resume_at at done) (row_refused [] ◌∷◌ one (nodes - i) (drop at s) some (checked_refused (one (drop at s)) e))
 
-    module _ {a : ℕ} (e : Used a ≡ checked (one (drop at s))) where
+    module _ {a : ℕ} (e : took a tt ≡ bytes_read (one (drop at s))) where
       abbrev node : Node ℕ
       node = (checked_took (one (drop at s)) e).0
 

@@ -1,12 +1,12 @@
 // The cases of a switch, read in one pass: are all whole, their nodes in range, and do they ascend?
-ghost use Rattle.std.specs.Prelude.{◌≡◌, ◌&&◌};
+ghost use Rattle.std.specs.Prelude.{◌≡◌};
 ghost use Rattle.records.specs.Reading.{map_reading};
 ghost use Rattle.graph.specs.ReadGraph.{read_cases};
 ghost use Rattle.node_check.specs.views.CaseRanges.{rank_of, comes_after, codes_to, range_of, cases_found, checked_cases};
-ghost use Rattle.node_check.specs.views.CaseRanges.{cases_refusal};
 
-use crate::{CaseRange, CasesCheck};
-use graph::{CaseHead, CaseRecord, case_head, case_refusal};
+use crate::{CaseRange, CasesFound};
+use graph::{CaseRecord, case_head};
+use records::Refusal;
 
 // The rank of a range of codes: the higher, the higher its first code is and then its last.
 fn rank_of(first: u32, last: u32) -> u64
@@ -55,46 +55,28 @@ pub fn case_range(c: CaseRecord) -> CaseRange
 fn comes_after(end: u64, first: u32, last: u32) -> bool
     ensures { result ≡ comes_after end first last }
 {
-    both(end < rank_of(first, last), first <= last)
-}
-
-// Both are true.
-pub fn both(a: bool, b: bool) -> bool
-    ensures { result ≡ (a && b) }
-{
-    a && b
+    end < rank_of(first, last) && first <= last
 }
 
 // The cases that the input begins with, so many, in a graph of so many nodes.
-pub fn check_cases(s: &[u8], count: u16, nodes: u16) -> CasesCheck
+pub fn check_cases(s: &[u8], count: u16, nodes: u16) -> Result<CasesFound, Refusal>
     ensures { checked_cases result ≡ map_reading (cases_found nodes) (read_cases count s.now) }
 {
     let mut at: usize = 0;
     let mut end: u64 = 0;
     let mut inside = true;
     let mut ascend = true;
-    let mut i: u16 = 0;
-    while i < count {
-        let head = case_head(&s[at..]);
-        let CaseHead::Whole(c) = head else {
-            return CasesCheck::Refused(case_refusal(head));
-        };
+    for _ in 0..count {
+        let c = case_head(&s[at..])?;
         let range = case_range(c);
-        inside = both(inside, range.node < nodes);
-        ascend = both(ascend, comes_after(end, range.first, range.last));
+        inside &= range.node < nodes;
+        ascend &= comes_after(end, range.first, range.last);
         end = range.end;
         at += range.bytes;
-        i += 1;
     }
-    CasesCheck::Used(at, inside, ascend)
-}
-
-// The number of the question that cases got a no from, 0 where they are whole.
-pub fn cases_refusal(cases: CasesCheck) -> u8
-    ensures { result ≡ cases_refusal cases }
-{
-    match cases {
-        CasesCheck::Used(_, _, _) => 0,
-        CasesCheck::Refused(question) => question,
-    }
+    Ok(CasesFound {
+        bytes: at,
+        inside,
+        ascend,
+    })
 }

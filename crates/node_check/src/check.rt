@@ -2,48 +2,46 @@
 ghost use Rattle.std.specs.Prelude.{◌≤◌, ◌≡◌, length, drop};
 ghost use Rattle.records.specs.Reading.{after};
 ghost use Rattle.graph.specs.ReadGraph.{read_node, read_nodes};
-ghost use Rattle.node_check.specs.views.CheckNode.{kept_test, checked, leaf_check, switch_check, starts_from, checked_nodes};
+ghost use Rattle.node_check.specs.views.CheckNode.{kept_test, bytes_read, checked, leaf_check, switch_check};
+ghost use Rattle.node_check.specs.views.CheckNode.{starts_from, checked_nodes};
 
-use crate::cases::{both, cases_refusal, check_cases};
+use crate::cases::check_cases;
 use crate::kept::{has_pair, has_place};
-use crate::{CasesCheck, NodeCheck};
-use graph::{Leaf, NodeHead, NodeRecord, SWITCH_BYTES, node_head, node_refusal};
+use graph::{Leaf, NodeRecord, SWITCH_BYTES, node_head};
+use records::Refusal;
 
 // A leaf, where the sheet has so many rules.
-fn check_leaf(leaf: Leaf, rules: u8) -> NodeCheck
-    ensures { result ≡ leaf_check rules leaf }
+fn check_leaf(leaf: Leaf, rules: u8) -> Result<usize, Refusal>
+    ensures { checked result ≡ leaf_check rules leaf }
 {
     match leaf {
-        Leaf::Fail => NodeCheck::Used(1),
-        Leaf::Suspend => NodeCheck::Used(1),
+        Leaf::Fail => Ok(1),
+        Leaf::Suspend => Ok(1),
         Leaf::Execute(rule) => {
-            if both(1 <= rule, rule <= rules) {
-                NodeCheck::Used(2)
+            if 1 <= rule && rule <= rules {
+                Ok(2)
             } else {
-                NodeCheck::Refused(23)
+                Err(Refusal::OutOfRange)
             }
         }
     }
 }
 
 // A switch whose cases the input begins with, where its place, neither and unknown are known to be right or not.
-fn check_switch(s: &[u8], known: bool, count: u16, nodes: u16) -> NodeCheck
-    ensures { result ≡ switch_check known count nodes s.now }
+fn check_switch(s: &[u8], known: bool, count: u16, nodes: u16) -> Result<usize, Refusal>
+    ensures { checked result ≡ switch_check known count nodes s.now }
 {
     if count < 1 {
-        return NodeCheck::Refused(22);
+        return Err(Refusal::NotANode);
     }
-    let cases = check_cases(s, count, nodes);
-    let CasesCheck::Used(bytes, inside, ascend) = cases else {
-        return NodeCheck::Refused(cases_refusal(cases));
-    };
-    if !both(known, inside) {
-        return NodeCheck::Refused(23);
+    let cases = check_cases(s, count, nodes)?;
+    if !(known && cases.inside) {
+        return Err(Refusal::OutOfRange);
     }
-    if !ascend {
-        return NodeCheck::Refused(24);
+    if !cases.ascend {
+        return Err(Refusal::NotAscending);
     }
-    NodeCheck::Used(SWITCH_BYTES + bytes)
+    Ok(SWITCH_BYTES + cases.bytes)
 }
 
 // The node that the input begins with, in a graph of so many nodes.
@@ -54,32 +52,23 @@ fn check_node(
     count: usize,
     rules: u8,
     nodes: u16,
-) -> NodeCheck
+) -> Result<usize, Refusal>
     requires { (length words.now ≡ 11) × (count ≤ 65) × (length codes.now ≡ 65) }
-    ensures { result
-        ≡ checked (read_node (kept_test words.now codes.now count) rules nodes s.now) }
+    ensures { checked result
+        ≡ bytes_read (read_node (kept_test words.now codes.now count) rules nodes s.now) }
 {
-    let head = node_head(s);
-    let NodeHead::Whole(node) = head else {
-        return NodeCheck::Refused(node_refusal(head));
-    };
+    let node = node_head(s)?;
     match node {
         NodeRecord::End(leaf) => check_leaf(leaf, rules),
         NodeRecord::Switch(place, cases, neither, unknown) => {
-            let known = both(
-                both(has_place(words, place), neither < nodes),
-                unknown < nodes,
-            );
+            let known = has_place(words, place) & (neither < nodes) & (unknown < nodes);
             check_switch(&s[SWITCH_BYTES..], known, cases, nodes)
         }
         NodeRecord::Pair(p, q, differ, other) => {
-            if both(
-                both(has_pair(codes, count, p, q), differ < nodes),
-                other < nodes,
-            ) {
-                NodeCheck::Used(9)
+            if has_pair(codes, count, p, q) && differ < nodes && other < nodes {
+                Ok(9)
             } else {
-                NodeCheck::Refused(23)
+                Err(Refusal::OutOfRange)
             }
         }
     }
@@ -94,7 +83,7 @@ pub fn check_nodes(
     rules: u8,
     nodes: u16,
     starts: &mut [u32; 1024],
-) -> NodeCheck
+) -> Result<usize, Refusal>
     requires words_len { (length words.now ≡ 11) × (count ≤ 65) × (length codes.now ≡ 65) }
     requires in_bounds { (5 ≤ length s.now) × (nodes ≤ 1024) × (length starts.old ≡ 1024) }
     ensures starts_after { checked_nodes nodes result starts.new
@@ -104,15 +93,10 @@ pub fn check_nodes(
     ensures starts_len { length starts.new ≡ 1024 }
 {
     let mut at: usize = 5;
-    let mut i: usize = 0;
-    while i < nodes as usize {
-        let node = check_node(&s[at..], words, codes, count, rules, nodes);
-        let NodeCheck::Used(bytes) = node else {
-            return node;
-        };
+    for i in 0..nodes as usize {
+        let bytes = check_node(&s[at..], words, codes, count, rules, nodes)?;
         starts[i] = at as u32;
         at += bytes;
-        i += 1;
     }
-    NodeCheck::Used(at)
+    Ok(at)
 }

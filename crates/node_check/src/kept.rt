@@ -21,12 +21,5 @@ pub fn has_pair(codes: &[u32; 65], count: usize, p: u16, q: u16) -> bool
     ensures { result ≡ has_pair codes.now count p q }
 {
     let code = (p as u32) * 0x10000 + (q as u32);
-    let mut i: usize = 0;
-    while i < count {
-        if codes[i] == code {
-            return true;
-        }
-        i += 1;
-    }
-    false
+    codes[..count].contains(&code)
 }

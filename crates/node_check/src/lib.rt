@@ -19,17 +19,10 @@ pub struct CaseRange {
     pub bytes: usize,
 }
 
-// What the cases of a switch are: so many bytes, whether all their nodes are in range, whether they ascend; or the number of the
-// question that got a no.
+// What the cases of a switch are: so many bytes, whether all their nodes are in range, whether they ascend.
 #[derive(Clone, Copy)]
-pub enum CasesCheck {
-    Used(usize, bool, bool),
-    Refused(u8),
-}
-
-// The check of nodes: they end at this byte, or the number of the question that got a no.
-#[derive(Clone, Copy)]
-pub enum NodeCheck {
-    Used(usize),
-    Refused(u8),
+pub struct CasesFound {
+    pub bytes: usize,
+    pub inside: bool,
+    pub ascend: bool,
 }

@@ -21,7 +21,8 @@ use Rattle.decision.specs.AcceptedGraph.{CaseFields}
 use Rattle.decision.specs.views.CaseCodes.{case_low, case_high}
 use Rattle.graph.specs.declared.CaseRecord.{CaseRecord}
 use Rattle.graph.specs.declared.CaseRecord.TheVariants.{Symbols, Compound, Numbers}
-use Rattle.graph.specs.declared.CaseHead.TheVariants.{Whole, Refused}
+use Rattle.std.specs.Prelude.{Option, Some, None, Ok, Err}
+use Rattle.records.specs.declared.refusal.Refusal.{Refusal}
 use Rattle.graph.specs.views.NodeRecord.{case_head}
 use Rattle.graph.specs.ReadGraph.{read_cases, read_case}
 use Rattle.graph.specs.views.Rewriting.{read_or}
@@ -30,8 +31,6 @@ use Rattle.node_check.specs.declared.CaseRange.{CaseRange}
 use Rattle.node_check.specs.views.CaseRanges.{range_of}
 use Rattle.node_check.proofs.CasesPass.{case_fits, case_refused}
 use Rattle.node_check.proofs.CopiedRecords.{edge_of, edge_read}
-use Rattle.number_search.specs.declared.Sought.{Sought}
-use Rattle.number_search.specs.declared.Sought.TheVariants.{To, NotTold}
 use Rattle.number_search.specs.views.CodeCases.{takes_codes, narrower_codes, follow_code, CodesAscend, CasesInOrder}
 use Rattle.number_search.specs.views.NumberRows.{NumbersRead, CasesStand, Missed, SoughtRight}
 use Rattle.number_search.proofs.ReadRow.{IsNumbers, AreNumbers, numbers_behind, numbers_read}
@@ -120,16 +119,16 @@ module _ (s : List ℕ) (low high neither : ℕ) where
 
     -- What is so of those that are left is so of all.
     pub passed_sought
-        : (r : Sought) → SoughtRight s at (count - i) low high neither r → SoughtRight s start count low high neither r
-    passed_sought (To n) h = p.same ∙ h
-    passed_sought NotTold h = p.missed h
+        : (r : Option ℕ) → SoughtRight s at (count - i) low high neither r → SoughtRight s start count low high neither r
+    passed_sought (Some n) h = p.same ∙ h
+    passed_sought None h = p.missed h
 
     -- The next case is whole.
-    pub passed_whole : i < count → {q : ℕ} → case_head (drop at s) ≡ Refused q → ⊥
+    pub passed_whole : i < count → {r : Refusal} → case_head (drop at s) ≡ Err r → ⊥
     passed_whole next e =
         row_there read_case s (count - i) (count - (i + 1)) at (omega arith) p.stand.whole (case_refused (drop at s) e)
 
-    module _ (next : i < count) (c : CaseRecord) (e : case_head (drop at s) ≡ Whole c) where
+    module _ (next : i < count) (c : CaseRecord) (e : case_head (drop at s) ≡ Ok c) where
       more : count - i ≡ suc (count - (i + 1))
       more = omega arith
 

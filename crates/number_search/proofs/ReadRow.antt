@@ -19,8 +19,8 @@ use Rattle.decision.specs.AcceptedGraph.{CaseFields}
 use Rattle.decision.specs.views.CaseCodes.{case_low, case_high}
 use Rattle.graph.specs.declared.CaseRecord.{CaseRecord}
 use Rattle.graph.specs.declared.CaseRecord.TheVariants.{Symbols, Compound, Numbers}
-use Rattle.graph.specs.declared.CaseHead.{CaseHead}
-use Rattle.graph.specs.declared.CaseHead.TheVariants.{Whole, Refused}
+use Rattle.std.specs.Prelude.{Result, Ok, Err}
+use Rattle.records.specs.declared.refusal.Refusal.{Refusal}
 use Rattle.graph.specs.views.NodeRecord.{whole_case, case_head}
 use Rattle.graph.specs.ReadGraph.{read_cases, read_case}
 use Rattle.graph.specs.views.Rewriting.{IsTook, read_or}
@@ -69,11 +69,11 @@ numbers_behind c cs is ordered = (is, go c.case is cs ordered.fields.1 ordered.a
     go (compound_case b n) is (x ∷ xs) f a = absurd is
 
 -- The fields that the head of a number case tells.
-abbrev Fields : List ℕ → CaseHead → Type 0
-Fields s (Whole (Numbers l h n g)) = edge_of (Numbers l h n g) ≡ edge_of (Numbers (wide_at s 2) (wide_at s 4) (wide_at s 6) (get_or s 1 0))
-Fields s (Whole (Symbols l h n)) = Unit
-Fields s (Whole (Compound a k n)) = Unit
-Fields s (Refused q) = Unit
+abbrev Fields : List ℕ → Result CaseRecord Refusal → Type 0
+Fields s (Ok (Numbers l h n g)) = edge_of (Numbers l h n g) ≡ edge_of (Numbers (wide_at s 2) (wide_at s 4) (wide_at s 6) (get_or s 1 0))
+Fields s (Ok (Symbols l h n)) = Unit
+Fields s (Ok (Compound a k n)) = Unit
+Fields s (Err r) = Unit
 
 fields_told : (s : List ℕ) → Fields s (case_head s)
 fields_told s =
@@ -97,7 +97,7 @@ fields_told s =
     numbers false = tt
 
 module _ (s : List ℕ) where
-  numbers_at_lem : (at g l h n : ℕ) → case_head (drop at s) ≡ Whole (Numbers l h n g) → edge_of (Numbers l h n g) ≡ numbers_at s at
+  numbers_at_lem : (at g l h n : ℕ) → case_head (drop at s) ≡ Ok (Numbers l h n g) → edge_of (Numbers l h n g) ≡ numbers_at s at
   numbers_at_lem at g l h n e =
       subst (Fields (drop at s)) e (fields_told (drop at s))
       ∙ (λ i. edge_of (Numbers (wide_behind s at 2 i) (wide_behind s at 4 i) (wide_behind s at 6 i) (get_or-drop at s 1 0 i)))
@@ -115,7 +115,7 @@ module _ (s : List ℕ) where
   module _ (m at : ℕ) (there : at ≤ length s) (left : IsTook (read_cases (suc m) (drop at s)))
       (onward : Onward m (at + 8)) where
     one_more
-        : (c : CaseRecord) → case_head (drop at s) ≡ Whole c → IsNumbers (edge_of c).case
+        : (c : CaseRecord) → case_head (drop at s) ≡ Ok c → IsNumbers (edge_of c).case
         → AreNumbers (read_or [] (read_cases m (drop (at + (range_of c).bytes) s))) → Rowed at (suc m)
     one_more (Symbols l h n) e is others = absurd is
     one_more (Compound a k n) e is others = absurd is
@@ -133,10 +133,10 @@ module _ (s : List ℕ) where
         }
 
     by_head
-        : AreNumbers (read_or [] (read_cases (suc m) (drop at s))) → (head : CaseHead) → case_head (drop at s) ≡ head
-        → Rowed at (suc m)
-    by_head are (Refused q) e = absurd (row_there read_case s (suc m) m at refl left (case_refused (drop at s) e))
-    by_head are (Whole c) e =
+        : AreNumbers (read_or [] (read_cases (suc m) (drop at s))) → (head : Result CaseRecord Refusal)
+        → case_head (drop at s) ≡ head → Rowed at (suc m)
+    by_head are (Err r) e = absurd (row_there read_case s (suc m) m at refl left (case_refused (drop at s) e))
+    by_head are (Ok c) e =
         let read = edge_read (drop at s) c e in
         let both = subst AreNumbers (first_others read_case s (suc m) m at refl left read) are in
         one_more c e both.0 both.1

@@ -3,10 +3,3 @@
 
 pub mod names; // where the number cases of a switch begin
 pub mod numbers; // the narrowest case of a row that takes the codes of a number or span
-
-// What a search tells: the cases lead to this node; or it does not tell.
-#[derive(Clone, Copy)]
-pub enum Sought {
-    To(u16),
-    NotTold,
-}

@@ -2,7 +2,6 @@
 ghost use Rattle.std.specs.Prelude.{◌+◌, ◌≤◌, ◌≡◌, length};
 ghost use Rattle.number_search.specs.views.NumberRows.{rank_at, NumberRow, CountBefore, NumbersRead, SoughtRight};
 
-use crate::Sought;
 use codes::gauged_code;
 use records::wide;
 
@@ -47,7 +46,7 @@ pub fn narrowest(
     low: u32,
     high: u32,
     neither: u16,
-) -> Sought
+) -> Option<u16>
     requires { NumbersRead graph.now start count }
     ensures { SoughtRight graph.now start count low high neither result }
 {
@@ -58,16 +57,16 @@ pub fn narrowest(
         (low as u64) * 0x1_0000_0000 + 0xffff_ffff,
     );
     if begun == 0 {
-        return Sought::To(neither); // each begins above them
+        return Some(neither); // each begins above them
     }
     let begins = rank_at(graph, start + (begun - 1) * 8) / 0x1_0000_0000;
     if begins / 0x1_0000 < (high as u64) / 0x1_0000 {
-        return Sought::To(neither); // none is on their gauge
+        return Some(neither); // none is on their gauge
     }
     let found = count_before(graph, start, begun, begins * 0x1_0000_0000 + (high as u64));
     if found == begun {
-        return Sought::NotTold;
+        return None;
     }
     let at = start + found * 8;
-    Sought::To(wide(graph[at + 6], graph[at + 7]))
+    Some(wide(graph[at + 6], graph[at + 7]))
 }

@@ -6,8 +6,6 @@ use Rattle.basics.specs.Lists.{any_of, count_from}
 use Rattle.places.specs.Numbering.{parent_at}
 use Rattle.records.specs.Fields.{wide_at}
 use Rattle.records.specs.Reading.{Reading, took, refused, ask}
-use Rattle.order.specs.declared.TableCheck.{TableCheck}
-use Rattle.order.specs.declared.TableCheck.TheVariants.{Accepted, Refused}
 
 -- "680 wide place numbers", in the order in which the places are asked.
 unfoldable pub table_places : List ℕ → List ℕ
@@ -31,11 +29,7 @@ read_table bytes =
     (ask 29 (each_once (table_places bytes))
     (ask 30 (parents_first (table_places bytes)) (took 1360 (table_places bytes))))
 
--- The refusal that a check of a table gives, 0 where the table is accepted.
-abbrev pub check_refusal : TableCheck → ℕ
-check_refusal Accepted = 0
-check_refusal (Refused q) = q
-
+-- The refusal's number, 0 where the table is accepted.
 abbrev pub table_refusal : Reading (List ℕ) → ℕ
 table_refusal (took k places) = 0
 table_refusal (refused q) = q

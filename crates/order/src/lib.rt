@@ -4,10 +4,3 @@
 pub mod table; // questions 28 to 30
 
 pub use table::{check_order, read_table};
-
-// What the check of a table answers: it is accepted, or the number of the question that got a no.
-#[derive(Clone, Copy)]
-pub enum TableCheck {
-    Accepted,
-    Refused(u8),
-}

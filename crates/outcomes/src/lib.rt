@@ -27,8 +27,7 @@ fn nearest(cells: &Cells, p: usize) -> u64
     ensures { result ≡ nearest_cell 3 cells.now p }
 {
     let mut place = p;
-    let mut left: usize = 3;
-    while 0 < left {
+    for _ in 0usize..3 {
         if place == 680 {
             return 0;
         }
@@ -37,7 +36,6 @@ fn nearest(cells: &Cells, p: usize) -> u64
             return cell;
         }
         place = places::parent(place);
-        left -= 1;
     }
     0
 }

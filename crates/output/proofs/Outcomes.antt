@@ -22,7 +22,9 @@ use Rattle.lines.specs.Lines.{refused_line}
 use Rattle.piece_lines.specs.BuiltLines.{built_lines}
 use Rattle.output.specs.Listing.{most_bytes, lines_after, listed, listing_bytes}
 use Rattle.build.specs.declared.Built.{Built}
-use Rattle.build.specs.declared.Built.TheVariants.{Written, Refused}
+use Rattle.std.specs.Prelude.{Result, Ok, Err}
+use Rattle.records.specs.Refusals.{number}
+use Rattle.records.specs.declared.refusal.Refusal.{Refusal}
 use Rattle.build.specs.BuildOutcome.{BuildOutcome, built_values, written_if, build_outcome}
 use Rattle.build.specs.Building.{Building, bytes_of}
 use Rattle.build.proofs.BuiltBytes.{built_outcome, outcome_built}
@@ -30,7 +32,7 @@ use Rattle.piece_lines.specs.views.GraphFor.{GraphFor}
 use Rattle.output.proofs.Cuts.{cut_take}
 
 -- What a build hands back and leaves in its buffer.
-abbrev pub outcome : Built → List ℕ → BuildOutcome
+abbrev pub outcome : Result Built Refusal → List ℕ → BuildOutcome
 outcome r g = record { values = built_values r; buffer = g }
 
 -- The graph's buffer before the build.
@@ -39,24 +41,32 @@ empty_graph = replicate most_bytes 0
 
 -- A build that is refused is the whole output: no question has the number 0, and a graph has bytes.
 pub built_refused
-    : (s input : List ℕ) (q : ℕ) {g : List ℕ} → outcome (Refused q) g ≡ build_outcome s empty_graph → refused_line q ≡ listed s input
+    : (s input : List ℕ) (r : Refusal) {g : List ℕ} → outcome (Err r) g ≡ build_outcome s empty_graph
+    → refused_line (number r) ≡ listed s input
 unfolding listed
-built_refused s input zero e =
-    let made = outcome_built lowest s empty_graph (sym (ap (λ (x : BuildOutcome). x.values.refusal) e)) in
-    absurd (omega (arith, ap (λ (x : BuildOutcome). x.values.bytes) (e ∙ built_outcome lowest s empty_graph made)))
-built_refused s input (suc q) {g = g} e =
-    let asked : eqb (suc q) 0 ≡ false = ne_eqb (suc q) 0 (λ (z : suc q ≡ 0). omega arith) in
-    sym (ap (λ (b : Bool). cond b (built_lines s (take 0 g) 0 input) (refused_line (suc q))) asked) ∙ ap (lines_after s input) e
+built_refused s input r {g = g} e = go (number r) e
+  where
+    go
+        : (q : ℕ)
+        → ◌≡◌ {A = BuildOutcome} (record { values = record { refusal = q; nodes = 0; bytes = 0 }; buffer = g })
+        (build_outcome s empty_graph)
+        → refused_line q ≡ listed s input
+    go zero e =
+        let made = outcome_built lowest s empty_graph (sym (ap (λ (x : BuildOutcome). x.values.refusal) e)) in
+        absurd (omega (arith, ap (λ (x : BuildOutcome). x.values.bytes) (e ∙ built_outcome lowest s empty_graph made)))
+    go (suc q) e =
+        let asked : eqb (suc q) 0 ≡ false = ne_eqb (suc q) 0 (λ (z : suc q ≡ 0). omega arith) in
+        sym (ap (λ (b : Bool). cond b (built_lines s (take 0 g) 0 input) (refused_line (suc q))) asked) ∙ ap (lines_after s input) e
 
 -- The lines after a build that is not refused are the whole output.
 pub built_written
-    : (s input : List ℕ) {n b : ℕ} {g : List ℕ} → outcome (Written n b) g ≡ build_outcome s empty_graph
-    → built_lines s (take b g) n input ≡ listed s input
+    : (s input : List ℕ) {b : Built} {g : List ℕ} → outcome (Ok b) g ≡ build_outcome s empty_graph
+    → built_lines s (take b.bytes g) b.nodes input ≡ listed s input
 unfolding listed
 built_written s input e = ap (lines_after s input) e
 
 -- A build that is not refused leaves the graph of its sheet at the front of its buffer:
-module _ (s buf : List ℕ) {n b : ℕ} {g : List ℕ} (e : outcome (Written n b) g ≡ build_outcome s buf) where
+module _ (s buf : List ℕ) {b : Built} {g : List ℕ} (e : outcome (Ok b) g ≡ build_outcome s buf) where
   made : Building lowest s buf
   made = outcome_built lowest s buf (sym (ap (λ (x : BuildOutcome). x.values.refusal) e))
 
@@ -66,24 +76,24 @@ module _ (s buf : List ℕ) {n b : ℕ} {g : List ℕ} (e : outcome (Written n b
   abbrev nodes : List (Node ℕ)
   nodes = made.nodes
 
-  is : outcome (Written n b) g ≡ written_if true (length nodes) (bytes_of sheet nodes) buf
+  is : outcome (Ok b) g ≡ written_if true (length nodes) (bytes_of sheet nodes) buf
   is = e ∙ built_outcome lowest s buf made
 
-  many : n ≡ length nodes
+  many : b.nodes ≡ length nodes
   many = ap (λ (x : BuildOutcome). x.values.nodes) is
 
-  long : b ≡ length (bytes_of sheet nodes)
+  long : b.bytes ≡ length (bytes_of sheet nodes)
   long = ap (λ (x : BuildOutcome). x.values.bytes) is
 
-  graph : take b g ≡ bytes_of sheet nodes
-  graph = ap (take b) (ap (λ (x : BuildOutcome). x.buffer) is) ∙ take_at (bytes_of sheet nodes) _ b (sym long)
+  graph : take b.bytes g ≡ bytes_of sheet nodes
+  graph = ap (take b.bytes) (ap (λ (x : BuildOutcome). x.buffer) is) ∙ take_at (bytes_of sheet nodes) _ b.bytes (sym long)
 
   -- it fits,
-  pub built_fits : b ≤ length buf
+  pub built_fits : b.bytes ≤ length buf
   built_fits = omega (arith, made.fits, long)
 
   -- and the check accepts it for the sheet.
-  pub built_accepted : All IsByte s → GraphFor s (take b g) n
+  pub built_accepted : All IsByte s → GraphFor s (take b.bytes g) b.nodes
   built_accepted are_bytes =
       let (ok, same, all) = (sheet_accepted_lem s are_bytes made.taken sheet).0 made.accepted in
       let accepted = built_graph_accepted sheet ok (made.order sheet.rules) nodes made.graph in

@@ -6,7 +6,6 @@ ghost use Rattle.io.specs.Counts.{IsPrefixLen};
 ghost use Rattle.records.specs.Writing.{splice};
 ghost use Rattle.output.specs.Listing.{listing_bytes, most_bytes};
 
-use build::Built;
 use piece_lines::put_built;
 
 // How many of so many bytes are read.
@@ -35,13 +34,13 @@ pub fn listing(sheet: &[u8], input: &[u8], out: &mut [u8]) -> usize
     let mut graph = [0u8; 65536];
     let built = building::build(&sheet[..sheet_end], &mut graph);
     match built {
-        Built::Refused(q) => lines::put_refused(out, 0, q),
-        Built::Written(nodes, bytes) => {
-            let graph_end = bytes as usize;
+        Err(refusal) => lines::put_refused(out, 0, refusal),
+        Ok(built) => {
+            let graph_end = built.bytes as usize;
             put_built(
                 &sheet[..sheet_end],
                 &graph[..graph_end],
-                nodes,
+                built.nodes,
                 &input[..input_end],
                 out,
             )

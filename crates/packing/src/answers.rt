@@ -7,53 +7,51 @@ ghost use Rattle.walk_all.specs.views.Turns.{left_by};
 ghost use Rattle.packing.specs.Packed.{Packs, plain_fields, walk_fields};
 ghost use Rattle.packing.specs.PackedWalks.{walk_all_fields};
 
-use crate::pack;
-use plain::Plain;
-use walk::Walked;
+use crate::{pack, refused};
+use plain::Answer;
+use records::Refusal;
+use walk::Walk;
 use walk_all::WalkedAll;
 use walk_all::result::{rule, word};
 
 // The word and rule of a plain answer. Not the rule before the word, nor a word beside a refusal's number.
-pub fn pack_plain(answered: Plain) -> u64
+pub fn pack_plain(answered: Result<Answer, Refusal>) -> u64
     ensures { Packs result (plain_fields (plain_values answered)) }
 {
     match answered {
-        Plain::Answered(a) => pack(0, word(a), rule(a), 0),
-        Plain::Refused(q) => pack(q, 0, 0, 0),
+        Ok(answer) => pack(0, word(answer), rule(answer), 0),
+        Err(refusal) => refused(refusal),
     }
 }
 
 // Word, rule and edges of a walk. Not the edges before the rule, nor a word beside a refusal's number.
-pub fn pack_walked(walked: Walked) -> u64
+pub fn pack_walked(walked: Result<Walk, Refusal>) -> u64
     ensures { Packs result (walk_fields (walked_values walked)) }
 {
     match walked {
-        Walked::Answered(w) => {
-            let answer = w.answer;
-            pack(0, word(answer), rule(answer), w.edges)
-        }
-        Walked::Refused(q) => pack(q, 0, 0, 0),
+        Ok(walk) => pack(0, word(walk.answer), rule(walk.answer), walk.edges),
+        Err(refusal) => refused(refusal),
     }
 }
 
 // The wait list of a walk, 0 on a refusal. Not the edges, nor a test beside a refusal.
-pub fn waits(walked: Walked) -> u64
+pub fn waits(walked: Result<Walk, Refusal>) -> u64
     ensures { result ≡ (walked_values walked).waits }
 {
     match walked {
-        Walked::Answered(w) => w.waits,
-        Walked::Refused(_) => 0,
+        Ok(walk) => walk.waits,
+        Err(_) => 0,
     }
 }
 
 // The results written and the bytes taken by the walks of many pieces, whatever the buffer. Not the bytes before the results, nor a
 // result beside a refusal's number.
-pub fn pack_walked_all(walked: WalkedAll) -> u64
+pub fn pack_walked_all(walked: Result<WalkedAll, Refusal>) -> u64
     requires { (buffer : List ℕ) → (left_by walked buffer).results ≤ most_results }
     ensures { (buffer : List ℕ) → Packs result (walk_all_fields (left_by walked buffer)) }
 {
     match walked {
-        WalkedAll::Walked(count, bytes) => 0x100 * (count as u64) + 0x1_0000_0000 * (bytes as u64),
-        WalkedAll::Refused(q) => q as u64,
+        Ok(all) => 0x100 * (all.results as u64) + 0x1_0000_0000 * (all.bytes as u64),
+        Err(refusal) => refused(refusal),
     }
 }

@@ -6,8 +6,11 @@ pub mod checks; // the checks of sheets, pieces, graphs and reading orders
 pub mod windows; // what the calls of a window hand back
 pub mod writers; // graphs, sheets and reading orders written into a lent buffer
 
-ghost use Rattle.std.specs.Prelude.{[], ◌∷◌};
+ghost use Rattle.std.specs.Prelude.{◌≡◌, ◌<◌, [], ◌∷◌};
+ghost use Rattle.records.specs.Refusals.{number};
 ghost use Rattle.packing.specs.Packed.{Packs, bits8, bits16, bits32};
+
+use records::Refusal;
 
 // A refusal's number and three values as one number.
 fn pack(refusal: u8, first: u8, second: u8, third: u8) -> u64
@@ -31,4 +34,11 @@ fn pack_two(refusal: u8, first: u16, second: u32) -> u64
     ensures { Packs result (bits8 refusal ∷ bits16 first ∷ bits32 second ∷ []) }
 {
     refusal as u64 + 0x100 * (first as u64) + 0x100_0000 * (second as u64)
+}
+
+// A refusal's number alone: every other field is 0.
+fn refused(refusal: Refusal) -> u64
+    ensures { (result ≡ number refusal) × (result < 0x100) }
+{
+    refusal.number() as u64
 }

@@ -1,17 +1,19 @@
 // What the calls of a window hand back.
 ghost use Rattle.std.specs.Prelude.{◌≡◌};
-ghost use Rattle.window.specs.Handed.{refusal_in};
+ghost use Rattle.records.specs.Refusals.{refusal_in};
 ghost use Rattle.packing.specs.PackedWords.{packed_words};
 
-use window::{Fed, WordCounts};
+use crate::refused;
+use records::Refusal;
+use window::WordCounts;
 
 // The refusal of an answer that was fed, 0 where it was taken. Not 36 for a taken one, nor 0 for every answer.
-pub fn fed_refusal(fed: Fed) -> u64
+pub fn fed_refusal(fed: Result<(), Refusal>) -> u64
     ensures { result ≡ refusal_in fed }
 {
     match fed {
-        Fed::Taken => 0,
-        Fed::Refused(q) => q as u64,
+        Ok(()) => 0,
+        Err(refusal) => refused(refusal),
     }
 }
 

@@ -6,52 +6,40 @@ ghost use Rattle.track.specs.views.HandedBack as ordered;
 ghost use Rattle.build.specs.BuildOutcome.{built_values};
 ghost use Rattle.packing.specs.Packed.{Packs, written_fields, built_fields};
 
-use crate::{pack_two, pack_wide};
+use crate::{pack_two, pack_wide, refused};
 use build::Built;
-use graph_check::Rewrote;
-use tidying::Tidied;
-use track::Ordered;
+use records::Refusal;
 
-// The bytes of a graph's nodes written again, whatever the buffer. Not a byte beside a refusal's number, nor a refused rewriting as
-// accepted.
-pub fn pack_rewrote(written: Rewrote) -> u64
-    ensures { (buffer : List ℕ) → Packs result (written_fields (rewritten.left_by written buffer)) }
+// The bytes of a graph's nodes written again, or of a sheet's tidy form, whatever the buffer. Not a byte beside a refusal's number,
+// a refused rewriting as accepted, nor a refusal for a sheet that was tidied.
+pub fn pack_written(written: Result<u32, Refusal>) -> u64
+    ensures rewrote { (buffer : List ℕ) → Packs result (written_fields (rewritten.left_by written buffer)) }
+    ensures tidied { (buffer : List ℕ) → Packs result (written_fields (tidied.left_by written buffer)) }
 {
     match written {
-        Rewrote::Written(bytes) => pack_wide(0, bytes),
-        Rewrote::Refused(q) => pack_wide(q, 0),
-    }
-}
-
-// The bytes of a sheet's tidy form, whatever the buffer. Not a byte beside a refusal's number, nor a refusal for a sheet that was
-// tidied.
-pub fn pack_tidied(written: Tidied) -> u64
-    ensures { (buffer : List ℕ) → Packs result (written_fields (tidied.left_by written buffer)) }
-{
-    match written {
-        Tidied::Written(bytes) => pack_wide(0, bytes),
-        Tidied::Refused(q) => pack_wide(q, 0),
+        Ok(bytes) => pack_wide(0, bytes),
+        Err(refusal) => refused(refusal),
     }
 }
 
 // The bytes of a track drawing's reading order, whatever the buffer. Not a byte beside a refusal's number, nor a refusal for an
 // order that was written.
-pub fn pack_ordered(written: Ordered) -> u64
+pub fn pack_ordered(written: Result<(), Refusal>) -> u64
     ensures { (buffer : List ℕ) → Packs result (written_fields (ordered.left_by written buffer)) }
 {
     match written {
-        Ordered::Written => pack_wide(0, 1360),
-        Ordered::Refused(q) => pack_wide(q, 0),
+        Ok(()) => pack_wide(0, 1360),
+        Err(refusal) => refused(refusal),
     }
 }
 
 // The nodes and the bytes of a built graph. Not the bytes in the place of the nodes, nor a node or a byte beside a refusal's
 // number.
-pub fn pack_built(built: Built) -> u64
+pub fn pack_built(built: Result<Built, Refusal>) -> u64
     ensures { Packs result (built_fields (built_values built)) }
 {
     match built {
-        Built::Written(nodes, bytes) => pack_two(0, nodes, bytes),
-        Built::Refused(q) => pack_two(q, 0, 0),
+        Ok(graph) => pack_two(0, graph.nodes, graph.bytes),
+        Err(refusal) => refused(refusal),
     }
 }

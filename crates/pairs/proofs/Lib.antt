@@ -1,6 +1,5 @@
 -- The laws of pairs that are kept one after another.
 pub mod Slots
-pub mod Carrying
 pub mod KeptLists
 pub mod PutPairs
 pub mod NoteRows

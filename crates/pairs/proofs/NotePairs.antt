@@ -3,6 +3,7 @@ use Prim.Native.Nat.{ℕ, ◌+◌, ◌≤◌, ◌<◌}
 use mathlib.Core.Path.{◌≡◌, refl, sym, ap, ◌∙◌, subst}
 use mathlib.Core.Bool.{Bool, true, false, cond}
 use mathlib.Core.List.{List, ◌∷◌, map-append}
+use Rattle.std.specs.Prelude.{Option, Some, None}
 use lib.Dec.{T, eqb}
 use lib.ListN.{length, get_or, drop}
 use Rattle.terms.specs.RuleTests.{both, pairs_with, pairs_of}
@@ -11,8 +12,6 @@ use Rattle.patterns.specs.views.NoteCode.{code_place, code_record}
 use Rattle.sheet.specs.views.NoteArray.{notes_in}
 use Rattle.patterns.specs.declared.PatternRecord.{PatternRecord}
 use Rattle.patterns.specs.declared.PatternRecord.TheVariants.{Anything, Symbol, Range, Compound, Variable, Ranged, Series, Gauged}
-use Rattle.pairs.specs.declared.Name.{Name}
-use Rattle.pairs.specs.declared.Name.TheVariants.{Nameless, Of}
 use Rattle.pairs.specs.views.KeptPairs.{KeptPairs, pair_code, keep, keep_all, pairs_in}
 use Rattle.pairs.specs.views.NoteVariables.{name_of, names_variable, occurrence, notes_variables, pair_codes, codes_with, notes_codes}
 use Rattle.pairs.proofs.KeptLists.{keep_append, keep_all_many, pairs_many}
@@ -90,31 +89,32 @@ pairs_from codes n i k = keep_all (notes_codes (drop i (notes_in codes n))) k
 
 module _ (codes : List ℕ) (n : ℕ) (within : n ≤ length codes) (i : ℕ) where
   pairs_step
-      : (name : Name) → i < n → name_of (code_record (get_or codes i 0)) ≡ name → (k : KeptPairs)
+      : (name : Option ℕ) → i < n → name_of (code_record (get_or codes i 0)) ≡ name → (k : KeptPairs)
       → pairs_from codes n i k
       ≡ keep_all (pair_codes (pairs_of (occurrence (code_place (get_or codes i 0)) name (notes_variables (drop (i + 1) (notes_in codes n)))))) k
   pairs_step name h e k =
       let os = notes_variables (drop (i + 1) (notes_in codes n)) in
       ap (λ (ns : List Note). keep_all (notes_codes ns) k) (notes_next codes n within i h)
-      ∙ ap (λ (x : Name). keep_all (pair_codes (pairs_of (occurrence (code_place (get_or codes i 0)) x os))) k) e
+      ∙ ap (λ (x : Option ℕ). keep_all (pair_codes (pairs_of (occurrence (code_place (get_or codes i 0)) x os))) k) e
 
   -- A variable makes pairs with its later places.
   pub pairs_named
-      : (v : ℕ) → i < n → name_of (code_record (get_or codes i 0)) ≡ Of v → (k : KeptPairs)
+      : (v : ℕ) → i < n → name_of (code_record (get_or codes i 0)) ≡ Some v → (k : KeptPairs)
       → pairs_from codes n (i + 1) (keep_all (codes_with (code_place (get_or codes i 0)) v (drop (i + 1) (notes_in codes n))) k)
       ≡ pairs_from codes n i k
   pairs_named v h e k =
       let p = code_place (get_or codes i 0) in
       let os = notes_variables (drop (i + 1) (notes_in codes n)) in
       sym
-      (pairs_step (Of v) h e k
+      (pairs_step (Some v) h e k
       ∙ ap (λ (cs : List ℕ). keep_all cs k) (map-append _ (pairs_with p v os) (pairs_of os))
       ∙ keep_append (pair_codes (pairs_with p v os)) (pair_codes (pairs_of os)) k)
 
   -- Any other note is passed.
   pub pairs_nameless
-      : i < n → name_of (code_record (get_or codes i 0)) ≡ Nameless → (k : KeptPairs) → pairs_from codes n (i + 1) k ≡ pairs_from codes n i k
-  pairs_nameless h e k = sym (pairs_step Nameless h e k)
+      : i < n → name_of (code_record (get_or codes i 0)) ≡ None → (k : KeptPairs)
+      → pairs_from codes n (i + 1) k ≡ pairs_from codes n i k
+  pairs_nameless h e k = sym (pairs_step None h e k)
 
   -- At the end none is left.
   pub pairs_end : n ≤ i → (k : KeptPairs) → pairs_from codes n i k ≡ k

@@ -1,11 +1,12 @@
 -- Loops over the notes in an array: the notes from i on are the one at i and those from i + 1 on.
-use Prim.Native.Nat.{ℕ, zero, suc, ◌+◌, ◌≤◌, ◌<◌}
+use Prim.Native.Nat.{ℕ, zero, suc, ◌+◌, ◌-◌, ◌≤◌, ◌<◌}
 use mathlib.Core.Path.{◌≡◌, sym, ap, ◌∙◌, subst}
-use mathlib.Core.List.{List, [], ◌∷◌}
+use mathlib.Core.List.{List, [], ◌∷◌, map}
 use native.Mathlib.Numerals.{add-one}
 use native.Mathlib.Omega.{arith}
 use lib.ListN.{length, get_or, take, drop, length-map, drop_of_length-le, get_or-map}
-use lib.Seq.{length-take-le, drop-cons, get_or-take}
+use lib.Seq.{length-take-le, drop-cons, get_or-take, take_all}
+use Rattle.std.proofs.lemmas.List.{drop-take, drop-map}
 use Rattle.basics.specs.Lists.{All}
 use Rattle.patterns.specs.views.Note.{Note}
 use Rattle.patterns.specs.views.NoteCode.{note_of}
@@ -31,11 +32,27 @@ module _ (codes : List ℕ) (n : ℕ) (within : n ≤ length codes) where
   pub notes_end : (i : ℕ) → n ≤ i → drop i (notes_in codes n) ≡ []
   notes_end i h = drop_of_length-le (notes_in codes n) {i = i} (omega (arith, notes_length))
 
-  -- What holds of each note holds of the one at i.
-  pub notes_each : (Q : Note → Type 0) (i : ℕ) → All Q (notes_in codes n) → i < n → Q (note_of (get_or codes i 0))
-  notes_each Q i h l = (subst (All Q) (notes_next i l) (all_drop i (notes_in codes n) h)).0
+  -- They are the notes of the rest of the array,
+  pub notes_later
+      : (i : ℕ) → i ≤ n → notes_in (take (n - i) (drop i codes)) (length (take (n - i) (drop i codes))) ≡ drop i (notes_in codes n)
+  unfolding notes_in
+  notes_later i h =
+      let rest = take (n - i) (drop i codes) in
+      let all : i + (n - i) ≡ n = omega arith in
+      ap (map note_of)
+      (take_all (length rest) rest (omega arith)
+      ∙ sym (drop-take i (n - i) codes)
+      ∙ ap (λ (k : ℕ). drop i (take k codes)) all)
+      ∙ sym (drop-map note_of i (take n codes))
+
+  -- and what holds of each note holds of them and of the one at i.
+  pub notes_all : (Q : Note → Type 0) (i : ℕ) → All Q (notes_in codes n) → All Q (drop i (notes_in codes n))
+  notes_all Q i h = all_drop i (notes_in codes n) h
     where
       all_drop : (j : ℕ) (ns : List Note) → All Q ns → All Q (drop j ns)
       all_drop zero ns k = k
       all_drop (suc j) [] k = k
       all_drop (suc j) (x ∷ ns) k = all_drop j ns k.1
+
+  pub notes_each : (Q : Note → Type 0) (i : ℕ) → All Q (notes_in codes n) → i < n → Q (note_of (get_or codes i 0))
+  notes_each Q i h l = (subst (All Q) (notes_next i l) (notes_all Q i h)).0

@@ -11,14 +11,12 @@ fn position(codes: &[u32; 65], n: usize, from: usize, code: u32) -> usize
     requires { (from ≤ n) × (n ≤ 64) × (length codes.now ≡ 65) × Passed from code (take n codes.now) }
     ensures { result ≡ slot code (take n codes.now) }
 {
-    let mut i = from;
-    while i < n {
+    for i in from..n {
         if code <= codes[i] {
             return i;
         }
-        i += 1;
     }
-    i
+    n
 }
 
 // Puts the code at a place among the first n, and those from there on one place further.
@@ -28,15 +26,8 @@ fn insert_at(codes: &mut [u32; 65], n: usize, at: usize, code: u32)
         ≡ take at codes.old ++ (code ∷ drop at (take n codes.old)) }
     ensures codes_len { length codes.new ≡ 65 }
 {
-    let mut i = at;
-    let mut carried = code;
-    while i < n {
-        let next = codes[i];
-        codes[i] = carried;
-        carried = next;
-        i += 1;
-    }
-    codes[n] = carried;
+    codes.copy_within(at..n, at + 1);
+    codes[at] = code;
 }
 
 // How many of the pairs kept are passed in the search for a code: those passed by the last one, where that is below the code.
@@ -57,14 +48,12 @@ pub fn put_pair(codes: &mut [u32; 65], put: Put, code: u32) -> Put
     }
     let n = put.count;
     let at = position(codes, n, passed_by(put, code), code);
-    if at < n {
-        if codes[at] == code {
-            return Put {
-                count: n,
-                next: at + 1,
-                last: code,
-            };
-        }
+    if at < n && codes[at] == code {
+        return Put {
+            count: n,
+            next: at + 1,
+            last: code,
+        };
     }
     insert_at(codes, n, at, code);
     Put {

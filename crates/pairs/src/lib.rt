@@ -4,13 +4,6 @@
 pub mod kept; // pairs of places, kept ascending
 pub mod rule; // the pairs of a rule
 
-// The variable of a record, if it is one.
-#[derive(Clone, Copy)]
-pub enum Name {
-    Nameless,
-    Of(u8),
-}
-
 // How many pairs are kept; the last one that was put, and how many of those kept are not above it.
 #[derive(Clone, Copy)]
 pub struct Put {

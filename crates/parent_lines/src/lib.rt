@@ -31,12 +31,10 @@ fn put_place(buf: &mut [u8], at: usize, d: usize, p: usize, up: usize) -> usize
     if 3 < d {
         return end;
     }
-    let mut j: usize = 1;
-    while j <= 4 {
+    for j in 1..=4 {
         let below = d + 1;
         let child = places::child(d, p, j);
         end = put_place(buf, end, below, child, p);
-        j += 1;
     }
     end
 }
@@ -47,10 +45,8 @@ pub fn put_parents(buf: &mut ParentText)
 {
     *buf = [0; 5210];
     let mut end: usize = 0;
-    let mut a: usize = 1;
-    while a <= 8 {
+    for a in 1..=8 {
         let p = places::argument(a);
         end = put_place(buf, end, 1, p, 680);
-        a += 1;
     }
 }

@@ -10,9 +10,9 @@ use Rattle.decision.specs.Node.{Node}
 use Rattle.decision.specs.Path.{Step, node_at}
 use Rattle.graph.specs.declared.Leaf.{Leaf}
 use Rattle.graph.specs.views.NodeRecord.{leaf_of}
-use Rattle.steps.specs.declared.Step.TheVariants.{Stop, GoTo, NoWay, Refused}
+use Rattle.steps.specs.declared.Step.TheVariants.{Stop, GoTo, NoWay}
 use Rattle.steps.specs.views.CodeSteps.{step_cells, node_code, node_step, NodeStands}
-use Rattle.steps.proofs.StepsMade.{made_stop, made_on, made_stuck, made_some}
+use Rattle.steps.proofs.StepsMade.{made_stop, made_on, made_stuck}
 use Rattle.path.specs.views.Following.{Index, node_from, nodes_at, reached, stopped, cells_end}
 use Rattle.path.proofs.GoingOn.{Going, going_starts, Going-on, going_ends, going_stuck, going_out}
 use Rattle.path.proofs.Indexed.{step_inside, nodes_number, node_at_lem}
@@ -87,6 +87,3 @@ module _ {graph starts : List ℕ} {nodes : ℕ} (index : Index graph starts nod
     pub stands_lost : 64 ≤ edges → NoWay ≡ node_step cells here → stopped 26 ≡ cells_end graph_nodes cells
     stands_lost full e =
         going_out graph_nodes cells g full (by_step (made_stuck (node_code here) (step_cells cells here) e)) refl
-
-    pub stands_some : {q : ℕ} → Refused q ≡ node_step cells here → ⊥
-    stands_some e = made_some (node_code here) (step_cells cells here) e

@@ -7,14 +7,15 @@ ghost use Rattle.path.specs.views.Following.{cells_end, nodes_at, ended_of, edge
 
 use graph::Leaf;
 use piece::Cells;
+use records::Refusal;
 use steps::Step;
 use steps::node::step_at;
 
-// Where following the edges ended: at a leaf, with the edges walked, or by the number of the question that got a no.
+// The leaf where following the edges ended, with the edges walked.
 #[derive(Clone, Copy)]
-pub enum Followed {
-    Reached(Leaf, u8),
-    Refused(u8),
+pub struct Reached {
+    pub leaf: Leaf,
+    pub edges: u8,
 }
 
 // Follows edges from node 0 to a leaf, and leaves the codes of the tests met, in order, at the front of the list. After 64 edges
@@ -26,7 +27,7 @@ pub fn follow_path(
     nodes: u16,
     cells: &Cells,
     met: &mut [u32; 64],
-) -> Followed
+) -> Result<Reached, Refusal>
     requires narrow { Narrow cells.now × (length starts.now ≡ 1024) × (length met.old ≡ 64) }
     requires index { Index graph.now starts.now nodes }
     ensures result_after { ended_of met.new result
@@ -34,26 +35,21 @@ pub fn follow_path(
     ensures met_len { (length met.new ≡ 64) × (edges_of result ≤ 64) }
 {
     let mut node: u16 = 0;
-    let mut edges: u8 = 0;
-    while edges < 64 {
-        let at = starts[node as usize] as usize;
-        let step = step_at(graph, at, cells);
+    for edges in 0..64u8 {
+        let step = step_at(graph, starts[node as usize] as usize, cells)?;
         match step {
-            Step::Stop(leaf) => return Followed::Reached(leaf, edges),
+            Step::Stop(leaf) => return Ok(Reached { leaf, edges }),
             Step::GoTo(next, test) => {
                 met[edges as usize] = test;
                 node = next;
             }
-            Step::NoWay => return Followed::Refused(27),
-            Step::Refused(q) => return Followed::Refused(q),
+            Step::NoWay => return Err(Refusal::PlaceMissing),
         }
-        edges += 1;
     }
-    let last = step_at(graph, starts[node as usize] as usize, cells);
+    let last = step_at(graph, starts[node as usize] as usize, cells)?;
     match last {
-        Step::Stop(leaf) => Followed::Reached(leaf, edges),
-        Step::GoTo(_, _) => Followed::Refused(26),
-        Step::NoWay => Followed::Refused(26),
-        Step::Refused(q) => Followed::Refused(q),
+        Step::Stop(leaf) => Ok(Reached { leaf, edges: 64 }),
+        Step::GoTo(_, _) => Err(Refusal::TooManyEdges),
+        Step::NoWay => Err(Refusal::TooManyEdges),
     }
 }

@@ -12,9 +12,8 @@ use Rattle.basics.specs.Lists.{count_from}
 use Rattle.terms.specs.Term.{Wide}
 use Rattle.patterns.specs.declared.PatternRecord.{PatternRecord}
 use Rattle.patterns.specs.declared.PatternRecord.TheVariants.{Anything, Symbol, Range, Compound, Variable, Ranged, Series, Gauged}
-use Rattle.patterns.specs.declared.PatternHead.{PatternHead}
-use Rattle.patterns.specs.declared.PatternHead.TheVariants.{Whole, Refused}
-use Rattle.patterns.specs.views.PatternRecord.{record_bytes, record_spelling, pattern_head}
+use Rattle.std.specs.Prelude.{Ok, Err}
+use Rattle.patterns.specs.views.PatternRecord.{PatternHead, record_bytes, record_spelling, pattern_head}
 use Rattle.patterns.proofs.Heads.{head_cases}
 use Rattle.records.proofs.ByteLists.{byte_at}
 
@@ -72,8 +71,8 @@ module _ (s : List ℕ) (bytes : AreBytes s) where
       ∙ (λ j. is j ∷ get_or s 1 0 ∷ (two_bytes 2 _ ∙ ap (wide_then (wide_at s 2)) (two_bytes 4 (drop 6 s))) j)
 
   abbrev Spells : PatternHead → Type 0
-  Spells (Whole r) = WideFields r × (s ≡ record_spelling r ++ drop (record_bytes r) s)
-  Spells (Refused q) = Unit
+  Spells (Ok r) = WideFields r × (s ≡ record_spelling r ++ drop (record_bytes r) s)
+  Spells (Err r) = Unit
 
   head_spells : Spells (pattern_head s)
   head_spells =
@@ -88,42 +87,42 @@ module _ (s : List ℕ) (bytes : AreBytes s) where
       (λ there is. ((wide 2, wide 4, byte_at s 1 bytes), ranged_bytes 0x27 there is))
 
   -- The wide fields of a whole record are wide, and its gauge is a byte.
-  pub head_wide : {r : PatternRecord} → pattern_head s ≡ Whole r → WideFields r
+  pub head_wide : {r : PatternRecord} → pattern_head s ≡ Ok r → WideFields r
   head_wide e = (subst Spells e head_spells).0
 
   -- The list begins with the bytes that spell a whole record.
-  pub head_spelled : {r : PatternRecord} → pattern_head s ≡ Whole r → s ≡ record_spelling r ++ drop (record_bytes r) s
+  pub head_spelled : {r : PatternRecord} → pattern_head s ≡ Ok r → s ≡ record_spelling r ++ drop (record_bytes r) s
   head_spelled e = (subst Spells e head_spells).1
 
 -- Bytes that begin with those that spell a record have it for their head.
-pub spelled_head : (r : PatternRecord) (rest : List ℕ) → WideFields r → pattern_head (record_spelling r ++ rest) ≡ Whole r
+pub spelled_head : (r : PatternRecord) (rest : List ℕ) → WideFields r → pattern_head (record_spelling r ++ rest) ≡ Ok r
 spelled_head Anything rest w =
     let s = record_spelling Anything ++ rest in
     simp (ne_eqb (length s) 0 (λ e. omega arith))
 spelled_head (Symbol a) rest w =
     let s = record_spelling (Symbol a) ++ rest in
     simp (ne_eqb (length s) 0 (λ e. omega arith), le-leb 3 (length s) (omega arith))
-    (ap (λ (x : ℕ). Whole (Symbol x)) (wide_of_lem a w))
+    (ap (λ (x : ℕ). Ok (Symbol x)) (wide_of_lem a w))
 spelled_head (Range l h) rest w =
     let s = record_spelling (Range l h) ++ rest in
     simp (ne_eqb (length s) 0 (λ e. omega arith), le-leb 5 (length s) (omega arith))
-    (λ j. Whole (Range (wide_of_lem l w.0 j) (wide_of_lem h w.1 j)))
+    (λ j. Ok (Range (wide_of_lem l w.0 j) (wide_of_lem h w.1 j)))
 spelled_head (Compound a n) rest w =
     let s = record_spelling (Compound a n) ++ rest in
     simp (ne_eqb (length s) 0 (λ e. omega arith), le-leb 4 (length s) (omega arith))
-    (ap (λ (x : ℕ). Whole (Compound x n)) (wide_of_lem a w))
+    (ap (λ (x : ℕ). Ok (Compound x n)) (wide_of_lem a w))
 spelled_head (Variable v) rest w =
     let s = record_spelling (Variable v) ++ rest in
     simp (ne_eqb (length s) 0 (λ e. omega arith), le-leb 2 (length s) (omega arith))
 spelled_head (Ranged v l h) rest w =
     let s = record_spelling (Ranged v l h) ++ rest in
     simp (ne_eqb (length s) 0 (λ e. omega arith), le-leb 6 (length s) (omega arith))
-    (λ j. Whole (Ranged v (wide_of_lem l w.0 j) (wide_of_lem h w.1 j)))
+    (λ j. Ok (Ranged v (wide_of_lem l w.0 j) (wide_of_lem h w.1 j)))
 spelled_head (Series l h) rest w =
     let s = record_spelling (Series l h) ++ rest in
     simp (ne_eqb (length s) 0 (λ e. omega arith), le-leb 5 (length s) (omega arith))
-    (λ j. Whole (Series (wide_of_lem l w.0 j) (wide_of_lem h w.1 j)))
+    (λ j. Ok (Series (wide_of_lem l w.0 j) (wide_of_lem h w.1 j)))
 spelled_head (Gauged g l h) rest w =
     let s = record_spelling (Gauged g l h) ++ rest in
     simp (ne_eqb (length s) 0 (λ e. omega arith), le-leb 6 (length s) (omega arith))
-    (λ j. Whole (Gauged g (wide_of_lem l w.0 j) (wide_of_lem h w.1 j)))
+    (λ j. Ok (Gauged g (wide_of_lem l w.0 j) (wide_of_lem h w.1 j)))

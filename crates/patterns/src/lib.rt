@@ -19,10 +19,3 @@ pub enum PatternRecord {
     Series(u16, u16),
     Gauged(u8, u16, u16),
 }
-
-// The record that the input begins with, or the number of the question that it got a no from.
-#[derive(Clone, Copy)]
-pub enum PatternHead {
-    Whole(PatternRecord),
-    Refused(u8),
-}

@@ -40,6 +40,7 @@ pub fn note_place(code: u64) -> usize
 }
 
 // The record of a note, from its number: its own kind, and its fields in their order.
+#[tactic(auto, unfolding(crate::specs::views::NoteCode::code_record))]
 pub fn note_record(code: u64) -> PatternRecord
     ensures { result ≡ (note_of code).what }
 {

@@ -1,17 +1,18 @@
 // The record that a pattern begins with: question 4.
 ghost use Rattle.std.specs.Prelude.{◌≡◌};
-ghost use Rattle.patterns.specs.views.PatternRecord.{pattern_head, ends_head, id_head, head_refusal};
+ghost use Rattle.patterns.specs.views.PatternRecord.{pattern_head, ends_head, id_head};
 
-use crate::{PatternHead, PatternRecord};
+use crate::PatternRecord;
+use records::Refusal;
 
 // Two ends that the input begins with: of a range of numbers or a series of symbols, or, where the kind is odd, behind one byte
 // more, of a ranged variable or a range on a gauge.
-fn ends_head(s: &[u8], kind: u8) -> PatternHead
+fn ends_head(s: &[u8], kind: u8) -> Result<PatternRecord, Refusal>
     ensures { result ≡ ends_head kind s.now }
 {
     let at = (kind % 2) as usize + 1;
     if s.len() < at + 4 {
-        return PatternHead::Refused(4);
+        return Err(Refusal::NotAPattern);
     }
     let low = records::wide(s[at], s[at + 1]);
     let high = records::wide(s[at + 2], s[at + 3]);
@@ -22,55 +23,38 @@ fn ends_head(s: &[u8], kind: u8) -> PatternHead
         0x26 => PatternRecord::Series(low, high),
         _ => PatternRecord::Gauged(first, low, high),
     };
-    PatternHead::Whole(record)
+    Ok(record)
 }
 
 // An id that the input begins with: of a compound, with its arity, or of a symbol.
-fn id_head(s: &[u8], compound: bool) -> PatternHead
+fn id_head(s: &[u8], compound: bool) -> Result<PatternRecord, Refusal>
     ensures { result ≡ id_head compound s.now }
 {
-    if s.len() < 3 {
-        return PatternHead::Refused(4);
-    }
-    let id = records::wide(s[1], s[2]);
-    if compound {
-        if s.len() < 4 {
-            return PatternHead::Refused(4);
+    match s {
+        [_, high, low, arity, ..] if compound => {
+            Ok(PatternRecord::Compound(records::wide(*high, *low), *arity))
         }
-        return PatternHead::Whole(PatternRecord::Compound(id, s[3]));
+        [_, high, low, ..] if !compound => Ok(PatternRecord::Symbol(records::wide(*high, *low))),
+        _ => Err(Refusal::NotAPattern),
     }
-    PatternHead::Whole(PatternRecord::Symbol(id))
 }
 
 // The record of a pattern that the input begins with: question 4. A cut record is never whole, and kind 28 is no pattern. Kinds of
-// one shape share an arm: those with two ends, and those with an id.
-pub fn pattern_head(s: &[u8]) -> PatternHead
+// one shape share an arm: those with an id, and those with two ends, the rest.
+pub fn pattern_head(s: &[u8]) -> Result<PatternRecord, Refusal>
     ensures { result ≡ pattern_head s.now }
 {
-    if s.len() == 0 {
-        return PatternHead::Refused(4);
-    }
-    let kind = s[0];
-    match kind {
-        0x20 => PatternHead::Whole(PatternRecord::Anything),
-        0x21 | 0x23 => id_head(s, kind == 0x23),
-        0x22 | 0x25..=0x27 => ends_head(s, kind),
-        0x24 => {
-            if s.len() < 2 {
-                return PatternHead::Refused(4);
-            }
-            PatternHead::Whole(PatternRecord::Variable(s[1]))
-        }
-        0..=0x1f | 0x28..=255 => PatternHead::Refused(4),
-    }
-}
-
-// The number of the question that a head got a no from, 0 for a whole record.
-pub fn head_refusal(head: PatternHead) -> u8
-    ensures { result ≡ head_refusal head }
-{
-    match head {
-        PatternHead::Whole(_) => 0,
-        PatternHead::Refused(question) => question,
+    let [kind, rest @ ..] = s else {
+        return Err(Refusal::NotAPattern);
+    };
+    match *kind {
+        0x20 => Ok(PatternRecord::Anything),
+        0x21 | 0x23 => id_head(s, *kind == 0x23),
+        0x24 => match rest {
+            [variable, ..] => Ok(PatternRecord::Variable(*variable)),
+            [] => Err(Refusal::NotAPattern),
+        },
+        0..=0x1f | 0x28..=255 => Err(Refusal::NotAPattern),
+        _ => ends_head(s, *kind),
     }
 }

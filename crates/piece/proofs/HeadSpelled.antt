@@ -12,11 +12,11 @@ use Rattle.records.proofs.WideFields.{wide_bound, high_of_lem, low_of_lem, wide_
 use Rattle.terms.specs.Term.{Wide}
 use Rattle.piece.specs.declared.TermRecord.{TermRecord}
 use Rattle.piece.specs.declared.TermRecord.TheVariants.{Unknown, Symbol, Number, Compound, Span, Never, Gauged}
-use Rattle.piece.specs.declared.TermHead.{TermHead}
-use Rattle.piece.specs.declared.TermHead.TheVariants.{Whole, Refused}
 use Rattle.piece.specs.views.TermRecord.{term_head}
 use Rattle.piece.proofs.Heads.{head_cases, record_bytes}
 use Rattle.records.proofs.ByteLists.{byte_at}
+use Rattle.std.specs.Prelude.{Result, Ok, Err}
+use Rattle.records.specs.declared.refusal.Refusal.{Refusal}
 
 -- A record, and the bytes that follow it.
 abbrev pub record_then : TermRecord → List ℕ → List ℕ
@@ -39,9 +39,9 @@ WideRecord Never = Unit
 WideRecord (Gauged g a) = Wide a × (g < 256)
 
 -- A head says that the bytes spell its record.
-abbrev pub HeadSpells : List ℕ → TermHead → Type 0
-HeadSpells s (Whole r) = (s ≡ record_then r (drop (record_bytes r) s)) × WideRecord r
-HeadSpells s (Refused q) = Unit
+abbrev pub HeadSpells : List ℕ → Result TermRecord Refusal → Type 0
+HeadSpells s (Ok r) = (s ≡ record_then r (drop (record_bytes r) s)) × WideRecord r
+HeadSpells s (Err q) = Unit
 
 module _ (s : List ℕ) (bytes : AreBytes s) where
   -- The bytes are the first one and those after it.
@@ -102,7 +102,7 @@ module _ (s : List ℕ) (bytes : AreBytes s) where
       ))
 
 -- What is spelled is read as the record.
-pub spelled_head : (r : TermRecord) (rest : List ℕ) → WideRecord r → term_head (record_then r rest) ≡ Whole r
+pub spelled_head : (r : TermRecord) (rest : List ℕ) → WideRecord r → term_head (record_then r rest) ≡ Ok r
 spelled_head Unknown rest wide = rw (eqb-suc-zero (length rest))
 spelled_head (Symbol a) rest wide =
     let n = length rest in

@@ -10,15 +10,15 @@ use borrow.Author.Tests.{leb-true, eqb-true, le-leb, eq-eqb, ne_eqb}
 use Rattle.records.specs.Reading.{Reading, took, refused, ask, map_reading, after, and_then}
 use Rattle.terms.specs.Term.{Terms}
 use Rattle.piece.specs.declared.Prefix.{Prefix}
-use Rattle.piece.specs.declared.Prefix.TheVariants as prefix
-use Rattle.piece.specs.declared.PieceCheck.{PieceCheck}
-use Rattle.piece.specs.declared.PieceCheck.TheVariants as check
 use Rattle.piece.specs.Piece.{Piece}
 use Rattle.piece.specs.ReadPiece.{read_terms, read_arity, read_prefix, read_piece}
 use Rattle.piece.specs.views.Cells.{store_terms}
 use Rattle.piece.specs.views.LaidOut.{LaidOut, terms_cells, empty_cells, lay_out, arity_read, prefix_read, piece_read}
 use Rattle.piece.specs.CheckPiece.{PieceValues, piece_check_values, piece_values}
 use Rattle.piece.proofs.Readings.{asked, inside, outside}
+use Rattle.std.specs.Prelude.{Result, Ok, Err}
+use Rattle.records.specs.Refusals.{number}
+use Rattle.records.specs.declared.refusal.Refusal.{Refusal}
 
 -- What is known of the bytes where the record that a piece begins with is read.
 pub record ArityRead (s : List ℕ) (a n : ℕ) : Type 0 where
@@ -61,16 +61,16 @@ module _ (s : List ℕ) (there : 2 ≤ length s) (kind : get_or s 0 0 ≡ 0x11) 
   right_arity least most =
       simp (le-leb 2 (length s) there, eq-eqb (get_or s 0 0) 0x11 kind, inside (get_or s 1 0) 8 least most)
 
-module _ (s : List ℕ) (head : Prefix) (read : arity_read head ≡ read_arity s) where
+module _ (s : List ℕ) (head : Result ℕ Refusal) (read : arity_read head ≡ read_arity s) where
   -- Where that record was refused, so is the piece.
   pub arity_refused
-      : {q : ℕ} → head ≡ prefix.Refused q → (cells : List ℕ) → prefix_read cells head ≡ map_reading lay_out (read_prefix s)
+      : {r : Refusal} → head ≡ Err r → refused (number r) ≡ map_reading lay_out (read_prefix s)
   unfolding read_prefix
-  arity_refused told cells = rw (← read, told)
+  arity_refused told = rw (← read, told)
 
-  module _ {n k : ℕ} (told : head ≡ prefix.Read n k) where
+  module _ {n : ℕ} (told : head ≡ Ok n) where
     -- Where it was read, its bytes are there and its arity is 1 to 8.
-    pub arity_known : ArityRead s k n
+    pub arity_known : ArityRead s 2 n
     arity_known = arity_read_lem s (sym read ∙ ap arity_read told)
 
     -- Then the terms decide.
@@ -78,9 +78,7 @@ module _ (s : List ℕ) (head : Prefix) (read : arity_read head ≡ read_arity s
         : {r : Reading (List ℕ)} → r ≡ terms_cells 3 n 0 empty_cells (drop 2 s)
         → after 2 (λ cells. record { arity = n; cells = cells }) r ≡ map_reading lay_out (read_prefix s)
     unfolding read_prefix
-    terms_laid terms =
-        let two = arity_known.bytes in
-        rw terms (rw (← read, told, two) (sym (go (read_terms 3 n (drop 2 s)))))
+    terms_laid terms = rw terms (rw (← read, told) (sym (go (read_terms 3 n (drop 2 s)))))
       where
         go
             : (r : Reading Terms)
@@ -89,7 +87,9 @@ module _ (s : List ℕ) (head : Prefix) (read : arity_read head ≡ read_arity s
         go (took a ts) = refl
         go (refused q) = refl
 
-module _ (s : List ℕ) (r : Prefix) (cells : List ℕ) (read : prefix_read cells r ≡ map_reading lay_out (read_prefix s)) where
+module _
+    (s : List ℕ) (r : Result Prefix Refusal) (cells : List ℕ)
+    (read : prefix_read cells r ≡ map_reading lay_out (read_prefix s)) where
   -- The whole piece is read as the piece that the bytes begin with, and then question 17 is asked.
   whole
       : map_reading lay_out (read_piece s)
@@ -110,18 +110,19 @@ module _ (s : List ℕ) (r : Prefix) (cells : List ℕ) (read : prefix_read cell
       go (took a piece) = last (eqb a (length s)) a piece
       go (refused q) = refl
 
-  -- Bytes left are refused.
-  pub bytes_left : {n a : ℕ} → r ≡ prefix.Read n a → (a ≡ length s → ⊥) → refused 17 ≡ map_reading lay_out (read_piece s)
-  bytes_left told more = sym (whole ∙ (rw (told, ne_eqb _ _ more)))
+  module _ {p : Prefix} (told : r ≡ Ok p) where
+    -- Bytes left are refused.
+    pub bytes_left : (p.bytes ≡ length s → ⊥) → refused 17 ≡ map_reading lay_out (read_piece s)
+    bytes_left more = sym (whole ∙ (rw (told, ne_eqb _ _ more)))
 
-  -- Where no bytes are left, the piece is read.
-  pub piece_took_lem
-      : {n a : ℕ} → r ≡ prefix.Read n a → a ≡ length s
-      → took (length s) (record { arity = n; cells = cells }) ≡ map_reading lay_out (read_piece s)
-  piece_took_lem told all = sym (whole ∙ (rw (told, all, eq-eqb (length s) (length s) refl)))
+    -- Where no bytes are left, the piece is read.
+    pub piece_took_lem
+        : p.bytes ≡ length s
+        → took (length s) (record { arity = p.arity; cells = cells }) ≡ map_reading lay_out (read_piece s)
+    piece_took_lem all = sym (whole ∙ (rw (told, all, eq-eqb (length s) (length s) refl)))
 
   -- Where that piece is refused, so is the whole.
-  pub piece_refused : {q : ℕ} → r ≡ prefix.Refused q → refused q ≡ map_reading lay_out (read_piece s)
+  pub piece_refused : {q : Refusal} → r ≡ Err q → refused (number q) ≡ map_reading lay_out (read_piece s)
   piece_refused told = sym (whole ∙ (rw told))
 
 -- The number and the arity that a reading of a laid out piece says.
@@ -130,9 +131,11 @@ laid_out_result (took a x) = record { refusal = 0; arity = x.arity }
 laid_out_result (refused q) = record { refusal = q; arity = 0 }
 
 -- What the answer of a check says,
-check_result : (bytes : ℕ) (cells : List ℕ) (r : PieceCheck) → piece_check_values r ≡ laid_out_result (piece_read bytes cells r)
-check_result bytes cells (check.Accepted n) = refl
-check_result bytes cells (check.Refused q) = refl
+check_result
+    : (bytes : ℕ) (cells : List ℕ) (r : Result ℕ Refusal)
+    → piece_check_values r ≡ laid_out_result (piece_read bytes cells r)
+check_result bytes cells (Ok n) = refl
+check_result bytes cells (Err q) = refl
 
 -- what a reading says,
 read_result : (r : Reading Piece) → laid_out_result (map_reading lay_out r) ≡ piece_values r
@@ -141,6 +144,6 @@ read_result (refused q) = refl
 
 -- and both are the same where the answer is that of the reading.
 pub check_says
-    : (bytes : ℕ) (cells : List ℕ) (r : PieceCheck) (x : Reading Piece)
+    : (bytes : ℕ) (cells : List ℕ) (r : Result ℕ Refusal) (x : Reading Piece)
     → piece_read bytes cells r ≡ map_reading lay_out x → piece_check_values r ≡ piece_values x
 check_says bytes cells r x e = check_result bytes cells r ∙ ap laid_out_result e ∙ read_result x

@@ -1,6 +1,6 @@
 -- How many places terms in a row and the arguments of a term take up, and where arguments stand, for any number of
 -- levels below them.
-use Prim.Native.Nat.{ℕ, suc, ◌-◌, ◌*◌, ◌≤◌, ◌<◌}
+use Prim.Native.Nat.{ℕ, suc, ◌+◌, ◌-◌, ◌*◌, ◌≤◌, ◌<◌}
 use mathlib.Core.Path.{◌≡◌, ap, ◌∙◌}
 use native.Mathlib.Nat.{mul-le-mul_right}
 use native.Mathlib.Omega.{arith}
@@ -18,6 +18,10 @@ arguments_room below n some most =
 -- The step of the depth that has so many levels below it.
 pub step_of : (below : ℕ) {step : ℕ} → below < 4 → step ≡ stride (4 - (3 - below)) → step ≡ stride (suc below)
 step_of below few is = let counted : 4 - (3 - below) ≡ suc below = omega arith in is ∙ ap stride counted
+
+-- Term i of the n in a row has room where they all have.
+pub row_room : (n i p : ℕ) {step size : ℕ} → step ≡ size → i < n → p + n * size ≤ 680 → p + i * step + size ≤ 680
+row_room n i p {step} {size} is h room = rw is (omega (arith, mul-le-mul_right size h))
 
 -- The arguments of an accepted compound stand where a level is below.
 pub no_arguments : (ts : Terms) → 1 ≤ count ts → Shallows ts 0 → ⊥

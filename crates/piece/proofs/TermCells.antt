@@ -12,11 +12,6 @@ use Rattle.records.proofs.RowSoFar.{later}
 use Rattle.terms.specs.Term.{Term, Terms, count, numbers, compound, nil, cons}
 use Rattle.piece.specs.declared.TermRecord.{TermRecord}
 use Rattle.piece.specs.declared.TermRecord.TheVariants.{Compound, Span}
-use Rattle.piece.specs.declared.TermHead.{TermHead}
-use Rattle.piece.specs.declared.TermHead.TheVariants.{Whole}
-use Rattle.piece.specs.declared.Taken.{Taken}
-use Rattle.piece.specs.declared.Taken.TheVariants as taken
-use Rattle.piece.specs.declared.Taken.TheVariants.{Bytes}
 use Rattle.piece.specs.views.TermRecord.{term_head, on_head}
 use Rattle.piece.specs.ReadPiece.{read_term, read_terms}
 use Rattle.codes.specs.views.Codes.{compound_code, number_code, run_of}
@@ -24,12 +19,15 @@ use Rattle.piece.specs.views.Cells.{store_term, store_terms}
 use Rattle.piece.specs.views.LaidOut.{took_cells, term_cells, terms_cells}
 use Rattle.piece.proofs.Readings.{bytes_of, bytes_map, map_after, same_views, row_took}
 use Rattle.piece.proofs.TermsRead.{read_compound, by_head, too_deep, wrong_arity, with_arguments, term_within, terms_within}
+use Rattle.std.specs.Prelude.{Result, Ok, Err}
+use Rattle.records.specs.Refusals.{number}
+use Rattle.records.specs.declared.refusal.Refusal.{Refusal}
 
 -- The record that the bytes begin with, as the head and then the record tell it.
 pub begins
-    : (s : List ℕ) {h : TermHead} {r known : TermRecord} → h ≡ term_head s → h ≡ Whole r → r ≡ known
-    → term_head s ≡ Whole known
-begins s is whole told = sym is ∙ whole ∙ ap Whole told
+    : (s : List ℕ) {h : Result TermRecord Refusal} {r known : TermRecord} → h ≡ term_head s → h ≡ Ok r → r ≡ known
+    → term_head s ≡ Ok known
+begins s is whole told = sym is ∙ whole ∙ ap Ok told
 
 -- As many terms are read as are asked for.
 same_count
@@ -39,14 +37,15 @@ same_count below n s f g h =
     same_views (λ ts. count ts ≡ n) f g h (read_terms below n s)
     (row_took (λ k ts. count ts ≡ k) nil cons (read_term below) refl (λ k t ts e. ap suc e) n s)
 
-module _ (a : ℕ) (then : List ℕ) (r : Taken) {whole : Reading (List ℕ)} (read : later a (took_cells then r) ≡ whole) where
+module _
+    (a : ℕ) (then : List ℕ) (r : Result ℕ Refusal) {whole : Reading (List ℕ)} (read : later a (took_cells then r) ≡ whole) where
   -- Where more was read after a bytes, the whole took the bytes of both;
-  pub went_on : {b : ℕ} → r ≡ Bytes b → took (a + b) then ≡ whole
+  pub went_on : {b : ℕ} → r ≡ Ok b → took (a + b) then ≡ whole
   went_on told = ap (λ o. later a (took_cells then o)) (sym told) ∙ read
 
   -- where it was refused, so is the whole.
-  pub stopped : {q : ℕ} → r ≡ taken.Refused q → took_cells then r ≡ whole
-  stopped told = ap (took_cells then) told ∙ ap (λ o. later a (took_cells then o)) (sym told) ∙ read
+  pub stopped : {q : Refusal} → r ≡ Err q → refused (number q) ≡ whole
+  stopped told = ap (λ o. later a (took_cells then o)) (sym told) ∙ read
 
 module _ (below : ℕ) (s : List ℕ) (p : ℕ) (cells : List ℕ) where
   -- The cells after the term is stored.
@@ -55,10 +54,11 @@ module _ (below : ℕ) (s : List ℕ) (p : ℕ) (cells : List ℕ) where
 
   -- A term is stored by its record, and a refused head is handed back.
   pub by_record
-      : {h : TermHead} → term_head s ≡ h → map_reading stored (on_head (read_compound below s) h) ≡ term_cells below p cells s
+      : {h : Result TermRecord Refusal} → term_head s ≡ h
+      → map_reading stored (on_head (read_compound below s) h) ≡ term_cells below p cells s
   by_record head = ap (map_reading stored) (sym (by_head below s ∙ ap (on_head (read_compound below s)) head))
 
-  module _ (l h : ℕ) (head : term_head s ≡ Whole (Span l h)) where
+  module _ (l h : ℕ) (head : term_head s ≡ Ok (Span l h)) where
     -- A span with low above high is refused,
     pub span_refused : h < l → refused 32 ≡ term_cells below p cells s
     span_refused above = ap (λ b. map_reading stored (ask 32 b (took 5 (numbers l h)))) (sym (lt-leb l h above)) ∙ by_record head
@@ -70,7 +70,7 @@ module _ (below : ℕ) (s : List ℕ) (p : ℕ) (cells : List ℕ) where
         ap₂ (λ x y. took 5 (set cells p (run_of x y))) low high
         ∙ ap (λ b. map_reading stored (ask 32 b (took 5 (numbers l h)))) (sym (le-leb l h most)) ∙ by_record head
 
-  module _ (a n : ℕ) (head : term_head s ≡ Whole (Compound a n)) where
+  module _ (a n : ℕ) (head : term_head s ≡ Ok (Compound a n)) where
     -- A compound with no level below it is refused.
     pub deep_refused : below ≡ 0 → refused 15 ≡ term_cells below p cells s
     deep_refused none = ap (map_reading stored) (sym (too_deep below s a n none)) ∙ by_record head
@@ -94,16 +94,16 @@ module _ (below : ℕ) (s : List ℕ) (p : ℕ) (cells : List ℕ) where
 
 -- What was read into the cells took no more bytes than there are: a term,
 pub Term-fits
-    : (below : ℕ) (s : List ℕ) (p : ℕ) (cells then : List ℕ) (r : Taken) {a : ℕ}
-    → took_cells then r ≡ term_cells below p cells s → r ≡ Bytes a → a ≤ length s
+    : (below : ℕ) (s : List ℕ) (p : ℕ) (cells then : List ℕ) (r : Result ℕ Refusal) {a : ℕ}
+    → took_cells then r ≡ term_cells below p cells s → r ≡ Ok a → a ≤ length s
 Term-fits below s p cells then r read told =
     let bytes = bytes_map (λ t. store_term t below p cells) (read_term below s) in
     omega (arith, ap bytes_of (ap (took_cells then) (sym told) ∙ read) ∙ bytes, term_within below s)
 
 -- and a row of terms.
 pub terms_fit
-    : (below n : ℕ) (s : List ℕ) (p : ℕ) (cells then : List ℕ) (r : Taken) {a : ℕ}
-    → took_cells then r ≡ terms_cells below n p cells s → r ≡ Bytes a → a ≤ length s
+    : (below n : ℕ) (s : List ℕ) (p : ℕ) (cells then : List ℕ) (r : Result ℕ Refusal) {a : ℕ}
+    → took_cells then r ≡ terms_cells below n p cells s → r ≡ Ok a → a ≤ length s
 terms_fit below n s p cells then r read told =
     let bytes = bytes_map (λ ts. store_terms ts below p cells) (read_terms below n s) in
     omega (arith, ap bytes_of (ap (took_cells then) (sym told) ∙ read) ∙ bytes, terms_within below n s)

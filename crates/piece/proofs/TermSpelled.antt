@@ -16,9 +16,8 @@ use Rattle.terms.specs.Term.{Term, Terms, count, unknown, never, symbol, numbers
 use Rattle.terms.proofs.Gauges.{gauge_and_value, gauge_of_number, value_of_number}
 use Rattle.terms.specs.Filling.{WellFormed, WellFormeds}
 use Rattle.terms.specs.Accepted.{Shallow, Shallows}
+use Rattle.piece.specs.declared.TermRecord.{TermRecord}
 use Rattle.piece.specs.declared.TermRecord.TheVariants.{Unknown, Symbol, Number, Compound, Span, Never, Gauged}
-use Rattle.piece.specs.declared.TermHead.{TermHead}
-use Rattle.piece.specs.declared.TermHead.TheVariants.{Whole, Refused}
 use Rattle.piece.specs.views.TermRecord.{term_head, on_head}
 use Rattle.piece.specs.ReadPiece.{read_term, read_terms}
 use Rattle.piece.specs.WritePiece.{SpellsTerm, SpellsTerms}
@@ -27,6 +26,8 @@ use Rattle.piece.proofs.Readings.{inside}
 use Rattle.piece.proofs.TermsRead.{read_compound, by_head}
 use Rattle.piece.proofs.HeadSpelled.{record_then, HeadSpells, head_spells, spelled_head}
 use Rattle.records.proofs.ByteLists.{bytes_drop}
+use Rattle.std.specs.Prelude.{Result, Ok, Err}
+use Rattle.records.specs.declared.refusal.Refusal.{Refusal}
 
 -- The bytes s begin with the k bytes of the term t, which is accepted where so many levels are below it;
 pub record TermSpelled (s : List ℕ) (below k : ℕ) (t : Term) : Type 0 where
@@ -158,12 +159,12 @@ span_read s below l h head wide = go (leb l h) (leb-true l h)
 by_head_spelled
     : (s : List ℕ) (below : ℕ)
     → ((a n : ℕ) → s ≡ record_then (Compound a n) (drop 4 s) → Wide a → TermRead s below (read_compound below s a n))
-    → (h : TermHead) → HeadSpells s h → TermRead s below (on_head (read_compound below s) h)
-by_head_spelled s below compounds (Whole Unknown) spelled =
+    → (h : Result TermRecord Refusal) → HeadSpells s h → TermRead s below (on_head (read_compound below s) h)
+by_head_spelled s below compounds (Ok Unknown) spelled =
     record { well_formed = tt; shallow = omega arith; own = _; spells = refl; size = refl; bytes = spelled.0 }
-by_head_spelled s below compounds (Whole (Symbol a)) spelled =
+by_head_spelled s below compounds (Ok (Symbol a)) spelled =
     record { well_formed = spelled.1; shallow = omega arith; own = _; spells = refl; size = refl; bytes = spelled.0 }
-by_head_spelled s below compounds (Whole (Number a)) spelled =
+by_head_spelled s below compounds (Ok (Number a)) spelled =
     record {
       well_formed = (omega arith, omega (arith, spelled.1), inl refl);
       shallow = omega arith;
@@ -172,11 +173,11 @@ by_head_spelled s below compounds (Whole (Number a)) spelled =
       size = refl;
       bytes = spelled.0;
     }
-by_head_spelled s below compounds (Whole (Compound a n)) spelled = compounds a n spelled.0 spelled.1
-by_head_spelled s below compounds (Whole (Span l h)) spelled = span_read s below l h spelled.0 spelled.1.1
-by_head_spelled s below compounds (Whole Never) spelled =
+by_head_spelled s below compounds (Ok (Compound a n)) spelled = compounds a n spelled.0 spelled.1
+by_head_spelled s below compounds (Ok (Span l h)) spelled = span_read s below l h spelled.0 spelled.1.1
+by_head_spelled s below compounds (Ok Never) spelled =
     record { well_formed = tt; shallow = omega arith; own = _; spells = refl; size = refl; bytes = spelled.0 }
-by_head_spelled s below compounds (Whole (Gauged g a)) spelled =
+by_head_spelled s below compounds (Ok (Gauged g a)) spelled =
     let wide = spelled.1.0 in
     let gauge = gauge_of_number g a wide in
     let value = value_of_number g a wide in
@@ -188,7 +189,7 @@ by_head_spelled s below compounds (Whole (Gauged g a)) spelled =
       size = refl;
       bytes = spelled.0;
     }
-by_head_spelled s below compounds (Refused q) spelled = tt
+by_head_spelled s below compounds (Err q) spelled = tt
 
 -- What is read as a term is accepted and spelled,
 pub term_spelled : (below : ℕ) (s : List ℕ) → AreBytes s → TermRead s below (read_term below s)
@@ -207,7 +208,8 @@ terms_spelled below n s bytes = row_spelled below (term_spelled below) n s bytes
 
 -- Bytes that spell a record are read by it.
 read_head
-    : (below : ℕ) (s : List ℕ) {h : TermHead} → term_head s ≡ h → read_term below s ≡ on_head (read_compound below s) h
+    : (below : ℕ) (s : List ℕ) {h : Result TermRecord Refusal} → term_head s ≡ h
+    → read_term below s ≡ on_head (read_compound below s) h
 read_head below s head = by_head below s ∙ ap (on_head (read_compound below s)) head
 
 -- "A span with low above high is refused (32)."

@@ -13,8 +13,8 @@ use Rattle.lines.specs.Lines.{sheet_line}
 use Rattle.lines.proofs.Wrote.{Wrote, wrote_as, wrote_behind}
 use Rattle.walk.specs.Walking.{walk_reply}
 use Rattle.walk.specs.declared.Sizes.{Sizes}
-use Rattle.walk_all.specs.declared.Opened.{Opened}
-use Rattle.walk_all.specs.declared.Opened.TheVariants.{Ready}
+use Rattle.std.specs.Prelude.{Result, Ok, Err}
+use Rattle.records.specs.declared.refusal.Refusal.{Refusal}
 use Rattle.walk_all.specs.views.Known.{Known, OpenedAs}
 use Rattle.piece_lines.specs.BuiltLines.{piece_lines, built_lines}
 use Rattle.piece_lines.proofs.SheetLine.{Known-values}
@@ -44,6 +44,7 @@ bytes_behind from input bytes i =
 
 -- What is known where the graph is accepted for the sheet.
 pub known_ready
-    : (s g starts kept : List ℕ) {opened : Opened} {sizes : Sizes} → OpenedAs s g starts kept opened → opened ≡ Ready sizes
+    : (s g starts kept : List ℕ) {opened : Result Sizes Refusal} {sizes : Sizes} → OpenedAs s g starts kept opened
+    → opened ≡ Ok sizes
     → Known s g starts kept sizes
 known_ready s g starts kept h e = (subst (OpenedAs s g starts kept) e h).known

@@ -8,7 +8,9 @@ use Rattle.records.specs.Reading.{Reading, took, refused, and_then}
 use Rattle.records.specs.Writing.{splice}
 use Rattle.piece.specs.Piece.{Piece}
 use Rattle.piece.specs.declared.Prefix.{Prefix}
-use Rattle.piece.specs.declared.Prefix.TheVariants as prefix
+use Rattle.std.specs.Prelude.{Result, Ok, Err}
+use Rattle.records.specs.Refusals as refusals
+use Rattle.records.specs.declared.refusal.Refusal.{Refusal}
 use Rattle.piece.specs.ReadPiece.{read_prefix}
 use Rattle.decision.specs.Walk.{Walk}
 use Rattle.lines.specs.Lines.{refused_line}
@@ -16,7 +18,7 @@ use Rattle.lines.proofs.Wrote.{Wrote}
 use Rattle.piece_lines.specs.BuiltLines.{first_walk}
 use Rattle.piece_lines.specs.declared.Turn.{Turn}
 use Rattle.piece_lines.specs.declared.Turn.TheVariants.{More, Last}
-use Rattle.walk.specs.declared.Walked.{Walked}
+use Rattle.walk.specs.declared.Walk as given
 use Rattle.walk_all.specs.views.FirstPiece.{first_reply, first_of, first_made}
 use Rattle.piece_lines.specs.views.Turned.{Turned, answered, turned, walk_line}
 
@@ -78,12 +80,12 @@ Told-more xs at number (refused q) {k} {end} e =
 
 -- A turn that takes bytes takes those of a piece that was read.
 pub more_read
-    : (xs : List ℕ) (at number : ℕ) {k end : ℕ} {ys : List ℕ} (r : Prefix) (w : Walked)
+    : (xs : List ℕ) (at number : ℕ) {k end : ℕ} {ys : List ℕ} (r : Result Prefix Refusal) (w : Result given.Walk Refusal)
     → ◌≡◌ {A = Turned} (record { turn = More k end; buffer = ys }) (turned xs at number (answered (first_of (first_made r w))))
-    → (n : ℕ) × (j : ℕ) × (r ≡ prefix.Read n j)
-more_read xs at number (prefix.Read n j) w e = (n, j, refl)
-more_read xs at number {k = k} {end = end} (prefix.Refused q) w e =
-    let turn : More k end ≡ Last (at + length (refused_line q)) = ap (λ x. x.turn) e in
+    → (x : Prefix) × (r ≡ Ok x)
+more_read xs at number (Ok x) w e = (x, refl)
+more_read xs at number {k = k} {end = end} (Err q) w e =
+    let turn : More k end ≡ Last (at + length (refused_line (refusals.number q))) = ap (λ x. x.turn) e in
     let z : ◌≡◌ {A = ℕ} 0 1 = cc in absurd (omega arith)
 
 -- What is written at a buffer's start.

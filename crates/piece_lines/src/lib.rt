@@ -9,11 +9,11 @@ ghost use Rattle.piece_lines.specs.views.GraphFor.{GraphFor};
 ghost use Rattle.piece_lines.specs.views.Turned.{answered, turned, Within};
 
 use piece::read_prefix;
-use walk::Walked;
+use records::Refusal;
 use walk::call::walk_checked;
+use walk_all::First;
 use walk_all::first_piece::{first_of, has_arity, used_by};
 use walk_all::open::open_graph;
-use walk_all::{First, Opened};
 
 // What came of a piece: its bytes and the position behind its line, or the position behind the line that ends the run.
 #[derive(Clone, Copy)]
@@ -24,20 +24,21 @@ pub enum Turn {
 
 // The line of a piece with a number, at a position. Not a line for a piece whose walk is refused, nor a refusal that lets the run
 // go on.
-fn put_first(first: First, number: u32, out: &mut [u8], at: usize) -> Turn
+fn put_first(first: Result<First, Refusal>, number: u32, out: &mut [u8], at: usize) -> Turn
     requires { at + 44 ≤ length out.old }
     ensures out_after { record { turn = result; buffer = out.new }
         ≡ turned out.old at number (answered (first_of first)) }
     ensures by_index { (bytes : ℕ) → PieceWithin bytes first → Within bytes at result }
 {
     match first {
-        First::Unread(q) => Turn::Last(lines::put_refused(out, at, q)),
-        First::Refused(_, q) => Turn::Last(lines::put_refused(out, at, q)),
-        First::Answered(bytes, w) => {
-            let answer = w.answer;
-            let end = lines::put_piece_line(out, at, number, answer, w.edges, w.waits);
-            Turn::More(bytes, end)
-        }
+        Err(refusal) => Turn::Last(lines::put_refused(out, at, refusal)),
+        Ok(piece) => match piece.walk {
+            Err(refusal) => Turn::Last(lines::put_refused(out, at, refusal)),
+            Ok(w) => {
+                let end = lines::put_piece_line(out, at, number, w.answer, w.edges, w.waits);
+                Turn::More(piece.bytes, end)
+            }
+        },
     }
 }
 
@@ -55,8 +56,8 @@ pub fn put_built(sheet: &[u8], graph: &[u8], nodes: u16, input: &[u8], out: &mut
     let mut kept = [0u64; 324];
     let opened = open_graph(sheet, graph, &mut starts, &mut notes, &mut kept);
     match opened {
-        Opened::Refused(q) => lines::put_refused(out, 0, q),
-        Opened::Ready(sizes) => {
+        Err(refusal) => lines::put_refused(out, 0, refusal),
+        Ok(sizes) => {
             let tests = tables::tests(&kept) as u8;
             let mut end = lines::put_sheet_line(out, 0, sizes.arity, sizes.rules, tests, nodes);
             let mut cells = [0u64; 680];
@@ -65,12 +66,11 @@ pub fn put_built(sheet: &[u8], graph: &[u8], nodes: u16, input: &[u8], out: &mut
             let mut n: u32 = 1;
             while from < input.len() {
                 let prefix = read_prefix(&input[from..], &mut cells, used);
-                let mut walked = Walked::Refused(20);
+                let mut walk = Err(Refusal::AritiesDiffer);
                 if has_arity(prefix, sizes.arity) {
-                    walked = walk_checked(sheet, graph, &starts, &kept, sizes, &mut notes, &cells);
+                    walk = walk_checked(sheet, graph, &starts, &kept, sizes, &mut notes, &cells);
                 }
-                let first = first_of(prefix, walked);
-                let turn = put_first(first, n, out, end);
+                let turn = put_first(first_of(prefix, walk), n, out, end);
                 match turn {
                     Turn::Last(last) => return last,
                     Turn::More(bytes, next) => {

@@ -12,8 +12,7 @@ use Rattle.patterns.specs.declared.PatternRecord.TheVariants.{Anything, Symbol, 
 use Rattle.patterns.specs.views.Note.{Note, note}
 use Rattle.patterns.specs.views.NoteCode.{note_of, code_place, code_record}
 use Rattle.sheet.specs.views.NoteArray.{notes_in}
-use Rattle.pairs.specs.declared.Name.{Name}
-use Rattle.pairs.specs.declared.Name.TheVariants.{Nameless, Of}
+use Rattle.std.specs.Prelude.{Option, Some, None}
 use Rattle.pairs.specs.views.NoteVariables.{name_of, names_variable, occurrence, notes_variables}
 use Rattle.pairs.proofs.NoteRows.{notes_next, notes_end}
 use Rattle.plain.proofs.Gathering.{together_append}
@@ -97,23 +96,23 @@ module _ (codes : List ℕ) (n : ℕ) (within : n ≤ length codes) (i : ℕ) wh
     all_from j = together f (pairs_of (notes_variables (from j)))
 
     all_turn
-        : (name : Name) → i < n → name_of (code_record code) ≡ name
+        : (name : Option ℕ) → i < n → name_of (code_record code) ≡ name
         → all_from i ≡ together f (pairs_of (occurrence (code_place code) name (notes_variables (from (i + 1)))))
     all_turn name h e =
         ap (λ (ns : List Note). together f (pairs_of (notes_variables ns))) (notes_next codes n within i h)
-        ∙ ap (λ (x : Name). together f (pairs_of (occurrence (code_place code) x (notes_variables (from (i + 1)))))) e
+        ∙ ap (λ (x : Option ℕ). together f (pairs_of (occurrence (code_place code) x (notes_variables (from (i + 1)))))) e
 
     -- A variable makes pairs with its later places,
     pub variable_turn
-        : (v : ℕ) → i < n → name_of (code_record code) ≡ Of v
+        : (v : ℕ) → i < n → name_of (code_record code) ≡ Some v
         → all_from i ≡ ◌and◌ (pairs_from (code_place code) v (i + 1)) (all_from (i + 1))
     variable_turn v h e =
         let os = notes_variables (from (i + 1)) in
-        all_turn (Of v) h e ∙ together_append f (pairs_with (code_place code) v os) (pairs_of os)
+        all_turn (Some v) h e ∙ together_append f (pairs_with (code_place code) v os) (pairs_of os)
 
     -- and any other record none.
-    pub nameless_turn : i < n → name_of (code_record code) ≡ Nameless → all_from i ≡ all_from (i + 1)
-    nameless_turn h e = all_turn Nameless h e
+    pub nameless_turn : i < n → name_of (code_record code) ≡ None → all_from i ≡ all_from (i + 1)
+    nameless_turn h e = all_turn None h e
 
     pub no_pairs : n ≤ i → all_from i ≡ holds
     no_pairs h = ap (λ (ns : List Note). together f (pairs_of (notes_variables ns))) (notes_end codes n within i h)

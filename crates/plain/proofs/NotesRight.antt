@@ -28,8 +28,7 @@ use Rattle.sheet.specs.views.NoteRanges.{range_in, low_end, high_end, lows_of, h
 use Rattle.sheet.proofs.CommonRanges.{rule_range}
 use Rattle.sheet.proofs.RangeArrays.{variable_at}
 use Rattle.sheet.proofs.NoteTests.{record_tests, tests_in, rule_tests_lem}
-use Rattle.pairs.specs.declared.Name.{Name}
-use Rattle.pairs.specs.declared.Name.TheVariants.{Nameless, Of}
+use Rattle.std.specs.Prelude as std
 use Rattle.pairs.specs.views.NoteVariables.{name_of, occurrence, notes_variables, Placed}
 use Rattle.sheet_tests.proofs.NotedTests.{rule_varied}
 use Rattle.piece.specs.views.LaidOut.{piece_cells}
@@ -53,9 +52,11 @@ variables_placed : (notes : List Note) → All Placed notes → All OccurrencePl
 variables_placed [] h = tt
 variables_placed (n ∷ notes) h = go (name_of n.what) (variables_placed notes h.1)
   where
-    go : (name : Name) → All OccurrencePlaced (notes_variables notes) → All OccurrencePlaced (occurrence n.place name (notes_variables notes))
-    go Nameless rest = rest
-    go (Of v) rest = (h.0, rest)
+    go
+        : (name : std.Option ℕ) → All OccurrencePlaced (notes_variables notes)
+        → All OccurrencePlaced (occurrence n.place name (notes_variables notes))
+    go std.None rest = rest
+    go (std.Some v) rest = (h.0, rest)
 
 with_placed
     : (p v : ℕ) → p < 680 → (os : List Occurrence) → All OccurrencePlaced os → All PairPlaced (pairs_with p v os)

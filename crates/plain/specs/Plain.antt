@@ -1,12 +1,13 @@
 -- The plain answer, from bytes (document 01, "The walk", "Questions at the counter").
-use Rattle.std.specs.Prelude.{ℕ, List, eqb}
+use Rattle.std.specs.Prelude.{ℕ, List, eqb, Result}
 use Rattle.records.specs.Reading.{Reading, took, refused, ask, and_then}
+use Rattle.records.specs.Refusals.{reading_in}
+use Rattle.records.specs.declared.refusal.Refusal.{Refusal}
 use Rattle.terms.specs.Pattern.{Patterns}
 use Rattle.terms.specs.Answer.{Answer, commit, execute, suspend, fail, word_of, rule_of, plain_answer}
 use Rattle.sheet_tests.specs.CheckSheet.{accept_sheet}
 use Rattle.piece.specs.ReadPiece.{read_piece}
 use Rattle.plain.specs.declared.Answer as answer
-use Rattle.plain.specs.declared.Plain as plain
 
 -- The answer for a piece of bytes p, where these are the rules of an accepted sheet: "the piece's, then 20": "20 Are
 -- the two arities equal?"
@@ -42,6 +43,5 @@ answer_of (answer.TheVariants.Execute i) = execute i
 answer_of answer.TheVariants.Suspend = suspend
 answer_of answer.TheVariants.Fail = fail
 
-abbrev pub plain_values : plain.Plain → PlainValues
-plain_values (plain.TheVariants.Answered a) = answer_values (answer_of a)
-plain_values (plain.TheVariants.Refused q) = plain_refusal_values q
+abbrev pub plain_values : Result answer.Answer Refusal → PlainValues
+plain_values r = reading_values (reading_in (λ a. took 0 (answer_of a)) r)

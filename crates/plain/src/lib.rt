@@ -11,10 +11,3 @@ pub enum Answer {
     Suspend,
     Fail,
 }
-
-// The answer, or the number of the question that got a no.
-#[derive(Clone, Copy)]
-pub enum Plain {
-    Answered(Answer),
-    Refused(u8),
-}

@@ -12,7 +12,6 @@ ghost use Rattle.plain.specs.views.NotesOutcome.{fixed_outcome, range_outcome, r
 ghost use Rattle.plain.specs.views.NotesOutcome.{pair_test_cells, pairs_outcome, notes_outcome};
 
 use outcomes::{TestOutcome, both, pair_outcome, place_outcome};
-use pairs::Name;
 use patterns::PatternRecord;
 use piece::Cells;
 use sheet::Ranges;
@@ -103,8 +102,7 @@ fn places_outcome(notes: &[u64; 680], n: usize, ranges: Ranges, cells: &Cells) -
         ≡ places_outcome cells.now ranges.low ranges.high (notes_in notes.now n) }
 {
     let mut outcome = TestOutcome::Holds;
-    let mut i: usize = 0;
-    while i < n {
+    for i in 0..n {
         let code = notes[i];
         let one = record_outcome(
             cells,
@@ -116,7 +114,6 @@ fn places_outcome(notes: &[u64; 680], n: usize, ranges: Ranges, cells: &Cells) -
             return one;
         }
         outcome = both(outcome, one);
-        i += 1;
     }
     outcome
 }
@@ -137,8 +134,7 @@ fn pairs_with(
         (pairs_with place v (notes_variables (drop from (notes_in notes.now n)))) }
 {
     let mut outcome = TestOutcome::Holds;
-    let mut j = from;
-    while j < n {
+    for j in from..n {
         let code = notes[j];
         if pairs::rule::is_named(v, patterns::note_record(code)) {
             outcome = both(
@@ -146,7 +142,6 @@ fn pairs_with(
                 pair_outcome(cells, place, patterns::note_place(code)),
             );
         }
-        j += 1;
     }
     outcome
 }
@@ -157,17 +152,14 @@ fn pairs_outcome(notes: &[u64; 680], n: usize, cells: &Cells) -> TestOutcome
     ensures { outcome_of result ≡ pairs_outcome cells.now (notes_in notes.now n) }
 {
     let mut outcome = TestOutcome::Holds;
-    let mut i: usize = 0;
-    while i < n {
+    for i in 0..n {
         let code = notes[i];
-        let name = pairs::rule::name_of(patterns::note_record(code));
-        if let Name::Of(v) = name {
+        if let Some(v) = pairs::rule::name_of(patterns::note_record(code)) {
             outcome = both(
                 outcome,
                 pairs_with(notes, n, i + 1, patterns::note_place(code), v, cells),
             );
         }
-        i += 1;
     }
     outcome
 }

@@ -5,8 +5,11 @@ use mathlib.Core.List.{List, [], ◌∷◌}
 use native.Mathlib.Omega.{arith}
 use lib.Dec.{leb, eqb}
 use lib.ListN.{length, get_or, drop}
+use Rattle.std.specs.Prelude.{Result, Ok, Err}
 use Rattle.records.specs.Fields.{wide_at}
 use Rattle.records.specs.Reading.{Reading, took, refused, ask, after}
+use Rattle.records.specs.Refusals.{number}
+use Rattle.records.specs.declared.refusal.Refusal.{Refusal}
 use Rattle.terms.specs.Term.{Terms}
 use Rattle.terms.specs.Pattern.{Patterns}
 use Rattle.sheet_tests.specs.SheetTests.{Test}
@@ -19,10 +22,6 @@ use Rattle.graph.specs.declared.NodeRecord.{NodeRecord}
 use Rattle.graph.specs.declared.NodeRecord.TheVariants.{End, Switch, Pair}
 use Rattle.graph.specs.declared.CaseRecord.{CaseRecord}
 use Rattle.graph.specs.declared.CaseRecord.TheVariants.{Symbols, Compound, Numbers}
-use Rattle.graph.specs.declared.NodeHead.{NodeHead}
-use Rattle.graph.specs.declared.NodeHead.TheVariants.{Whole, Refused}
-use Rattle.graph.specs.declared.CaseHead.{CaseHead}
-use Rattle.graph.specs.declared.CaseHead.TheVariants as case
 use Rattle.graph.specs.views.NodeRecord.{whole_node, whole_case, switch_length, switch_record, node_head, case_head, on_case, on_node}
 use Rattle.graph.specs.ReadGraph.{read_cases, is_sheet_test, in_range, in_order, read_node, read_nodes, end_graph, has_header, read_by, read_graph, read_case, read_record}
 use Rattle.accepted.proofs.Named.{Named, ask_named, then_named, after_named, map_named, row_named}
@@ -31,15 +30,15 @@ use Rattle.graph.proofs.ByKinds.{case_by_kind, node_by_kind}
 use mathlib.Core.Path.{sym, subst}
 
 -- So it is with the record of a case,
-abbrev CaseNamed : CaseHead → Type 0
-CaseNamed (case.Whole r) = Unit
-CaseNamed (case.Refused q) = GraphQuestion q
+abbrev CaseNamed : Result CaseRecord Refusal → Type 0
+CaseNamed (Ok r) = Unit
+CaseNamed (Err r) = GraphQuestion (number r)
 
 whole_case_lem : (b : Bool) (r : CaseRecord) → CaseNamed (whole_case b r)
 whole_case_lem true r = tt
 whole_case_lem false r = (omega arith, omega arith)
 
-kind_case : (b : Bool) (x y : CaseHead) → CaseNamed x → CaseNamed y → CaseNamed (cond b x y)
+kind_case : (b : Bool) (x y : Result CaseRecord Refusal) → CaseNamed x → CaseNamed y → CaseNamed (cond b x y)
 kind_case true x y h k = h
 kind_case false x y h k = k
 
@@ -51,11 +50,11 @@ case_head_named s =
     (kind_case (eqb (get_or s 0 0) 0x46) _ _ (whole_case_lem (leb 8 (length s)) (Numbers (wide_at s 2) (wide_at s 4) (wide_at s 6) (get_or s 1 0)))
     (omega arith, omega arith))))
 
-on_case_named : (h : CaseHead) → CaseNamed h → Named GraphQuestion (on_case h)
-on_case_named (case.Whole (Symbols l u n)) h = tt
-on_case_named (case.Whole (Compound a k n)) h = tt
-on_case_named (case.Whole (Numbers l u n g)) h = tt
-on_case_named (case.Refused q) h = h
+on_case_named : (h : Result CaseRecord Refusal) → CaseNamed h → Named GraphQuestion (on_case h)
+on_case_named (Ok (Symbols l u n)) h = tt
+on_case_named (Ok (Compound a k n)) h = tt
+on_case_named (Ok (Numbers l u n g)) h = tt
+on_case_named (Err q) h = h
 
 cases_named : (n : ℕ) (s : List ℕ) → Named GraphQuestion (read_cases n s)
 cases_named n s =
@@ -65,15 +64,15 @@ cases_named n s =
     n s
 
 -- of a node,
-abbrev NodeNamed : NodeHead → Type 0
-NodeNamed (Whole r) = Unit
-NodeNamed (Refused q) = GraphQuestion q
+abbrev NodeNamed : Result NodeRecord Refusal → Type 0
+NodeNamed (Ok r) = Unit
+NodeNamed (Err r) = GraphQuestion (number r)
 
 whole_node_lem : (b : Bool) (r : NodeRecord) → NodeNamed (whole_node b r)
 whole_node_lem true r = tt
 whole_node_lem false r = (omega arith, omega arith)
 
-kind_node_lem : (b : Bool) (x y : NodeHead) → NodeNamed x → NodeNamed y → NodeNamed (cond b x y)
+kind_node_lem : (b : Bool) (x y : Result NodeRecord Refusal) → NodeNamed x → NodeNamed y → NodeNamed (cond b x y)
 kind_node_lem true x y h k = h
 kind_node_lem false x y h k = k
 
@@ -89,15 +88,15 @@ node_head_named s =
     (whole_node_lem (leb 9 (length s)) (Pair (wide_at s 1) (wide_at s 3) (wide_at s 5) (wide_at s 7)))
     (omega arith, omega arith))))))
 
-on_node_named : (s : List ℕ) (h : NodeHead) → NodeNamed h → Named GraphQuestion (on_node s h)
-on_node_named s (Whole (End l)) h = tt
-on_node_named s (Whole (Switch n count x y)) h =
+on_node_named : (s : List ℕ) (h : Result NodeRecord Refusal) → NodeNamed h → Named GraphQuestion (on_node s h)
+on_node_named s (Ok (End l)) h = tt
+on_node_named s (Ok (Switch n count x y)) h =
     let node : List (CaseEdge ℕ) → Node ℕ = λ cases. switch n cases x y in
     let read : Reading (Node ℕ) = after switch_length node (read_cases count (drop switch_length s)) in
     ask_named GraphQuestion 22 (leb 1 count) read (omega arith, omega arith)
     (after_named GraphQuestion switch_length node (read_cases count (drop switch_length s)) (cases_named count (drop switch_length s)))
-on_node_named s (Whole (Pair p q x y)) h = tt
-on_node_named s (Refused q) h = h
+on_node_named s (Ok (Pair p q x y)) h = tt
+on_node_named s (Err q) h = h
 
 module _ (test : Test → Bool) (rules nodes : ℕ) where
   node_named : (s : List ℕ) → Named GraphQuestion (read_node test rules nodes s)

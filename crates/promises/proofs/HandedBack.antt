@@ -1,23 +1,24 @@
--- Demand 3 of what the calls hand back: of every enum whose values are those that the contract of `walk` or of `plain` gives.
+-- Demand 3 of what the calls hand back: of every result whose values are those that the contract of `walk` or of `plain` gives.
 use Prim.Native.Nat.{ℕ}
 use mathlib.Core.Path.{◌≡◌, refl, sym, ap, subst, ◌∙◌}
 use mathlib.Core.List.{List}
 use native.Mathlib.Omega.{arith}
+use Rattle.std.specs.Prelude.{Result, Ok, Err}
 use Rattle.records.specs.Reading.{Reading, took, refused}
+use Rattle.records.specs.Refusals.{number}
+use Rattle.records.specs.declared.refusal.Refusal.{Refusal}
 use Rattle.terms.specs.Filling.{FilledFurther}
 use Rattle.terms.specs.Answer.{Answer, commit, execute, suspend, fail, word_of, rule_of}
 use Rattle.terms.specs.Right.{Right, Keeps}
 use Rattle.sheet.specs.Sheet.{Sheet}
 use Rattle.piece.specs.Piece.{Piece}
 use Rattle.plain.specs.declared.Answer as answer
-use Rattle.plain.specs.declared.Plain as plain
 use Rattle.promises.specs.AcceptedBytes.{AcceptedBytes}
 use Rattle.plain.specs.Plain.{PlainValues, plain_reading, answer_values, reading_values, answer_of, plain_values}
 use Rattle.promises.proofs.PlainBytes.{plain_bytes_right, plain_bytes_keep}
 use Rattle.decision.specs.Walk.{Walk}
 use Rattle.order.specs.Asking.{Asking}
 use Rattle.walk.specs.declared.Walk as given
-use Rattle.walk.specs.declared.Walked as walked
 use Rattle.walk.specs.Walking.{WalkValues, walk_reply, reply_values, walk_values, walked_values}
 use Rattle.promises.specs.BuiltGraph.{BuiltGraph}
 use Rattle.promises.specs.Path.{EdgesOfPath}
@@ -54,33 +55,33 @@ no_word fail e = omega (arith, e)
 
 -- What has the values of an answer is that answer.
 plain_handed
-    : (r : plain.Plain) (a : Answer) → plain_values r ≡ answer_values a
-    → (b : answer.Answer) × (r ≡ plain.TheVariants.Answered b) × (answer_of b ≡ a)
-plain_handed (plain.TheVariants.Answered b) a e = (
+    : (r : Result answer.Answer Refusal) (a : Answer) → plain_values r ≡ answer_values a
+    → (b : answer.Answer) × (r ≡ Ok b) × (answer_of b ≡ a)
+plain_handed (Ok b) a e = (
   b,
   refl,
   answer_determined (answer_of b) a (ap (λ (x : PlainValues). x.word) e) (ap (λ (x : PlainValues). x.rule) e),
 )
-plain_handed (plain.TheVariants.Refused q) a e = absurd (no_word a (ap (λ (x : PlainValues). x.word) e))
+plain_handed (Err q) a e = absurd (no_word a (ap (λ (x : PlainValues). x.word) e))
 
 walk_handed
-    : (r : walked.Walked) (w : Walk) → walked_values r ≡ walk_values w
-    → (v : given.Walk) × (r ≡ walked.TheVariants.Answered v) × (answer_of v.answer ≡ w.answer)
-walk_handed (walked.TheVariants.Answered v) w e = (
+    : (r : Result given.Walk Refusal) (w : Walk) → walked_values r ≡ walk_values w
+    → (v : given.Walk) × (r ≡ Ok v) × (answer_of v.answer ≡ w.answer)
+walk_handed (Ok v) w e = (
   v,
   refl,
   answer_determined (answer_of v.answer) w.answer (ap (λ (x : WalkValues). x.word) e) (ap (λ (x : WalkValues). x.rule) e),
 )
-walk_handed (walked.TheVariants.Refused q) w e = absurd (no_word w.answer (ap (λ (x : WalkValues). x.word) e))
+walk_handed (Err q) w e = absurd (no_word w.answer (ap (λ (x : WalkValues). x.word) e))
 
 -- The edges of what `walk` answers, over any bytes, are those of the piece's path.
 pub walk_call_edges
-    : (s g p : List ℕ) (w : given.Walk) → walked_values (walked.TheVariants.Answered w) ≡ reply_values (walk_reply s g p)
+    : (s g p : List ℕ) (w : given.Walk) → walked_values (Ok w) ≡ reply_values (walk_reply s g p)
     → EdgesOfPath s g p w.edges
 walk_call_edges s g p w e = go (walk_reply s g p) refl e
   where
     go
-        : (r : Reading Walk) → walk_reply s g p ≡ r → walked_values (walked.TheVariants.Answered w) ≡ reply_values r
+        : (r : Reading Walk) → walk_reply s g p ≡ r → walked_values (Ok w) ≡ reply_values r
         → EdgesOfPath s g p w.edges
     go (took k v) d h = subst (EdgesOfPath s g p) (sym (ap (λ (x : WalkValues). x.edges) h)) (edges_are_the_path d)
     go (refused q) d h = absurd (no_word (answer_of w.answer) (sym (ap (λ (x : WalkValues). x.word) h)))
@@ -88,8 +89,8 @@ walk_call_edges s g p w e = go (walk_reply s g p) refl e
 -- What `plain` hands back for accepted bytes is an answer and no refusal, and the answer is right.
 pub plain_call_right
     : {s p : List ℕ} {sheet : Sheet} {piece : Piece} → AcceptedBytes s p sheet piece
-    → (r : plain.Plain) → plain_values r ≡ reading_values (plain_reading s p)
-    → (a : answer.Answer) × (r ≡ plain.TheVariants.Answered a) × Right sheet.rules piece.terms (answer_of a)
+    → (r : Result answer.Answer Refusal) → plain_values r ≡ reading_values (plain_reading s p)
+    → (a : answer.Answer) × (r ≡ Ok a) × Right sheet.rules piece.terms (answer_of a)
 plain_call_right {sheet = sheet} {piece = piece} ok r e =
     let (due, values, right) = plain_bytes_right ok in
     let (a, is, same) = plain_handed r due (e ∙ values) in
@@ -99,8 +100,9 @@ plain_call_right {sheet = sheet} {piece = piece} ok r e =
 pub plain_call_keeps
     : {s p q : List ℕ} {sheet : Sheet} {piece further : Piece} → AcceptedBytes s p sheet piece → AcceptedBytes s q sheet further
     → FilledFurther piece.terms further.terms
-    → (r t : plain.Plain) → plain_values r ≡ reading_values (plain_reading s p) → plain_values t ≡ reading_values (plain_reading s q)
-    → (a b : answer.Answer) × (r ≡ plain.TheVariants.Answered a) × (t ≡ plain.TheVariants.Answered b)
+    → (r t : Result answer.Answer Refusal) → plain_values r ≡ reading_values (plain_reading s p)
+    → plain_values t ≡ reading_values (plain_reading s q)
+    → (a b : answer.Answer) × (r ≡ Ok a) × (t ≡ Ok b)
     × Keeps (answer_of a) (answer_of b)
 plain_call_keeps ok okFurther more r t e d =
     let (due, later, values, valuesLater, keeps) = plain_bytes_keep ok okFurther more in
@@ -117,8 +119,8 @@ module _ {asking : Asking} {s buffer g p : List ℕ} {sheet : Sheet} {piece : Pi
     (ok : AcceptedBytes s p sheet piece) where
   -- What `walk` hands back over a built graph is an answer and no refusal, and the answer is right.
   pub walk_call_right
-      : (r : walked.Walked) → walked_values r ≡ reply_values (walk_reply s g p)
-      → (w : given.Walk) × (r ≡ walked.TheVariants.Answered w)
+      : (r : Result given.Walk Refusal) → walked_values r ≡ reply_values (walk_reply s g p)
+      → (w : given.Walk) × (r ≡ Ok w)
       × Right sheet.rules piece.terms (answer_of w.answer)
   walk_call_right r e =
       let (due, reply, right) = demand_3 built ok in
@@ -127,9 +129,9 @@ module _ {asking : Asking} {s buffer g p : List ℕ} {sheet : Sheet} {piece : Pi
 
   -- It is the answer that `plain` hands back.
   pub walk_call_plain
-      : (r : walked.Walked) → walked_values r ≡ reply_values (walk_reply s g p)
-      → (t : plain.Plain) → plain_values t ≡ reading_values (plain_reading s p)
-      → (w : given.Walk) × (a : answer.Answer) × (r ≡ walked.TheVariants.Answered w) × (t ≡ plain.TheVariants.Answered a)
+      : (r : Result given.Walk Refusal) → walked_values r ≡ reply_values (walk_reply s g p)
+      → (t : Result answer.Answer Refusal) → plain_values t ≡ reading_values (plain_reading s p)
+      → (w : given.Walk) × (a : answer.Answer) × (r ≡ Ok w) × (t ≡ Ok a)
       × (answer_of w.answer ≡ answer_of a)
   walk_call_plain r e t d =
       let (due, reply, right) = demand_3 built ok in
@@ -138,11 +140,11 @@ module _ {asking : Asking} {s buffer g p : List ℕ} {sheet : Sheet} {piece : Pi
       (w, a, is, is_plain, same ∙ sym samePlain)
 
   module _ {q : List ℕ} {further : Piece} (okFurther : AcceptedBytes s q sheet further)
-      (more : FilledFurther piece.terms further.terms) (r t : walked.Walked)
+      (more : FilledFurther piece.terms further.terms) (r t : Result given.Walk Refusal)
       (e : walked_values r ≡ reply_values (walk_reply s g p)) (d : walked_values t ≡ reply_values (walk_reply s g q)) where
     -- For a piece filled in further it keeps what it promised.
     pub walk_call_keeps
-        : (w v : given.Walk) × (r ≡ walked.TheVariants.Answered w) × (t ≡ walked.TheVariants.Answered v)
+        : (w v : given.Walk) × (r ≡ Ok w) × (t ≡ Ok v)
         × Keeps (answer_of w.answer) (answer_of v.answer)
     walk_call_keeps =
         let (due, reply, right) = demand_3 built ok in

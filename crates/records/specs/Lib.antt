@@ -2,5 +2,6 @@
 pub mod Kinds
 pub mod Fields
 pub mod Reading
+pub mod Refusals
 pub mod Writing
 pub mod Written

@@ -1,36 +1,42 @@
 -- What the notes in an array want, note by note.
 use Prim.Native.Nat.{ℕ, ◌+◌, ◌≤◌, ◌<◌}
 use mathlib.Core.Path.{◌≡◌, refl, sym, ap, ◌∙◌}
-use mathlib.Core.Bool.{Bool}
+use mathlib.Core.Bool.{true, false, false≢true}
 use mathlib.Core.List.{List, []}
 use mathlib.Core.Option.{Option, some, none}
 use lib.ListN.{length, get_or, drop}
-use borrow.Author.Tests.{lt-ltb, le-ltb}
+use Rattle.std.specs.Prelude as std
+use Rattle.std.specs.Prelude.{Some, None, is_some}
 use Rattle.terms.specs.RuleTests.{Want, PlaceTest}
 use Rattle.patterns.specs.views.NoteCode.{code_place, code_record}
 use Rattle.sheet.specs.views.NoteArray.{notes_in}
 use Rattle.pairs.proofs.NoteRows.{notes_next, notes_end}
 use Rattle.basics.proofs.Clash.{clash}
 use Rattle.codes.specs.views.Codes.{want_low, want_high}
-use Rattle.rows.specs.declared.Wanted.TheVariants.{Nothing, Codes}
-use Rattle.rows.specs.views.Wants.{number_if, range_want, record_want, test_if, notes_tests, wanted_codes}
-
--- A variable's range is wanted where its high end is one.
-pub range_some : (low high : ℕ) → high < 0x1_0000 → Codes (0x3000000 + low) (0x3000000 + high) ≡ wanted_codes (range_want low high)
-range_some low high h = ap (λ (b : Bool). wanted_codes (number_if b low high)) (sym (lt-ltb high 0x1_0000 h))
-
-pub range_none : (low high : ℕ) → 0x1_0000 ≤ high → Nothing ≡ wanted_codes (range_want low high)
-range_none low high h = ap (λ (b : Bool). wanted_codes (number_if b low high)) (sym (le-ltb high 0x1_0000 h))
+use Rattle.rows.specs.declared.Codes.{Codes}
+use Rattle.rows.specs.views.Wants.{record_want, test_if, notes_tests, wanted_codes}
 
 -- Codes are those of a want, and where there are none nothing is wanted.
 pub wanted_some
-    : (x : Option Want) {a b : ℕ} → Codes a b ≡ wanted_codes x → (w : Want) × (x ≡ some w) × (a ≡ want_low w) × (b ≡ want_high w)
+    : (x : Option Want) {codes : Codes} → Some codes ≡ wanted_codes x
+    → (w : Want) × (x ≡ some w) × (codes.low ≡ want_low w) × (codes.high ≡ want_high w)
 wanted_some none e = clash (cc)
-wanted_some (some w) e = (w, refl, (cc), (cc))
+wanted_some (some w) {codes} e =
+    let same : codes ≡ record { low = want_low w; high = want_high w } = cc in
+    (w, refl, ap (λ (c : Codes). c.low) same, ap (λ (c : Codes). c.high) same)
 
-pub wanted_none : (x : Option Want) → Nothing ≡ wanted_codes x → x ≡ none
+pub wanted_none : (x : Option Want) → None ≡ wanted_codes x → x ≡ none
 wanted_none none e = refl
 wanted_none (some w) e = clash (cc)
+
+pub wants_some
+    : (x : Option Want) {codes : std.Option Codes} → codes ≡ wanted_codes x → is_some codes ≡ true → (w : Want) × (x ≡ some w)
+wants_some none e t = absurd (false≢true (ap is_some (sym e) ∙ t))
+wants_some (some w) e t = (w, refl)
+
+pub wants_none : (x : Option Want) {codes : std.Option Codes} → codes ≡ wanted_codes x → is_some codes ≡ false → x ≡ none
+wants_none none e t = refl
+wants_none (some w) e t = absurd (false≢true (sym t ∙ ap is_some e))
 
 module _ (low high codes : List ℕ) (n : ℕ) (within : n ≤ length codes) (i : ℕ) where
   abbrev pub want_here : Option Want

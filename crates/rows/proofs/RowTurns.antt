@@ -8,6 +8,8 @@ use native.Mathlib.Omega.{arith}
 use lib.Dec.{eqb}
 use lib.ListN.{length, get_or, drop}
 use borrow.Author.Tests.{ne_eqb}
+use Rattle.std.specs.Prelude as std
+use Rattle.std.specs.Prelude.{Some, None}
 use Rattle.masks.specs.Mask.{has}
 use Rattle.masks.proofs.Extensionality.{mask_of_unique}
 use Rattle.terms.specs.RuleTests.{Want, PlaceTest, Occurrence, both, pairs_with, pairs_of}
@@ -15,8 +17,6 @@ use Rattle.patterns.specs.declared.PatternRecord.{PatternRecord}
 use Rattle.patterns.specs.declared.PatternRecord.TheVariants.{Anything, Symbol, Range, Compound, Variable, Ranged, Series, Gauged}
 use Rattle.patterns.specs.views.NoteCode.{code_place, code_record}
 use Rattle.sheet.specs.views.NoteArray.{notes_in}
-use Rattle.pairs.specs.declared.Name.{Name}
-use Rattle.pairs.specs.declared.Name.TheVariants.{Nameless, Of}
 use Rattle.pairs.specs.views.KeptPairs.{pair_code}
 use Rattle.pairs.specs.views.NoteVariables.{name_of, names_variable, occurrence, notes_variables, pair_codes, codes_with, notes_codes}
 use Rattle.pairs.proofs.NoteRows.{notes_next, notes_end}
@@ -61,9 +61,9 @@ module _ (low high codes : List ℕ) (n : ℕ) (within : n ≤ length codes) (i 
       ap (λ (ts : List PlaceTest). with_tests (place_numbers numbers ts) row) (tests_end low high codes n within i h)
 
 -- A name is v.
-abbrev is_name : ℕ → Name → Bool
-is_name v Nameless = false
-is_name v (Of u) = eqb v u
+abbrev is_name : ℕ → std.Option ℕ → Bool
+is_name v None = false
+is_name v (Some u) = eqb v u
 
 named_is : (v : ℕ) (what : PatternRecord) → names_variable v what ≡ is_name v (name_of what)
 named_is v Anything = refl
@@ -77,10 +77,10 @@ named_is v (Gauged g l h) = refl
 
 -- The pairs with an occurrence more.
 codes_more
-    : (p v q : ℕ) (name : Name) (os : List Occurrence)
+    : (p v q : ℕ) (name : std.Option ℕ) (os : List Occurrence)
     → pair_codes (pairs_with p v (occurrence q name os)) ≡ cons_if (is_name v name) (pair_code p q) (pair_codes (pairs_with p v os))
-codes_more p v q Nameless os = refl
-codes_more p v q (Of u) os = go (eqb v u)
+codes_more p v q None os = refl
+codes_more p v q (Some u) os = go (eqb v u)
   where
     go
         : (b : Bool)
@@ -107,28 +107,28 @@ module _ (codes : List ℕ) (n : ℕ) (within : n ≤ length codes) (i : ℕ) wh
   codes_end p v h = ap (codes_with p v) (notes_end codes n within i h)
 
   all_turn
-      : (name : Name) → i < n → name_of (code_record (get_or codes i 0)) ≡ name
+      : (name : std.Option ℕ) → i < n → name_of (code_record (get_or codes i 0)) ≡ name
       → notes_codes (drop i (notes_in codes n))
       ≡ pair_codes (pairs_of (occurrence (code_place (get_or codes i 0)) name (notes_variables (drop (i + 1) (notes_in codes n)))))
   all_turn name h e =
       let os = notes_variables (drop (i + 1) (notes_in codes n)) in
       ap notes_codes (notes_next codes n within i h)
-      ∙ ap (λ (x : Name). pair_codes (pairs_of (occurrence (code_place (get_or codes i 0)) x os))) e
+      ∙ ap (λ (x : std.Option ℕ). pair_codes (pairs_of (occurrence (code_place (get_or codes i 0)) x os))) e
 
   -- A variable makes pairs with its later places,
   pub all_named
-      : (v : ℕ) → i < n → name_of (code_record (get_or codes i 0)) ≡ Of v
+      : (v : ℕ) → i < n → name_of (code_record (get_or codes i 0)) ≡ Some v
       → notes_codes (drop i (notes_in codes n))
       ≡ codes_with (code_place (get_or codes i 0)) v (drop (i + 1) (notes_in codes n)) ++ notes_codes (drop (i + 1) (notes_in codes n))
   all_named v h e =
       let os = notes_variables (drop (i + 1) (notes_in codes n)) in
-      all_turn (Of v) h e ∙ map-append _ (pairs_with (code_place (get_or codes i 0)) v os) (pairs_of os)
+      all_turn (Some v) h e ∙ map-append _ (pairs_with (code_place (get_or codes i 0)) v os) (pairs_of os)
 
   -- and any other record none.
   pub all_nameless
-      : i < n → name_of (code_record (get_or codes i 0)) ≡ Nameless
+      : i < n → name_of (code_record (get_or codes i 0)) ≡ None
       → notes_codes (drop i (notes_in codes n)) ≡ notes_codes (drop (i + 1) (notes_in codes n))
-  all_nameless h e = all_turn Nameless h e
+  all_nameless h e = all_turn None h e
 
   pub all_end : n ≤ i → notes_codes (drop i (notes_in codes n)) ≡ []
   all_end h = ap notes_codes (notes_end codes n within i h)
@@ -160,7 +160,7 @@ module _ (codes : List ℕ) (n : ℕ) (within : n ≤ length codes) (i count : �
 
   -- A variable makes pairs with its later places,
   pub pairs_named
-      : (v : ℕ) → i < n → name_of (code_record (get_or codes i 0)) ≡ Of v → (row : ℕ)
+      : (v : ℕ) → i < n → name_of (code_record (get_or codes i 0)) ≡ Some v → (row : ℕ)
       → pairs_from (i + 1) (with_from (code_place (get_or codes i 0)) v (i + 1) row) ≡ pairs_from i row
   pairs_named v h e row =
       let own = codes_with (code_place (get_or codes i 0)) v (drop (i + 1) (notes_in codes n)) in
@@ -172,7 +172,7 @@ module _ (codes : List ℕ) (n : ℕ) (within : n ≤ length codes) (i count : �
 
   -- and any other record none.
   pub pairs_nameless
-      : i < n → name_of (code_record (get_or codes i 0)) ≡ Nameless → (row : ℕ) → pairs_from (i + 1) row ≡ pairs_from i row
+      : i < n → name_of (code_record (get_or codes i 0)) ≡ None → (row : ℕ) → pairs_from (i + 1) row ≡ pairs_from i row
   pairs_nameless h e row =
       sym (ap (λ (cs : List ℕ). with_tests (pair_numbers count kept cs) row) (all_nameless codes n within i h e))
 

@@ -8,9 +8,9 @@ pub mod row; // the tests of a rule as a set
 
 pub use row::rule_row;
 
-// What a record wants at its place, as lowest and highest code, or nothing.
+// What a record wants at its place, as lowest and highest code.
 #[derive(Clone, Copy)]
-pub enum Wanted {
-    Nothing,
-    Codes(u32, u32),
+pub struct Codes {
+    pub low: u32,
+    pub high: u32,
 }

@@ -25,12 +25,10 @@ pub fn pair_number(s: &Tables, p: usize, q: usize) -> usize
     let code = (p as u64) * 0x1_0000 + q as u64;
     let count = tables::place_tests(s);
     let pairs = tables::tests(s) - count;
-    let mut i: usize = 0;
-    while i < pairs {
+    for i in 0..pairs {
         if code <= tables::test(s, count + i) {
             return count + i;
         }
-        i += 1;
     }
-    count + i
+    count + pairs
 }

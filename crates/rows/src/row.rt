@@ -9,10 +9,8 @@ ghost use Rattle.test_list.specs.views.Tests.{Counted, pairs_listed};
 ghost use Rattle.rows.specs.views.Wants.{notes_tests};
 ghost use Rattle.rows.specs.views.Row.{with_test, with_tests, place_numbers, pair_numbers, row_of};
 
-use crate::Wanted;
 use crate::numbers::{pair_number, place_number};
 use crate::wants::record_wanted;
-use pairs::Name;
 use sheet::Ranges;
 use tables::Tables;
 
@@ -33,14 +31,11 @@ fn places_row(notes: &[u64; 680], n: usize, ranges: Ranges, numbers: &[u8; 680])
         (notes_tests ranges.low ranges.high (notes_in notes.now n))) 0 }
 {
     let mut row: u64 = 0;
-    let mut i: usize = 0;
-    while i < n {
+    for i in 0..n {
         let code = notes[i];
-        let wanted = record_wanted(patterns::note_record(code), ranges);
-        if let Wanted::Codes(_, _) = wanted {
+        if record_wanted(patterns::note_record(code), ranges).is_some() {
             row = with_test(row, place_number(numbers, patterns::note_place(code)));
         }
-        i += 1;
     }
     row
 }
@@ -61,14 +56,12 @@ fn pairs_with(
         (codes_with place v (drop from (notes_in notes.now n)))) row }
 {
     let mut all = row;
-    let mut j = from;
-    while j < n {
+    for j in from..n {
         let code = notes[j];
         if pairs::rule::is_named(v, patterns::note_record(code)) {
             let q = patterns::note_place(code);
             all = with_test(all, pair_number(s, place, q));
         }
-        j += 1;
     }
     all
 }
@@ -80,15 +73,12 @@ fn pairs_row(notes: &[u64; 680], n: usize, s: &Tables, row: u64) -> u64
         (notes_codes (notes_in notes.now n))) row }
 {
     let mut all = row;
-    let mut i: usize = 0;
-    while i < n {
+    for i in 0..n {
         let code = notes[i];
-        let name = pairs::rule::name_of(patterns::note_record(code));
-        if let Name::Of(v) = name {
+        if let Some(v) = pairs::rule::name_of(patterns::note_record(code)) {
             let p = patterns::note_place(code);
             all = pairs_with(notes, n, i + 1, p, v, s, all);
         }
-        i += 1;
     }
     all
 }

@@ -14,8 +14,8 @@ use Rattle.terms.specs.Outcome.{Outcome, holds, not_known, contradicted, Holds, 
 use Rattle.terms.proofs.Outcomes.{contradicted_left, contradicted_together}
 use Rattle.patterns.specs.declared.PatternRecord.{PatternRecord}
 use Rattle.patterns.specs.declared.PatternRecord.TheVariants.{Anything, Symbol, Range, Compound, Variable, Ranged, Series, Gauged}
-use Rattle.patterns.specs.declared.PatternHead.{PatternHead}
-use Rattle.patterns.specs.declared.PatternHead.TheVariants.{Whole, Refused}
+use Rattle.std.specs.Prelude.{Result, Ok, Err}
+use Rattle.records.specs.declared.refusal.Refusal.{Refusal}
 use Rattle.sheet.specs.ReadSheet.{read_pattern, read_patterns}
 use Rattle.patterns.specs.views.PatternRecord.{pattern_head, record_bytes}
 use Rattle.patterns.specs.views.Note.{Note, note}
@@ -29,11 +29,11 @@ use Rattle.plain.specs.views.NotesOutcome.{flat_bytes, fixed_outcome, note_outco
 use Rattle.plain.specs.views.NotesOutcome.{places_outcome, pairs_outcome, notes_outcome, cells_outcome}
 
 -- The record of a head.
-abbrev record_in : PatternHead → PatternRecord
-record_in (Whole r) = r
-record_in (Refused q) = Anything
+abbrev record_in : Result PatternRecord Refusal → PatternRecord
+record_in (Ok r) = r
+record_in (Err q) = Anything
 
-same_record : (s : List ℕ) {r r' : PatternRecord} → pattern_head s ≡ Whole r → pattern_head s ≡ Whole r' → r ≡ r'
+same_record : (s : List ℕ) {r r' : PatternRecord} → pattern_head s ≡ Ok r → pattern_head s ≡ Ok r' → r ≡ r'
 same_record s e e' = ap record_in (sym e ∙ e')
 
 -- A record that is no compound has no more bytes than it has.
@@ -55,7 +55,7 @@ is_out contradicted h = refl
 holds_no : {x : Outcome} → x ≡ holds → x ≡ contradicted → ⊥
 holds_no e h = subst Holds (sym e ∙ h) tt
 
-module _ (s : List ℕ) {r : PatternRecord} (head : pattern_head s ≡ Whole r) where
+module _ (s : List ℕ) {r : PatternRecord} (head : pattern_head s ≡ Ok r) where
   -- It takes its bytes,
   flat_took : {k : ℕ} {p : Pattern} → (flat_bytes r ≡ 0 → ⊥) → PatternIs 3 s k p → k ≡ flat_bytes r
   flat_took flat (is_anything h) = ap flat_bytes (same_record s h head)
@@ -69,7 +69,7 @@ module _ (s : List ℕ) {r : PatternRecord} (head : pattern_head s ≡ Whole r) 
 
   -- and where its test is contradicted, so is that of a note.
   module _ (cells low high : List ℕ) (place : ℕ) (out : fixed_outcome cells place r ≡ contradicted) where
-    known : {r' : PatternRecord} → pattern_head s ≡ Whole r' → fixed_outcome cells place r' ≡ contradicted
+    known : {r' : PatternRecord} → pattern_head s ≡ Ok r' → fixed_outcome cells place r' ≡ contradicted
     known h = ap (fixed_outcome cells place) (same_record s h head) ∙ out
 
     first_note
@@ -102,7 +102,7 @@ left_all arity s {b} {rule} e =
     record { bytes = b; patterns = rule; read = ap (λ (n : ℕ). read_patterns 3 n s) all ∙ e; among = λ n m. m }
 
 module _ {arity : ℕ} {s : List ℕ} {rule : Patterns} {i at : ℕ} (left : Left arity s rule i at) (h : i < arity)
-    {r : PatternRecord} (head : pattern_head (drop at s) ≡ Whole r) where
+    {r : PatternRecord} (head : pattern_head (drop at s) ≡ Ok r) where
   row : RowRead pnil pcons (read_pattern 3) (arity - (i + 1)) (drop at s) left.bytes left.patterns
   row =
       let more : suc (arity - (i + 1)) ≡ arity - i = omega arith in

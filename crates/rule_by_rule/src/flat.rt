@@ -7,7 +7,7 @@ ghost use Rattle.sheet.specs.ReadSheet.{read_patterns};
 ghost use Rattle.plain.specs.views.NotesOutcome.{flat_bytes, cells_outcome};
 
 use outcomes::TestOutcome;
-use patterns::{PatternHead, PatternRecord};
+use patterns::PatternRecord;
 use piece::Cells;
 use plain::rule::fixed_outcome;
 
@@ -35,10 +35,8 @@ pub fn is_out(s: &[u8], arity: usize, cells: &Cells) -> bool
         → cells_outcome cells.now rule ≡ contradicted }
 {
     let mut at: usize = 0;
-    let mut i: usize = 0;
-    while i < arity {
-        let head = patterns::pattern_head(&s[at..]);
-        let PatternHead::Whole(what) = head else {
+    for i in 0..arity {
+        let Ok(what) = patterns::pattern_head(&s[at..]) else {
             return false;
         };
         let one = fixed_outcome(cells, i * 85, what);
@@ -50,7 +48,6 @@ pub fn is_out(s: &[u8], arity: usize, cells: &Cells) -> bool
             return false;
         }
         at += bytes;
-        i += 1;
     }
     false
 }

@@ -17,7 +17,6 @@ use outcomes::TestOutcome;
 use piece::Cells;
 use plain::Answer;
 use plain::rule::rule_outcome;
-use sheet::Took;
 use sheet_tests::Starts;
 
 // The answer so far where a rule is open, which would alone be answered so.
@@ -54,11 +53,10 @@ fn tried(s: &[u8], arity: usize, cells: &Cells, notes: &mut [u64; 680]) -> TestO
     if is_out(&s[0..], arity, cells) {
         return TestOutcome::Contradicted;
     }
-    let read = sheet::read_rule(&s[0..], arity, notes);
-    let Took::Used(_, n) = read else {
+    let Ok(rule) = sheet::read_rule(&s[0..], arity, notes) else {
         return TestOutcome::Contradicted;
     };
-    rule_outcome(notes, n, cells)
+    rule_outcome(notes, rule.notes, cells)
 }
 
 // The answer by the rules of an accepted sheet, which the input begins with, by where each begins. Where two are open no further
@@ -78,14 +76,12 @@ pub fn answer_rules(
         (read_rules arity count s.now)) }
 {
     let mut answer = Answer::Fail;
-    let mut i: u8 = 0;
-    while i < count {
+    for i in 0..count {
         let outcome = tried(&s[starts[i as usize]..], arity, cells, notes);
         answer = moved(answer, i + 1, outcome);
         if let Answer::Suspend = answer {
             return answer;
         }
-        i += 1;
     }
     answer
 }

@@ -5,11 +5,11 @@ use mathlib.Core.Bool.{true, false}
 use mathlib.Core.List.{List, [], ◌∷◌, ◌++◌, map, map-append}
 use mathlib.Core.Option.{some, none}
 use lib.ListN.{length, get_or, drop}
+use Rattle.std.specs.Prelude.{Some, None}
 use Rattle.terms.specs.RuleTests.{Want, PlaceTest, at}
 use Rattle.patterns.specs.views.NoteCode.{code_place, code_record}
 use Rattle.sheet.specs.views.NoteArray.{notes_in}
 use Rattle.sheet_tests.specs.SheetTests.{Test}
-use Rattle.pairs.specs.declared.Name.TheVariants.{Nameless, Of}
 use Rattle.pairs.specs.views.KeptPairs.{pair_code}
 use Rattle.pairs.specs.views.NoteVariables.{name_of, names_variable, codes_with, notes_codes}
 use Rattle.rows.proofs.NotesWanted.{want_here, tests_from, tests_turn, tests_end}
@@ -81,7 +81,7 @@ module _ (tests : List Test) (cells codes : List ℕ) (n : ℕ) (within : n ≤ 
 
   -- A variable makes pairs with its later places,
   pub pairs_named
-      : (v : ℕ) → i < n → name_of (code_record (get_or codes i 0)) ≡ Of v → (m : Masks)
+      : (v : ℕ) → i < n → name_of (code_record (get_or codes i 0)) ≡ Some v → (m : Masks)
       → pairs_from (i + 1) (with_from (code_place (get_or codes i 0)) v (i + 1) m) ≡ pairs_from i m
   pairs_named v h e m =
       let own = codes_with (code_place (get_or codes i 0)) v (drop (i + 1) (notes_in codes n)) in
@@ -92,7 +92,7 @@ module _ (tests : List Test) (cells codes : List ℕ) (n : ℕ) (within : n ≤ 
       ∙ after_append tests (map (pair_made cells) own) (map (pair_made cells) rest) m)
 
   -- and any other record none.
-  pub pairs_nameless : i < n → name_of (code_record (get_or codes i 0)) ≡ Nameless → (m : Masks) → pairs_from (i + 1) m ≡ pairs_from i m
+  pub pairs_nameless : i < n → name_of (code_record (get_or codes i 0)) ≡ None → (m : Masks) → pairs_from (i + 1) m ≡ pairs_from i m
   pairs_nameless h e m = sym (ap (λ (cs : List ℕ). after_pairs tests cells cs m) (all_nameless codes n within i h e))
 
   pub pairs_end : n ≤ i → (m : Masks) → pairs_from i m ≡ m

@@ -13,12 +13,10 @@ pub fn test_number(kept: &Tables, code: u64) -> usize
     ensures { result ≡ test_number (listed_tests kept.now) (code_test code) }
 {
     let tests = tables::tests(kept);
-    let mut t: usize = 0;
-    while t < tests {
+    for t in 0..tests {
         if tables::test(kept, t) == code {
             return t;
         }
-        t += 1;
     }
     tests
 }

@@ -15,9 +15,7 @@ ghost use Rattle.rule_masks.specs.views.RuleMasks.{made, pair_made, with_made, a
 use crate::number::test_number;
 use crate::{Masks, Spot};
 use outcomes::{TestOutcome, pair_outcome, place_outcome};
-use pairs::Name;
 use piece::Cells;
-use rows::Wanted;
 use rows::wants::record_wanted;
 use sheet::Ranges;
 use tables::Tables;
@@ -61,16 +59,12 @@ fn place_masks(notes: &[u64; 680], n: usize, ranges: Ranges, kept: &Tables, cell
         unknown: 0,
         contradicted: 0,
     };
-    let mut i: usize = 0;
-    while i < n {
-        let code = notes[i];
-        let wanted = record_wanted(patterns::note_record(code), ranges);
-        if let Wanted::Codes(low, high) = wanted {
+    for &code in &notes[..n] {
+        if let Some(wanted) = record_wanted(patterns::note_record(code), ranges) {
             let place = patterns::note_place(code);
-            let outcome = place_outcome(cells, place, low, high);
+            let outcome = place_outcome(cells, place, wanted.low, wanted.high);
             masks = with_outcome(masks, kept, 0x1_0001 * place as u64, outcome);
         }
-        i += 1;
     }
     masks
 }
@@ -102,13 +96,11 @@ fn pairs_with(
         (codes_with spot.place spot.name (drop from (notes_in notes.now n))) masks }
 {
     let mut all = masks;
-    let mut j = from;
-    while j < n {
+    for j in from..n {
         let code = notes[j];
         if pairs::rule::is_named(spot.name, patterns::note_record(code)) {
             all = with_pair(all, kept, cells, spot.place, patterns::note_place(code));
         }
-        j += 1;
     }
     all
 }
@@ -121,18 +113,15 @@ fn pair_masks(notes: &[u64; 680], n: usize, kept: &Tables, cells: &Cells, masks:
         ≡ after_pairs (listed_tests kept.now) cells.now (notes_codes (notes_in notes.now n)) masks }
 {
     let mut all = masks;
-    let mut i: usize = 0;
-    while i < n {
+    for i in 0..n {
         let code = notes[i];
-        let name = pairs::rule::name_of(patterns::note_record(code));
-        if let Name::Of(v) = name {
+        if let Some(name) = pairs::rule::name_of(patterns::note_record(code)) {
             let spot = Spot {
                 place: patterns::note_place(code),
-                name: v,
+                name: name,
             };
             all = pairs_with(notes, n, i + 1, spot, kept, cells, all);
         }
-        i += 1;
     }
     all
 }

@@ -27,7 +27,7 @@ one_more n = omega arith
 
 -- A word with one more use, from its parts.
 pub met_is
-    : (w l h : ℕ) {uses most least : ℕ} → uses ≡ min 2 (w / 0x2_0000_0000 % 4 + 1) → most ≡ min (w / 0x1_0000 % 0x2_0000) h
+    : (w l h : ℕ) {uses most least : ℕ} → uses ≡ min (w / 0x2_0000_0000 % 4 + 1) 2 → most ≡ min (w / 0x1_0000 % 0x2_0000) h
     → least ≡ max (w % 0x1_0000) l → (uses * 0x2_0000 + most) * 0x1_0000 + least ≡ met_word w l h
 unfolding met_word
 met_is w l h {uses} {most} {least} u m b = omega (arith, u, m, b)

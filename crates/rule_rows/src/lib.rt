@@ -16,9 +16,9 @@ pub struct Row {
     pub most: usize,
 }
 
-// The next record of a row and where the row goes on behind it, or its end.
+// A record of a row, and where the row goes on behind it.
 #[derive(Clone, Copy)]
-pub enum Next {
-    Record(patterns::PatternRecord, Row),
-    Done,
+pub struct Next {
+    pub what: patterns::PatternRecord,
+    pub rest: Row,
 }

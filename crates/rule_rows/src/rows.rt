@@ -1,10 +1,10 @@
 // The records of a rule, one after another.
-ghost use Rattle.std.specs.Prelude.{◌≡◌, ◌≤◌, min};
+ghost use Rattle.std.specs.Prelude.{◌≡◌, ◌≤◌};
 ghost use Rattle.patterns.specs.views.PatternRecord.{record_bytes};
 ghost use Rattle.rule_rows.specs.views.Row.{arguments_of, records_from, records_with, Going, GoesOn};
 
 use crate::{Next, Row};
-use patterns::{PatternHead, PatternRecord};
+use patterns::PatternRecord;
 
 // How many bytes a record has: its kind byte counts.
 pub fn record_length(what: PatternRecord) -> usize
@@ -38,33 +38,24 @@ fn arguments(what: PatternRecord) -> usize
     }
 }
 
-// The smaller of two counts: 0 where one of them is.
-fn fewer(x: usize, y: usize) -> usize
-    ensures { result ≡ min x y }
-{
-    if y < x { y } else { x }
-}
-
-// The next record of a row, and where the row goes on. Not a compound whose arguments are left out, nor a record of the next rule.
-pub fn next_record(s: &[u8], row: Row) -> Next
+// The next record of a row, and where the row goes on; none at its end. Not a compound whose arguments are left out, nor a record
+// of the next rule.
+pub fn next_record(s: &[u8], row: Row) -> Option<Next>
     requires { Going s.now row }
     ensures row_value { records_from s.now row ≡ records_with s.now result }
     ensures goes_on { GoesOn s.now row result }
 {
     let at = row.at;
-    if fewer(row.most, row.patterns) == 0 {
-        return Next::Done;
+    if row.most == 0 || row.patterns == 0 {
+        return None;
     }
-    let head = patterns::pattern_head(&s[at..]);
-    let PatternHead::Whole(what) = head else {
-        return Next::Done;
+    let Ok(what) = patterns::pattern_head(&s[at..]) else {
+        return None;
     };
-    Next::Record(
-        what,
-        Row {
-            at: at + record_length(what),
-            patterns: row.patterns - 1 + arguments(what),
-            most: row.most - 1,
-        },
-    )
+    let rest = Row {
+        at: at + record_length(what),
+        patterns: row.patterns - 1 + arguments(what),
+        most: row.most - 1,
+    };
+    Some(Next { what, rest })
 }

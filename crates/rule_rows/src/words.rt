@@ -1,37 +1,23 @@
 // What becomes of each variable of a rule.
-ghost use Rattle.std.specs.Prelude.{◌≡◌, ◌+◌, ◌≤◌, min, max, length};
+ghost use Rattle.std.specs.Prelude.{◌≡◌, ◌+◌, ◌≤◌, length};
 ghost use Rattle.rule_rows.specs.views.Row.{records_from, Going};
 ghost use Rattle.rule_rows.specs.views.Words.{met_word, met_at, met_record, met_records};
 ghost use Rattle.rule_rows.specs.views.Words.{numbered_at, number_record};
 
+use crate::Row;
 use crate::rows::next_record;
-use crate::{Next, Row};
 use patterns::PatternRecord;
 
 // What is known of each of the 16 variables of a rule.
 pub type Words = [u64; 16];
 
-// The larger of two numbers.
-fn larger(x: u64, y: u64) -> u64
-    ensures { result ≡ max x y }
-{
-    if x < y { y } else { x }
-}
-
-// The smaller of two numbers.
-fn smaller(x: u64, y: u64) -> u64
-    ensures { result ≡ min x y }
-{
-    if y < x { y } else { x }
-}
-
 // What is known of a variable that stands once more, with a range: the common part, and not the last range.
 fn met(word: u64, low: u16, high: u32) -> u64
     ensures { result ≡ met_word word low high }
 {
-    let uses = smaller(2, word / 0x2_0000_0000 % 4 + 1);
-    let most = smaller(word / 0x1_0000 % 0x2_0000, high as u64);
-    let least = larger(word % 0x1_0000, low as u64);
+    let uses = (word / 0x2_0000_0000 % 4 + 1).min(2);
+    let most = (word / 0x1_0000 % 0x2_0000).min(high as u64);
+    let least = (word % 0x1_0000).max(low as u64);
     (uses * 0x2_0000 + most) * 0x1_0000 + least
 }
 
@@ -71,13 +57,9 @@ pub fn meet_row(s: &[u8], start: Row, words: &mut Words)
     ensures words_len { length words.new ≡ 16 }
 {
     let mut row = start;
-    loop {
-        let next = next_record(s, row);
-        let Next::Record(what, more) = next else {
-            return;
-        };
-        meet_record(what, words);
-        row = more;
+    while let Some(next) = next_record(s, row) {
+        meet_record(next.what, words);
+        row = next.rest;
     }
 }
 

@@ -8,12 +8,14 @@ use native.Mathlib.Omega.{arith}
 use lib.ListN.{drop}
 use lib.Dec.{leb}
 use borrow.Author.Tests.{le-leb, lt-leb}
+use Rattle.std.specs.Prelude.{Ok, Err}
+use Rattle.records.specs.Refusals.{number}
+use Rattle.records.specs.declared.refusal.Refusal.{Refusal}
 use Rattle.records.specs.Reading.{Reading, took, refused, ask, map_reading, after}
 use Rattle.records.proofs.Rows.{map_ask, took_view, refused_view, row_size}
 use Rattle.terms.specs.Pattern.{Pattern, Patterns, count_patterns, the_compound, pnil, pcons}
 use Rattle.patterns.specs.declared.PatternRecord.{PatternRecord}
 use Rattle.patterns.specs.declared.PatternRecord.TheVariants.{Anything, Symbol, Range, Compound, Variable, Ranged, Series, Gauged}
-use Rattle.patterns.specs.declared.PatternHead.TheVariants.{Whole, Refused}
 use Rattle.patterns.specs.views.PatternRecord.{pattern_head, on_record, on_head}
 use Rattle.sheet.specs.ReadSheet.{read_pattern, read_patterns}
 use Rattle.patterns.specs.views.Note.{Note, note}
@@ -70,15 +72,15 @@ module _ {A : Type 0} (put : A → Note → A) (below place : ℕ) (before : A) 
   abbrev on_whole : PatternRecord → Reading A
   on_whole r = map_reading noted (on_record (compound_of below s) r)
 
-  by_record : {r : PatternRecord} → pattern_head s ≡ Whole r → pattern_read ≡ on_whole r
+  by_record : {r : PatternRecord} → pattern_head s ≡ Ok r → pattern_read ≡ on_whole r
   by_record e = ap (map_reading noted) (pattern_by_head below s ∙ ap (on_head (compound_of below s)) e)
 
   -- Question 4.
-  pub head_no : {q : ℕ} → pattern_head s ≡ Refused q → refused q ≡ pattern_read
+  pub head_no : {x : Refusal} → pattern_head s ≡ Err x → refused (number x) ≡ pattern_read
   head_no e = sym (ap (map_reading noted) (pattern_by_head below s ∙ ap (on_head (compound_of below s)) e))
 
   -- A record with no level below it.
-  pub lowest_read : {r : PatternRecord} → pattern_head s ≡ Whole r → below ≡ 0 → leaf_held put place before r ≡ pattern_read
+  pub lowest_read : {r : PatternRecord} → pattern_head s ≡ Ok r → below ≡ 0 → leaf_held put place before r ≡ pattern_read
   lowest_read {r} e lowest =
       sym (by_record e
       ∙ ap
@@ -100,10 +102,10 @@ module _ {A : Type 0} (put : A → Note → A) (below place : ℕ) (before : A) 
   flat_same (Gauged g l h) f = map_ask _ 7 (leb l h) _ ∙ sym (map_ask _ 7 (leb l h) _)
 
   -- A record that is no compound.
-  pub flat_read : {r : PatternRecord} → pattern_head s ≡ Whole r → Flat r → leaf_held put place before r ≡ pattern_read
+  pub flat_read : {r : PatternRecord} → pattern_head s ≡ Ok r → Flat r → leaf_held put place before r ≡ pattern_read
   flat_read {r} e f = flat_same r f ∙ sym (by_record e)
 
-  module _ {a n : ℕ} (head : pattern_head s ≡ Whole (Compound a n)) (deep : below ≡ 0 → ⊥) where
+  module _ {a n : ℕ} (head : pattern_head s ≡ Ok (Compound a n)) (deep : below ≡ 0 → ⊥) where
     by_arity : pattern_read ≡ map_reading noted (compound_of (suc (below - 1)) s a n)
     by_arity =
         let level : below ≡ suc (below - 1) = omega arith in

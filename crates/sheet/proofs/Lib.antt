@@ -2,7 +2,6 @@
 pub mod NoteArrays
 -- Of reading patterns:
 pub mod RecordKinds
-pub mod Leaves
 pub mod Compounds
 pub mod Rows
 -- Of the common ranges of variables, and of reading rules:

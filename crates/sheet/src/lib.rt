@@ -5,23 +5,22 @@ pub mod record; // the record that a sheet begins with
 pub mod rule; // the patterns of a rule
 pub mod variable; // the common range of each variable of a rule
 
-pub use record::{header_refusal, read_header};
+pub use record::read_header;
 pub use rule::read_rule;
 pub use variable::ranges as variable_ranges;
 
-// The arity of a sheet and the number of its rules, or the number of the question that got a no.
+// The arity of a sheet and the number of its rules.
 #[derive(Clone, Copy)]
-pub enum Header {
-    Of(u8, u8),
-    Refused(u8),
+pub struct Header {
+    pub arity: u8,
+    pub rules: u8,
 }
 
-// How reading went: so many bytes were used and there are so many notes now, or the number of the question that got a
-// no.
+// What reading took: so many bytes were used, and there are so many notes now.
 #[derive(Clone, Copy)]
-pub enum Took {
-    Used(usize, usize),
-    Refused(u8),
+pub struct Took {
+    pub bytes: usize,
+    pub notes: usize,
 }
 
 // The common part of the ranges of each of the 16 variables: 0 and 65536 where it has no range.

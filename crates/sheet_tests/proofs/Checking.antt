@@ -7,10 +7,15 @@ use native.Mathlib.Omega.{arith}
 use lib.Dec.{leb, eqb}
 use lib.ListN.{length, take, drop, replicate, length-append, length-map, length-replicate}
 use lib.Seq.{length-take-le}
-use borrow.Author.Tests.{leb-false, le-leb, lt-leb, eq-eqb, ne_eqb}
+use borrow.Author.Tests.{leb-false, le-leb, lt-leb, eq-eqb}
+use Rattle.std.specs.Prelude.{Option, Some, None, Result, Ok, Err}
+use Rattle.std.specs.Result.{IsErrAnd}
 use Rattle.records.specs.Fields.{AreBytes}
+use Rattle.records.specs.Refusals.{number}
+use Rattle.records.specs.declared.refusal.Refusal.{Refusal}
+use Rattle.records.specs.declared.refusal.Refusal.TheVariants.{TooManyTests}
 use Rattle.records.specs.Reading.{Reading, took, refused, ask, map_reading, and_then}
-use Rattle.records.proofs.Rows.{took_view, refused_view, row_size}
+use Rattle.records.proofs.Rows.{took_view, row_size}
 use Rattle.records.proofs.Spelling.{row_holds}
 use Rattle.basics.specs.Lists.{All}
 use Rattle.terms.specs.Pattern.{Patterns}
@@ -23,14 +28,8 @@ use Rattle.sheet.specs.Sheet.{Sheet}
 use Rattle.sheet.specs.ReadSheet.{read_rule, read_rules, end_sheet, read_header, read_sheet}
 use Rattle.sheet.proofs.ReadsSound.{rule_sound}
 use Rattle.sheet.proofs.SheetReads.{header_is}
-use Rattle.pairs.specs.declared.Name.{Name}
-use Rattle.pairs.specs.declared.Name.TheVariants.{Nameless, Of}
-use Rattle.sheet_tests.specs.declared.SheetCheck.TheVariants as check
 use Rattle.sheet_tests.specs.declared.TestsRead.{TestsRead}
-use Rattle.sheet_tests.specs.declared.TestsRead.TheVariants.{Accepted, Refused}
 use Rattle.sheet_tests.specs.declared.Scan.{Scan}
-use Rattle.sheet_tests.specs.declared.Scan.TheVariants.{Done}
-use Rattle.sheet_tests.specs.declared.Scan.TheVariants as scans
 use Rattle.sheet_tests.specs.SheetTests.{place, sheet_tests}
 use Rattle.sheet_tests.specs.views.TestedPlaces.{has_place, places_in, insert_all}
 use Rattle.pairs.specs.views.KeptPairs.{these, many, kept_if, kept_of, pairs_in}
@@ -38,7 +37,7 @@ use Rattle.sheet_tests.specs.views.KeptPairs.{code_pair}
 use Rattle.pairs.specs.views.NoteVariables.{name_of, occurrence, notes_variables, Placed}
 use Rattle.sheet_tests.specs.views.Gathered.{Gathered, gather, held, gathered_in, sheet_places, sheet_codes}
 use Rattle.sheet_tests.specs.CheckSheet.{most_tests, ask_tests, accept_sheet, sheet_check_values, sheet_values}
-use Rattle.sheet_tests.specs.views.TestsRead.{kept_tests, tests_found, sheet_found, found_values, CountsTests, Held}
+use Rattle.sheet_tests.specs.views.TestsRead.{TestsFound, kept_tests, tests_found, sheet_found, found_values, CountsTests, Held}
 use Rattle.sheet_tests.proofs.NotedTests.{rule_placed, rule_varied}
 use Rattle.sheet_tests.proofs.PlaceSets.{places_none}
 use Rattle.pairs.proofs.KeptLists.{pairs_many, pairs_these}
@@ -55,9 +54,9 @@ variables_placed : (notes : List Note) → All Placed notes → All Within680 (n
 variables_placed [] h = tt
 variables_placed (n ∷ notes) h = go (name_of n.what) (variables_placed notes h.1)
   where
-    go : (x : Name) → All Within680 (notes_variables notes) → All Within680 (occurrence n.place x (notes_variables notes))
-    go Nameless k = k
-    go (Of v) k = (h.0, k)
+    go : (x : Option ℕ) → All Within680 (notes_variables notes) → All Within680 (occurrence n.place x (notes_variables notes))
+    go None k = k
+    go (Some v) k = (h.0, k)
 
 with_small : (p v : ℕ) (os : List Occurrence) → All Within680 os → All Small (pairs_with p v os)
 with_small p v [] h = tt
@@ -117,8 +116,8 @@ module _ (arity rules : ℕ) (s : List ℕ) where
 
   -- What the scan of the rules says where it read them.
   pub rules_gathered
-      : (words codes : List ℕ) {r : Scan} {bytes count : ℕ} → arity ≤ 8 → AreBytes s → r ≡ Done bytes count
-      → gathered_in words codes r ≡ gathered_rules → RulesRead arity rules s words codes bytes count
+      : (words codes : List ℕ) {r : Result Scan Refusal} {t : Scan} → arity ≤ 8 → AreBytes s → r ≡ Ok t
+      → gathered_in words codes r ≡ gathered_rules → RulesRead arity rules s words codes t.bytes t.pairs
   rules_gathered words codes few bytes same gathers =
       let e = sym (ap (gathered_in words codes) same) ∙ gathers in
       let (all, read, found) = took_view (λ rs. gather rs (held (replicate 11 0) (replicate 65 0) 0)) (read_rules arity rules s) e in
@@ -131,18 +130,6 @@ module _ (arity rules : ℕ) (s : List ℕ) where
         places = λ i. (gathered i).places;
         pairs = (λ i. (gathered i).pairs) ∙ keep_all_lem (sheet_codes all) [];
       }
-
-  rules_refused : {q : ℕ} → refused q ≡ gathered_rules → read_rules arity rules s ≡ refused q
-  rules_refused e = refused_view (λ rs. gather rs (held (replicate 11 0) (replicate 65 0) 0)) (read_rules arity rules s) e
-
-  -- A refusal of the rules is that of the sheet.
-  pub check_refused
-      : (words codes : List ℕ) {r : Scan} {q : ℕ} → r ≡ scans.Refused q → gathered_in words codes r ≡ gathered_rules
-      → tests_found words codes (Refused q) ≡ sheet_found (ask_tests (end_sheet arity (length s) (read_rules arity rules s)))
-  check_refused words codes same gathers =
-      sym
-      (ap (λ x. sheet_found (ask_tests (end_sheet arity (length s) x)))
-      (rules_refused (sym (ap (gathered_in words codes) same) ∙ gathers)))
 
 -- Too many are kept of a list where it has more than 64, and otherwise the list.
 kept_many : (l : List ℕ) → many ≡ kept_of l → 64 < length l
@@ -204,10 +191,6 @@ module _ {arity rules : ℕ} {s words codes : List ℕ} {bytes count : ℕ} (r :
   abbrev checked : Reading Sheet
   checked = ask_tests (end_sheet arity (length s) (read_rules arity rules s))
 
-  -- Question 10: bytes are left.
-  pub check_left : (bytes ≡ length s → ⊥) → tests_found words codes (Refused 10) ≡ sheet_found checked
-  check_left h = sym (ap (λ x. sheet_found (ask_tests x)) (ended false (ne_eqb bytes (length s) h)))
-
   module _ (whole : bytes ≡ length s) where
     asked : (b : Bool) → leb tests most_tests ≡ b
         → checked ≡ ask 11 b (took (3 + bytes) (record { arity = arity; rules = r.all }))
@@ -216,7 +199,7 @@ module _ {arity rules : ℕ} {s words codes : List ℕ} {bytes count : ℕ} (r :
         ∙ ap (λ (x : Bool). ask 11 x (took (3 + bytes) (record { arity = arity; rules = r.all }))) e
 
     -- Question 11: there are more than 64 tests.
-    pub check_many : 64 < tests → tests_found words codes (Refused 11) ≡ sheet_found checked
+    pub check_many : 64 < tests → tests_found words codes (Err TooManyTests) ≡ sheet_found checked
     check_many h = sym (ap sheet_found (asked false (lt-leb tests 64 h)))
 
     -- All questions got a yes.
@@ -230,9 +213,11 @@ module _ {arity rules : ℕ} {s words codes : List ℕ} {bytes count : ℕ} (r :
 -- The first record of a sheet.
 module _ (s : List ℕ) where
   -- Where it is refused, so is the sheet.
-  pub header_refused : (words codes : List ℕ) {q : ℕ} → refused q ≡ read_header s → tests_found words codes (Refused q) ≡ sheet_found (accept_sheet s)
+  pub header_refused
+      : (words codes : List ℕ) (x : Refusal) → refused (number x) ≡ read_header s
+      → tests_found words codes (Err x) ≡ sheet_found (accept_sheet s)
   unfolding accept_sheet read_sheet
-  header_refused words codes e =
+  header_refused words codes x e =
       ap (λ x. sheet_found (ask_tests (and_then x (λ a head. end_sheet head.arity (length s - a) (read_rules head.arity head.rule_count (drop a s)))))) e
 
   module _ {arity rules : ℕ} (e : took 3 (record { arity = arity; rule_count = rules }) ≡ read_header s) where
@@ -246,30 +231,29 @@ module _ (s : List ℕ) where
     header_read_lem =
         sym (ap (λ x. ask_tests (and_then x (λ a head. end_sheet head.arity (length s - a) (read_rules head.arity head.rule_count (drop a s))))) e)
 
--- What is found says what the check answers,
+-- A refusal that is handed on.
+pub handed_on
+    : (words codes : List ℕ) (result : Result TestsRead Refusal) (x : Refusal) {f : TestsFound} → IsErrAnd result (λ e. e ≡ x)
+    → tests_found words codes (Err x) ≡ f → tests_found words codes result ≡ f
+handed_on words codes (Ok t) x h k = absurd h
+handed_on words codes (Err e) x h k = ap (λ (y : Refusal). tests_found words codes (Err y)) h ∙ k
+
+-- What is found says what the check answers, where the sheet is accepted.
 pub values_found : (x : Reading Sheet) → found_values (sheet_found x) ≡ sheet_values x
 values_found (took k sheet) = refl
 values_found (refused q) = refl
 
--- where the sheet is refused,
-pub check_no
-    : (words codes : List ℕ) {r : TestsRead} {q : ℕ} (x : Reading Sheet) → r ≡ Refused q
-    → tests_found words codes r ≡ sheet_found x → sheet_check_values (check.Refused q) ≡ sheet_values x
-check_no words codes x same found = ap found_values (sym (ap (tests_found words codes) same) ∙ found) ∙ values_found x
-
--- and where it is accepted.
-module _ (words codes : List ℕ) {r : TestsRead} {arity rules places pairs : ℕ} (same : r ≡ Accepted arity rules places pairs)
-    (held : Held words codes r) where
-  pub read_counted : (places ≡ length (places_in words)) × (places + pairs ≤ most_tests)
+module _ (words codes : List ℕ) {r : Result TestsRead Refusal} {t : TestsRead} (same : r ≡ Ok t) (held : Held words codes r) where
+  pub read_counted : (t.places ≡ length (places_in words)) × (t.places + t.pairs ≤ most_tests)
   read_counted = subst (CountsTests words) same held.counted
 
   pub check_yes
       : (x : Reading Sheet) → tests_found words codes r ≡ sheet_found x
-      → sheet_check_values (check.Accepted arity rules (places + pairs)) ≡ sheet_values x
+      → sheet_check_values (Ok (record { arity = t.arity; rules = t.rules; tests = t.places + t.pairs })) ≡ sheet_values x
   check_yes x found =
-      let within : pairs ≤ length codes = omega (arith, read_counted.1, held.all_codes) in
-      let number : places + pairs ≡ length (kept_tests words codes pairs) =
-      omega (arith, read_counted.0, kept_count words codes pairs within) in
-      (λ i. record { refusal = 0; arity = arity; rules = rules; tests = number i })
+      let within : t.pairs ≤ length codes = omega (arith, read_counted.1, held.all_codes) in
+      let many : t.places + t.pairs ≡ length (kept_tests words codes t.pairs) =
+      omega (arith, read_counted.0, kept_count words codes t.pairs within) in
+      (λ i. record { refusal = 0; arity = t.arity; rules = t.rules; tests = many i })
       ∙ ap found_values (sym (ap (tests_found words codes) same) ∙ found)
       ∙ values_found x

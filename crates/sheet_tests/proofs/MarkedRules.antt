@@ -5,7 +5,10 @@ use mathlib.Core.Bool.{Bool, true, false}
 use mathlib.Core.List.{List, ◌++◌}
 use native.Mathlib.Omega.{arith}
 use lib.ListN.{length, take, drop}
+use Rattle.std.specs.Prelude.{Result, Ok, Err}
 use Rattle.records.specs.Fields.{AreBytes}
+use Rattle.records.specs.Refusals.{number}
+use Rattle.records.specs.declared.refusal.Refusal.{Refusal}
 use Rattle.records.specs.Reading.{Reading, took, refused, ask, and_then}
 use Rattle.records.proofs.Parts.{rest_length}
 use Rattle.records.proofs.Rows.{took_view, refused_view}
@@ -14,7 +17,6 @@ use Rattle.basics.specs.Lists.{All}
 use Rattle.terms.specs.Pattern.{Patterns}
 use Rattle.terms.specs.Accepted.{AcceptedRule}
 use Rattle.sheet.specs.declared.Took.{Took}
-use Rattle.sheet.specs.declared.Took.TheVariants.{Used, Refused}
 use Rattle.sheet.specs.ReadSheet.{read_patterns, read_rule, ranges_meet}
 use Rattle.patterns.specs.views.Note.{Note}
 use Rattle.sheet.specs.views.Noted.{rule_notes}
@@ -51,16 +53,17 @@ pub record RuleMarked (arity at : ℕ) (s words marks notes : List ℕ) (b n : �
 abbrev asked : ℕ → Patterns → Reading Patterns
 asked a rule = ask 9 (ranges_meet rule) (took a rule)
 
-module _ (arity at : ℕ) (s words notes₀ marks notes : List ℕ) (r : Took)
+module _ (arity at : ℕ) (s words notes₀ marks notes : List ℕ) (r : Result Took Refusal)
     (e : took_as (marks_in marks notes) r ≡ row_held marked 3 arity 0 (marks_in words notes₀ 0) (take (length s - at) (drop at s))) where
   marks_behind : took_as (marks_in marks notes) r ≡ row_held marked 3 arity 0 (marks_in words notes₀ 0) (drop at s)
   marks_behind = part_read marked 3 arity at s e refl refl
 
   -- What the reader says where it read a rule's patterns.
   pub rule_marked
-      : {b n : ℕ} → arity ≤ 8 → AreBytes s → length words ≡ 11 → r ≡ Used b n
-      → TookWithin (length (take (length s - at) (drop at s))) 680 notes r → RuleMarked arity at s words marks notes b n
-  rule_marked {b} {n} few bytes size same within =
+      : {t : Took} → arity ≤ 8 → AreBytes s → length words ≡ 11 → r ≡ Ok t
+      → TookWithin (length (take (length s - at) (drop at s))) 680 notes r
+      → RuleMarked arity at s words marks notes t.bytes t.notes
+  rule_marked few bytes size same within =
       let (rule, read, are) =
       took_view _ (read_patterns 3 arity (drop at s)) (sym (ap (took_as (marks_in marks notes)) same) ∙ marks_behind) in
       let all = are ∙ marks_all (rule_notes rule) (marks_in words notes₀ 0) in
@@ -77,7 +80,7 @@ module _ (arity at : ℕ) (s words notes₀ marks notes : List ℕ) (r : Took)
       }
 
   -- What it says where it refused.
-  pub marks_refused : {q : ℕ} → r ≡ Refused q → read_rule arity (drop at s) ≡ refused q
+  pub marks_refused : {x : Refusal} → r ≡ Err x → read_rule arity (drop at s) ≡ refused (number x)
   marks_refused same =
       ap (λ x. and_then x asked)
       (refused_view _ (read_patterns 3 arity (drop at s)) (sym (ap (took_as (marks_in marks notes)) same) ∙ marks_behind))

@@ -5,7 +5,10 @@ use mathlib.Core.List.{List, [], ◌∷◌}
 use native.Mathlib.Omega.{arith}
 use lib.ListN.{length, get_or, take, drop}
 use lib.Seq.{drop-drop}
+use Rattle.std.specs.Prelude.{Result, Ok, Err}
 use Rattle.records.specs.Fields.{AreBytes}
+use Rattle.records.specs.Refusals.{number}
+use Rattle.records.specs.declared.refusal.Refusal.{Refusal}
 use Rattle.records.specs.Reading.{Reading, took, refused, map_reading, after}
 use Rattle.records.proofs.Parts.{rest, rest_length}
 use Rattle.records.proofs.Rows.{took_view, refused_view, row_none, row_refused, row_next}
@@ -13,7 +16,6 @@ use Rattle.basics.specs.Lists.{All}
 use Rattle.terms.specs.Pattern.{Patterns}
 use Rattle.terms.specs.Accepted.{AcceptedRule}
 use Rattle.sheet.specs.declared.Took.{Took}
-use Rattle.sheet.specs.declared.Took.TheVariants.{Used, Refused}
 use Rattle.sheet.specs.views.Noted.{rule_notes}
 use Rattle.sheet.specs.views.NoteArray.{notes_in, took_notes, bytes_used, notes_made, TookWithin}
 use Rattle.sheet.specs.ReadSheet.{read_rule, read_rules}
@@ -34,16 +36,16 @@ pub record RuleRead (arity at : ℕ) (s notes : List ℕ) (b n : ℕ) : Type 0 w
   pub used : b ≤ length s - at
   pub made : n ≤ 680
 
-module _ (arity at : ℕ) (s notes : List ℕ) (r : Took)
+module _ (arity at : ℕ) (s notes : List ℕ) (r : Result Took Refusal)
     (e : took_notes notes r ≡ map_reading rule_notes (read_rule arity (take (length s - at) (drop at s)))) where
   behind : took_notes notes r ≡ map_reading rule_notes (read_rule arity (drop at s))
   behind = e ∙ ap (λ (t : List ℕ). map_reading rule_notes (read_rule arity t)) (rest s at)
 
   -- What the reader of a rule says where it read one.
   pub rule_read_lem
-      : {b n : ℕ} → arity ≤ 8 → AreBytes s → r ≡ Used b n → TookWithin (length (take (length s - at) (drop at s))) 680 notes r
-      → RuleRead arity at s notes b n
-  rule_read_lem {b} {n} few bytes same within =
+      : {t : Took} → arity ≤ 8 → AreBytes s → r ≡ Ok t → TookWithin (length (take (length s - at) (drop at s))) 680 notes r
+      → RuleRead arity at s notes t.bytes t.notes
+  rule_read_lem few bytes same within =
       let (rule, read, noted) = took_view rule_notes (read_rule arity (drop at s)) (sym (ap (took_notes notes) same) ∙ behind) in
       let accepted = rule_sound arity (drop at s) (bytes_drop at s bytes) read in
       record {
@@ -57,7 +59,7 @@ module _ (arity at : ℕ) (s notes : List ℕ) (r : Took)
       }
 
   -- What it says where it refused.
-  pub rule_refused : {q : ℕ} → r ≡ Refused q → read_rule arity (drop at s) ≡ refused q
+  pub rule_refused : {x : Refusal} → r ≡ Err x → read_rule arity (drop at s) ≡ refused (number x)
   rule_refused same = refused_view rule_notes (read_rule arity (drop at s)) (sym (ap (took_notes notes) same) ∙ behind)
 
 -- A slice's elements are bytes.
@@ -69,10 +71,6 @@ bytes_known (x ∷ s) h = (h 0, bytes_known s (λ i. h (suc i)))
 abbrev pub scan_from : ℕ → ℕ → List ℕ → ℕ → ℕ → Gathered → Reading Gathered
 scan_from arity rules s i at g = after at (λ rs. gather rs g) (read_rules arity (rules - i) (drop at s))
 
-after_map : {A B : Type 0} (f : A → B) (x : Reading A) → after 0 f x ≡ map_reading f x
-after_map f (took a x) = let e : 0 + a ≡ a = omega arith in ap (λ (k : ℕ). took k (f x)) e
-after_map f (refused q) = refl
-
 After-more
     : {A : Type 0} {B C : Type 0} (a b : ℕ) (f : B → C) (g : A → B) (h : A → C) → ((x : A) → f (g x) ≡ h x)
     → (x : Reading A) → after a f (after b g x) ≡ after (a + b) h x
@@ -82,13 +80,6 @@ After-more a b f g h e (took c x) =
 After-more a b f g h e (refused q) = refl
 
 module _ (arity rules : ℕ) (s : List ℕ) where
-  -- Before the first rule all are to come.
-  pub scan_start : (g : Gathered) → scan_from arity rules s 0 0 g ≡ map_reading (λ rs. gather rs g) (read_rules arity rules s)
-  scan_start g =
-      let e : rules - 0 ≡ rules = omega arith in
-      ap (λ (k : ℕ). after 0 (λ rs. gather rs g) (read_rules arity k s)) e
-      ∙ after_map (λ rs. gather rs g) (read_rules arity rules s)
-
   module _ (i at : ℕ) (g : Gathered) where
     -- After the last rule none is to come.
     pub scan_end : rules ≤ i → took at g ≡ scan_from arity rules s i at g

@@ -1,6 +1,6 @@
 -- Where each rule begins, noted as the rules are read.
 use Prim.Native.Nat.{ℕ, ◌+◌, ◌≤◌, ◌<◌}
-use mathlib.Core.Path.{◌≡◌, sym, ap, ◌∙◌, subst}
+use mathlib.Core.Path.{◌≡◌, sym, ap, ◌∙◌}
 use mathlib.Core.List.{List}
 use mathlib.Core.Logic.{by_cases}
 use native.Mathlib.Decide.{ℕ_discrete}
@@ -11,17 +11,9 @@ use lib.Seq.{get_or-set_same, get_or-set_other}
 use Rattle.records.specs.Reading.{took}
 use Rattle.terms.specs.Pattern.{Patterns}
 use Rattle.sheet.specs.ReadSheet.{read_rule}
-use Rattle.sheet_tests.specs.declared.Scan.{Scan}
-use Rattle.sheet_tests.specs.declared.Scan.TheVariants.{Done}
-use Rattle.sheet_tests.specs.declared.TestsRead.{TestsRead}
-use Rattle.sheet_tests.specs.declared.TestsRead.TheVariants.{Accepted}
-use Rattle.sheet_tests.specs.views.Starts.{bytes_read, rule_start, StartsIn, scan_starts, tests_starts}
+use Rattle.sheet_tests.specs.views.Starts.{bytes_read, rule_start, StartsIn}
 
 module _ (arity : ℕ) (s : List ℕ) where
-  -- Of no rule nothing is said.
-  pub starts_none : (starts : List ℕ) → StartsIn arity s starts 0
-  starts_none starts = λ i h. absurd (omega arith)
-
   module _ (i at : ℕ) (is : at ≡ rule_start arity s i) where
     -- The next rule begins where it was noted,
     pub starts_put
@@ -44,14 +36,3 @@ module _ (arity : ℕ) (s : List ℕ) where
         ap (λ (n : ℕ). at + n) (sym (ap bytes_read read))
         ∙ (λ j. is j + bytes_read (read_rule arity (drop (is j) s)))
         ∙ ap (rule_start arity s) (sym (add-one i))
-
--- What is said of all rules that were read, of a sheet whose tests were read, and of an accepted one.
-pub starts_done
-    : (arity n : ℕ) (s starts : List ℕ) {bytes count : ℕ} {r : Scan} → r ≡ Done bytes count → scan_starts arity s starts n r
-    → StartsIn arity s starts n
-starts_done arity n s starts e h = subst (scan_starts arity s starts n) e h
-
-pub starts_tests
-    : (s starts : List ℕ) (arity n places pairs : ℕ) {r : TestsRead} → r ≡ Accepted arity n places pairs
-    → tests_starts s starts r → (n ≤ 64) × StartsIn arity s starts n
-starts_tests s starts arity n places pairs e h = subst (tests_starts s starts) e h

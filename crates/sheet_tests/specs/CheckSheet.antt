@@ -1,11 +1,12 @@
 -- What the check of a sheet says (document 01, "Questions at the counter", 1 to 11).
-use Rattle.std.specs.Prelude.{ℕ, ◌≤◌, List, leb, length}
+use Rattle.std.specs.Prelude.{ℕ, ◌≤◌, List, leb, length, Result, Ok, Err}
 use Rattle.records.specs.Reading.{Reading, took, refused, ask, and_then}
+use Rattle.records.specs.Refusals.{number}
+use Rattle.records.specs.declared.refusal.Refusal.{Refusal}
 use Rattle.sheet.specs.Sheet.{Sheet, SoundSheet}
 use Rattle.sheet.specs.ReadSheet.{read_header_up_to, after_header, read_sheet}
 use Rattle.sheet_tests.specs.SheetTests.{sheet_tests}
-use Rattle.sheet_tests.specs.declared.SheetCheck.{SheetCheck}
-use Rattle.sheet_tests.specs.declared.SheetCheck.TheVariants.{Accepted, Refused}
+use Rattle.sheet_tests.specs.declared.SheetSizes.{SheetSizes}
 
 -- "11 Are there at most 64 tests?"
 abbrev pub most_tests : ℕ
@@ -34,9 +35,9 @@ pub record SheetValues : Type 0 where
   pub rules : ℕ
   pub tests : ℕ
 
-abbrev pub sheet_check_values : SheetCheck → SheetValues
-sheet_check_values (Accepted a n t) = record { refusal = 0; arity = a; rules = n; tests = t }
-sheet_check_values (Refused q) = record { refusal = q; arity = 0; rules = 0; tests = 0 }
+abbrev pub sheet_check_values : Result SheetSizes Refusal → SheetValues
+sheet_check_values (Ok x) = record { refusal = 0; arity = x.arity; rules = x.rules; tests = x.tests }
+sheet_check_values (Err r) = record { refusal = number r; arity = 0; rules = 0; tests = 0 }
 
 abbrev pub sheet_values : Reading Sheet → SheetValues
 sheet_values (took k sheet) =

@@ -10,24 +10,26 @@ pub use sheets::{check_noted, check_sheet, read_tests};
 // Where each rule of a sheet begins.
 pub type Starts = [usize; 64];
 
-// What the check of a sheet answers: its arity, rules and tests, or the number of the question that got a no.
+// The arity of a sheet, and how many rules and tests it has.
 #[derive(Clone, Copy)]
-pub enum SheetCheck {
-    Accepted(u8, u8, u8),
-    Refused(u8),
+pub struct SheetSizes {
+    pub arity: u8,
+    pub rules: u8,
+    pub tests: u8,
 }
 
-// What reading a sheet's tests answers: its arity and rules, how many of its tests are places and how many are pairs; or the
-// number of the question that got a no.
+// The arity of a sheet and the number of its rules, how many of its tests are places and how many are pairs.
 #[derive(Clone, Copy)]
-pub enum TestsRead {
-    Accepted(u8, u8, usize, usize),
-    Refused(u8),
+pub struct TestsRead {
+    pub arity: u8,
+    pub rules: u8,
+    pub places: usize,
+    pub pairs: usize,
 }
 
-// How reading the rules went: so many bytes were used and there are so many pairs, or the number of the question that got a no.
+// What reading the rules took: so many bytes were used, and there are so many pairs.
 #[derive(Clone, Copy)]
-pub enum Scan {
-    Done(usize, usize),
-    Refused(u8),
+pub struct Scan {
+    pub bytes: usize,
+    pub pairs: usize,
 }

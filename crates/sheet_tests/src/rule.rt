@@ -15,10 +15,7 @@ fn has_range(high: &[u32; 16], v: u8) -> bool
     ensures { result ≡ has_range high.now v }
 {
     let i = v as usize;
-    if i < 16 {
-        return high[i] < 0x1_0000;
-    }
-    false
+    i < 16 && high[i] < 0x1_0000
 }
 
 // Is the record a place test?
@@ -28,13 +25,8 @@ fn is_tested(what: PatternRecord, high: &[u32; 16]) -> bool
 {
     match what {
         PatternRecord::Anything => false,
-        PatternRecord::Symbol(_) => true,
-        PatternRecord::Range(_, _) => true,
-        PatternRecord::Compound(_, _) => true,
-        PatternRecord::Variable(v) => has_range(high, v),
-        PatternRecord::Ranged(v, _, _) => has_range(high, v),
-        PatternRecord::Series(_, _) => true,
-        PatternRecord::Gauged(_, _, _) => true,
+        PatternRecord::Variable(v) | PatternRecord::Ranged(v, _, _) => has_range(high, v),
+        _ => true,
     }
 }
 
@@ -48,12 +40,9 @@ pub fn mark_rule(notes: &[u64; 680], n: usize, high: &[u32; 16], words: &mut [u6
         (places_in words.old) }
     ensures words_len { length words.new ≡ 11 }
 {
-    let mut i: usize = 0;
-    while i < n {
-        let code = notes[i];
-        if is_tested(patterns::note_record(code), high) {
-            mark(words, patterns::note_place(code));
+    for code in &notes[..n] {
+        if is_tested(patterns::note_record(*code), high) {
+            mark(words, patterns::note_place(*code));
         }
-        i += 1;
     }
 }

@@ -12,11 +12,11 @@ ghost use Rattle.sheet_tests.specs.views.TestsRead.{tests_found, sheet_found, He
 
 use crate::rule::mark_rule;
 use crate::tested::count_places;
-use crate::{Scan, SheetCheck, Starts, TestsRead};
+use crate::{Scan, SheetSizes, Starts, TestsRead};
 use marks::read_marks;
 use pairs::rule::pair_rule;
+use records::Refusal;
 use sheet::variable::common;
-use sheet::{Header, Took};
 
 // Gathers the tests of a rule's variables from its notes, and those of all records that are among them.
 fn gather_rule(
@@ -50,7 +50,7 @@ fn scan_rules(
     words: &mut [u64; 11],
     codes: &mut [u32; 65],
     starts: &mut Starts,
-) -> Scan
+) -> Result<Scan, Refusal>
     requires { (arity ≤ 8) × (length notes.old ≡ 680) × (length words.old ≡ 11) × (length codes.old ≡ 65)
         × (rules ≤ 64) × (length starts.old ≡ 64) }
     ensures result_after { gathered_in words.new codes.new result
@@ -61,23 +61,19 @@ fn scan_rules(
 {
     let mut at: usize = 0;
     let mut count: usize = 0;
-    let mut i: usize = 0;
-    while i < rules {
+    for i in 0..rules {
         starts[i] = at;
-        let read = read_marks(&s[at..], arity, notes, words);
-        match read {
-            Took::Refused(q) => return Scan::Refused(q),
-            Took::Used(bytes, n) => {
-                if !common(notes, n) {
-                    return Scan::Refused(9);
-                }
-                count = gather_rule(notes, n, words, codes, count);
-                at += bytes;
-            }
+        let read = read_marks(&s[at..], arity, notes, words)?;
+        if !common(notes, read.notes) {
+            return Err(Refusal::NoCommonNumber);
         }
-        i += 1;
+        count = gather_rule(notes, read.notes, words, codes, count);
+        at += read.bytes;
     }
-    Scan::Done(at, count)
+    Ok(Scan {
+        bytes: at,
+        pairs: count,
+    })
 }
 
 // Reads what follows a sheet's first record, and leaves its tests and where its rules begin: questions 4 to 11.
@@ -89,7 +85,7 @@ fn read_rules(
     codes: &mut [u32; 65],
     notes: &mut [u64; 680],
     starts: &mut Starts,
-) -> TestsRead
+) -> Result<TestsRead, Refusal>
     requires { (arity ≤ 8) × (words.old ≡ replicate 11 0) × (codes.old ≡ replicate 65 0)
         × (rules ≤ 64) × (length notes.old ≡ 680) × (length starts.old ≡ 64) }
     ensures result_after { tests_found words.new codes.new result
@@ -105,23 +101,23 @@ fn read_rules(
         words,
         codes,
         starts,
-    );
-    match scan {
-        Scan::Refused(q) => TestsRead::Refused(q),
-        Scan::Done(bytes, pairs) => {
-            if bytes != s.len() {
-                return TestsRead::Refused(10);
-            }
-            if 64 < pairs {
-                return TestsRead::Refused(11);
-            }
-            let places = count_places(words);
-            if 64 < places + pairs {
-                return TestsRead::Refused(11);
-            }
-            TestsRead::Accepted(arity, rules, places, pairs)
-        }
+    )?;
+    if scan.bytes != s.len() {
+        return Err(Refusal::BytesAfterSheet);
     }
+    if 64 < scan.pairs {
+        return Err(Refusal::TooManyTests);
+    }
+    let places = count_places(words);
+    if 64 < places + scan.pairs {
+        return Err(Refusal::TooManyTests);
+    }
+    Ok(TestsRead {
+        arity,
+        rules,
+        places,
+        pairs: scan.pairs,
+    })
 }
 
 // Reads a sheet and leaves its tests and where its rules begin, with the notes lent: questions 1 to 11.
@@ -131,22 +127,31 @@ fn tests_noted(
     codes: &mut [u32; 65],
     notes: &mut [u64; 680],
     starts: &mut Starts,
-) -> TestsRead
+) -> Result<TestsRead, Refusal>
     requires { (words.old ≡ replicate 11 0) × (codes.old ≡ replicate 65 0)
         × (length notes.old ≡ 680) × (length starts.old ≡ 64) }
     ensures result_after { tests_found words.new codes.new result ≡ sheet_found (accept_sheet s.now) }
     ensures held { Held words.new codes.new result }
     ensures tests_starts { tests_starts (drop 3 s.now) starts.new result × (length notes.new ≡ 680) }
 {
-    let header = sheet::read_header(s);
-    let Header::Of(arity, rules) = header else {
-        return TestsRead::Refused(sheet::header_refusal(header));
-    };
-    read_rules(&s[3..], arity, rules, words, codes, notes, starts)
+    let header = sheet::read_header(s)?;
+    read_rules(
+        &s[3..],
+        header.arity,
+        header.rules,
+        words,
+        codes,
+        notes,
+        starts,
+    )
 }
 
 // Reads a sheet and leaves its tests: questions 1 to 11. Not the tests of all rules but the last, nor a pair of two variables.
-pub fn read_tests(s: &[u8], words: &mut [u64; 11], codes: &mut [u32; 65]) -> TestsRead
+pub fn read_tests(
+    s: &[u8],
+    words: &mut [u64; 11],
+    codes: &mut [u32; 65],
+) -> Result<TestsRead, Refusal>
     requires { (words.old ≡ replicate 11 0) × (codes.old ≡ replicate 65 0) }
     ensures result_after { tests_found words.new codes.new result ≡ sheet_found (accept_sheet s.now) }
     ensures held { Held words.new codes.new result }
@@ -158,26 +163,27 @@ pub fn read_tests(s: &[u8], words: &mut [u64; 11], codes: &mut [u32; 65]) -> Tes
 
 // Checks a sheet and leaves where its rules begin, with the notes lent: questions 1 to 11. Not the place of a rule's last byte,
 // nor that of the rule after it.
-pub fn check_noted(s: &[u8], notes: &mut [u64; 680], starts: &mut Starts) -> SheetCheck
+pub fn check_noted(
+    s: &[u8],
+    notes: &mut [u64; 680],
+    starts: &mut Starts,
+) -> Result<SheetSizes, Refusal>
     requires { (length notes.old ≡ 680) × (length starts.old ≡ 64) }
     ensures result_value { sheet_check_values result ≡ sheet_values (accept_sheet s.now) }
     ensures check_starts { check_starts (drop 3 s.now) starts.new result × (length notes.new ≡ 680) }
 {
     let mut words = [0u64; 11];
     let mut codes = [0u32; 65];
-    let read = tests_noted(s, &mut words, &mut codes, notes, starts);
-    match read {
-        TestsRead::Refused(q) => SheetCheck::Refused(q),
-        TestsRead::Accepted(arity, rules, places, pairs) => SheetCheck::Accepted(
-            arity,
-            rules,
-            (places + pairs) as u8,
-        ),
-    }
+    let read = tests_noted(s, &mut words, &mut codes, notes, starts)?;
+    Ok(SheetSizes {
+        arity: read.arity,
+        rules: read.rules,
+        tests: (read.places + read.pairs) as u8,
+    })
 }
 
 // Checks a sheet: questions 1 to 11. Not a sheet accepted that has 65 tests, nor one refused for its tests that has bytes left.
-pub fn check_sheet(s: &[u8]) -> SheetCheck
+pub fn check_sheet(s: &[u8]) -> Result<SheetSizes, Refusal>
     ensures { sheet_check_values result ≡ sheet_values (accept_sheet s.now) }
 {
     let mut notes = [0u64; 680];

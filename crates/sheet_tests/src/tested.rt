@@ -18,8 +18,8 @@ pub fn count_places(words: &[u64; 11]) -> usize
     ensures { result ≡ length (places_in words.now) }
 {
     let mut total: usize = 0;
-    for i in 0usize..11 {
-        total += masks::size(words[i]);
+    for word in words {
+        total += masks::size(*word);
     }
     total
 }

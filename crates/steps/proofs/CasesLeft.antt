@@ -12,7 +12,8 @@ use Rattle.records.proofs.Rows.{row_none}
 use Rattle.decision.specs.views.CaseCodes.{case_low, case_high}
 use Rattle.graph.specs.declared.CaseRecord.{CaseRecord}
 use Rattle.graph.specs.declared.CaseRecord.TheVariants.{Symbols, Compound, Numbers}
-use Rattle.graph.specs.declared.CaseHead.TheVariants.{Whole, Refused}
+use Rattle.std.specs.Prelude.{Ok, Err}
+use Rattle.records.specs.declared.refusal.Refusal.{Refusal}
 use Rattle.graph.specs.views.NodeRecord.{case_head}
 use Rattle.graph.specs.ReadGraph.{read_cases, read_case}
 use Rattle.graph.specs.views.Rewriting.{IsTook, read_or}
@@ -76,11 +77,11 @@ module _ (s : List ℕ) (neither low high : ℕ) where
       more = omega arith
 
       -- The next case is whole.
-      pub passed_whole : {q : ℕ} → case_head (drop at s) ≡ Refused q → ⊥
+      pub passed_whole : {r : Refusal} → case_head (drop at s) ≡ Err r → ⊥
       passed_whole e =
           row_there read_case s (count - i) (count - (i + 1)) at more p.left (case_refused (drop at s) e)
 
-      module _ (c : CaseRecord) (e : case_head (drop at s) ≡ Whole c) where
+      module _ (c : CaseRecord) (e : case_head (drop at s) ≡ Ok c) where
         read : read_case (drop at s) ≡ took (range_of c).bytes (edge_of c)
         read = edge_read (drop at s) c e
 

@@ -18,23 +18,16 @@ use Rattle.decision.specs.Path.{no_way, go_to, by_comparison}
 use Rattle.graph.specs.declared.Leaf.{Leaf}
 use Rattle.graph.specs.declared.Leaf.TheVariants.{Fail, Suspend, Execute}
 use Rattle.graph.specs.declared.NodeRecord.TheVariants.{End, Switch, Pair}
-use Rattle.graph.specs.declared.NodeHead.TheVariants.{Whole}
+use Rattle.std.specs.Prelude.{Ok}
 use Rattle.graph.specs.views.NodeRecord.{switch_length, node_head, leaf_of}
 use Rattle.graph.specs.ReadGraph.{read_cases, read_record}
 use Rattle.graph.specs.views.Rewriting.{IsTook, read_or}
 use Rattle.node_check.proofs.NodeHeads.{node_fits}
 use Rattle.node_check.proofs.CopiedNodes.{cases_there}
-use Rattle.steps.specs.declared.Led.{Led}
-use Rattle.steps.specs.declared.Led.TheVariants.{To, Refused}
 use Rattle.steps.specs.declared.Step.TheVariants.{GoTo, NoWay}
 use Rattle.number_search.specs.views.CodeCases.{follow_code}
 use Rattle.steps.specs.views.CodeSteps.{run_step, runs_step, step_made}
 use Rattle.graph.proofs.ByKinds.{node_read_by}
-
--- The node that the cases of a switch lead to.
-abbrev pub led_to : Led → ℕ
-led_to (To n) = n
-led_to (Refused q) = 0
 
 -- A switch whose place is lacking, unknown or known.
 module _ (cs : List (CaseEdge ℕ)) (neither unknownEdge run test : ℕ) where
@@ -64,16 +57,16 @@ module _ (s : List ℕ) where
   abbrev pub node_in : Node ℕ
   node_in = read_or (end fail_node) (read_record s)
 
-  pub leaf_node : (l : Leaf) → node_head s ≡ Whole (End l) → end (leaf_of l) ≡ node_in
+  pub leaf_node : (l : Leaf) → node_head s ≡ Ok (End l) → end (leaf_of l) ≡ node_in
   leaf_node Fail e = sym (ap (read_or (end fail_node)) (node_read_by s e))
   leaf_node Suspend e = sym (ap (read_or (end fail_node)) (node_read_by s e))
   leaf_node (Execute i) e = sym (ap (read_or (end fail_node)) (node_read_by s e))
 
-  pub pair_node_lem : {p q x y : ℕ} → node_head s ≡ Whole (Pair p q x y) → pair_node p q x y ≡ node_in
+  pub pair_node_lem : {p q x y : ℕ} → node_head s ≡ Ok (Pair p q x y) → pair_node p q x y ≡ node_in
   pair_node_lem e = sym (ap (read_or (end fail_node)) (node_read_by s e))
 
   pub switch_node
-      : {n count x y : ℕ} → node_head s ≡ Whole (Switch n count x y) → IsTook (read_record s)
+      : {n count x y : ℕ} → node_head s ≡ Ok (Switch n count x y) → IsTook (read_record s)
       → switch n (read_or [] (read_cases count (drop switch_length s))) x y ≡ node_in
   switch_node {n} {count} {x} {y} e there =
       sym
@@ -89,7 +82,7 @@ module _ (s : List ℕ) where
 
 -- The cases of a switch whose record begins at a position are there to be read, behind it.
 module _ (s : List ℕ) (at : ℕ) (inside : at ≤ length s) {n count x y : ℕ}
-    (e : node_head (drop at s) ≡ Whole (Switch n count x y)) where
+    (e : node_head (drop at s) ≡ Ok (Switch n count x y)) where
   pub cases_inside_lem : at + switch_length ≤ length s
   cases_inside_lem = omega (arith, node_fits (drop at s) e, length-drop at s)
 

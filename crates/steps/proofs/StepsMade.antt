@@ -7,7 +7,7 @@ use Rattle.decision.specs.Path.{Step, stop, go_to, no_way}
 use Rattle.graph.specs.declared.Leaf.{Leaf}
 use Rattle.graph.specs.declared.Leaf.TheVariants.{Fail, Suspend, Execute}
 use Rattle.graph.specs.views.NodeRecord.{leaf_of}
-use Rattle.steps.specs.declared.Step.TheVariants.{Stop, GoTo, NoWay, Refused}
+use Rattle.steps.specs.declared.Step.TheVariants.{Stop, GoTo, NoWay}
 use Rattle.steps.specs.views.CodeSteps.{leaf_made, step_made}
 
 -- A leaf that is handed back is the leaf.
@@ -36,9 +36,3 @@ module _ (code : ℕ) where
   made_stuck (stop m) e = let z : ◌≡◌ {A = ℕ} 0 1 = cc in absurd (omega arith)
   made_stuck (go_to n) e = let z : ◌≡◌ {A = ℕ} 0 1 = cc in absurd (omega arith)
   made_stuck no_way e = refl
-
-  -- No record is refused.
-  pub made_some : {q : ℕ} (s : Step ℕ) → Refused q ≡ step_made code s → ⊥
-  made_some (stop m) e = let z : ◌≡◌ {A = ℕ} 0 1 = cc in omega arith
-  made_some (go_to n) e = let z : ◌≡◌ {A = ℕ} 0 1 = cc in omega arith
-  made_some no_way e = let z : ◌≡◌ {A = ℕ} 0 1 = cc in omega arith

@@ -1,5 +1,5 @@
 // What happens at a node, by its record and the cells of a piece.
-ghost use Rattle.std.specs.Prelude.{◌<◌, ◌≡◌, [], drop};
+ghost use Rattle.std.specs.Prelude.{◌<◌, ◌≡◌, [], Ok, drop};
 ghost use Rattle.pairs.specs.views.KeptPairs.{pair_code};
 ghost use Rattle.outcomes.specs.views.Look.{look};
 ghost use Rattle.outcomes.specs.views.CompareCells.{Narrow};
@@ -11,12 +11,13 @@ ghost use Rattle.graph.specs.views.Rewriting.{read_or};
 ghost use Rattle.number_search.specs.views.NumberRows.{CasesStand};
 ghost use Rattle.steps.specs.views.CodeSteps.{run_step, runs_step, step_made, node_step, NodeStands};
 
+use crate::Step;
 use crate::cases::find_case;
-use crate::{Led, Step};
 use codes::{UNKNOWN, high_of, low_of};
-use graph::{NodeHead, NodeRecord, SWITCH_BYTES, node_head, node_refusal};
+use graph::{NodeRecord, SWITCH_BYTES, node_head};
 use outcomes::{TestOutcome, look, pair_outcome};
 use piece::Cells;
+use records::Refusal;
 
 // A test as one number: the places of a pair, or one place twice.
 fn test_code(p: u16, q: u16) -> u32
@@ -34,26 +35,23 @@ fn switch_step(
     neither: u16,
     unknown: u16,
     cells: &Cells,
-) -> Step
+) -> Result<Step, Refusal>
     requires { CasesStand graph.now start count × (tested < 680) }
     ensures { result
-        ≡ step_made (pair_code tested tested)
+        ≡ Ok (step_made (pair_code tested tested)
         (run_step (read_or [] (read_cases count (drop start graph.now))) neither unknown
-        (look cells.now tested)) }
+        (look cells.now tested))) }
 {
     let run = look(cells, tested as usize);
     if run == 0 {
-        return Step::NoWay;
+        return Ok(Step::NoWay);
     }
     let test = test_code(tested, tested);
     if run == UNKNOWN {
-        return Step::GoTo(unknown, test);
+        return Ok(Step::GoTo(unknown, test));
     }
-    let led = find_case(graph, start, count, low_of(run), high_of(run), neither);
-    match led {
-        Led::To(node) => Step::GoTo(node, test),
-        Led::Refused(q) => Step::Refused(q),
-    }
+    let node = find_case(graph, start, count, low_of(run), high_of(run), neither)?;
+    Ok(Step::GoTo(node, test))
 }
 
 // The step at a pair: by differ only where its test is contradicted, and no way where a place is lacking.
@@ -71,8 +69,7 @@ fn pair_step(cells: &Cells, p: u16, q: u16, differ: u16, other: u16) -> Step
         return Step::NoWay;
     }
     let test = test_code(p, q);
-    let outcome = pair_outcome(cells, p as usize, q as usize);
-    match outcome {
+    match pair_outcome(cells, p as usize, q as usize) {
         TestOutcome::Holds => Step::GoTo(other, test),
         TestOutcome::NotKnown => Step::GoTo(other, test),
         TestOutcome::Contradicted => Step::GoTo(differ, test),
@@ -81,16 +78,13 @@ fn pair_step(cells: &Cells, p: u16, q: u16, differ: u16, other: u16) -> Step
 
 // The step at the node whose record, which is whole, begins at a position of the graph. Not by neither where the place is
 // unknown, nor by other where a place is lacking, nor with the test of another node.
-pub fn step_at(graph: &[u8], at: usize, cells: &Cells) -> Step
+pub fn step_at(graph: &[u8], at: usize, cells: &Cells) -> Result<Step, Refusal>
     requires { NodeStands graph.now at × Narrow cells.now }
-    ensures { result ≡ node_step cells.now (read_or (end fail_node) (read_record (drop at graph.now))) }
+    ensures { result ≡ Ok (node_step cells.now (read_or (end fail_node) (read_record (drop at graph.now)))) }
 {
-    let head = node_head(&graph[at..]);
-    let NodeHead::Whole(node) = head else {
-        return Step::Refused(node_refusal(head));
-    };
+    let node = node_head(&graph[at..])?;
     match node {
-        NodeRecord::End(leaf) => Step::Stop(leaf),
+        NodeRecord::End(leaf) => Ok(Step::Stop(leaf)),
         NodeRecord::Switch(tested, count, neither, unknown) => {
             switch_step(
                 graph,
@@ -102,6 +96,6 @@ pub fn step_at(graph: &[u8], at: usize, cells: &Cells) -> Step
                 cells,
             )
         }
-        NodeRecord::Pair(p, q, differ, other) => pair_step(cells, p, q, differ, other),
+        NodeRecord::Pair(p, q, differ, other) => Ok(pair_step(cells, p, q, differ, other)),
     }
 }

@@ -9,32 +9,25 @@ ghost use Rattle.tables.specs.views.Planes.{before_in, first_asked_in};
 // Room for the counts and five planes.
 pub type Tables = [u64; 324];
 
-// The same number at another width.
-fn wide(x: u64) -> usize
-    ensures { result ≡ x }
-{
-    x as usize
-}
-
 // How many rules there are.
 pub fn rules(s: &Tables) -> usize
     ensures { result ≡ rules_in s.now }
 {
-    wide(s[0])
+    s[0] as usize
 }
 
 // How many tests there are.
 pub fn tests(s: &Tables) -> usize
     ensures { result ≡ tests_in s.now }
 {
-    wide(s[1])
+    s[1] as usize
 }
 
 // How many of the tests are places: the first so many.
 pub fn place_tests(s: &Tables) -> usize
     ensures { result ≡ place_tests_in s.now }
 {
-    wide(s[2])
+    s[2] as usize
 }
 
 // Test t as p × 65,536 + q, where place p counts as the pair p, p.
@@ -83,10 +76,10 @@ pub fn first_asked(s: &Tables, pending: u64) -> usize
     requires { 0 < pending }
     ensures { (result ≡ first_asked_in s.now pending) × (result < 64) }
 {
-    let mut t = u64::trailing_zeros(pending) as usize;
+    let mut t = pending.trailing_zeros() as usize;
     let mut earlier = pending & before(s, t);
     while earlier != 0 {
-        t = u64::trailing_zeros(earlier) as usize;
+        t = earlier.trailing_zeros() as usize;
         earlier = earlier & (earlier - 1) & before(s, t);
     }
     t

@@ -11,18 +11,15 @@ pub data Outcome : Type 0 where
 
 abbrev pub Holds : Outcome → Type 0
 Holds holds = Unit
-Holds not_known = ⊥
-Holds contradicted = ⊥
+Holds _ = ⊥
 
 abbrev pub NotKnown : Outcome → Type 0
-NotKnown holds = ⊥
 NotKnown not_known = Unit
-NotKnown contradicted = ⊥
+NotKnown _ = ⊥
 
 abbrev pub Contradicted : Outcome → Type 0
-Contradicted holds = ⊥
-Contradicted not_known = ⊥
 Contradicted contradicted = Unit
+Contradicted _ = ⊥
 
 -- Where there is nothing unknown, a test holds or is contradicted.
 abbrev pub known : Bool → Outcome
@@ -46,16 +43,10 @@ inside l h a b = cond (leb l a && leb b h) holds (cond (ltb b l || ltb h a) cont
 -- test is contradicted at a span." Record 35 "contradicts every place test".
 abbrev pub fits : Want → Term → Outcome
 fits w unknown = not_known
-fits w never = contradicted
 fits (a_symbol l h) (symbol a) = known (leb l a && leb a h)
-fits (a_symbol l h) (numbers a b) = contradicted
-fits (a_symbol l h) (compound b ts) = contradicted
-fits (a_number l h) (symbol b) = contradicted
 fits (a_number l h) (numbers a b) = inside l h a b
-fits (a_number l h) (compound b ts) = contradicted
-fits (a_compound a n) (symbol b) = contradicted
-fits (a_compound a n) (numbers b c) = contradicted
 fits (a_compound a n) (compound b ts) = known (eqb a b && eqb n (count ts))
+fits _ _ = contradicted
 
 -- "Spans with no common number differ, .. and a span of several numbers makes a comparison otherwise not known." "Two numbers are
 -- now equal only if gauge and value are both equal", and "a span and a number on another gauge differ".
@@ -65,11 +56,9 @@ compare_spans a b c d = cond (ltb b c || ltb d a) contradicted (cond (eqb a b &&
 -- "A term that is or holds it", record 35.
 abbrev mutual
   pub holds_never : Term → Bool
-  holds_never unknown = false
   holds_never never = true
-  holds_never (symbol a) = false
-  holds_never (numbers a b) = false
   holds_never (compound a ts) = hold_never ts
+  holds_never _ = false
 
   pub hold_never : Terms → Bool
   hold_never nil = false
@@ -89,20 +78,12 @@ abbrev mutual
   compare unknown u = beside_unknown (holds_never u)
   compare never u = contradicted
   compare (symbol a) unknown = not_known
-  compare (symbol a) never = contradicted
   compare (symbol a) (symbol b) = known (eqb a b)
-  compare (symbol a) (numbers b c) = contradicted
-  compare (symbol a) (compound b us) = contradicted
   compare (numbers a b) unknown = not_known
-  compare (numbers a b) never = contradicted
-  compare (numbers a b) (symbol c) = contradicted
   compare (numbers a b) (numbers c d) = compare_spans a b c d
-  compare (numbers a b) (compound c us) = contradicted
   compare (compound a ts) unknown = beside_unknown (hold_never ts)
-  compare (compound a ts) never = contradicted
-  compare (compound a ts) (symbol b) = contradicted
-  compare (compound a ts) (numbers b c) = contradicted
   compare (compound a ts) (compound b us) = ◌and◌ (known (eqb a b)) (compares ts us)
+  compare _ _ = contradicted
 
   pub compares : Terms → Terms → Outcome
   compares nil nil = holds

@@ -20,7 +20,7 @@ fn list_word(word: u64, base: usize, places: &mut [u16; 64], count: usize) -> us
     let mut left = word;
     let mut n = count;
     while left != 0 {
-        let i = u64::trailing_zeros(left) as usize;
+        let i = left.trailing_zeros() as usize;
         places[n] = (base + i) as u16;
         n += 1;
         left &= left - 1;
@@ -36,10 +36,8 @@ pub fn list_places(words: &[u64; 11], places: &mut [u16; 64]) -> usize
     ensures value { (result ≡ length (places_in words.now)) × (length places.new ≡ 64) }
 {
     let mut count: usize = 0;
-    let mut i: usize = 0;
-    while i < 11 {
+    for i in 0..11 {
         count = list_word(words[i], 64 * i, places, count);
-        i += 1;
     }
     count
 }

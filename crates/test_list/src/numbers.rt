@@ -2,24 +2,15 @@
 ghost use Rattle.std.specs.Prelude.{◌≡◌, ◌≤◌, length, take};
 ghost use Rattle.test_list.specs.views.Numbers.{number_all};
 
-// The same number at another width.
-fn wide(x: u16) -> usize
-    ensures { result ≡ x }
-{
-    x as usize
-}
-
 // Writes down the number of each listed place. Not the next number, nor a number for a place that is not listed.
 pub fn number_places(places: &[u16; 64], count: usize, numbers: &mut [u8; 680])
     requires { (count ≤ 64) × (length places.now ≡ 64) × (length numbers.old ≡ 680) }
     ensures { numbers.new ≡ number_all (take count places.now) 0 numbers.old }
 {
-    let mut t: usize = 0;
-    while t < count {
-        let place = wide(places[t]);
+    for t in 0..count {
+        let place = places[t] as usize;
         if place < 680 {
             numbers[place] = t as u8;
         }
-        t += 1;
     }
 }

@@ -11,7 +11,7 @@ use crate::list_places;
 use crate::numbers::number_places;
 use tables::Tables;
 
-// The same numbers at other widths.
+// A place as the code of its test.
 fn spot(x: u16) -> u64
     ensures { result ≡ spot_code x }
 {
@@ -19,21 +19,13 @@ fn spot(x: u16) -> u64
     place * 0x1_0000 + place
 }
 
-fn wide(x: u32) -> u64
-    ensures { result ≡ x }
-{
-    x as u64
-}
-
 // Writes down the listed places, from number 0 on.
 fn put_places(places: &[u16; 64], count: usize, s: &mut Tables)
     requires { (count ≤ 64) × (length places.now ≡ 64) × (length s.old ≡ 324) }
     ensures { s.new ≡ put_all 4 (map spot_code (take count places.now)) s.old }
 {
-    let mut t: usize = 0;
-    while t < count {
+    for t in 0..count {
         s[4 + t] = spot(places[t]);
-        t += 1;
     }
 }
 
@@ -42,10 +34,8 @@ fn put_pairs(codes: &[u32; 65], pairs: usize, count: usize, s: &mut Tables)
     requires { (count + pairs ≤ 64) × (length codes.now ≡ 65) × (length s.old ≡ 324) }
     ensures { s.new ≡ put_all (4 + count) (take pairs codes.now) s.old }
 {
-    let mut t: usize = 0;
-    while t < pairs {
-        s[4 + count + t] = wide(codes[t]);
-        t += 1;
+    for t in 0..pairs {
+        s[4 + count + t] = codes[t] as u64;
     }
 }
 
@@ -86,12 +76,10 @@ fn settled(s: &Tables, t: usize) -> u64
     let end = below_end(p);
     let count = tables::place_tests(s);
     let mut all: u64 = 0;
-    let mut u = t;
-    while u < count {
+    for u in t..count {
         if is_inside(p, end, (tables::test(s, u) % 0x1_0000) as usize) {
             all |= 1 << u;
         }
-        u += 1;
     }
     all
 }
@@ -102,10 +90,8 @@ fn put_under(s: &mut Tables)
     ensures { s.new ≡ under_put s.old }
 {
     let count = tables::place_tests(s);
-    let mut t: usize = 0;
-    while t < count {
+    for t in 0..count {
         s[196 + t] = settled(s, t);
-        t += 1;
     }
 }
 

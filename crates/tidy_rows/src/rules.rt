@@ -9,7 +9,7 @@ ghost use Rattle.tidy_rows.specs.views.TidyRow.{tidy_word, tidy_in, tidy_spellin
 use crate::Moved;
 use patterns::PatternRecord;
 use rule_rows::words::Words;
-use rule_rows::{Next, Row, next_record, number_record, record_length};
+use rule_rows::{Row, next_record, number_record, record_length};
 
 // What a variable becomes: anything or its range where it stands once, else itself by its new number, with its common range if any.
 fn tidy_variable(word: u64) -> PatternRecord
@@ -144,16 +144,13 @@ pub fn measure_rule(s: &[u8], start: Row, words: &Words) -> Moved
 {
     let mut row = start;
     let mut size: usize = 0;
-    loop {
-        let next = next_record(s, row);
-        let Next::Record(what, more) = next else {
-            return Moved {
-                from: row.at,
-                to: size,
-            };
-        };
-        size += record_length(tidy_record(what, words));
-        row = more;
+    while let Some(next) = next_record(s, row) {
+        size += record_length(tidy_record(next.what, words));
+        row = next.rest;
+    }
+    Moved {
+        from: row.at,
+        to: size,
     }
 }
 
@@ -174,16 +171,13 @@ pub fn put_rule(s: &[u8], start: Row, words: &mut Words, buf: &mut [u8], to: usi
     let mut row = start;
     let mut end = to;
     let mut count: u64 = 0;
-    loop {
-        let next = next_record(s, row);
-        let Next::Record(what, more) = next else {
-            return Moved {
-                from: row.at,
-                to: end,
-            };
-        };
-        count = number_record(what, count, words);
-        end = put_record(buf, end, tidy_record(what, words));
-        row = more;
+    while let Some(next) = next_record(s, row) {
+        count = number_record(next.what, count, words);
+        end = put_record(buf, end, tidy_record(next.what, words));
+        row = next.rest;
+    }
+    Moved {
+        from: row.at,
+        to: end,
     }
 }

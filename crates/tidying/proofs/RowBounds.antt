@@ -6,9 +6,8 @@ use native.Mathlib.Omega.{arith}
 use lib.ListN.{length, drop, length-drop, length-append}
 use Rattle.patterns.specs.declared.PatternRecord.{PatternRecord}
 use Rattle.patterns.specs.declared.PatternRecord.TheVariants.{Anything, Symbol, Series, Range, Compound, Variable, Ranged, Gauged}
-use Rattle.patterns.specs.declared.PatternHead.{PatternHead}
-use Rattle.patterns.specs.declared.PatternHead.TheVariants.{Whole, Refused}
-use Rattle.patterns.specs.views.PatternRecord.{record_bytes, record_spelling, records_spelling, pattern_head}
+use Rattle.std.specs.Prelude.{Ok, Err}
+use Rattle.patterns.specs.views.PatternRecord.{PatternHead, record_bytes, record_spelling, records_spelling, pattern_head}
 use Rattle.patterns.proofs.Heads.{head_whole}
 use Rattle.rule_rows.specs.views.Row.{arguments_of, head_then, row_records, rule_records}
 use Rattle.rule_rows.specs.views.Words.{Numbering, number_record}
@@ -66,8 +65,8 @@ row_few (suc most) (suc patterns) s =
         : (h : PatternHead)
         → ((r : PatternRecord) → length (row_records most (patterns + arguments_of r) (drop (record_bytes r) s)) ≤ most)
         → length (head_then h (λ r. row_records most (patterns + arguments_of r) (drop (record_bytes r) s))) ≤ suc most
-    go (Whole r) rest = omega (arith, rest r)
-    go (Refused q) rest = omega arith
+    go (Ok r) rest = omega (arith, rest r)
+    go (Err q) rest = omega arith
 
 row_inside : (most patterns : ℕ) (s : List ℕ) → length (records_spelling (row_records most patterns s)) ≤ length s
 unfolding row_records
@@ -83,10 +82,10 @@ row_inside (suc most) (suc patterns) s =
         ≤ length (drop (record_bytes r) s))
         → length (records_spelling (head_then h (λ r. row_records most (patterns + arguments_of r) (drop (record_bytes r) s))))
         ≤ length s
-    go (Whole r) e rest =
+    go (Ok r) e rest =
         let others = row_records most (patterns + arguments_of r) (drop (record_bytes r) s) in
         omega (arith, first_spelled r others, rest r, length-drop (record_bytes r) s, head_whole s e)
-    go (Refused q) e rest = omega arith
+    go (Err q) e rest = omega arith
 
 -- The tidy forms of so many rules have at most three times the bytes, and at most 680 records of 6 bytes a rule.
 pub rows_three : (arity rules : ℕ) (s : List ℕ) → length (tidy_rows arity rules s) ≤ 3 * length s

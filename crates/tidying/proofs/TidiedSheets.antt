@@ -6,14 +6,18 @@ use mathlib.Core.List.{List, [], ◌∷◌, ◌++◌, map}
 use native.Mathlib.Omega.{arith}
 use lib.ListN.{length, drop, length-map}
 use borrow.Author.Tests.{le-leb, lt-leb}
+use Rattle.std.specs.Prelude.{Ok, Err}
 use Rattle.records.specs.Fields.{AreBytes}
 use Rattle.records.specs.Reading.{Reading, took, refused, ask, and_then}
 use Rattle.records.specs.Writing.{splice}
+use Rattle.records.specs.Refusals.{number}
+use Rattle.records.specs.declared.refusal.Refusal.{Refusal}
+use Rattle.records.specs.declared.refusal.Refusal.TheVariants.{TidyTooLong}
 use Rattle.records.specs.Written.{result_of, ask_fits}
 use Rattle.records.proofs.Writing.{splice_more}
 use Rattle.sheet.specs.Sheet.{Sheet}
 use Rattle.sheet_tests.specs.CheckSheet.{SheetValues, accept_sheet, sheet_check_values, sheet_values}
-use Rattle.sheet_tests.specs.declared.SheetCheck.TheVariants.{Accepted}
+use Rattle.sheet_tests.specs.declared.SheetSizes.{SheetSizes}
 use Rattle.accepted.proofs.Acceptance.{sheet_accepted_lem}
 use Rattle.accepted.proofs.CheckedSheets.{check_accepts}
 use Rattle.accepted.specs.views.AcceptedAs.{AcceptedAs}
@@ -21,21 +25,27 @@ use Rattle.sheet.specs.WriteSheet.{rules_bytes}
 use Rattle.tidy.specs.TidyRule.{tidy_rule}
 use Rattle.tidy.specs.TidySheet.{tidy_bytes}
 use Rattle.tidy.specs.Tidied.{tidied}
-use Rattle.tidying.specs.declared.Tidied.TheVariants.{Written, Refused}
 use Rattle.tidying.specs.views.HandedBack.{left_by}
 use Rattle.tidying.specs.views.TidyRows.{tidy_rows}
 use Rattle.tidying.proofs.TidyForms.{rules_tidy}
 
 -- A sheet that its questions refuse.
-pub tidy_refused : (s buffer : List ℕ) {q : ℕ} → accept_sheet s ≡ refused q → left_by (Refused q) buffer ≡ tidied s buffer
+pub tidy_refused
+    : (s buffer : List ℕ) (r : Refusal) → accept_sheet s ≡ refused (number r) → left_by (Err r) buffer ≡ tidied s buffer
 unfolding tidied
-tidy_refused s buffer e =
+tidy_refused s buffer r e =
     sym (ap (λ (x : Reading Sheet). result_of buffer (and_then x (λ _ sheet. ask_fits 31 buffer (tidy_bytes sheet)))) e)
 
-module _ (s : List ℕ) (bytes : AreBytes s) (a n t : ℕ)
-    (told : sheet_check_values (Accepted a n t) ≡ sheet_values (accept_sheet s)) where
+module _ (s : List ℕ) (bytes : AreBytes s) (x : SheetSizes)
+    (told : sheet_check_values (Ok x) ≡ sheet_values (accept_sheet s)) where
+  abbrev a : ℕ
+  a = x.arity
+
+  abbrev n : ℕ
+  n = x.rules
+
   known : AcceptedAs s a n
-  known = check_accepts s a n t told
+  known = check_accepts s x told
 
   abbrev sheet : Sheet
   sheet = known.sheet
@@ -72,7 +82,7 @@ module _ (s : List ℕ) (bytes : AreBytes s) (a n t : ℕ)
         ∙ ap (λ (l : List ℕ). result_of buffer (ask_fits 31 buffer l)) (sym tidy_is)
 
     -- Question 31 got a no: it does not fit.
-    pub tidy_large : length buffer < 3 + length rows → left_by (Refused 31) buffer ≡ tidied s buffer
+    pub tidy_large : length buffer < 3 + length rows → left_by (Err TidyTooLong) buffer ≡ tidied s buffer
     tidy_large more =
         sym
         (asked
@@ -83,12 +93,12 @@ module _ (s : List ℕ) (bytes : AreBytes s) (a n t : ℕ)
     pub tidy_written
         : {start end : ℕ} {first left : List ℕ} → 3 + length rows ≤ length buffer → start ≡ 0 + length header
         → first ≡ splice buffer 0 header → end ≡ start + length rows → left ≡ splice first start rows
-        → left_by (Written end) left ≡ tidied s buffer
+        → left_by (Ok end) left ≡ tidied s buffer
     tidy_written {start} {end} {first} {left} fits at was to is =
         let whole : end ≡ length (header ++ rows) = omega (arith, at, to) in
         let all : left ≡ splice buffer 0 (header ++ rows) =
         is ∙ (λ j. splice (was j) (at j) rows) ∙ splice_more buffer 0 header rows (omega arith) in
-        (λ j. left_by (Written (whole j)) (all j))
+        (λ j. left_by (Ok (whole j)) (all j))
         ∙ sym
         (asked
         ∙ ap (λ (b : Bool). result_of buffer (ask 31 b (took (length (header ++ rows)) (header ++ rows))))

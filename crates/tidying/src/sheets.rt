@@ -5,9 +5,8 @@ ghost use Rattle.tidy.specs.Tidied.{tidied};
 ghost use Rattle.tidying.specs.views.HandedBack.{left_by};
 ghost use Rattle.tidying.specs.views.TidyRows.{tidy_rows};
 
-use crate::Tidied;
+use records::Refusal;
 use rule_rows::{Row, meet_row};
-use sheet_tests::SheetCheck;
 use tidy_rows::{measure_rule, put_rule};
 
 // How many bytes the tidy form of a sheet has. Not those of the sheet, nor those of its rules alone.
@@ -18,8 +17,7 @@ fn measure(s: &[u8], arity: u8, rules: u8) -> usize
 {
     let mut at: usize = 3;
     let mut size: usize = 3;
-    let mut i: u8 = 0;
-    while i < rules {
+    for _ in 0..rules {
         let row = Row {
             at,
             patterns: arity as usize,
@@ -30,7 +28,6 @@ fn measure(s: &[u8], arity: u8, rules: u8) -> usize
         let moved = measure_rule(s, row, &known);
         at = moved.from;
         size += moved.to;
-        i += 1;
     }
     size
 }
@@ -56,8 +53,7 @@ fn put_rules(s: &[u8], arity: u8, rules: u8, buf: &mut [u8], start: usize) -> us
 {
     let mut at: usize = 3;
     let mut end = start;
-    let mut i: u8 = 0;
-    while i < rules {
+    for _ in 0..rules {
         let row = Row {
             at,
             patterns: arity as usize,
@@ -68,26 +64,20 @@ fn put_rules(s: &[u8], arity: u8, rules: u8, buf: &mut [u8], start: usize) -> us
         let moved = put_rule(s, row, &mut words, buf, end);
         at = moved.from;
         end = moved.to;
-        i += 1;
     }
     end
 }
 
 // Writes the tidy form of a sheet: the sheet's questions, then 31. Not a byte written where the sheet is refused or its tidy form
 // does not fit, nor a sheet refused whose tidy form just fits.
-pub fn tidy(sheet: &[u8], buffer: &mut [u8]) -> Tidied
+pub fn tidy(sheet: &[u8], buffer: &mut [u8]) -> Result<u32, Refusal>
     ensures { left_by result buffer.new ≡ tidied sheet.now buffer.old }
 {
-    let checked = sheet_tests::check_sheet(sheet);
-    match checked {
-        SheetCheck::Refused(q) => Tidied::Refused(q),
-        SheetCheck::Accepted(arity, rules, _) => {
-            if !fits(sheet, arity, rules, buffer.len()) {
-                return Tidied::Refused(31);
-            }
-            let start = records::put(buffer, 0, &[0x10, arity, rules]);
-            let end = put_rules(sheet, arity, rules, buffer, start);
-            Tidied::Written(end as u32)
-        }
+    let sizes = sheet_tests::check_sheet(sheet)?;
+    if !fits(sheet, sizes.arity, sizes.rules, buffer.len()) {
+        return Err(Refusal::TidyTooLong);
     }
+    let start = records::put(buffer, 0, &[0x10, sizes.arity, sizes.rules]);
+    let end = put_rules(sheet, sizes.arity, sizes.rules, buffer, start);
+    Ok(end as u32)
 }

@@ -1,11 +1,9 @@
 -- The children of a place, and the arguments, are a row of places as many apart; the turns of the loops over such a row.
-use Prim.Native.Nat.{ℕ, suc, pred, ◌+◌, ◌*◌, ◌-◌, ◌≤◌, ◌<◌}
+use Prim.Native.Nat.{ℕ, min, suc, pred, ◌+◌, ◌*◌, ◌-◌, ◌≤◌, ◌<◌}
 use mathlib.Core.Path.{◌≡◌, refl, sym, ap, subst, ◌∙◌}
 use mathlib.Core.Logic.{inl, inr, by_cases}
 use mathlib.Core.List.{List}
 use native.Mathlib.Decide.{ℕ_discrete}
-use native.Mathlib.Nat.{suc-mul}
-use native.Mathlib.Numerals.{add-one}
 use native.Mathlib.Omega.{arith}
 use lib.ListN.{length, get_or, set, length-set}
 use lib.Seq.{get_or-set_same, get_or-set_other}
@@ -15,66 +13,21 @@ use Rattle.places.proofs.Levels.{levels_range, levels_fit_row}
 use Rattle.places.proofs.Parents.{parent_first_of, parent_before, parent_of_child_place, child_of_parent, argument_without_parent}
 use Rattle.track.specs.views.Front.{position_key, Opened, LeastOf, LeastBelow}
 
--- The next place of a row.
-pub row_next : (from i step : ℕ) → from + i * step + step ≡ from + (i + 1) * step
-row_next from i step = omega (arith, ap (λ (x : ℕ). x * step) (add-one i), suc-mul i step)
-
-module _ (positions : List ℕ) (from step : ℕ) {keys₀ : List ℕ} where
-  pub opened_none : length keys₀ ≡ 680 → Opened positions from step 0 keys₀ keys₀
-  opened_none size = record { size = size; row = λ i h. absurd (omega arith); others = λ q d. refl }
-
-  pub opened_more
-      : {keys : List ℕ} (i q key : ℕ) → Opened positions from step i keys₀ keys → q ≡ from + i * step → q < 680
-      → key ≡ position_key positions q → Opened positions from step (i + 1) keys₀ (set keys q key)
-  opened_more {keys} i q key o place inside is = record {
-    size = length-set keys q key ∙ o.size;
-    row = λ k h.
-        by_cases (ℕ_discrete (from + k * step) q)
-        (λ (e : from + k * step ≡ q).
-        ap (λ (x : ℕ). get_or (set keys q key) x 0) e
-        ∙ get_or-set_same keys q key 0 (omega (arith, o.size))
-        ∙ is
-        ∙ ap (position_key positions) (sym e))
-        (λ (d : from + k * step ≡ q → ⊥).
-        get_or-set_other keys q (from + k * step) key 0 d ∙ o.row k (before k h d));
-    others = λ x d.
-        get_or-set_other keys q x key 0 (λ e. d i (omega arith) (e ∙ place)) ∙ o.others x (λ k h. d k (omega arith));
-  }
-    where
-      before : (k : ℕ) → k < i + 1 → (from + k * step ≡ q → ⊥) → k < i
-      before k h d =
-          by_cases (ℕ_discrete k i) (λ (e : k ≡ i). absurd (d (ap (λ (x : ℕ). from + x * step) e ∙ sym place)))
-          (λ (d' : k ≡ i → ⊥). omega arith)
-
-module _ (keys : List ℕ) (from step : ℕ) where
-  pub least_none : LeastOf keys from step 0 67108864
-  least_none = record { low = λ i h. absurd (omega arith); met = inl refl }
-
-  -- A key below the least so far is the least now, and any other is not.
-  pub least_now
-      : (i q best : ℕ) → LeastOf keys from step i best → q ≡ from + i * step → get_or keys q 0 < best
-      → LeastOf keys from step (i + 1) (get_or keys q 0)
-  least_now i q best l place below = record {
-    low = λ k h.
-        by_cases (ℕ_discrete k i)
-        (λ (e : k ≡ i). omega (arith, ap (λ (x : ℕ). get_or keys x 0) (ap (λ (x : ℕ). from + x * step) e ∙ sym place)))
-        (λ (d : k ≡ i → ⊥). omega (arith, below, l.low k (omega arith)));
-    met = inr (i, omega arith, ap (λ (x : ℕ). get_or keys x 0) place);
-  }
-
-  pub least_still
-      : (i q best : ℕ) → LeastOf keys from step i best → q ≡ from + i * step → best ≤ get_or keys q 0
-      → LeastOf keys from step (i + 1) best
-  least_still i q best l place above = record {
-    low = λ k h.
-        by_cases (ℕ_discrete k i)
-        (λ (e : k ≡ i). omega (arith, above, ap (λ (x : ℕ). get_or keys x 0) (ap (λ (x : ℕ). from + x * step) e ∙ sym place)))
-        (λ (d : k ≡ i → ⊥). l.low k (omega arith));
-    met = elim l.met [
-      | inl m ↦ inl m
-      | inr m ↦ inr (m.0, omega (arith, m.1), m.2)
-    ];
-  }
+-- The lesser of the least so far and of the next key is the least then.
+pub least_next
+    : (keys : List ℕ) (from step i best m : ℕ) → LeastOf keys from step i best → m ≡ min best (get_or keys (from + i * step) 0)
+    → LeastOf keys from step (i + 1) m
+least_next keys from step i best m l is = record {
+  low = λ k h.
+      by_cases (ℕ_discrete k i) (λ (e : k ≡ i). omega (arith, is, ap (λ (x : ℕ). get_or keys (from + x * step) 0) e))
+      (λ (d : k ≡ i → ⊥). omega (arith, is, l.low k (omega arith)));
+  met = by_cases (ℕ_discrete m best)
+      (λ (e : m ≡ best). elim l.met [
+        | inl none ↦ inl (e ∙ none)
+        | inr at ↦ inr (at.0, omega (arith, at.1), e ∙ at.2)
+      ])
+      (λ (d : m ≡ best → ⊥). inr (i, omega arith, omega (arith, is)));
+}
 
 -- The places that have p as their parent, 680 for the arguments, are a row.
 pub record Row (p from step n : ℕ) : Type 0 where

@@ -26,12 +26,9 @@ pub fn open_row(positions: &[u8], keys: &mut Keys, from: usize, step: usize, n: 
         × ((i : ℕ) → i < n → from + i * step < 680) }
     ensures { Opened positions.now from step n keys.old keys.new }
 {
-    let mut q = from;
-    let mut i: usize = 0;
-    while i < n {
+    for i in 0..n {
+        let q = from + i * step;
         keys[q] = key(positions, q);
-        q += step;
-        i += 1;
     }
 }
 
@@ -42,15 +39,8 @@ pub fn least_row(keys: &Keys, from: usize, step: usize, n: usize) -> u32
     ensures { LeastOf keys.now from step n result }
 {
     let mut best: u32 = 0x400_0000;
-    let mut q = from;
-    let mut i: usize = 0;
-    while i < n {
-        let key = keys[q];
-        if key < best {
-            best = key;
-        }
-        q += step;
-        i += 1;
+    for i in 0..n {
+        best = best.min(keys[from + i * step]);
     }
     best
 }

@@ -11,14 +11,7 @@ ghost use Rattle.track.specs.Ordering.{ordered};
 ghost use Rattle.track.specs.views.HandedBack.{left_by};
 
 use front::{least_row, open_row, put_down};
-
-// What writing the order of a track drawing answers: the table's 1,360 bytes were written, or the number of the question that got
-// a no.
-#[derive(Clone, Copy)]
-pub enum Ordered {
-    Written,
-    Refused(u8),
-}
+use records::Refusal;
 
 // The places in the order of their positions, step by step, into a buffer that has room for them.
 fn put_order(positions: &[u8], buf: &mut [u8])
@@ -29,27 +22,25 @@ fn put_order(positions: &[u8], buf: &mut [u8])
     let mut keys = [0x400_0000u32; 680];
     open_row(positions, &mut keys, 0, 85, 8);
     let mut end: usize = 0;
-    let mut i: usize = 0;
-    while i < 680 {
+    for _ in 0..680usize {
         let key = least_row(&keys, 0, 85, 8);
         let place = (key % 1024) as u16;
         put_down(positions, &parents, &mut keys, place as usize);
         end = records::put(buf, end, &[records::high(place), records::low(place)]);
-        i += 1;
     }
 }
 
 // Writes the reading order of a track drawing as a table: questions 37, 38. Not a place before its parent where it stands nearer on
 // the track, nor the higher of two places at one position first, nor a byte written behind the table.
-pub fn order(positions: &[u8], buf: &mut [u8]) -> Ordered
+pub fn order(positions: &[u8], buf: &mut [u8]) -> Result<(), Refusal>
     ensures { left_by result buf.new ≡ ordered positions.now buf.old }
 {
     if positions.len() != 1360 {
-        return Ordered::Refused(37);
+        return Err(Refusal::PositionsLength);
     }
     if buf.len() < 1360 {
-        return Ordered::Refused(38);
+        return Err(Refusal::OrderTooLong);
     }
     put_order(positions, buf);
-    Ordered::Written
+    Ok(())
 }

@@ -10,19 +10,6 @@ ghost use Rattle.turns.specs.views.Turned.{lower_tests, is_test_of, turned_by};
 
 use tables::Tables;
 
-// The same numbers at another width.
-fn wide(x: u16) -> usize
-    ensures { result ≡ x }
-{
-    x as usize
-}
-
-fn number(x: u8) -> usize
-    ensures { result ≡ x }
-{
-    x as usize
-}
-
 // "Otherwise it asks the lowest pending test": before each test all lower ones are asked. Not the test itself too, nor only the one
 // below it.
 pub fn lowest_first(s: &mut Tables)
@@ -30,10 +17,8 @@ pub fn lowest_first(s: &mut Tables)
     ensures { s.new ≡ put_all 260 (map lower_tests (count_from 0 (tests_in s.old))) s.old }
 {
     let count = tables::tests(s);
-    let mut t: usize = 0;
-    while t < count {
+    for t in 0..count {
         s[260 + t] = masks::full(t);
-        t += 1;
     }
 }
 
@@ -42,10 +27,7 @@ fn is_test_of(s: &Tables, t: usize, p: usize) -> bool
     requires { t < 64 }
     ensures { result ≡ is_test_of s.now t p }
 {
-    if t < tables::place_tests(s) {
-        return tables::test(s, t) % 0x1_0000 == p as u64;
-    }
-    false
+    t < tables::place_tests(s) && tables::test(s, t) % 0x1_0000 == p as u64
 }
 
 // "A loaded table of 680 wide place numbers replaces the ascending order of places": before the test of each place those of the
@@ -56,14 +38,12 @@ pub fn by_places(places: &[u16; 680], numbers: &[u8; 680], s: &mut Tables)
     ensures { s.new ≡ turned_by numbers.now places.now 0 s.old }
 {
     let mut asked: u64 = 0;
-    let mut i: usize = 0;
-    while i < 680 {
-        let p = wide(places[i]);
-        let t = number(numbers[p]);
+    for &place in places {
+        let p = place as usize;
+        let t = numbers[p] as usize;
         if is_test_of(s, t, p) {
             s[260 + t] = asked;
             asked = masks::insert(asked, t);
         }
-        i += 1;
     }
 }

@@ -20,7 +20,7 @@ ghost use Rattle.packing.specs.Packed.{written_fields, built_fields, walk_fields
 
 use packing::answers::{pack_plain, pack_walked, waits};
 use packing::checks::{pack_graph_check, pack_piece_check, pack_sheet_check};
-use packing::writers::{pack_built, pack_rewrote, pack_tidied};
+use packing::writers::{pack_built, pack_written};
 
 // Checks a sheet: arity, rules and tests. Not the arity of a sheet that is refused, nor the rules in the place of the tests.
 #[unsafe(no_mangle)]
@@ -62,7 +62,7 @@ pub extern "C" fn vt_rewrite(sheet: &[u8], graph: &[u8], buffer: &mut [u8]) -> u
     ensures packs { Packs result (written_fields (rewritten sheet.now graph.now buffer.old)) }
     ensures buffer_after { buffer.new ≡ (rewritten sheet.now graph.now buffer.old).buffer }
 {
-    pack_rewrote(rewriting::rewrite(sheet, graph, buffer))
+    pack_written(rewriting::rewrite(sheet, graph, buffer))
 }
 
 // Writes the tidy form of a sheet, at the front of a buffer: the bytes written. Not the buffer's length for them, nor a byte
@@ -72,7 +72,7 @@ pub extern "C" fn vt_tidy(sheet: &[u8], buffer: &mut [u8]) -> u64
     ensures packs { Packs result (written_fields (tidied sheet.now buffer.old)) }
     ensures buffer_after { buffer.new ≡ (tidied sheet.now buffer.old).buffer }
 {
-    pack_tidied(tidying::tidy(sheet, buffer))
+    pack_written(tidying::tidy(sheet, buffer))
 }
 
 // Builds a sheet's graph: its nodes and the bytes written. Not a byte changed behind the graph or on a refusal, nor the bytes in

@@ -22,8 +22,7 @@ pub fn is_open(cells: &Cells, code: u32) -> bool
     if p == q {
         return look(cells, p) == UNKNOWN;
     }
-    let outcome = pair_outcome(cells, p, q);
-    match outcome {
+    match pair_outcome(cells, p, q) {
         TestOutcome::Holds => false,
         TestOutcome::NotKnown => true,
         TestOutcome::Contradicted => false,
@@ -52,10 +51,8 @@ pub fn open_waits(met: &[u32; 64], edges: u8, kept: &Tables, cells: &Cells) -> u
     ensures { result ≡ met_waits (listed_tests kept.now) cells.now (take edges met.now) }
 {
     let mut set: u64 = 0;
-    let mut i: usize = 0;
-    while i < edges as usize {
+    for i in 0..edges as usize {
         set = with_open(set, kept, cells, met[i]);
-        i += 1;
     }
     set
 }

@@ -12,15 +12,8 @@ use crate::Shape;
 use piece::Cells;
 use rule_masks::Masks;
 use rule_masks::rule::rule_masks;
-use sheet::{Took, read_rule};
+use sheet::read_rule;
 use tables::Tables;
-
-// The same number at another width.
-fn wide(x: u32) -> usize
-    ensures { result ≡ x }
-{
-    x as usize
-}
 
 // The set with the tests met, by their numbers, so many, that are not known for the rule with these masks while it is live. Not one
 // behind a test that contradicts it, nor a contradicted one.
@@ -29,16 +22,14 @@ fn with_rule(set: u64, numbers: &[u32; 64], edges: u8, masks: Masks) -> u64
     ensures { result ≡ with_rule masks (take edges numbers.now) set }
 {
     let mut all = set;
-    let mut i: usize = 0;
-    while i < edges as usize {
-        let t = wide(numbers[i]);
+    for i in 0..edges as usize {
+        let t = numbers[i] as usize;
         if masks::has(masks.contradicted, t) {
             return all;
         }
         if masks::has(masks.unknown, t) {
             all = masks::insert(all, t);
         }
-        i += 1;
     }
     all
 }
@@ -64,15 +55,13 @@ pub fn rules_waits(
 {
     let mut set: u64 = 0;
     let mut at: usize = 0;
-    let mut i: u8 = 0;
-    while i < shape.rules {
-        let read = read_rule(&s[at..], shape.arity, notes);
-        let Took::Used(bytes, n) = read else {
+    for _ in 0..shape.rules {
+        let Ok(read) = read_rule(&s[at..], shape.arity, notes) else {
             return set;
         };
-        set = with_rule(set, numbers, edges, rule_masks(notes, n, kept, cells));
-        at += bytes;
-        i += 1;
+        let masks = rule_masks(notes, read.notes, kept, cells);
+        set = with_rule(set, numbers, edges, masks);
+        at += read.bytes;
     }
     set
 }

@@ -10,13 +10,6 @@ use piece::Cells;
 use rule_masks::number::test_number;
 use tables::Tables;
 
-// The same number at another width.
-fn wide(x: u32) -> u64
-    ensures { result ≡ x }
-{
-    x as u64
-}
-
 // Has the test with a code a span of several codes at its place, or at the first of its two? Not an unknown, nor one number.
 fn is_span(cells: &Cells, code: u32) -> bool
     requires { code / 0x1_0000 < 680 }
@@ -35,12 +28,10 @@ pub fn meets_span(met: &[u32; 64], edges: u8, cells: &Cells) -> bool
     requires { (length met.now ≡ 64) × (edges ≤ 64) × All (λ c. c / 0x1_0000 < 680) (take edges met.now) }
     ensures { result ≡ any_of (span_at cells.now) (take edges met.now) }
 {
-    let mut i: usize = 0;
-    while i < edges as usize {
+    for i in 0..edges as usize {
         if is_span(cells, met[i]) {
             return true;
         }
-        i += 1;
     }
     false
 }
@@ -51,9 +42,7 @@ pub fn number_tests(met: &mut [u32; 64], edges: u8, kept: &Tables)
     ensures { (take edges met.new ≡ met_numbers (listed_tests kept.now) (take edges met.old))
         × (length met.new ≡ 64) }
 {
-    let mut i: usize = 0;
-    while i < edges as usize {
-        met[i] = test_number(kept, wide(met[i])) as u32;
-        i += 1;
+    for i in 0..edges as usize {
+        met[i] = test_number(kept, met[i] as u64) as u32;
     }
 }

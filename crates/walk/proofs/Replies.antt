@@ -24,26 +24,19 @@ use Rattle.graph.specs.ReadGraph.{read_graph}
 use Rattle.graph.specs.views.Rewriting.{IsTook, read_or}
 use Rattle.node_check.specs.views.CheckNode.{starts_from}
 use Rattle.graph_check.specs.views.GraphIndex.{AcceptedGraphAs}
-use Rattle.walk.specs.declared.Walked.{Walked}
-use Rattle.walk.specs.declared.Walked.TheVariants.{Answered, Refused}
 use Rattle.test_list.specs.views.Tests.{tests_put, Counted}
 use Rattle.rule_masks.specs.views.TestNumbers.{Once}
 use Rattle.rule_masks.specs.views.Kept.{Arrays, listed_tests, TestsStay}
 use Rattle.path.specs.views.Following.{Index, cells_end, nodes_at}
 use Rattle.walk.specs.views.LeafWalks.{end_walk}
 use Rattle.walk.specs.views.Ready.{LeafNode, AsksKept, Ready, AcceptedKept, Checked}
-use Rattle.walk.specs.Walking.{graph_reply, piece_reply, walk_reply, reply_values, walked_values, walked_reading}
+use Rattle.walk.specs.Walking.{graph_reply, piece_reply, walk_reply}
 use Rattle.rule_masks.proofs.Numbers.{sheet_once}
 use Rattle.rule_masks.proofs.CodeNumbers.{listed_few}
 use Rattle.rule_masks.proofs.ListedTests.{kept_counted, kept_are, stay_counted, stay_listed}
 use Rattle.walk.proofs.Indexing.{nodes_are, nodes_leaves, nodes_asked, index_made}
 use Rattle.walk.proofs.WalksAgree.{walk_agrees}
 use Rattle.plain.specs.views.ReadAs.{ReadAs}
-
--- The values of what is handed back are those of its reading.
-pub values_read : (w : Walked) → walked_values w ≡ reply_values (walked_reading w)
-values_read (Answered w) = refl
-values_read (Refused q) = refl
 
 -- The sheet is refused, or the piece is asked about.
 module _ (s g p : List ℕ) where

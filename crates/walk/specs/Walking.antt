@@ -1,6 +1,8 @@
 -- The walk, from bytes (document 01, "The walk", "Questions at the counter").
-use Rattle.std.specs.Prelude.{ℕ, List, eqb}
+use Rattle.std.specs.Prelude.{ℕ, List, Result, eqb}
 use Rattle.records.specs.Reading.{Reading, took, refused, ask, and_then}
+use Rattle.records.specs.Refusals.{reading_in}
+use Rattle.records.specs.declared.refusal.Refusal.{Refusal}
 use Rattle.terms.specs.Term.{Terms}
 use Rattle.terms.specs.Answer.{word_of, rule_of}
 use Rattle.sheet.specs.Sheet.{Sheet}
@@ -10,7 +12,6 @@ use Rattle.plain.specs.Plain.{answer_of}
 use Rattle.decision.specs.Walk.{Walk, walk}
 use Rattle.graph.specs.ReadGraph.{read_graph}
 use Rattle.walk.specs.declared.Walk as given
-use Rattle.walk.specs.declared.Walked as walked
 
 -- The walk of a piece's terms over a graph of bytes g, for an accepted sheet: 21 to 25, then "at each switch or pair walked" 26
 -- and 27.
@@ -49,10 +50,8 @@ reply_values (refused q) = walk_refusal_values q
 abbrev pub walk_of : given.Walk → Walk
 walk_of w = record { answer = answer_of w.answer; edges = w.edges; waits = w.waits }
 
-abbrev pub walked_values : walked.Walked → WalkValues
-walked_values (walked.TheVariants.Answered w) = walk_values (walk_of w)
-walked_values (walked.TheVariants.Refused q) = walk_refusal_values q
+abbrev pub walked_reading : Result given.Walk Refusal → Reading Walk
+walked_reading r = reading_in (λ (w : given.Walk). took 0 (walk_of w)) r
 
-abbrev pub walked_reading : walked.Walked → Reading Walk
-walked_reading (walked.TheVariants.Answered w) = took 0 (walk_of w)
-walked_reading (walked.TheVariants.Refused q) = refused q
+abbrev pub walked_values : Result given.Walk Refusal → WalkValues
+walked_values r = reply_values (walked_reading r)

@@ -13,14 +13,14 @@ ghost use Rattle.walk.specs.views.Ready.{Ready, SomePiece, Checked};
 ghost use Rattle.walk.specs.Walking.{graph_reply, piece_reply, walk_reply, reply_values, walked_values, walked_reading};
 
 use crate::leaf::at_execute;
-use crate::{Sizes, Walk, Walked};
+use crate::{Sizes, Walk};
 use graph::Leaf;
-use graph_check::{GraphCheck, index_graph};
-use path::{Followed, follow_path};
-use piece::{Cells, PieceCheck};
+use graph_check::index_graph;
+use path::follow_path;
+use piece::Cells;
 use plain::Answer;
+use records::Refusal;
 use rule_masks::kept::keep_tests;
-use sheet_tests::TestsRead;
 use tables::Tables;
 use waiting::Shape;
 use waiting::list::suspend_waits;
@@ -35,7 +35,7 @@ fn walk_nodes(
     sizes: Sizes,
     notes: &mut [u64; 680],
     cells: &Cells,
-) -> Walked
+) -> Result<Walk, Refusal>
     requires starts_len { (length starts.now ≡ 1024) × Narrow cells.now × Begins s.now sizes.arity sizes.rules kept.now
         × (length notes.old ≡ 680) }
     requires ready { Ready s.now graph.now starts.now kept.now sizes.arity sizes.rules sizes.nodes }
@@ -46,28 +46,26 @@ fn walk_nodes(
     ensures notes_len { length notes.new ≡ 680 }
 {
     let mut met = [0u32; 64];
-    let followed = follow_path(graph, starts, sizes.nodes, cells, &mut met);
-    match followed {
-        Followed::Refused(q) => Walked::Refused(q),
-        Followed::Reached(leaf, edges) => match leaf {
-            Leaf::Fail => Walked::Answered(Walk {
-                answer: Answer::Fail,
-                edges: edges,
-                waits: 0,
-            }),
-            Leaf::Suspend => {
-                let shape = Shape {
-                    arity: sizes.arity as usize,
-                    rules: sizes.rules,
-                };
-                Walked::Answered(Walk {
-                    answer: Answer::Suspend,
-                    edges: edges,
-                    waits: suspend_waits(s, shape, &mut met, edges, notes, kept, cells),
-                })
-            }
-            Leaf::Execute(rule) => at_execute(s, rule, edges, kept, sizes, notes, cells),
-        },
+    let end = follow_path(graph, starts, sizes.nodes, cells, &mut met)?;
+    let edges = end.edges;
+    match end.leaf {
+        Leaf::Fail => Ok(Walk {
+            answer: Answer::Fail,
+            edges,
+            waits: 0,
+        }),
+        Leaf::Suspend => {
+            let shape = Shape {
+                arity: sizes.arity as usize,
+                rules: sizes.rules,
+            };
+            Ok(Walk {
+                answer: Answer::Suspend,
+                edges,
+                waits: suspend_waits(s, shape, &mut met, edges, notes, kept, cells),
+            })
+        }
+        Leaf::Execute(rule) => at_execute(s, rule, edges, kept, sizes, notes, cells),
     }
 }
 
@@ -81,7 +79,7 @@ pub fn walk_checked(
     sizes: Sizes,
     notes: &mut [u64; 680],
     cells: &Cells,
-) -> Walked
+) -> Result<Walk, Refusal>
     requires starts_len { (length starts.now ≡ 1024) × SomePiece cells.now sizes.arity
         × Begins (drop 3 sheet.now) sizes.arity sizes.rules kept.now × (length notes.old ≡ 680) }
     requires checked { Checked sheet.now graph.now starts.now kept.now sizes.arity sizes.rules sizes.nodes }
@@ -101,7 +99,7 @@ fn walk_graph(
     codes: &[u32; 65],
     sizes: Sizes,
     cells: &Cells,
-) -> Walked
+) -> Result<Walk, Refusal>
     requires arrays { Arrays words.now codes.now sizes.pairs × SomePiece cells.now sizes.arity }
     requires accepted_tests { AcceptedTests sheet.now words.now codes.now sizes.arity sizes.rules sizes.pairs }
     ensures { (t : AcceptedTests sheet.now words.now codes.now sizes.arity
@@ -109,7 +107,7 @@ fn walk_graph(
         → walked_reading result ≡ graph_reply t.read.sheet graph.now k.piece.terms }
 {
     let mut starts = [0u32; 1024];
-    let index = index_graph(
+    let nodes = index_graph(
         graph,
         words,
         codes,
@@ -117,22 +115,17 @@ fn walk_graph(
         sizes.arity,
         sizes.rules,
         &mut starts,
-    );
-    match index {
-        GraphCheck::Refused(q) => Walked::Refused(q),
-        GraphCheck::Accepted(nodes) => {
-            let all = Sizes {
-                arity: sizes.arity,
-                rules: sizes.rules,
-                pairs: sizes.pairs,
-                nodes,
-            };
-            let mut kept = [0u64; 324];
-            keep_tests(words, codes, sizes.pairs, &mut kept);
-            let mut notes = [0u64; 680];
-            walk_checked(sheet, graph, &starts, &kept, all, &mut notes, cells)
-        }
-    }
+    )?;
+    let all = Sizes {
+        arity: sizes.arity,
+        rules: sizes.rules,
+        pairs: sizes.pairs,
+        nodes,
+    };
+    let mut kept = [0u64; 324];
+    keep_tests(words, codes, sizes.pairs, &mut kept);
+    let mut notes = [0u64; 680];
+    walk_checked(sheet, graph, &starts, &kept, all, &mut notes, cells)
 }
 
 // The walk of a piece over a graph, for an accepted sheet: the piece's questions, 20, then the graph's.
@@ -143,7 +136,7 @@ fn walk_piece(
     words: &[u64; 11],
     codes: &[u32; 65],
     sizes: Sizes,
-) -> Walked
+) -> Result<Walk, Refusal>
     requires arrays { Arrays words.now codes.now sizes.pairs }
     requires accepted_tests { AcceptedTests sheet.now words.now codes.now sizes.arity sizes.rules sizes.pairs }
     ensures { (t : AcceptedTests sheet.now words.now codes.now sizes.arity
@@ -151,36 +144,26 @@ fn walk_piece(
         → walked_reading result ≡ piece_reply t.read.sheet graph.now piece.now }
 {
     let mut cells = [0u64; 680];
-    let read = piece::read_piece(piece, &mut cells);
-    match read {
-        PieceCheck::Refused(q) => Walked::Refused(q),
-        PieceCheck::Accepted(n) => {
-            if n != sizes.arity {
-                return Walked::Refused(20);
-            }
-            walk_graph(sheet, graph, words, codes, sizes, &cells)
-        }
+    let arity = piece::read_piece(piece, &mut cells)?;
+    if arity != sizes.arity {
+        return Err(Refusal::AritiesDiffer);
     }
+    walk_graph(sheet, graph, words, codes, sizes, &cells)
 }
 
 // The walk: the sheet's questions, the piece's, 20, the graph's, then 26 and 27 on the way. Not 20 where the piece itself is
 // refused, nor an answer that counts the nodes walked for the edges.
-pub fn walk(sheet: &[u8], graph: &[u8], piece: &[u8]) -> Walked
+pub fn walk(sheet: &[u8], graph: &[u8], piece: &[u8]) -> Result<Walk, Refusal>
     ensures { walked_values result ≡ reply_values (walk_reply sheet.now graph.now piece.now) }
 {
     let mut words = [0u64; 11];
     let mut codes = [0u32; 65];
-    let read = sheet_tests::read_tests(sheet, &mut words, &mut codes);
-    match read {
-        TestsRead::Refused(q) => Walked::Refused(q),
-        TestsRead::Accepted(arity, rules, _, pairs) => {
-            let sizes = Sizes {
-                arity,
-                rules,
-                pairs,
-                nodes: 0,
-            };
-            walk_piece(sheet, graph, piece, &words, &codes, sizes)
-        }
-    }
+    let read = sheet_tests::read_tests(sheet, &mut words, &mut codes)?;
+    let sizes = Sizes {
+        arity: read.arity,
+        rules: read.rules,
+        pairs: read.pairs,
+        nodes: 0,
+    };
+    walk_piece(sheet, graph, piece, &words, &codes, sizes)
 }

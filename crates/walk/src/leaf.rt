@@ -12,11 +12,11 @@ ghost use Rattle.leaves.specs.views.Seeking.{Begins};
 ghost use Rattle.walk.specs.Walking.{walked_reading};
 ghost use Rattle.walk.specs.views.LeafWalks.{leaf_walk};
 
-use crate::{Sizes, Walk, Walked};
+use crate::{Sizes, Walk};
 use leaves::begins::begin_of;
 use leaves::rule::{at_rule, notes_at};
 use piece::Cells;
-use sheet::Took;
+use records::Refusal;
 use tables::Tables;
 
 // The answer at an execute of a rule that so many edges lead to, where the rules begin at the front of the input. Not that of the
@@ -29,7 +29,7 @@ pub fn at_execute(
     sizes: Sizes,
     notes: &mut [u64; 680],
     cells: &Cells,
-) -> Walked
+) -> Result<Walk, Refusal>
     requires { RuleRead s.now sizes.arity sizes.rules rule × Narrow cells.now × Counted kept.now
         × Begins s.now sizes.arity sizes.rules kept.now × (length notes.old ≡ 680) }
     ensures result_value { walked_reading result
@@ -38,16 +38,11 @@ pub fn at_execute(
     ensures notes_len { length notes.new ≡ 680 }
 {
     let begin = begin_of(kept, rule);
-    let taken = notes_at(s, sizes.arity as usize, sizes.rules, rule, begin, notes);
-    let n = match taken {
-        Took::Refused(q) => return Walked::Refused(q),
-        Took::Used(_, n) => n,
-    };
-    let end = at_rule(notes, n, rule, kept, cells);
-    let answer = end.answer;
-    Walked::Answered(Walk {
-        answer: answer,
-        edges: edges,
+    let taken = notes_at(s, sizes.arity as usize, sizes.rules, rule, begin, notes)?;
+    let end = at_rule(notes, taken.notes, rule, kept, cells);
+    Ok(Walk {
+        answer: end.answer,
+        edges,
         waits: end.waits,
     })
 }

@@ -14,13 +14,6 @@ pub struct Walk {
     pub waits: u64,
 }
 
-// The answer of a walk, or the number of the question that got a no.
-#[derive(Clone, Copy)]
-pub enum Walked {
-    Answered(Walk),
-    Refused(u8),
-}
-
 // What was read once of a sheet and a graph: arity, rules, pairs among the tests, and nodes, 0 while no graph was read.
 #[derive(Clone, Copy)]
 pub struct Sizes {

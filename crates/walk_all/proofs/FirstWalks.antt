@@ -13,7 +13,9 @@ use Rattle.terms.specs.Accepted.{AcceptedPiece}
 use Rattle.sheet.specs.Sheet.{Sheet}
 use Rattle.piece.specs.Piece.{Piece}
 use Rattle.piece.specs.declared.Prefix.{Prefix}
-use Rattle.piece.specs.declared.Prefix.TheVariants as prefix
+use Rattle.std.specs.Prelude.{Result, Ok, Err}
+use Rattle.records.specs.Refusals.{number}
+use Rattle.records.specs.declared.refusal.Refusal.{Refusal}
 use Rattle.piece.specs.ReadPiece.{read_prefix, read_piece}
 use Rattle.piece.specs.views.LaidOut.{LaidOut, lay_out, prefix_read}
 use Rattle.piece.proofs.Spelled.{prefix_spelled, own_piece}
@@ -25,28 +27,30 @@ use Rattle.walk.proofs.Replies.{sheet_accepts, arities_differ, piece_accepts}
 use Rattle.walk_all.specs.views.FirstPiece.{first_reply}
 
 -- What the reader of the piece that the bytes begin with tells of how it is read.
-module _ (s cells : List ℕ) (r : Prefix) (told : prefix_read cells r ≡ map_reading lay_out (read_prefix s)) where
+module _
+    (s cells : List ℕ) (r : Result Prefix Refusal) (told : prefix_read cells r ≡ map_reading lay_out (read_prefix s)) where
   -- The reader refused, so no piece is read.
-  pub prefix_refused : {q : ℕ} → r ≡ prefix.Refused q → read_prefix s ≡ refused q
+  pub prefix_refused : {q : Refusal} → r ≡ Err q → read_prefix s ≡ refused (number q)
   prefix_refused e = refused_view lay_out (read_prefix s) (sym (ap (prefix_read cells) e) ∙ told)
 
   -- The reader took k bytes: they are those of an accepted piece, and the cells are its cells.
   pub prefix_accepted
-      : {n k : ℕ} → r ≡ prefix.Read n k → ((i : ℕ) → IsByte (get_or s i 0))
-      → (a : ReadAs (take k s) cells n) × (read_prefix s ≡ took k a.piece)
-  prefix_accepted {n} {k} e bytes =
+      : {x : Prefix} → r ≡ Ok x → ((i : ℕ) → IsByte (get_or s i 0))
+      → (a : ReadAs (take x.bytes s) cells x.arity) × (read_prefix s ≡ took x.bytes a.piece)
+  prefix_accepted {x} e bytes =
+      let k = x.bytes in
       let (piece, read, same) = took_view lay_out (read_prefix s) (sym (ap (prefix_read cells) e) ∙ told) in
       let spells = (prefix_spelled s (bytes_all s bytes) k piece).0 read in
       let own : take k s ≡ spells.own =
       ap (take k) spells.bytes ∙ take_at spells.own (drop k s) k (sym spells.size) in
-      let arity : piece.arity ≡ n = sym (ap (λ (x : LaidOut). x.arity) same) in (
+      let arity : piece.arity ≡ x.arity = sym (ap (λ (l : LaidOut). l.arity) same) in (
         record {
           piece = piece;
           read =
               subst (λ (l : List ℕ). read_piece l ≡ took (length l) piece) (sym own)
               (own_piece piece spells.own spells.sound spells.spells);
           arity_is = arity;
-          laid = ap (λ (x : LaidOut). x.cells) same;
+          laid = ap (λ (l : LaidOut). l.cells) same;
           accepted = subst (λ (m : ℕ). AcceptedPiece m piece.terms) arity spells.sound.accepted;
           few = omega (arith, spells.sound.few_arguments, arity);
         },

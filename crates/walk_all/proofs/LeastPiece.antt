@@ -10,8 +10,9 @@ use Rattle.records.specs.Reading.{Reading, took, refused, after, and_then}
 use Rattle.records.proofs.Rows.{ask_holds, after_took, row_split}
 use Rattle.terms.specs.Term.{Term, Terms, numbers, compound, nil, cons}
 use Rattle.piece.specs.declared.TermRecord.TheVariants.{Unknown, Symbol, Number, Compound, Span, Never, Gauged}
-use Rattle.piece.specs.declared.TermHead.{TermHead}
-use Rattle.piece.specs.declared.TermHead.TheVariants.{Whole, Refused}
+use Rattle.std.specs.Prelude.{Result, Ok, Err}
+use Rattle.records.specs.declared.refusal.Refusal.{Refusal}
+use Rattle.piece.specs.declared.TermRecord.{TermRecord}
 use Rattle.piece.specs.views.TermRecord.{term_head, on_head}
 use Rattle.piece.specs.Piece.{Piece}
 use Rattle.piece.specs.ReadPiece.{read_term, read_terms, read_arity, read_prefix}
@@ -27,15 +28,15 @@ some_after : {A B : Type 0} (a : ℕ) (f : A → B) (r : Reading A) → 1 ≤ a 
 some_after a f (took b x) h = omega arith
 some_after a f (refused q) h = tt
 
-some_head : (f : ℕ → ℕ → Reading Term) → ((a n : ℕ) → Some (f a n)) → (h : TermHead) → Some (on_head f h)
-some_head f each (Whole Unknown) = omega arith
-some_head f each (Whole (Symbol a)) = omega arith
-some_head f each (Whole (Number a)) = omega arith
-some_head f each (Whole (Compound a n)) = each a n
-some_head f each (Whole (Span l h)) = ask_holds {A = Term} Some 32 (leb l h) (took 5 (numbers l h)) tt (λ _. omega arith)
-some_head f each (Whole Never) = omega arith
-some_head f each (Whole (Gauged g a)) = omega arith
-some_head f each (Refused q) = tt
+some_head : (f : ℕ → ℕ → Reading Term) → ((a n : ℕ) → Some (f a n)) → (h : Result TermRecord Refusal) → Some (on_head f h)
+some_head f each (Ok Unknown) = omega arith
+some_head f each (Ok (Symbol a)) = omega arith
+some_head f each (Ok (Number a)) = omega arith
+some_head f each (Ok (Compound a n)) = each a n
+some_head f each (Ok (Span l h)) = ask_holds {A = Term} Some 32 (leb l h) (took 5 (numbers l h)) tt (λ _. omega arith)
+some_head f each (Ok Never) = omega arith
+some_head f each (Ok (Gauged g a)) = omega arith
+some_head f each (Err q) = tt
 
 some_compound : (below : ℕ) (s : List ℕ) (a n : ℕ) → Some (read_compound below s a n)
 unfolding read_compound

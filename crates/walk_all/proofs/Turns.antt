@@ -10,17 +10,17 @@ use borrow.Author.Tests.{leb-true, le-leb, lt-leb}
 use Rattle.records.specs.Reading.{Reading, took, refused, and_then}
 use Rattle.records.specs.Writing.{splice}
 use Rattle.piece.specs.declared.Prefix.{Prefix}
-use Rattle.piece.specs.declared.Prefix.TheVariants as prefix
+use Rattle.std.specs.Prelude.{Result, Ok, Err}
+use Rattle.records.specs.declared.refusal.Refusal.{Refusal}
 use Rattle.piece.specs.Piece.{Piece}
 use Rattle.piece.specs.ReadPiece.{read_prefix}
 use Rattle.decision.specs.Walk.{Walk}
-use Rattle.walk.specs.declared.Walked.{Walked}
-use Rattle.walk.specs.Walking.{reply_values, walk_refusal_values, walk_values, walk_of}
+use Rattle.walk.specs.declared.Walk as given
+use Rattle.walk.specs.Walking.{reply_values, walk_refusal_values, walked_reading}
 use Rattle.walk_all.specs.WalkAll.{result_bytes, piece_then}
 use Rattle.walk_all.specs.declared.Turn.{Turn}
 use Rattle.walk_all.specs.declared.Turn.TheVariants.{More, Last, Full}
 use Rattle.walk_all.specs.declared.First.{First}
-use Rattle.walk_all.specs.declared.First.TheVariants.{Unread, Refused, Answered}
 use Rattle.walk_all.specs.views.FirstPiece.{first_reply, first_of, first_made, PieceWithin}
 use Rattle.walk_all.specs.views.Turns.{Turned, turned}
 
@@ -139,18 +139,19 @@ module _ (ys : List ℕ) (at left : ℕ) {zs : List ℕ} {k bytes : ℕ} where
       let turn : More k ≡ Full = ap (λ (x : Turned). x.turn) e in
       let z : ◌≡◌ {A = ℕ} 0 1 = cc in absurd (omega arith)
 
-  pub within_more : (f : First) → PieceWithin bytes f → told (More k) zs ≡ turned ys at left (first_of f) → k ≤ bytes
-  within_more (Unread q) h e =
+  pub within_more
+      : (f : Result First Refusal) → PieceWithin bytes f → told (More k) zs ≡ turned ys at left (first_of f) → k ≤ bytes
+  within_more (Ok x) h e =
+      within_fits x.bytes (splice ys at (result_bytes (reply_values (walked_reading x.walk)))) (leb x.bytes left) h e
+  within_more (Err q) h e =
       let turn : More k ≡ Last = ap (λ (x : Turned). x.turn) e in
       let z : ◌≡◌ {A = ℕ} 0 1 = cc in absurd (omega arith)
-  within_more (Refused j q) h e = within_fits j (splice ys at (result_bytes (walk_refusal_values q))) (leb j left) h e
-  within_more (Answered j w) h e = within_fits j (splice ys at (result_bytes (walk_values (walk_of w)))) (leb j left) h e
 
 -- So it was read.
 pub more_read
-    : (ys : List ℕ) (at left : ℕ) {zs : List ℕ} {k : ℕ} (r : Prefix) (w : Walked)
-    → told (More k) zs ≡ turned ys at left (first_of (first_made r w)) → (n : ℕ) × (j : ℕ) × (r ≡ prefix.Read n j)
-more_read ys at left (prefix.Read n j) w e = (n, j, refl)
-more_read ys at left {k = k} (prefix.Refused q) w e =
+    : (ys : List ℕ) (at left : ℕ) {zs : List ℕ} {k : ℕ} (r : Result Prefix Refusal) (w : Result given.Walk Refusal)
+    → told (More k) zs ≡ turned ys at left (first_of (first_made r w)) → (x : Prefix) × (r ≡ Ok x)
+more_read ys at left (Ok x) w e = (x, refl)
+more_read ys at left {k = k} (Err q) w e =
     let turn : More k ≡ Last = ap (λ (x : Turned). x.turn) e in
     let z : ◌≡◌ {A = ℕ} 0 1 = cc in absurd (omega arith)

@@ -16,7 +16,8 @@ use Rattle.decision.specs.Walk.{Walk}
 use Rattle.walk.specs.declared.Sizes.{Sizes}
 use Rattle.walk.specs.Walking.{walk_reply}
 use Rattle.walk_all.specs.WalkAll.{most_results, result_length, walk_all}
-use Rattle.walk_all.specs.declared.WalkedAll.TheVariants.{Walked}
+use Rattle.std.specs.Prelude.{Result, Ok, Err}
+use Rattle.records.specs.declared.refusal.Refusal.{Refusal}
 use Rattle.walk_all.specs.views.Known.{ReadyAs}
 use Rattle.walk_all.specs.views.Turns.{left_by}
 use Rattle.walk_all.proofs.Progress.{Progress, whole, rest_from, at_end_lem, all_walked}
@@ -41,7 +42,7 @@ module _ (buffer : List ℕ) {room : ℕ} (rooms : room ≡ min (length buffer /
     pub ended
         : {n from : ℕ} {results : List ℕ} → Progress reply pieces buffer room n from results
         → rest_from reply pieces buffer room n from ≡ []
-        → left_by (Walked n from) results ≡ walk_all sheet graph pieces buffer
+        → left_by (Ok (record { results = n; bytes = from })) results ≡ walk_all sheet graph pieces buffer
     ended progress none = at_end_lem reply pieces buffer room progress none ∙ all_done
 
 -- How the piece that comes next was read.
@@ -54,7 +55,7 @@ module _ (pieces : List ℕ) (from : ℕ) where
   abbrev part : List ℕ
   part = take (length pieces - from) (drop from pieces)
 
-  module _ (cells : List ℕ) (prefix : Prefix) where
+  module _ (cells : List ℕ) (prefix : Result Prefix Refusal) where
     pub prefix_told
         : prefix_read cells prefix ≡ map_reading lay_out (read_prefix part)
         → prefix_read cells prefix ≡ map_reading lay_out (read_prefix (drop from pieces))

@@ -2,11 +2,11 @@
 ghost use Rattle.std.specs.Prelude.{◌≡◌, length, replicate};
 ghost use Rattle.walk_all.specs.views.Known.{OpenedAs};
 
-use crate::Opened;
-use graph_check::{GraphCheck, index_graph};
+use graph_check::index_graph;
 use leaves::begins::rule_begins;
+use records::Refusal;
 use rule_masks::kept::keep_tests;
-use sheet_tests::{TestsRead, read_tests};
+use sheet_tests::read_tests;
 use tables::Tables;
 use walk::Sizes;
 
@@ -18,31 +18,24 @@ pub fn open_graph(
     starts: &mut [u32; 1024],
     notes: &mut [u64; 680],
     kept: &mut Tables,
-) -> Opened
+) -> Result<Sizes, Refusal>
     requires { (length starts.old ≡ 1024) × (length notes.old ≡ 680) × (kept.old ≡ replicate 324 0) }
     ensures { OpenedAs sheet.now graph.now starts.new kept.new result
         × (length notes.new ≡ 680) }
 {
     let mut words = [0u64; 11];
     let mut codes = [0u32; 65];
-    let read = read_tests(sheet, &mut words, &mut codes);
-    match read {
-        TestsRead::Refused(q) => Opened::Refused(q),
-        TestsRead::Accepted(arity, rules, _, pairs) => {
-            let index = index_graph(graph, &words, &codes, pairs, arity, rules, starts);
-            match index {
-                GraphCheck::Refused(q) => Opened::Refused(q),
-                GraphCheck::Accepted(nodes) => {
-                    keep_tests(&words, &codes, pairs, kept);
-                    rule_begins(&sheet[3..], arity as usize, rules, notes, kept);
-                    Opened::Ready(Sizes {
-                        arity,
-                        rules,
-                        pairs,
-                        nodes,
-                    })
-                }
-            }
-        }
-    }
+    let tests = read_tests(sheet, &mut words, &mut codes)?;
+    let arity = tests.arity;
+    let rules = tests.rules;
+    let pairs = tests.pairs;
+    let nodes = index_graph(graph, &words, &codes, pairs, arity, rules, starts)?;
+    keep_tests(&words, &codes, pairs, kept);
+    rule_begins(&sheet[3..], arity as usize, rules, notes, kept);
+    Ok(Sizes {
+        arity,
+        rules,
+        pairs,
+        nodes,
+    })
 }

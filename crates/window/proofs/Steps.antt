@@ -1,10 +1,12 @@
 -- The steps of the code, one after another.
 use Rattle.std.proofs.Common.{◌≡◌, ℕ, ◌+◌, ◌<◌, ◌≤◌, Bool, true, false, cond, List, get_or, set, refl, le-ltb, lt-ltb, le-leb}
 use borrow.Author.Tests.{lt-leb}
-use Rattle.window.specs.declared.Fed.TheVariants.{Taken, Refused}
+use Rattle.std.specs.Prelude.{Ok, Err}
+use Rattle.records.specs.Refusals.{refusal_in}
+use Rattle.records.specs.declared.refusal.Refusal.TheVariants.{NoSuchAnswer}
 use Rattle.window.specs.LastThousand.{Given, is_taken, refusal_of}
 use Rattle.window.specs.Cells.{place_of, answer_in, counted, with_room, stored, fed_cells, commits_in}
-use Rattle.window.specs.Handed.{fed_of, refusal_in}
+use Rattle.window.specs.Handed.{fed_of}
 
 -- The ring holds one more, or it is full.
 module _ (next : ℕ) (cells : List ℕ) where
@@ -31,7 +33,7 @@ refused_fed g cells t = rw t
 pub fed_refusal : (g : Given) → refusal_in (fed_of g) ≡ refusal_of g
 fed_refusal g = go (is_taken g)
   where
-    go : (b : Bool) → refusal_in (cond b Taken (Refused 36)) ≡ cond b 0 36
+    go : (b : Bool) → refusal_in (cond b (Ok (tt {0})) (Err NoSuchAnswer)) ≡ cond b 0 36
     go true = refl
     go false = refl
 

@@ -1,18 +1,13 @@
 -- What the functions of a window hand back.
-use Rattle.std.specs.Prelude.{ℕ, cond, List, slice_index}
+use Rattle.std.specs.Prelude.{ℕ, cond, List, slice_index, Result, Ok, Err}
 use Rattle.window.specs.LastThousand.{Given, is_taken}
-use Rattle.window.specs.declared.Fed.{Fed}
-use Rattle.window.specs.declared.Fed.TheVariants.{Taken, Refused}
+use Rattle.records.specs.declared.refusal.Refusal.{Refusal}
+use Rattle.records.specs.declared.refusal.Refusal.TheVariants.{NoSuchAnswer}
 use Rattle.window.specs.declared.WordCounts.{WordCounts}
 
 -- What became of an answer that was fed.
-abbrev pub fed_of : Given → Fed
-fed_of g = cond (is_taken g) Taken (Refused 36)
-
--- The refusal's number, 0 where there is none.
-abbrev pub refusal_in : Fed → ℕ
-refusal_in Taken = 0
-refusal_in (Refused q) = q
+abbrev pub fed_of : Given → Result Unit Refusal
+fed_of g = cond (is_taken g) (Ok tt) (Err NoSuchAnswer)
 
 -- The counts of the four words, as the cells hold them.
 abbrev pub words_in : List ℕ → WordCounts

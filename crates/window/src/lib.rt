@@ -8,16 +8,11 @@ ghost use Rattle.window.specs.Cells.{fresh_cells, code_of, answer_in, place_of, 
 ghost use Rattle.window.specs.Cells.{counted, with_room, stored, fed_cells, commits_in};
 ghost use Rattle.window.specs.Handed.{fed_of, words_in};
 
+use records::Refusal;
+
 // Cell 0: where in the ring the next answer goes. Cell 1: how many it holds. Cells 2 to 5: the counts of commit, execute, suspend
 // and fail. Cells 6 to 69: the commits of rules 1 to 64. Cells 70 to 1,069: the ring, a word and a rule in each.
 pub type Window = [u16; 1070];
-
-// What became of an answer that was fed.
-#[derive(Clone, Copy)]
-pub enum Fed {
-    Taken,
-    Refused(u8),
-}
 
 // The counts of the four words.
 #[derive(Clone, Copy)]
@@ -35,25 +30,16 @@ pub fn fresh(window: &mut Window)
     *window = [0; 1070];
 }
 
-// The least rule of a word: 1 for commit and execute, 0 for suspend and fail.
-fn least_rule(word: u8) -> u8
-    ensures { (result ≡ (if nat_le word 2 then 1 else 0)) × (result ≤ 1) }
-{
-    if word <= 2 {
-        return 1;
-    }
-    0
-}
-
 // Commit and execute with a rule 1 to 64, suspend and fail with rule 0. Not rule 65, nor a fifth word.
+#[tactic(auto, unfolding(crate::specs::LastThousand::is_taken))]
 fn is_taken(word: u8, rule: u8) -> bool
     ensures { result ≡ is_taken (given word rule) }
 {
-    if word < 1 || 4 < word {
-        return false;
+    match word {
+        1 | 2 => 1 <= rule && rule <= 64,
+        3 | 4 => rule == 0,
+        _ => false,
     }
-    let least = least_rule(word);
-    least <= rule && rule <= 64 * least
 }
 
 // A cell of the ring: the word in the high byte, the rule in the low. Not the rule above the word.
@@ -151,18 +137,18 @@ fn store(window: &mut Window, next: usize, word: u8, rule: u8)
 }
 
 // Feeds an answer: its word's number and its rule. Not a cell changed beside a refusal.
-pub fn feed(window: &mut Window, word: u8, rule: u8) -> Fed
+pub fn feed(window: &mut Window, word: u8, rule: u8) -> Result<(), Refusal>
     ensures value { result ≡ fed_of (given word rule) }
     ensures window_after { window.new ≡ fed_cells (given word rule) window.old }
 {
     if !is_taken(word, rule) {
-        return Fed::Refused(36);
+        return Err(Refusal::NoSuchAnswer);
     }
     let next = place_of(window[0]);
     make_room(window, next);
     store(window, next, word, rule);
     count(window, word, rule, true);
-    Fed::Taken
+    Ok(())
 }
 
 // The counts of the four words.

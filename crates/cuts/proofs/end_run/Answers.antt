@@ -10,14 +10,14 @@ use Rattle.cuts.proofs.end_run.Goals as goal
 pub returns-then-set-eq0 : goal.returns-then-set-eq0
 returns-then-set-eq0 c =
     let a = c.args in
-    let from = c.higher-from.ensures in
+    let from = c.max-from.ensures in
     let end = c.gauge_first-end.ensures ∙ ap (λ (z : ℕ). gauge_first (z + 0xffff)) from in
     ended_gaps a.base a.start a.next a.set a.runs.now a.done.count a.done.names
-    c.higher-from.result c.lower.result c.higher.result c.put_gap-m.new.runs
+    c.max-from.result c.min.result c.max.result c.put_gap-m.new.runs
     c.put_gap.new.runs
     c.put_gap-m.result c.put_gap.result c.if-set-eq0.true from
-    (c.lower.ensures ∙ ap (min a.next) end)
-    (c.higher.ensures ∙ (λ i. max (end i) (c.gauge_first.ensures i)))
+    (c.min.ensures ∙ ap (min a.next) end)
+    (c.max.ensures ∙ (λ i. max (end i) (c.gauge_first.ensures i)))
     c.put_gap-m.ensures.0 c.put_gap-m.ensures.2 c.put_gap.ensures.0 c.put_gap.ensures.2
     c.put_gap.ensures.3
 

@@ -31,8 +31,7 @@ twice n m k set turned some most least all one =
 pub loop-k-init : goal.loop-k-init
 loop-k-init c =
     let a = c.args in
-    let e : c.wide-count.result - 0 ≡ count_at a.c.now a.from = omega arith in (
-      omega arith,
+    let e : count_at a.c.now a.from - 0 ≡ count_at a.c.now a.from = omega arith in (
       omega arith,
       λ d. omega arith,
       omega arith,
@@ -46,14 +45,14 @@ end_run-framed-requires c =
     let at = c.loop-k in
     let few = names_few c.args.base at.runs at.framed.count in
     let code = c.requires.by_index at.k (omega arith) in
-    (at.invariant.5, omega arith, omega arith, code.0, at.invariant.3, c.requires.from_in_bounds.3)
+    (at.invariant.4, omega arith, omega arith, code.0, at.invariant.2, c.requires.from_in_bounds.3)
 
 pub loop-k-preserved : goal.loop-k-preserved
 loop-k-preserved c =
     let a = c.args in
     let at = c.loop-k in
     let inv = c.loop-k.invariant in
-    let count = c.wide-count.result in
+    let count = count_at c.args.c.now c.args.from in
     let cuts = c.args.c.now in
     let more : at.k < count = omega arith in
     let code = (cut_at cuts a.from at.k).code in
@@ -66,41 +65,39 @@ loop-k-preserved c =
           let after = w.end_run-framed.new.runs in
           let result = w.end_run-framed.result in
           let few = twice n result.count at.k at.set (bit_and (cut_at cuts a.from at.k).turns a.live)
-          w.if-turned-ne0.true inv.1 inv.2 end.2 end.3 in
+          w.if-turned-ne0.true inv.0 inv.1 end.2 end.3 in
           rw (w.runs-is, w.framed-is, w.start-is, w.set-is) (
-            omega arith,
             few.0,
             few.1,
             (c.requires.by_index at.k (omega arith)).1,
             names_more a.base at.framed.names result.names (runs_in at.runs at.framed.count)
-                (runs_in after result.count) (framed_run a.base at.start code at.set []) inv.4 end.1 end.0,
+                (runs_in after result.count) (framed_run a.base at.start code at.set []) inv.3 end.1 end.0,
             end.4,
-            sym (ended after result.count more w.if-turned-ne0.true end.0) ∙ inv.6,
+            sym (ended after result.count more w.if-turned-ne0.true end.0) ∙ inv.5,
           )
       | else-turned-ne0 w ↦
           rw (w.runs-is, w.framed-is, w.start-is, w.set-is) (
-            omega arith,
-            omega (arith, inv.1),
-            λ d. omega (arith, inv.2 d),
+            omega (arith, inv.0),
+            λ d. omega (arith, inv.1 d),
+            inv.2,
             inv.3,
             inv.4,
-            inv.5,
-            sym (passed more w.if-turned-ne0.false) ∙ inv.6,
+            sym (passed more w.if-turned-ne0.false) ∙ inv.5,
           )
     ]
 
 pub put_gap-all-requires : goal.put_gap-all-requires
 put_gap-all-requires c =
     let inv = c.loop-k.invariant in
-    (inv.5, omega (arith, inv.1))
+    (inv.4, omega (arith, inv.0))
 
 pub returns : goal.returns
 returns c =
-    let begins = c.higher-last.ensures in
+    let begins = c.max-last.ensures in
     let ends = c.gauge_first-end.ensures ∙ ap (λ (z : ℕ). gauge_first (z + 0xffff)) begins in
     let a = c.args in
     let at = c.loop-k in
-    let count = c.wide-count.result in
+    let count = count_at c.args.c.now c.args.from in
     let n = c.loop-k.framed.count in
     let low = max at.start a.base in
     let gap = gap_run low (gauge_end low) [] in
@@ -111,9 +108,9 @@ returns c =
     cut_last a.c.now a.from count a.base a.live at.runs n at.start at.set at.k after
     c.put_gap-all.result (omega arith) written in
     let none = gap_no_name a.base low (gauge_end low) (omega arith) in (
-      sym last ∙ at.invariant.6,
+      sym last ∙ at.invariant.5,
       names_more a.base at.framed.names at.framed.names (runs_in at.runs n) (runs_in after c.put_gap-all.result) gap
-          at.invariant.4 (omega arith) written,
-      omega (arith, c.put_gap-all.ensures.2, at.invariant.1),
+          at.invariant.3 (omega arith) written,
+      omega (arith, c.put_gap-all.ensures.2, at.invariant.0),
       c.put_gap-all.ensures.3,
     )

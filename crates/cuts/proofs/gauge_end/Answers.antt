@@ -10,30 +10,24 @@ use Rattle.cuts.proofs.gauge_end.Goals as goal
 
 pub loop-end-init : goal.loop-end-init
 loop-end-init c =
-    let a = c.args in (
-      omega arith,
-      omega arith,
-      λ i h l. let e : i ≡ a.k = omega arith in ap (λ (m : ℕ). gauge_at (run_at a.runs.now m)) e,
-    )
+    let a = c.args in
+    λ i h l. let e : i ≡ a.k = omega arith in ap (λ (m : ℕ). gauge_at (run_at a.runs.now m)) e
 
 pub returns-then-runs-end : goal.returns-then-runs-end
 returns-then-runs-end c =
     let at = c.loop-end in
-    record { some = at.invariant.0; within = at.invariant.1; same = at.invariant.2; other = λ h e. c.if-runs-end.true e }
+    record { some = omega arith; within = omega arith; same = at.invariant; other = λ h e. c.if-runs-end.true e }
 
 pub loop-end-preserved : goal.loop-end-preserved
 loop-end-preserved c =
     let at = c.loop-end in
-    let runs = c.args.runs.now in (
-      omega (arith, at.invariant.0),
-      omega arith,
-      λ i h l. elim (le_or_lt at.end i) [
-        | inr below ↦ at.invariant.2 i h below
-        | inl above ↦ (let e : i ≡ at.end = omega arith in ap (λ (m : ℕ). gauge_at (run_at runs m)) e ∙ c.if-runs-end.false)
-      ],
-    )
+    let runs = c.args.runs.now in
+    λ i h l. elim (le_or_lt at.end i) [
+      | inr below ↦ at.invariant i h below
+      | inl above ↦ (let e : i ≡ at.end = omega arith in ap (λ (m : ℕ). gauge_at (run_at runs m)) e ∙ c.if-runs-end.false)
+    ]
 
 pub returns : goal.returns
 returns c =
     let at = c.loop-end in
-    record { some = at.invariant.0; within = at.invariant.1; same = at.invariant.2; other = λ h e. omega arith }
+    record { some = omega arith; within = omega arith; same = λ i h l. at.invariant i h (omega arith); other = λ h e. omega arith }

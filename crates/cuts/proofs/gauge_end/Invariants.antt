@@ -1,5 +1,5 @@
 -- `cuts::gauge_end` meets its contract. The loop's invariant: the runs passed are on the gauge of the first.
-use Prim.Native.Nat.{ℕ, ◌-◌, ◌≤◌, ◌<◌}
+use Prim.Native.Nat.{ℕ, ◌≤◌, ◌<◌}
 use mathlib.Core.Path.{◌≡◌}
 use Rattle.cuts.specs.views.Runs.{run_at}
 use Rattle.cuts.specs.views.CaseRuns.{gauge_at}
@@ -7,7 +7,4 @@ use Rattle.cuts.proofs.gauge_end.Given as goal
 
 abbrev pub invariant-loop-end : goal.invariant-loop-end
 invariant-loop-end l =
-    (l.k < l.end) × (l.end ≤ l.count) × ((i : ℕ) → l.k ≤ i → i < l.end → gauge_at (run_at l.runs i) ≡ l.gauge)
-
-abbrev pub decreases-loop-end : goal.decreases-loop-end
-decreases-loop-end l = l.count - l.end
+    (i : ℕ) → l.k ≤ i → i < l.end → gauge_at (run_at l.runs i) ≡ l.gauge

@@ -1,32 +1,23 @@
--- `cuts::move_up` meets its contract. The loop's invariant: what stood from the place on is moved.
-use Prim.Native.Nat.{ℕ, ◌+◌}
-use mathlib.Core.Path.{◌≡◌, refl, ap, ◌∙◌}
+-- `cuts::move_up` meets its contract: what is copied is the slice.
+use Prim.Native.Nat.{ℕ, ◌+◌, ◌-◌}
+use mathlib.Core.Path.{◌≡◌, ◌∙◌, sym, ap}
+use mathlib.Core.List.{List, ◌++◌, append_assoc}
 use native.Mathlib.Omega.{arith}
-use lib.ListN.{length-set}
-use lib.Seq.{slice}
-use Rattle.records.specs.Writing.{splice}
-use Rattle.cuts.proofs.Splices.{moved_none, IsMoved-more}
+use lib.ListN.{take, drop}
+use lib.Seq.{slice, length-slice}
+use Rattle.std.proofs.lemmas.List.{drop-take}
 use Rattle.cuts.proofs.move_up.Goals as goal
-
-pub loop-k-init : goal.loop-k-init
-loop-k-init c =
-    let a = c.args in
-    (omega arith, omega arith, refl, moved_none a.c.now a.to)
-
-pub loop-k-preserved : goal.loop-k-preserved
-loop-k-preserved c =
-    let a = c.args in
-    let at = c.loop-k in
-    let inv = c.loop-k.invariant in (
-      omega arith,
-      omega arith,
-      length-set at.c (at.k + 1) _ ∙ inv.2,
-      IsMoved-more a.c.now at.c at.k a.to (omega arith) inv.1 c.requires.1 inv.3,
-    )
 
 pub returns : goal.returns
 returns c =
     let a = c.args in
-    let at = c.loop-k in
-    let e : at.k ≡ a.from = omega arith in
-    at.invariant.3 ∙ ap (λ (k : ℕ). splice a.c.now (k + 2) (slice k a.to a.c.now)) e
+    let xs = a.c.now in
+    let n = a.to - a.from in
+    let front = take (a.from + 2) xs in
+    let whole : a.from + n ≡ a.to = omega arith in
+    let same : take n (drop a.from xs) ≡ slice a.from a.to xs =
+    sym (drop-take a.from n xs) ∙ ap (λ (m : ℕ). drop a.from (take m xs)) whole in
+    c.copy_within.ensures.after
+    ∙ ap (λ (l : List ℕ). (front ++ l) ++ drop (a.from + 2 + n) xs) same
+    ∙ append_assoc front (slice a.from a.to xs) (drop (a.from + 2 + n) xs)
+    ∙ ap (λ (m : ℕ). front ++ (slice a.from a.to xs ++ drop (a.from + 2 + m) xs)) (sym (length-slice a.from a.to xs (omega arith)))

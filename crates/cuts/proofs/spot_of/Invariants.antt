@@ -1,10 +1,7 @@
 -- `cuts::spot_of` meets its contract. The loop's invariant: the cuts passed are below the code.
-use Prim.Native.Nat.{ℕ, ◌-◌, ◌≤◌, ◌<◌}
+use Prim.Native.Nat.{ℕ, ◌<◌}
 use Rattle.cuts.specs.views.Cuts.{cut_at}
 use Rattle.cuts.proofs.spot_of.Given as goal
 
 abbrev pub invariant-loop-k : goal.invariant-loop-k
-invariant-loop-k l = (l.k ≤ l.count) × ((j : ℕ) → j < l.k → (cut_at l.c l.from j).code < l.code)
-
-abbrev pub decreases-loop-k : goal.decreases-loop-k
-decreases-loop-k l = l.count - l.k
+invariant-loop-k l = (j : ℕ) → j < l.k → (cut_at l.c l.from j).code < l.code

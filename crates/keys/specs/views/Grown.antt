@@ -1,5 +1,6 @@
 -- All keys of a graph (document 01, "Nodes"): "Nodes are numbered breadth first from root 0"
-use Rattle.std.specs.Prelude.{ℕ, ◌≡◌, List, [], ◌∷◌, map, length}
+use Rattle.std.specs.Prelude as std
+use Rattle.std.specs.Prelude.{Some, None, ℕ, ◌≡◌, List, [], ◌∷◌, map, length}
 use Rattle.std.proofs.Math.Option.{Option, some, none}
 use Rattle.decision.specs.Key.{Key, same_key}
 use Rattle.decision.specs.Node.{Node, edges, map_node}
@@ -7,8 +8,6 @@ use Rattle.decision.specs.Graph.{explore, most_nodes}
 use Rattle.decision.specs.GraphBytes.{nodes_bytes}
 use Rattle.edges.specs.views.KeysBehind.{root_in}
 use Rattle.edges.specs.views.NodeIn.{node_in}
-use Rattle.keys.specs.declared.Measured.{Measured}
-use Rattle.keys.specs.declared.Measured.TheVariants.{Bytes, TooMany}
 use Rattle.met.specs.views.KeysMet.{key_number, keys_in}
 
 module _ (s c : List ℕ) where
@@ -21,6 +20,6 @@ module _ (s c : List ℕ) where
   nodes_from keys = map (λ (key : Key). map_node (key_number keys) (node_in s c key)) keys
 
   -- All keys stand in the array, and so many bytes are the records of their nodes; or the keys are more than 1,024.
-  abbrev pub Grown : Measured → List ℕ → Type 0
-  Grown (Bytes n) t = (keys_from ≡ some (keys_in t)) × (n ≡ length (nodes_bytes (nodes_from (keys_in t))))
-  Grown TooMany t = keys_from ≡ none
+  abbrev pub Grown : std.Option ℕ → List ℕ → Type 0
+  Grown (Some n) t = (keys_from ≡ some (keys_in t)) × (n ≡ length (nodes_bytes (nodes_from (keys_in t))))
+  Grown None t = keys_from ≡ none

@@ -1,7 +1,9 @@
 -- The cases of a switch as ranges of codes: a case takes the terms whose codes lie from its first to its last. Cases ascend where
 -- the rank of each, its two codes as one number, exceeds the end of the one before.
-use Rattle.std.specs.Prelude.{ℕ, ◌+◌, ◌*◌, Bool, ◌&&◌, List, leb, ltb}
-use Rattle.records.specs.Reading.{Reading, took, refused}
+use Rattle.std.specs.Prelude.{ℕ, ◌+◌, ◌*◌, Bool, ◌&&◌, List, Result, leb, ltb}
+use Rattle.records.specs.Reading.{Reading, took}
+use Rattle.records.specs.Refusals.{reading_in}
+use Rattle.records.specs.declared.refusal.Refusal.{Refusal}
 use Rattle.terms.specs.Term.{on_gauge}
 use Rattle.codes.specs.views.Codes.{symbol_code, compound_code, number_code}
 use Rattle.decision.specs.Cases.{Case, symbols_case, compound_case, numbers_case}
@@ -10,8 +12,7 @@ use Rattle.decision.specs.views.CaseCodes.{case_low, case_high}
 use Rattle.graph.specs.declared.CaseRecord.{CaseRecord}
 use Rattle.graph.specs.declared.CaseRecord.TheVariants.{Symbols, Compound, Numbers}
 use Rattle.node_check.specs.declared.CaseRange.{CaseRange}
-use Rattle.node_check.specs.declared.CasesCheck.{CasesCheck}
-use Rattle.node_check.specs.declared.CasesCheck.TheVariants.{Used, Refused}
+use Rattle.node_check.specs.declared.CasesFound as given
 use Rattle.graph.specs.ReadGraph.{all_inside, cases_ascend}
 
 -- The first and the last code of a range as one number.
@@ -50,11 +51,5 @@ pub record CasesFound : Type 0 where
 abbrev pub cases_found : ℕ → List (CaseEdge ℕ) → CasesFound
 cases_found nodes cs = record { inside = all_inside nodes cs; ascend = cases_ascend cs }
 
-abbrev pub checked_cases : CasesCheck → Reading CasesFound
-checked_cases (Used a i b) = took a (record { inside = i; ascend = b })
-checked_cases (Refused q) = refused q
-
--- The number of the question that cases got a no from, 0 where they are whole.
-abbrev pub cases_refusal : CasesCheck → ℕ
-cases_refusal (Used a i b) = 0
-cases_refusal (Refused q) = q
+abbrev pub checked_cases : Result given.CasesFound Refusal → Reading CasesFound
+checked_cases r = reading_in (λ (c : given.CasesFound). took c.bytes (record { inside = c.inside; ascend = c.ascend })) r

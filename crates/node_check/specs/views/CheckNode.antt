@@ -1,16 +1,15 @@
 -- What the check of nodes says (document 01, "Questions at the counter", 22 to 24), where the sheet's tests are kept as a set of
 -- places and a list of pairs.
-use Rattle.std.specs.Prelude.{ℕ, ◌+◌, ◌/◌, ◌%◌, Bool, false, ◌&&◌, List, [], ◌∷◌, leb, eqb, length, take}
-use Rattle.records.specs.Reading.{Reading, took, refused, ask, and_then}
+use Rattle.std.specs.Prelude.{ℕ, ◌+◌, ◌/◌, ◌%◌, Bool, false, ◌&&◌, List, [], ◌∷◌, Result, Ok, leb, eqb, length, take}
+use Rattle.records.specs.Reading.{Reading, took, ask, and_then, map_reading}
+use Rattle.records.specs.Refusals.{reading_in}
+use Rattle.records.specs.declared.refusal.Refusal.{Refusal}
 use Rattle.sheet_tests.specs.SheetTests.{Test, place, pair}
 use Rattle.sheet_tests.specs.views.TestedPlaces.{has_place}
 use Rattle.decision.specs.Node.{Node}
 use Rattle.decision.specs.GraphBytes.{node_bytes}
 use Rattle.graph.specs.declared.Leaf.{Leaf}
 use Rattle.graph.specs.declared.NodeRecord.TheVariants.{End}
-use Rattle.graph.specs.declared.NodeHead.TheVariants.{Whole}
-use Rattle.node_check.specs.declared.NodeCheck.{NodeCheck}
-use Rattle.node_check.specs.declared.NodeCheck.TheVariants.{Used, Refused}
 use Rattle.graph.specs.ReadGraph.{all_inside, cases_ascend, read_cases, ask_range_and_order}
 use Rattle.basics.specs.Lists.{any_of}
 use Rattle.graph.specs.views.NodeRecord.{switch_length, on_node}
@@ -26,19 +25,21 @@ abbrev pub kept_test : List ℕ → List ℕ → ℕ → Test → Bool
 kept_test words codes count (place n) = has_place words n
 kept_test words codes count (pair p q) = has_pair codes count p q
 
--- The bytes that were read, or the number of the question that got a no.
-abbrev pub checked : {A : Type 0} → Reading A → NodeCheck
-checked (took a x) = Used a
-checked (refused q) = Refused q
+-- How many bytes were read, by the reading of a node or as they are handed back.
+abbrev pub bytes_read : {A : Type 0} → Reading A → Reading Unit
+bytes_read r = map_reading (λ _. tt) r
+
+abbrev pub checked : Result ℕ Refusal → Reading Unit
+checked r = reading_in (λ (n : ℕ). took n tt) r
 
 -- A leaf, of which no test is asked.
-abbrev pub leaf_check : ℕ → Leaf → NodeCheck
-leaf_check rules l = checked (ask_range_and_order (λ t. false) rules 0 (on_node [] (Whole (End l))))
+abbrev pub leaf_check : ℕ → Leaf → Reading Unit
+leaf_check rules l = bytes_read (ask_range_and_order (λ t. false) rules 0 (on_node [] (Ok (End l))))
 
 -- A switch of which the place is a test and neither and unknown are in range, or not, and whose cases s begins with.
-abbrev pub switch_check : Bool → ℕ → ℕ → List ℕ → NodeCheck
+abbrev pub switch_check : Bool → ℕ → ℕ → List ℕ → Reading Unit
 switch_check known count nodes s =
-    checked
+    bytes_read
     (ask 22 (leb 1 count)
     (and_then (read_cases count s)
     (λ a cases. ask 23 (known && all_inside nodes cases) (ask 24 (cases_ascend cases) (took (switch_length + a) cases)))))
@@ -49,6 +50,5 @@ starts_from at [] = []
 starts_from at (n ∷ ns) = at ∷ starts_from (at + length (node_bytes n)) ns
 
 -- The end of so many nodes, and where they begin.
-abbrev pub checked_nodes : ℕ → NodeCheck → List ℕ → Reading (List ℕ)
-checked_nodes count (Used a) starts = took a (take count starts)
-checked_nodes count (Refused q) starts = refused q
+abbrev pub checked_nodes : ℕ → Result ℕ Refusal → List ℕ → Reading (List ℕ)
+checked_nodes count r starts = reading_in (λ (a : ℕ). took a (take count starts)) r

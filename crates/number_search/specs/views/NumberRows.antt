@@ -1,6 +1,6 @@
 -- Number cases in a row: "record 46 becomes (gauge, wide low, wide high, wide node)" has 8 bytes, so each begins 8 bytes behind the
 -- one before.
-use Rattle.std.specs.Prelude.{ℕ, zero, suc, ◌+◌, ◌*◌, ◌<◌, ◌≤◌, ◌≡◌, List, [], ◌∷◌, length, drop}
+use Rattle.std.specs.Prelude.{ℕ, zero, suc, ◌+◌, ◌*◌, ◌<◌, ◌≤◌, ◌≡◌, List, [], ◌∷◌, Option, Some, None, length, drop}
 use Rattle.basics.specs.Lists.{Mem, All}
 use Rattle.records.specs.Fields.{byte_at, wide_at}
 use Rattle.terms.specs.Term.{on_gauge, gauge_of}
@@ -11,8 +11,6 @@ use Rattle.decision.specs.views.CaseCodes.{case_low, case_high}
 use Rattle.graph.specs.ReadGraph.{edge, read_cases}
 use Rattle.graph.specs.views.Rewriting.{IsTook, read_or}
 use Rattle.node_check.specs.views.CaseRanges.{rank_of}
-use Rattle.number_search.specs.declared.Sought.{Sought}
-use Rattle.number_search.specs.declared.Sought.TheVariants.{To, NotTold}
 use Rattle.number_search.specs.views.CodeCases.{follow_code, CasesInOrder}
 
 -- The codes of the low and the high of the case whose record begins at a position, both as one number, so that cases "ascend by
@@ -73,7 +71,7 @@ pub record Missed (cs : List (CaseEdge ℕ)) (low high : ℕ) : Type 0 where
 
 -- What a search tells is so: where it names a node, the cases lead there, and it does not tell only where those that begin highest
 -- end too low.
-abbrev pub SoughtRight : List ℕ → ℕ → ℕ → ℕ → ℕ → ℕ → Sought → Type 0
-SoughtRight s start count low high neither (To n) =
+abbrev pub SoughtRight : List ℕ → ℕ → ℕ → ℕ → ℕ → ℕ → Option ℕ → Type 0
+SoughtRight s start count low high neither (Some n) =
     follow_code (read_or [] (read_cases count (drop start s))) neither low high ≡ n
-SoughtRight s start count low high neither NotTold = Missed (read_or [] (read_cases count (drop start s))) low high
+SoughtRight s start count low high neither None = Missed (read_or [] (read_cases count (drop start s))) low high

@@ -1,14 +1,13 @@
 -- How a table is read, a place after another: 29 is answered at once, 30 only after the last place.
-use Rattle.std.specs.Prelude.{ℕ, Bool, ◌&&◌, ◌||◌, cond, List, [], ◌∷◌, eqb, ltb, get_or, set, replicate}
+use Rattle.std.specs.Prelude.{Result, ⊤, ℕ, Bool, ◌&&◌, ◌||◌, cond, List, [], ◌∷◌, eqb, ltb, get_or, set, replicate}
 use Rattle.places.specs.Numbering.{parent_at}
-use Rattle.records.specs.Reading.{Reading, took, refused}
-use Rattle.order.specs.declared.TableCheck.{TableCheck}
-use Rattle.order.specs.declared.TableCheck.TheVariants.{Accepted, Refused}
+use Rattle.records.specs.Reading.{Reading, took}
+use Rattle.records.specs.Refusals.{reading_in}
+use Rattle.records.specs.declared.refusal.Refusal.{Refusal}
 
 -- What was read, where an array holds the places. After a refusal the array holds nothing of use.
-abbrev pub table_read : List ℕ → TableCheck → Reading (List ℕ)
-table_read places Accepted = took 1360 places
-table_read places (Refused q) = refused q
+abbrev pub table_read : List ℕ → Result Unit Refusal → Reading (List ℕ)
+table_read places r = reading_in (λ u. took 1360 places) r
 
 -- The places that are down, an entry for each: 0 where it is not. None is at first but 680, the parent of an argument.
 unfoldable pub none_down : List ℕ

@@ -9,7 +9,8 @@ use Rattle.records.specs.Writing.{splice}
 use Rattle.output.specs.Listing.{most_bytes, listing_bytes}
 use Rattle.lines.proofs.Wrote.{wrote_as}
 use Rattle.records.proofs.ByteLists.{bytes_all}
-use Rattle.build.specs.declared.Built.TheVariants.{Written}
+use Rattle.std.specs.Prelude.{Ok}
+use Rattle.build.specs.declared.Built.{Built}
 use Rattle.build.specs.BuildOutcome.{build_outcome}
 use Rattle.piece_lines.proofs.Turns.{from_start}
 use Rattle.output.proofs.Cuts.{counted}
@@ -19,18 +20,18 @@ use Rattle.output.proofs.listing.Goals as goal
 
 -- Where the graph was built, its bytes are in the buffer.
 graph_fits
-    : (s : List ℕ) {n b : ℕ} {g : List ℕ} → outcome (Written n b) g ≡ build_outcome s empty_graph → length g ≡ most_bytes
-    → b ≤ length g
+    : (s : List ℕ) {b : Built} {g : List ℕ} → outcome (Ok b) g ≡ build_outcome s empty_graph → length g ≡ most_bytes
+    → b.bytes ≤ length g
 graph_fits s e long = omega (arith, built_fits s empty_graph e, length-replicate {A = ℕ} most_bytes 0, long)
 
 pub slice_bounds-graph-end : goal.slice_bounds-graph-end
 slice_bounds-graph-end c =
-    graph_fits (take c.cut-sheet_end.result c.args.sheet.now) c.in-Written.ensures c.build-built.auto.buf
+    graph_fits (take c.cut-sheet_end.result c.args.sheet.now) c.in-Ok.ensures c.build-built.auto.buf
 
-pub slice_bounds-put_built-end-in-Written : goal.slice_bounds-put_built-end-in-Written
-slice_bounds-put_built-end-in-Written c =
-    sym (length-take-le c.in-Written.bytes c.build-built.new.buf
-    (graph_fits (take c.cut-sheet_end.result c.args.sheet.now) c.in-Written.ensures c.build-built.auto.buf))
+pub slice_bounds-put_built-end-in-Ok : goal.slice_bounds-put_built-end-in-Ok
+slice_bounds-put_built-end-in-Ok c =
+    sym (length-take-le c.in-Ok.built.bytes c.build-built.new.buf
+    (graph_fits (take c.cut-sheet_end.result c.args.sheet.now) c.in-Ok.ensures c.build-built.auto.buf))
 
 pub put_built-requires-clause-graph_for : goal.put_built-requires-clause-graph_for
 put_built-requires-clause-graph_for c =
@@ -38,28 +39,28 @@ put_built-requires-clause-graph_for c =
     let are_bytes =
     bytes_take c.cut-sheet_end.result c.args.sheet.now
     (bytes_all c.args.sheet.now (λ i. omega (arith, c.type_inv.sheet i))) in
-    built_accepted sheet empty_graph c.in-Written.ensures are_bytes
+    built_accepted sheet empty_graph c.in-Ok.ensures are_bytes
 
-pub returns-in-Refused : goal.returns-in-Refused
-returns-in-Refused c =
+pub returns-in-Err : goal.returns-in-Err
+returns-in-Err c =
     let a = c.args in
     let sheet = take c.cut-sheet_end.result a.sheet.now in
     let input = take c.cut-input_end.result a.input.now in
     let is =
-    built_refused sheet input c.in-Refused.q c.in-Refused.ensures
+    built_refused sheet input c.in-Err.refusal c.in-Err.ensures
     ∙ cut_both a.sheet.now a.input.now c.cut-sheet_end.ensures c.cut-input_end.ensures in
     let all =
     from_start a.out.now (listing_bytes a.sheet.now a.input.now)
     (wrote_as a.out.now 0 is c.put_refused.ensures.value) in
     record { value = all; prefix_len = counted a.out.now (listing_bytes a.sheet.now a.input.now) all }
 
-pub returns-in-Written : goal.returns-in-Written
-returns-in-Written c =
+pub returns-in-Ok : goal.returns-in-Ok
+returns-in-Ok c =
     let a = c.args in
     let sheet = take c.cut-sheet_end.result a.sheet.now in
     let input = take c.cut-input_end.result a.input.now in
     let is =
-    built_written sheet input c.in-Written.ensures
+    built_written sheet input c.in-Ok.ensures
     ∙ cut_both a.sheet.now a.input.now c.cut-sheet_end.ensures c.cut-input_end.ensures in
     let long = c.put_built.ensures.0 ∙ ap length is in
     let written = c.put_built.ensures.1 ∙ ap (splice a.out.now 0) is in

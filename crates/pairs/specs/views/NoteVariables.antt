@@ -1,23 +1,21 @@
 -- The variables of a rule, and its pairs, read off its notes.
-use Rattle.std.specs.Prelude.{ℕ, ◌<◌, Bool, false, List, [], ◌∷◌, map, eqb}
+use Rattle.std.specs.Prelude.{ℕ, ◌<◌, Bool, false, List, [], ◌∷◌, map, eqb, Option, Some, None}
 use Rattle.terms.specs.RuleTests.{Occurrence, PairTest, pairs_of, pairs_with}
 use Rattle.patterns.specs.declared.PatternRecord.{PatternRecord}
 use Rattle.patterns.specs.declared.PatternRecord.TheVariants.{Anything, Symbol, Range, Compound, Variable, Ranged, Series, Gauged}
 use Rattle.patterns.specs.views.Note.{Note}
-use Rattle.pairs.specs.declared.Name.{Name}
-use Rattle.pairs.specs.declared.Name.TheVariants.{Nameless, Of}
 use Rattle.pairs.specs.views.KeptPairs.{pair_code}
 
 -- The variable of a record.
-abbrev pub name_of : PatternRecord → Name
-name_of Anything = Nameless
-name_of (Symbol a) = Nameless
-name_of (Range l h) = Nameless
-name_of (Compound a n) = Nameless
-name_of (Variable v) = Of v
-name_of (Ranged v l h) = Of v
-name_of (Series l h) = Nameless
-name_of (Gauged g l h) = Nameless
+abbrev pub name_of : PatternRecord → Option ℕ
+name_of Anything = None
+name_of (Symbol a) = None
+name_of (Range l h) = None
+name_of (Compound a n) = None
+name_of (Variable v) = Some v
+name_of (Ranged v l h) = Some v
+name_of (Series l h) = None
+name_of (Gauged g l h) = None
 
 abbrev pub names_variable : ℕ → PatternRecord → Bool
 names_variable v Anything = false
@@ -30,9 +28,9 @@ names_variable v (Series l h) = false
 names_variable v (Gauged g l h) = false
 
 -- The variables of a rule with their places.
-abbrev pub occurrence : ℕ → Name → List Occurrence → List Occurrence
-occurrence n Nameless os = os
-occurrence n (Of v) os = record { place = n; name = v } ∷ os
+abbrev pub occurrence : ℕ → Option ℕ → List Occurrence → List Occurrence
+occurrence n None os = os
+occurrence n (Some v) os = record { place = n; name = v } ∷ os
 
 abbrev pub notes_variables : List Note → List Occurrence
 notes_variables [] = []

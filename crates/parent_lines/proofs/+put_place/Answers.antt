@@ -1,5 +1,5 @@
 -- `parent_lines::put_place` meets its contract: its line, then a loop over its children, each with all below it.
-use Prim.Native.Nat.{ℕ, ◌+◌, ◌-◌}
+use Prim.Native.Nat.{ℕ, ◌+◌, ◌-◌, ◌≤◌}
 use mathlib.Core.Path.{◌≡◌, refl, sym, subst}
 use native.Mathlib.Omega.{arith}
 use borrow.Author.Rules.{rules}
@@ -24,7 +24,7 @@ pub loop-j-init : goal.loop-j-init
 loop-j-init t c =
     let a = c.args in
     let line = c.put_line-end in
-    (omega arith, omega arith, c.if-d-gt3.false, refl, rows_begun line.new.buf line.result (a.p + 1) (stride (4 - a.d)))
+    (c.if-d-gt3.false, refl, rows_begun line.new.buf line.result (a.p + 1) (stride (4 - a.d)))
 
 pub put_place-end-requires : goal.put_place-end-requires
 put_place-end-requires t c =
@@ -32,13 +32,14 @@ put_place-end-requires t c =
     let line = c.put_line-end in
     let turn = c.loop-j in
     let counted = c.requires.0 in
-    let to = c.loop-j-test.true in
+    let from : 1 ≤ turn.j = omega arith in
+    let to : turn.j ≤ 4 = omega arith in
     let is = c.child-child.ensures in
-    let child = child_counted a.d a.p a.up counted turn.j turn.invariant.2 turn.invariant.0 to in
-    let lines = child_lines a.d a.p a.up counted turn.j turn.invariant.2 turn.invariant.0 to is in
+    let child = child_counted a.d a.p a.up counted turn.j turn.invariant.0 from to in
+    let lines = child_lines a.d a.p a.up counted turn.j turn.invariant.0 from to is in
     let rows = rows_room a.d a.p a.up counted a.buf.now a.at c.requires.1 line.ensures in
     let room =
-    row_room line.new.buf line.result (a.p + 1) 4 (stride (4 - a.d)) (turn.j - 1) rows (omega arith) turn.invariant.4 in (
+    row_room line.new.buf line.result (a.p + 1) 4 (stride (4 - a.d)) (turn.j - 1) rows (omega arith) turn.invariant.2 in (
       omega arith,
       (subst (λ (q : ℕ). CountedTo (a.d + 1) q a.p) (sym is) child, room_as turn.buf turn.end lines room),
     )
@@ -49,15 +50,16 @@ loop-j-preserved t c =
     let line = c.put_line-end in
     let turn = c.loop-j in
     let counted = c.requires.0 in
-    let to = c.loop-j-test.true in
+    let from : 1 ≤ turn.j = omega arith in
+    let to : turn.j ≤ 4 = omega arith in
     let is = c.child-child.ensures in
-    let lines = child_lines a.d a.p a.up counted turn.j turn.invariant.2 turn.invariant.0 to is in
+    let lines = child_lines a.d a.p a.up counted turn.j turn.invariant.0 from to is in
     let rows = rows_room a.d a.p a.up counted a.buf.now a.at c.requires.1 line.ensures in
     let next = c.put_place-end in
     let more =
-    row_more line.new.buf line.result (a.p + 1) 4 (stride (4 - a.d)) (turn.j - 1) rows (omega arith) turn.invariant.4
+    row_more line.new.buf line.result (a.p + 1) 4 (stride (4 - a.d)) (turn.j - 1) rows (omega arith) turn.invariant.2
     (turn.j + 1 - 1) (omega arith) (wrote_as turn.buf turn.end (sym lines) next.ensures) in
-    (omega arith, omega arith, turn.invariant.2, search rules, more)
+    (turn.invariant.0, search rules, more)
 
 pub returns : goal.returns
 returns t c =
@@ -67,5 +69,5 @@ returns t c =
     let four : turn.j - 1 ≡ 4 = omega arith in
     let rows =
     subst (λ (i : ℕ). RowsWrote line.new.buf line.result (a.p + 1) (stride (4 - a.d)) i turn.end turn.buf)
-    four turn.invariant.4 in
+    four turn.invariant.2 in
     rows_wrote a.d a.p a.up c.requires.0 a.buf.now a.at c.requires.1 line.ensures rows

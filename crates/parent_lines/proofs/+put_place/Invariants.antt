@@ -11,8 +11,5 @@ decreases-put_place l = 4 - l.d
 
 abbrev pub invariant-loop-j : goal.invariant-loop-j
 invariant-loop-j l =
-    (1 ≤ l.j) × (l.j ≤ 5) × (l.d ≤ 3) × (length l.buf ≡ length l.initial.buf)
+    (l.d ≤ 3) × (length l.buf ≡ length l.initial.buf)
     × RowsWrote l.initial.buf l.initial.end (l.p + 1) (stride (4 - l.d)) (l.j - 1) l.end l.buf
-
-abbrev pub decreases-loop-j : goal.decreases-loop-j
-decreases-loop-j l = 5 - l.j

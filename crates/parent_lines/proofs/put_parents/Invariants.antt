@@ -1,10 +1,6 @@
 -- `parent_lines::put_parents` meets its contract: a loop over the arguments, each with all below it.
-use Prim.Native.Nat.{◌-◌}
 use Rattle.parent_lines.proofs.AllLines.{Passed}
 use Rattle.parent_lines.proofs.put_parents.Given as goal
 
 abbrev pub invariant-loop-a : goal.invariant-loop-a
 invariant-loop-a l = Passed l.a l.end l.buf
-
-abbrev pub decreases-loop-a : goal.decreases-loop-a
-decreases-loop-a l = 9 - l.a

@@ -1,6 +1,6 @@
 -- The path of a piece over the nodes of a graph, as the piece's cells tell it, and what is handed back of it (document 01, "The
 -- walk").
-use Rattle.std.specs.Prelude.{ℕ, pred, ◌<◌, ◌≤◌, List, [], ◌∷◌, ◌++◌, map, length, get_or, take, drop}
+use Rattle.std.specs.Prelude.{ℕ, pred, ◌<◌, ◌≤◌, List, [], ◌∷◌, ◌++◌, Result, Ok, Err, map, length, get_or, take, drop}
 use Rattle.basics.specs.Lists.{All, count_from}
 use Rattle.pairs.specs.views.KeptPairs.{pair_code}
 use Rattle.decision.specs.Key.{Leaf, fail_node}
@@ -11,7 +11,9 @@ use Rattle.graph.specs.views.NodeRecord.{leaf_of}
 use Rattle.graph.specs.ReadGraph.{read_record}
 use Rattle.records.specs.Reading.{refused, took}
 use Rattle.steps.specs.views.CodeSteps.{step_cells, NearNode, OrderedNode}
-use Rattle.path.specs.declared.Followed as given
+use Rattle.records.specs.Refusals.{number}
+use Rattle.records.specs.declared.refusal.Refusal.{Refusal}
+use Rattle.path.specs.declared.Reached.{Reached}
 
 -- A walk that ended at a leaf, with the "edges walked" and the codes of the tests met, in order, or that was refused.
 pub data Ended : Type 0 where
@@ -65,10 +67,10 @@ pub record Index (graph starts : List ℕ) (nodes : ℕ) : Type 0 where
   pub good : (k : ℕ) → k < nodes → GoodNode nodes (node_from graph starts k)
 
 -- What is handed back, with the tests met at the front of the list.
-abbrev pub ended_of : List ℕ → given.Followed → Ended
-ended_of met (given.TheVariants.Reached l edges) = reached (leaf_of l) edges (take edges met)
-ended_of met (given.TheVariants.Refused q) = stopped q
+abbrev pub ended_of : List ℕ → Result Reached Refusal → Ended
+ended_of met (Ok r) = reached (leaf_of r.leaf) r.edges (take r.edges met)
+ended_of met (Err r) = stopped (number r)
 
-abbrev pub edges_of : given.Followed → ℕ
-edges_of (given.TheVariants.Reached l edges) = edges
-edges_of (given.TheVariants.Refused q) = 0
+abbrev pub edges_of : Result Reached Refusal → ℕ
+edges_of (Ok r) = r.edges
+edges_of (Err r) = 0

@@ -1,13 +1,18 @@
 -- The record of a pattern that a list of bytes begins with, as the code hands it on, and what it is read as.
-use Rattle.std.specs.Prelude.{ℕ, ◌+◌, ◌%◌, Bool, true, false, cond, List, [], ◌∷◌, ◌++◌, length, get_or, leb, eqb}
+use Rattle.std.specs.Prelude.{ℕ, ◌+◌, ◌%◌, Bool, true, false, cond, List, [], ◌∷◌, ◌++◌, length, get_or, leb, eqb, Result, Ok, Err}
 use Rattle.records.specs.Fields.{wide_at, wide_then}
 use Rattle.records.specs.Reading.{Reading, took, refused, ask}
 use Rattle.terms.specs.Pattern.{Pattern, anything, the_symbol, the_series, the_range, the_gauged, variable, ranged_variable}
 use Rattle.patterns.specs.declared.PatternRecord.{PatternRecord}
 use Rattle.patterns.specs.declared.PatternRecord.TheVariants.{Anything, Symbol, Range, Compound, Variable}
 use Rattle.patterns.specs.declared.PatternRecord.TheVariants.{Ranged, Series, Gauged}
-use Rattle.patterns.specs.declared.PatternHead.{PatternHead}
-use Rattle.patterns.specs.declared.PatternHead.TheVariants.{Whole, Refused}
+use Rattle.records.specs.Refusals.{number}
+use Rattle.records.specs.declared.refusal.Refusal.{Refusal}
+use Rattle.records.specs.declared.refusal.Refusal.TheVariants.{NotAPattern}
+
+-- The record that bytes begin with, or the question that got a no.
+abbrev pub PatternHead : Type 0
+PatternHead = Result PatternRecord Refusal
 
 -- "A record is one kind byte and a body whose length the kind fixes": so many bytes.
 abbrev pub record_bytes : PatternRecord → ℕ
@@ -46,8 +51,8 @@ records_spelling (r ∷ rs) = record_spelling r ++ records_spelling rs
 
 -- Whole where its bytes are there.
 abbrev pub whole_if : Bool → PatternRecord → PatternHead
-whole_if true r = Whole r
-whole_if false r = Refused 4
+whole_if true r = Ok r
+whole_if false r = Err NotAPattern
 
 -- An id: of a compound, of kind 23, or of a symbol, of kind 21.
 abbrev pub id_head : Bool → List ℕ → PatternHead
@@ -73,8 +78,8 @@ ends_head kind s = ends_from (kind % 2 + 1) kind s
 -- "Questions 4, 7 and 14 take the new records in" (request 7).
 abbrev pub pattern_head : List ℕ → PatternHead
 pattern_head s =
-    cond (eqb (length s) 0) (Refused 4)
-    (cond (eqb (get_or s 0 0) 0x20) (Whole Anything)
+    cond (eqb (length s) 0) (Err NotAPattern)
+    (cond (eqb (get_or s 0 0) 0x20) (Ok Anything)
     (cond (eqb (get_or s 0 0) 0x21) (whole_if (leb 3 (length s)) (Symbol (wide_at s 1)))
     (cond (eqb (get_or s 0 0) 0x22) (whole_if (leb 5 (length s)) (Range (wide_at s 1) (wide_at s 3)))
     (cond (eqb (get_or s 0 0) 0x23) (whole_if (leb 4 (length s)) (Compound (wide_at s 1) (get_or s 3 0)))
@@ -82,12 +87,7 @@ pattern_head s =
     (cond (eqb (get_or s 0 0) 0x25) (whole_if (leb 6 (length s)) (Ranged (get_or s 1 0) (wide_at s 2) (wide_at s 4)))
     (cond (eqb (get_or s 0 0) 0x26) (whole_if (leb 5 (length s)) (Series (wide_at s 1) (wide_at s 3)))
     (cond (eqb (get_or s 0 0) 0x27) (whole_if (leb 6 (length s)) (Gauged (get_or s 1 0) (wide_at s 2) (wide_at s 4)))
-    (Refused 4)))))))))
-
--- The number of the question that a head got a no from, 0 for a whole record.
-abbrev pub head_refusal : PatternHead → ℕ
-head_refusal (Whole r) = 0
-head_refusal (Refused q) = q
+    (Err NotAPattern)))))))))
 
 -- "7 Is low at most high? 8 Is the variable 0 to 15?", asked in this order; a compound goes on by compound_of.
 abbrev pub on_record : (ℕ → ℕ → Reading Pattern) → PatternRecord → Reading Pattern
@@ -105,5 +105,5 @@ abbrev pub read_leaf : PatternRecord → Reading Pattern
 read_leaf what = on_record (λ a n. refused 5) what
 
 abbrev pub on_head : (ℕ → ℕ → Reading Pattern) → PatternHead → Reading Pattern
-on_head compound_of (Whole r) = on_record compound_of r
-on_head compound_of (Refused q) = refused q
+on_head compound_of (Ok r) = on_record compound_of r
+on_head compound_of (Err r) = refused (number r)

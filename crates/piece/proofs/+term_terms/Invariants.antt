@@ -13,11 +13,9 @@ decreases-term l = 2 * l.below
 abbrev pub decreases-terms : goal.decreases-terms
 decreases-terms l = 2 * l.below + 1
 
--- The loop of `terms`: what is read and the n - i terms still to come are the whole row, and there is room for them.
+-- The loop of `terms`: what is read and the n - i terms still to come are the whole row.
 abbrev pub invariant-terms-loop-i : goal.invariant-terms-loop-i
 invariant-terms-loop-i l =
-    (l.i ≤ l.n) × (l.at ≤ length l.s) × (l.here + (l.n - l.i) * stride (suc l.below) ≤ 680)
-    × (row_from (term_row l.below) l.s l.at (l.n - l.i) l.here l.cells ≡ terms_cells l.below l.n l.p l.initial.cells l.s)
-
-abbrev pub decreases-terms-loop-i : goal.decreases-terms-loop-i
-decreases-terms-loop-i l = l.n - l.i
+    (l.at ≤ length l.s)
+    × (row_from (term_row l.below) l.s l.at (l.n - l.i) (l.p + l.i * l.step) l.cells
+    ≡ terms_cells l.below l.n l.p l.fn.cells l.s)

@@ -1,22 +1,18 @@
 -- Pieces laid out by place, and what is read into the cells.
-use Rattle.std.specs.Prelude.{ℕ, ◌*◌, ◌≤◌, ◌≡◌, List, length, get_or, replicate}
-use Rattle.records.specs.Reading.{Reading, took, refused, map_reading}
+use Rattle.std.specs.Prelude.{ℕ, ◌*◌, ◌≤◌, ◌≡◌, List, length, get_or, replicate, Result, Ok, Err}
+use Rattle.records.specs.Reading.{Reading, took, map_reading}
+use Rattle.records.specs.Refusals.{reading_in}
+use Rattle.records.specs.declared.refusal.Refusal.{Refusal}
 use Rattle.terms.specs.Term.{Terms}
-use Rattle.piece.specs.declared.Taken.{Taken}
-use Rattle.piece.specs.declared.Taken.TheVariants as taken
 use Rattle.piece.specs.declared.Prefix.{Prefix}
-use Rattle.piece.specs.declared.Prefix.TheVariants as prefix
-use Rattle.piece.specs.declared.PieceCheck.{PieceCheck}
-use Rattle.piece.specs.declared.PieceCheck.TheVariants as check
 use Rattle.piece.specs.Piece.{Piece}
 use Rattle.piece.specs.ReadPiece.{read_term, read_terms}
 use Rattle.piece.specs.views.Cells.{store_term, store_terms}
 use Rattle.piece.specs.views.Emptied.{ArgumentTells}
 
 -- What was read into the cells, and the bytes that it took. After a refusal nothing is said of the cells.
-abbrev pub took_cells : List ℕ → Taken → Reading (List ℕ)
-took_cells cells (taken.Bytes a) = took a cells
-took_cells cells (taken.Refused q) = refused q
+abbrev pub took_cells : List ℕ → Result ℕ Refusal → Reading (List ℕ)
+took_cells cells r = reading_in (λ a. took a cells) r
 
 -- The cells after the term that the bytes s begin with is read into them at place p, and after n terms are read from
 -- there on.
@@ -48,26 +44,23 @@ pub record LaidOut : Type 0 where
 abbrev pub lay_out : Piece → LaidOut
 lay_out piece = record { arity = piece.arity; cells = piece_cells piece.terms }
 
--- What reading the record that a piece begins with says: its arity and bytes, or a refusal.
-abbrev pub arity_read : Prefix → Reading ℕ
-arity_read (prefix.Read n a) = took a n
-arity_read (prefix.Refused q) = refused q
+-- What reading the record, of 2 bytes, that a piece begins with says: its arity, or a refusal.
+abbrev pub arity_read : Result ℕ Refusal → Reading ℕ
+arity_read r = reading_in (took 2) r
 
 -- What reading the piece that the input begins with says: its arity, cells and bytes, or a refusal.
-abbrev pub prefix_read : List ℕ → Prefix → Reading LaidOut
-prefix_read cells (prefix.Read n a) = took a (record { arity = n; cells = cells })
-prefix_read cells (prefix.Refused q) = refused q
+abbrev pub prefix_read : List ℕ → Result Prefix Refusal → Reading LaidOut
+prefix_read cells r = reading_in (λ p. took p.bytes (record { arity = p.arity; cells = cells })) r
 
-abbrev pub prefix_bytes : Prefix → ℕ
-prefix_bytes (prefix.Read n a) = a
-prefix_bytes (prefix.Refused q) = 0
+abbrev pub prefix_bytes : Result Prefix Refusal → ℕ
+prefix_bytes (Ok p) = p.bytes
+prefix_bytes (Err r) = 0
 
 -- A piece of n arguments uses the 85 places of each. After a refusal nothing is known of the cells.
-abbrev pub used_by : Prefix → ℕ
-used_by (prefix.Read n a) = 85 * n
-used_by (prefix.Refused q) = 680
+abbrev pub used_by : Result Prefix Refusal → ℕ
+used_by (Ok p) = 85 * p.arity
+used_by (Err r) = 680
 
 -- What reading a piece that is the whole input, of so many bytes, says.
-abbrev pub piece_read : ℕ → List ℕ → PieceCheck → Reading LaidOut
-piece_read bytes cells (check.Accepted n) = took bytes (record { arity = n; cells = cells })
-piece_read bytes cells (check.Refused q) = refused q
+abbrev pub piece_read : ℕ → List ℕ → Result ℕ Refusal → Reading LaidOut
+piece_read bytes cells r = reading_in (λ n. took bytes (record { arity = n; cells = cells })) r

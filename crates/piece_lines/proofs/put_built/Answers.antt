@@ -8,6 +8,8 @@ use lib.ListN.{length, get_or, drop, length-drop}
 use Rattle.records.specs.Fields.{IsByte}
 use Rattle.records.specs.Reading.{Reading, map_reading}
 use Rattle.records.proofs.Parts.{rest}
+use Rattle.std.specs.Prelude.{Result}
+use Rattle.records.specs.declared.refusal.Refusal.{Refusal}
 use Rattle.piece.specs.ReadPiece.{read_prefix}
 use Rattle.piece.specs.views.LaidOut.{lay_out, prefix_read, prefix_bytes, UsedTo}
 use Rattle.piece.proofs.Emptying.{none_used}
@@ -38,8 +40,8 @@ module _ (c : goal.After-put_first-turn) where
   abbrev cells : List ℕ
   cells = c.read_prefix-prefix.new.cells
 
-  abbrev first : First
-  first = first_made c.read_prefix-prefix.result c.if-has_arity.walked
+  abbrev first : Result First Refusal
+  first = first_made c.read_prefix-prefix.result c.if-has_arity.walk
 
   prefix_told : prefix_read cells c.read_prefix-prefix.result ≡ map_reading lay_out (read_prefix pieces)
   prefix_told =
@@ -55,10 +57,10 @@ module _ (c : goal.After-put_first-turn) where
       ◌≡◌ {A = Turned} (record { turn = t; buffer = c.put_first-turn.new.out })
       (turned c.loop-from.out c.loop-from.end c.loop-from.n r)
 
-  put_told : (t : Turn) → Said t (answered (first_of c.first_of-first.result)) → Said t (answered (first_of first))
+  put_told : (t : Turn) → Said t (answered (first_of c.first_of.result)) → Said t (answered (first_of first))
   put_told t =
       told_as c.loop-from.n c.loop-from.out c.loop-from.end refl
-      (ap (λ (f : First). answered (first_of f)) c.first_of-first.ensures)
+      (ap (λ (f : Result First Refusal). answered (first_of f)) c.first_of.ensures)
 
 module _ (c : goal.After-put_first-turn) (bytes : (i : ℕ) → IsByte (get_or c.args.input.now i 0)) where
   piece_bytes_lem : (i : ℕ) → IsByte (get_or (pieces c) i 0)
@@ -67,30 +69,30 @@ module _ (c : goal.After-put_first-turn) (bytes : (i : ℕ) → IsByte (get_or c
   first_right : (first_of (first c) ≡ first_reply (reply c) (pieces c)) × PieceWithin (length (pieces c)) (first c)
   first_right =
       let known = known_ready c.args.sheet.now c.args.graph.now c.open_graph-opened.new.starts c.open_graph-opened.new.kept
-      c.open_graph-opened.ensures.0 c.in-Ready.is in
+      c.open_graph-opened.ensures.0 c.in-Ok.is in
       let arity = sym c.has_arity.ensures in
       elim c.if-has_arity.branch [
         | then-has_arity w ↦
-            walked_right (pieces c) (cells c) piece_bytes_lem known c.read_prefix-prefix.result c.if-has_arity.walked (prefix_told c)
+            walked_right (pieces c) (cells c) piece_bytes_lem known c.read_prefix-prefix.result c.if-has_arity.walk (prefix_told c)
             (prefix_there c) (arity ∙ w.if-has_arity.true)
-            (λ t p k. ap walked_reading w.walked-is ∙ w.walk_checked-walked.ensures.result_value t p k)
+            (λ t p k. ap walked_reading w.walk-is ∙ w.walk_checked-walk.ensures.result_value t p k)
         | else-has_arity w ↦
-            other_right (pieces c) (cells c) piece_bytes_lem known c.read_prefix-prefix.result c.if-has_arity.walked (prefix_told c)
-            (prefix_there c) (arity ∙ w.if-has_arity.false) w.walked-is
+            other_right (pieces c) (cells c) piece_bytes_lem known c.read_prefix-prefix.result c.if-has_arity.walk (prefix_told c)
+            (prefix_there c) (arity ∙ w.if-has_arity.false) w.walk-is
       ]
 
-  turn_told : (t : Turn) → Said c t (answered (first_of c.first_of-first.result)) → Said c t (first_walk (reply c) (pieces c))
+  turn_told : (t : Turn) → Said c t (answered (first_of c.first_of.result)) → Said c t (first_walk (reply c) (pieces c))
   turn_told t e =
       put_told c t e
       ∙ ap (turned c.loop-from.out c.loop-from.end c.loop-from.n)
       (ap answered first_right.0 ∙ first_answered (reply c) (pieces c))
 
   turn_within
-      : (t : Turn) → ((k : ℕ) → PieceWithin k c.first_of-first.result → Within k c.loop-from.end t)
+      : (t : Turn) → ((k : ℕ) → PieceWithin k c.first_of.result → Within k c.loop-from.end t)
       → Within (length c.args.input.now - c.loop-from.from) c.loop-from.end t
   turn_within t h =
       subst (λ (k : ℕ). Within k c.loop-from.end t) (length-drop c.loop-from.from c.args.input.now)
-      (h (length (pieces c)) (subst (PieceWithin (length (pieces c))) (sym c.first_of-first.ensures) first_right.1))
+      (h (length (pieces c)) (subst (PieceWithin (length (pieces c))) (sym c.first_of.ensures) first_right.1))
 
 pub loop-from-init : goal.loop-from-init
 loop-from-init c =
@@ -106,10 +108,10 @@ loop-from-init c =
       none_used refl,
     )
 
-pub walk_checked-walked-requires-clause-starts_len : goal.walk_checked-walked-requires-clause-starts_len
-walk_checked-walked-requires-clause-starts_len c =
+pub walk_checked-walk-requires-clause-starts_len : goal.walk_checked-walk-requires-clause-starts_len
+walk_checked-walk-requires-clause-starts_len c =
     let known = known_ready c.args.sheet.now c.args.graph.now c.open_graph-opened.new.starts c.open_graph-opened.new.kept
-    c.open_graph-opened.ensures.0 c.in-Ready.is in
+    c.open_graph-opened.ensures.0 c.in-Ok.is in
     let from = c.loop-from.from in
     let input = c.args.input.now in (
       known.all_starts,
@@ -132,7 +134,7 @@ returns-in-Last c =
     let (q, is, wrote) = told_last loop.out loop.end loop.n (first_walk (reply step) (pieces step)) told in
     let inside = turn_within step bytes turn c.in-Last.ensures.by_index in
     let known = known_ready c.args.sheet.now c.args.graph.now c.open_graph-opened.new.starts c.open_graph-opened.new.kept
-    c.open_graph-opened.ensures.0 c.in-Ready.is in
+    c.open_graph-opened.ensures.0 c.in-Ok.is in
     all_printed known c.args.nodes c.tests-tests.result c.tests-tests.ensures c.args.input.now c.args.out.now print.ensures.value
     (omega arith)
     (at_refusal (reply step) c.args.input.now print.new.buf print.result loop.invariant.5 (omega arith) c.loop-from-test.true
@@ -156,8 +158,8 @@ loop-from-preserved c =
     let (w, is, wrote) = Told-more loop.out loop.end loop.n (first_walk (reply step) (pieces step)) told in
     let inside = turn_within step bytes turn c.in-More.ensures.by_index in
     let prefix = c.read_prefix-prefix.result in
-    let (m, k, e) =
-    more_read loop.out loop.end loop.n prefix c.if-has_arity.walked (put_told step turn c.in-More.ensures.out_after) in
+    let (x, e) =
+    more_read loop.out loop.end loop.n prefix c.if-has_arity.walk (put_told step turn c.in-More.ensures.out_after) in
     let next = used_read (pieces step) (cells step) (piece_bytes_lem step bytes) prefix (prefix_told step) e in
     let used = sym c.used_by-used.ensures in (
       omega (arith, inside.1),
@@ -168,7 +170,7 @@ loop-from-preserved c =
       at_piece (reply step) c.args.input.now print.new.buf print.result loop.invariant.5 (omega arith) c.loop-from-test.true
           (walk_line loop.n w) (omega (arith, inside.2)) wrote is refl,
       elim c.if-has_arity.branch [
-        | then-has_arity w ↦ ap length w.notes-is ∙ w.walk_checked-walked.ensures.notes_len
+        | then-has_arity w ↦ ap length w.notes-is ∙ w.walk_checked-walk.ensures.notes_len
         | else-has_arity w ↦ ap length w.notes-is ∙ loop.invariant.6
       ],
       subst (λ (k : ℕ). k ≤ 680) used next.0,
@@ -179,7 +181,7 @@ pub returns-after-loop-from : goal.returns-after-loop-from
 returns-after-loop-from c =
     let print = c.put_sheet_line-end in
     let known = known_ready c.args.sheet.now c.args.graph.now c.open_graph-opened.new.starts c.open_graph-opened.new.kept
-    c.open_graph-opened.ensures.0 c.in-Ready.is in
+    c.open_graph-opened.ensures.0 c.in-Ok.is in
     all_printed known c.args.nodes c.tests-tests.result c.tests-tests.ensures c.args.input.now c.args.out.now print.ensures.value
     (omega arith)
     (at_end_lem (walk_reply c.args.sheet.now c.args.graph.now) c.args.input.now print.new.buf print.result c.loop-from.invariant.5

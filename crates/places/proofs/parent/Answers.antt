@@ -12,4 +12,4 @@ pub returns : goal.returns
 returns c =
     let passes : true ≡ true = refl in
     let inside : c.args.p < 680 = search rules in
-    rw (c.wide.ensures, entry parent_at)
+    rw (entry parent_at)

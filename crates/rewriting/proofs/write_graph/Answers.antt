@@ -6,7 +6,7 @@ use native.Mathlib.Omega.{arith}
 use lib.ListN.{length, drop}
 use Rattle.decision.specs.GraphBytes.{nodes_bytes}
 use Rattle.graph.specs.views.Rewriting.{IsTook, read_or, read_records}
-use Rattle.rewriting.specs.declared.Copied.TheVariants.{To}
+use Rattle.std.specs.Prelude.{Ok}
 use Rattle.node_check.proofs.CopiedNodes.{both_written}
 use Rattle.graph.specs.views.WriteNode.{header_bytes}
 use Rattle.rewriting.proofs.write_graph.Goals as goal
@@ -20,7 +20,7 @@ copy_nodes-requires c =
     let g = c.args.g.now in
     let at : c.put-at.result ≡ 5 = c.put-at.ensures.0 in (
       omega (arith, at, c.requires.0),
-      omega (arith, c.buffer-1.given, c.requires.1),
+      omega (arith, c.requires.1),
       subst (λ (n : ℕ). IsTook (read_records a.nodes (drop n g))) (sym at) c.requires.2,
     )
 
@@ -34,4 +34,4 @@ returns c =
     let header = simp (c.high.ensures, c.low.ensures) at c.put-at.ensures in
     let both = both_written a.buffer.now 0 first (nodes c.put-at.result) (omega (arith, c.requires.0, c.requires.1)) header.0 header.1 refl c.copy_nodes.ensures.1 (ap (λ (n : ℕ). first ++ nodes n) at) in
     let size : c.put-at.result + length (nodes c.put-at.result) ≡ length (first ++ nodes 5) = omega (arith, both.0) in
-    (c.copy_nodes.ensures.0 ∙ ap To size, both.1)
+    (c.copy_nodes.ensures.0 ∙ ap Ok size, both.1)

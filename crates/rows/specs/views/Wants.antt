@@ -1,6 +1,7 @@
 -- The place tests of a rule, off its notes: what a record wants at its place, where low and high are the ends of the variables'
 -- common ranges.
-use Rattle.std.specs.Prelude.{ℕ, Bool, true, false, List, [], ◌∷◌, ltb, get_or}
+use Rattle.std.specs.Prelude as std
+use Rattle.std.specs.Prelude.{Some, None, ℕ, Bool, true, false, List, [], ◌∷◌, ltb, get_or}
 use Rattle.std.proofs.Math.Option.{Option, some, none}
 use Rattle.terms.specs.Term.{on_gauge}
 use Rattle.terms.specs.RuleTests.{Want, a_symbol, a_number, a_compound, PlaceTest, at}
@@ -8,8 +9,7 @@ use Rattle.patterns.specs.declared.PatternRecord.{PatternRecord}
 use Rattle.patterns.specs.declared.PatternRecord.TheVariants.{Anything, Symbol, Range, Compound, Variable, Ranged, Series, Gauged}
 use Rattle.patterns.specs.views.Note.{Note}
 use Rattle.codes.specs.views.Codes.{want_low, want_high}
-use Rattle.rows.specs.declared.Wanted.{Wanted}
-use Rattle.rows.specs.declared.Wanted.TheVariants.{Nothing, Codes}
+use Rattle.rows.specs.declared.Codes.{Codes}
 
 -- A variable's common range is wanted where it has one. A high end over 65,535 says that it has none.
 abbrev pub number_if : Bool → ℕ → ℕ → Option Want
@@ -39,6 +39,6 @@ notes_tests low high [] = []
 notes_tests low high (n ∷ notes) = test_if n.place (record_want low high n.what) (notes_tests low high notes)
 
 -- What is wanted as its lowest and its highest code.
-abbrev pub wanted_codes : Option Want → Wanted
-wanted_codes none = Nothing
-wanted_codes (some w) = Codes (want_low w) (want_high w)
+abbrev pub wanted_codes : Option Want → std.Option Codes
+wanted_codes none = None
+wanted_codes (some w) = Some (record { low = want_low w; high = want_high w })

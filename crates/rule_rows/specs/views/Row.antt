@@ -1,14 +1,12 @@
 -- The records of a rule in a row, as the code goes over its bytes: a compound's arguments follow it, so all that need be kept on
 -- the way is how many patterns are still to come.
-use Rattle.std.specs.Prelude.{ℕ, zero, suc, ◌+◌, ◌*◌, ◌≤◌, ◌≡◌, List, [], ◌∷◌, length, drop}
+use Rattle.std.specs.Prelude.{Option, Some, None, Result, Ok, Err, ℕ, zero, suc, ◌+◌, ◌*◌, ◌≤◌, ◌≡◌, List, [], ◌∷◌, length, drop}
 use Rattle.patterns.specs.declared.PatternRecord.{PatternRecord}
 use Rattle.patterns.specs.declared.PatternRecord.TheVariants.{Anything, Symbol, Series, Range, Gauged, Compound, Variable, Ranged}
-use Rattle.patterns.specs.declared.PatternHead.{PatternHead}
-use Rattle.patterns.specs.declared.PatternHead.TheVariants.{Whole, Refused}
+use Rattle.records.specs.declared.refusal.Refusal.{Refusal}
 use Rattle.patterns.specs.views.PatternRecord.{record_bytes, pattern_head}
 use Rattle.rule_rows.specs.declared.Row.{Row}
 use Rattle.rule_rows.specs.declared.Next.{Next}
-use Rattle.rule_rows.specs.declared.Next.TheVariants.{Record, Done}
 
 -- How many patterns follow a record as its arguments.
 abbrev pub arguments_of : PatternRecord → ℕ
@@ -21,9 +19,9 @@ arguments_of (Compound a n) = n
 arguments_of (Variable v) = 0
 arguments_of (Ranged v l h) = 0
 
-abbrev pub head_then : PatternHead → (PatternRecord → List PatternRecord) → List PatternRecord
-head_then (Whole r) rest = r ∷ rest r
-head_then (Refused q) rest = []
+abbrev pub head_then : Result PatternRecord Refusal → (PatternRecord → List PatternRecord) → List PatternRecord
+head_then (Ok r) rest = r ∷ rest r
+head_then (Err q) rest = []
 
 -- The records that bytes begin with, of so many patterns: at most so many records, and none from the first cut one on.
 unfoldable pub row_records : ℕ → ℕ → List ℕ → List PatternRecord
@@ -41,9 +39,9 @@ abbrev pub records_from : List ℕ → Row → List PatternRecord
 records_from s row = row_records row.most row.patterns (drop row.at s)
 
 -- The same, where the next one was read.
-abbrev pub records_with : List ℕ → Next → List PatternRecord
-records_with s (Record r more) = r ∷ records_from s more
-records_with s Done = []
+abbrev pub records_with : List ℕ → Option Next → List PatternRecord
+records_with s (Some next) = next.what ∷ records_from s next.rest
+records_with s None = []
 
 -- The row goes on inside the bytes, and the patterns to come can be counted.
 pub record Going (s : List ℕ) (row : Row) : Type 0 where
@@ -51,6 +49,7 @@ pub record Going (s : List ℕ) (row : Row) : Type 0 where
   pub counted : row.patterns + 255 * row.most ≤ 0x10_0000
 
 -- Behind a record the row goes on with one less to come.
-abbrev pub GoesOn : List ℕ → Row → Next → Type 0
-GoesOn s row (Record r more) = Going s more × (suc more.most ≡ row.most) × (more.at ≡ row.at + record_bytes r)
-GoesOn s row Done = Unit
+abbrev pub GoesOn : List ℕ → Row → Option Next → Type 0
+GoesOn s row (Some next) =
+    Going s next.rest × (suc next.rest.most ≡ row.most) × (next.rest.at ≡ row.at + record_bytes next.what)
+GoesOn s row None = Unit

@@ -1,6 +1,8 @@
 -- What is gathered of the rules of a sheet while they are read: the places of their place tests and the numbers of their pairs.
-use Rattle.std.specs.Prelude.{ℕ, ◌≤◌, ◌≡◌, List, [], ◌∷◌, ◌++◌, map, length}
-use Rattle.records.specs.Reading.{Reading, took, refused}
+use Rattle.std.specs.Prelude.{ℕ, ◌≤◌, ◌≡◌, List, [], ◌∷◌, ◌++◌, map, length, Result, Ok, Err}
+use Rattle.records.specs.Reading.{Reading, took}
+use Rattle.records.specs.Refusals.{reading_in}
+use Rattle.records.specs.declared.refusal.Refusal.{Refusal}
 use Rattle.terms.specs.Pattern.{Patterns}
 use Rattle.terms.specs.RuleTests.{PlaceTest, place_tests, pair_tests}
 use Rattle.patterns.specs.views.Note.{Note}
@@ -10,7 +12,6 @@ use Rattle.pairs.specs.views.KeptPairs.{KeptPairs, keep_all, pairs_in}
 use Rattle.pairs.specs.views.NoteVariables.{pair_codes, notes_codes}
 use Rattle.sheet_tests.specs.views.NoteTests.{tested_places, has_range}
 use Rattle.sheet_tests.specs.declared.Scan.{Scan}
-use Rattle.sheet_tests.specs.declared.Scan.TheVariants.{Done, Refused}
 
 -- Of one rule.
 abbrev pub rule_places : Patterns → List ℕ
@@ -48,20 +49,19 @@ abbrev pub held : List ℕ → List ℕ → ℕ → Gathered
 held words codes count = record { places = places_in words; pairs = pairs_in codes count }
 
 -- How reading the rules went, as what was gathered. After a refusal the arrays hold nothing of use.
-abbrev pub gathered_in : List ℕ → List ℕ → Scan → Reading Gathered
-gathered_in words codes (Done bytes count) = took bytes (held words codes count)
-gathered_in words codes (Refused q) = refused q
+abbrev pub gathered_in : List ℕ → List ℕ → Result Scan Refusal → Reading Gathered
+gathered_in words codes = reading_in (λ x. took x.bytes (held words codes x.pairs))
 
 -- The rules used at most so many bytes, there are at most 65 pairs, and the arrays have their entries.
-abbrev pub scan_bytes : Scan → ℕ
-scan_bytes (Done bytes count) = bytes
-scan_bytes (Refused q) = 0
+abbrev pub scan_bytes : Result Scan Refusal → ℕ
+scan_bytes (Ok x) = x.bytes
+scan_bytes (Err r) = 0
 
-abbrev pub pairs_kept : Scan → ℕ
-pairs_kept (Done bytes count) = count
-pairs_kept (Refused q) = 0
+abbrev pub pairs_kept : Result Scan Refusal → ℕ
+pairs_kept (Ok x) = x.pairs
+pairs_kept (Err r) = 0
 
-pub record Scanned (bytes : ℕ) (words codes : List ℕ) (r : Scan) : Type 0 where
+pub record Scanned (bytes : ℕ) (words codes : List ℕ) (r : Result Scan Refusal) : Type 0 where
   pub used : scan_bytes r ≤ bytes
   pub few_pairs : pairs_kept r ≤ 65
   pub all_words : length words ≡ 11

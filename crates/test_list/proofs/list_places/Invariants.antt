@@ -1,5 +1,4 @@
 -- A loop over the words: the places of those passed are listed.
-use Prim.Native.Nat.{◌-◌, ◌≤◌}
 use mathlib.Core.Path.{◌≡◌}
 use lib.ListN.{length, take}
 use Rattle.sheet_tests.proofs.PlaceSets.{places_below}
@@ -8,7 +7,4 @@ use Rattle.test_list.proofs.list_places.Given as goal
 
 abbrev pub invariant-loop-i : goal.invariant-loop-i
 invariant-loop-i l =
-    (l.i ≤ 11) × (length l.places ≡ 64) × (l.count ≡ places_below l.words l.i) × (take l.count l.places ≡ places_to l.words l.i)
-
-abbrev pub decreases-loop-i : goal.decreases-loop-i
-decreases-loop-i l = 11 - l.i
+    (length l.places ≡ 64) × (l.count ≡ places_below l.words l.i) × (take l.count l.places ≡ places_to l.words l.i)

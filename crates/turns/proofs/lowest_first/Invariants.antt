@@ -1,5 +1,5 @@
 -- A loop over the tests: those passed have the lower ones before them.
-use Prim.Native.Nat.{ℕ, ◌-◌}
+use Prim.Native.Nat.{ℕ}
 use mathlib.Core.List.{List, map}
 use Rattle.basics.specs.Lists.{count_from}
 use Rattle.test_list.proofs.PutLists.{Putting}
@@ -12,6 +12,3 @@ lower count = map lower_tests (count_from 0 count)
 
 abbrev pub invariant-loop-t : goal.invariant-loop-t
 invariant-loop-t l = Putting 260 (lower l.count) l.initial.s l.s l.t
-
-abbrev pub decreases-loop-t : goal.decreases-loop-t
-decreases-loop-t l = l.count - l.t

@@ -8,6 +8,6 @@ use Rattle.voltunnis.proofs.vt_rewrite.Goals as goal
 pub returns : goal.returns
 returns c =
     let r = c.rewrite in record {
-      packs = subst (λ (x : Result). Packs c.pack_rewrote.result (written_fields x)) r.ensures (c.pack_rewrote.ensures _);
+      packs = subst (λ (x : Result). Packs c.pack_written.result (written_fields x)) r.ensures (c.pack_written.ensures.rewrote _);
       buffer_after = rewrote_buffer r.result _ ∙ ap (λ (x : Result). x.buffer) r.ensures;
     }

@@ -8,6 +8,6 @@ use Rattle.voltunnis.proofs.vt_tidy.Goals as goal
 pub returns : goal.returns
 returns c =
     let r = c.tidy in record {
-      packs = subst (λ (x : Result). Packs c.pack_tidied.result (written_fields x)) r.ensures (c.pack_tidied.ensures _);
+      packs = subst (λ (x : Result). Packs c.pack_written.result (written_fields x)) r.ensures (c.pack_written.ensures.tidied _);
       buffer_after = tidied_buffer r.result _ ∙ ap (λ (x : Result). x.buffer) r.ensures;
     }

@@ -1,6 +1,6 @@
 -- In each turn the results so far stand at the front of the buffer; the notes are as many as before, and the cells that no piece
 -- used are empty.
-use Prim.Native.Nat.{◌-◌, ◌≤◌}
+use Prim.Native.Nat.{◌≤◌}
 use mathlib.Core.Path.{◌≡◌}
 use lib.ListN.{length}
 use Rattle.piece.specs.views.LaidOut.{UsedTo}
@@ -11,9 +11,6 @@ use Rattle.walk_all.proofs.walk_all.Given as goal
 
 abbrev pub invariant-loop-n : goal.invariant-loop-n
 invariant-loop-n l =
-    (l.n ≤ l.room) × (l.from ≤ length l.pieces) × (l.from ≤ most_taken) × (length l.results ≡ length l.initial.results)
+    (l.from ≤ length l.pieces) × (l.from ≤ most_taken) × (length l.results ≡ length l.initial.results)
     × Progress (walk_reply l.sheet l.graph) l.pieces l.initial.results l.room l.n l.from l.results
     × (length l.notes ≡ 680) × (l.used ≤ 680) × UsedTo l.used l.cells
-
-abbrev pub decreases-loop-n : goal.decreases-loop-n
-decreases-loop-n l = l.room - l.n

@@ -1,38 +1,33 @@
 -- What the walk of the first piece hands back.
-use Rattle.std.specs.Prelude.{ℕ, ◌≤◌, Bool, false, List, eqb, take}
-use Rattle.records.specs.Reading.{Reading, took, refused, and_then}
+use Rattle.std.specs.Prelude.{ℕ, ◌≤◌, Bool, false, List, eqb, take, Result, Ok, Err}
+use Rattle.records.specs.Reading.{Reading, took, and_then}
+use Rattle.records.specs.Refusals.{reading_in}
+use Rattle.records.specs.declared.refusal.Refusal.{Refusal}
 use Rattle.piece.specs.ReadPiece.{read_prefix}
 use Rattle.piece.specs.declared.Prefix.{Prefix}
-use Rattle.piece.specs.declared.Prefix.TheVariants as prefix
 use Rattle.decision.specs.Walk.{Walk}
-use Rattle.walk.specs.Walking.{walk_of}
-use Rattle.walk.specs.declared.Walked.{Walked}
-use Rattle.walk.specs.declared.Walked.TheVariants as walked
+use Rattle.walk.specs.Walking.{walked_reading}
+use Rattle.walk.specs.declared.Walk as walk
 use Rattle.walk_all.specs.declared.First.{First}
-use Rattle.walk_all.specs.declared.First.TheVariants.{Unread, Refused, Answered}
 
 -- The bytes of the first piece and the reply of its walk, or the question that says that it cannot be read.
 abbrev pub first_reply : (List ℕ → Reading Walk) → List ℕ → Reading (Reading Walk)
 first_reply reply input = and_then (read_prefix input) (λ k _. took k (reply (take k input)))
 
-abbrev pub first_of : First → Reading (Reading Walk)
-first_of (Unread q) = refused q
-first_of (Refused k q) = took k (refused q)
-first_of (Answered k w) = took k (took 0 (walk_of w))
+abbrev pub first_of : Result First Refusal → Reading (Reading Walk)
+first_of r = reading_in (λ x. took x.bytes (walked_reading x.walk)) r
 
 -- A piece was read that has so many arguments.
-abbrev pub has_arity : Prefix → ℕ → Bool
-has_arity (prefix.Read n k) arity = eqb n arity
-has_arity (prefix.Refused q) arity = false
+abbrev pub has_arity : Result Prefix Refusal → ℕ → Bool
+has_arity (Ok p) arity = eqb p.arity arity
+has_arity (Err r) arity = false
 
 -- By how the piece was read and how its walk ended.
-abbrev pub first_made : Prefix → Walked → First
-first_made (prefix.Refused q) w = Unread q
-first_made (prefix.Read n k) (walked.Refused q) = Refused k q
-first_made (prefix.Read n k) (walked.Answered w) = Answered k w
+abbrev pub first_made : Result Prefix Refusal → Result walk.Walk Refusal → Result First Refusal
+first_made (Ok p) w = Ok (record { bytes = p.bytes; walk = w })
+first_made (Err r) w = Err r
 
 -- A piece has 3 bytes or more, all of them there.
-abbrev pub PieceWithin : ℕ → First → Type 0
-PieceWithin bytes (Unread q) = Unit
-PieceWithin bytes (Refused k q) = (3 ≤ k) × (k ≤ bytes)
-PieceWithin bytes (Answered k w) = (3 ≤ k) × (k ≤ bytes)
+abbrev pub PieceWithin : ℕ → Result First Refusal → Type 0
+PieceWithin bytes (Ok x) = (3 ≤ x.bytes) × (x.bytes ≤ bytes)
+PieceWithin bytes (Err r) = Unit

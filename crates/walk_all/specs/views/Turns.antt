@@ -1,14 +1,15 @@
 -- What one turn hands back and leaves in the buffer, and what all turns do.
-use Rattle.std.specs.Prelude.{ℕ, cond, List, leb}
+use Rattle.std.specs.Prelude.{ℕ, cond, List, leb, Result, Ok, Err}
 use Rattle.records.specs.Reading.{Reading, took, refused}
+use Rattle.records.specs.Refusals.{number}
 use Rattle.records.specs.Writing.{splice}
+use Rattle.records.specs.declared.refusal.Refusal.{Refusal}
 use Rattle.decision.specs.Walk.{Walk}
 use Rattle.walk.specs.Walking.{reply_values, walk_refusal_values}
 use Rattle.walk_all.specs.WalkAll.{result_bytes, WalkAll}
 use Rattle.walk_all.specs.declared.Turn.{Turn}
 use Rattle.walk_all.specs.declared.Turn.TheVariants.{More, Last, Full}
 use Rattle.walk_all.specs.declared.WalkedAll.{WalkedAll}
-use Rattle.walk_all.specs.declared.WalkedAll.TheVariants.{Walked, Refused}
 
 -- The turn, and every byte of the lent buffer.
 pub record Turned : Type 0 where
@@ -23,6 +24,6 @@ turned buffer at left (took k r) =
 turned buffer at left (refused q) = record { turn = Last; buffer = splice buffer at (result_bytes (walk_refusal_values q)) }
 
 -- What all turns hand back, with the bytes that they leave.
-abbrev pub left_by : WalkedAll → List ℕ → WalkAll
-left_by (Walked n bytes) buffer = record { refusal = 0; results = n; bytes = bytes; buffer = buffer }
-left_by (Refused q) buffer = record { refusal = q; results = 0; bytes = 0; buffer = buffer }
+abbrev pub left_by : Result WalkedAll Refusal → List ℕ → WalkAll
+left_by (Ok x) buffer = record { refusal = 0; results = x.results; bytes = x.bytes; buffer = buffer }
+left_by (Err r) buffer = record { refusal = number r; results = 0; bytes = 0; buffer = buffer }

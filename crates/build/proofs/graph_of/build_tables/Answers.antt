@@ -7,28 +7,28 @@ use Rattle.build.proofs.graph_of.build_tables.Goals as goal
 pub returns-in_default : goal.returns-in_default
 returns-in_default c =
     let a = c.args in
-    let grow = c.grow-grown in
+    let grow = c.grow in
     built_many a.arity (rules_in a.s.now) a.s.now a.c.now a.buf.now
     (grown_none a.s.now a.c.now grow.new.keys _ grow.ensures.grown c.in_default.is)
 
 pub overflow_add-bytes : goal.overflow_add-bytes
-overflow_add-bytes c = omega (arith, grown_most _ _ c.grow-grown.ensures.chained.1 c.in-Bytes.is)
+overflow_add-bytes c = omega (arith, grown_most _ _ c.grow.ensures.chained.1 c.in-Some.is)
 
 pub returns-then-buf-bytes : goal.returns-then-buf-bytes
 returns-then-buf-bytes c =
     let a = c.args in
-    let grow = c.grow-grown in
-    let t = c.grow-grown.new.keys in
-    let met = c.in-Bytes.is in
+    let grow = c.grow in
+    let t = c.grow.new.keys in
+    let met = c.in-Some.is in
     let some = grown_some a.s.now a.c.now t _ grow.ensures.grown met in
     built_short a.arity (rules_in a.s.now) a.s.now a.c.now a.buf.now t _ some.0 some.1 c.if-buf-bytes.true
 
 pub put_graph-end-requires : goal.put_graph-end-requires
 put_graph-end-requires c =
     let a = c.args in
-    let grow = c.grow-grown in
-    let t = c.grow-grown.new.keys in
-    let met = c.in-Bytes.is in
+    let grow = c.grow in
+    let t = c.grow.new.keys in
+    let met = c.in-Some.is in
     let some = grown_some a.s.now a.c.now t _ grow.ensures.grown met in
     let size =
     graph_size a.arity (rules_in a.s.now) a.s.now a.c.now a.buf.now t _ some.0 some.1 in record {
@@ -39,9 +39,9 @@ put_graph-end-requires c =
 pub overflow_cast-result-2 : goal.overflow_cast-result-2
 overflow_cast-result-2 c =
     let a = c.args in
-    let grow = c.grow-grown in
-    let t = c.grow-grown.new.keys in
-    let met = c.in-Bytes.is in
+    let grow = c.grow in
+    let t = c.grow.new.keys in
+    let met = c.in-Some.is in
     let some = grown_some a.s.now a.c.now t _ grow.ensures.grown met in
     let most = grown_most _ _ grow.ensures.chained.1 met in
     let size =
@@ -51,9 +51,9 @@ overflow_cast-result-2 c =
 pub returns : goal.returns
 returns c =
     let a = c.args in
-    let grow = c.grow-grown in
-    let t = c.grow-grown.new.keys in
-    let met = c.in-Bytes.is in
+    let grow = c.grow in
+    let t = c.grow.new.keys in
+    let met = c.in-Some.is in
     let some = grown_some a.s.now a.c.now t _ grow.ensures.grown met in
     let fits = c.if-buf-bytes.false in
     built_whole a.arity (rules_in a.s.now) a.s.now a.c.now a.buf.now t _ some.0 some.1

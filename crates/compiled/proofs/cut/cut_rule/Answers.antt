@@ -15,15 +15,15 @@ use Rattle.rows.proofs.NotesWanted.{wanted_some, wanted_none}
 use Rattle.compiled.specs.views.CutRules.{turn_in}
 use Rattle.compiled.proofs.NoteTurns.{left_start, left_room, left_some, left_none, left_done}
 use Rattle.compiled.proofs.cut.cut_rule.Goals as goal
-use Rattle.compiled.proofs.cut.cut_rule.Goals.{in-Codes, in_default}
+use Rattle.compiled.proofs.cut.cut_rule.Goals.{in-Some, in_default}
 
 pub loop-k-init : goal.loop-k-init
 loop-k-init c =
     let a = c.args in
     (omega arith, left_start a.numbers.now a.rules a.i a.ranges.low a.ranges.high (notes_in a.notes.now a.n) a.c.now c.requires.turns_fit)
 
-pub record_wanted-wanted-requires : goal.record_wanted-wanted-requires
-record_wanted-wanted-requires c =
+pub record_wanted-requires : goal.record_wanted-requires
+record_wanted-requires c =
     let notes = c.args.notes.now in
     subst Fitting (sym c.note_record.ensures) (code_fits (get_or notes c.loop-k.k 0))
 
@@ -49,9 +49,10 @@ turn_rule-requires c =
     let within : a.n ≤ length notes = omega (arith, c.requires.n_bound) in
     let next = notes_next notes a.n within turn.k (omega arith) in
     let want =
-    c.record_wanted-wanted.ensures
+    c.record_wanted.ensures
     ∙ ap (λ (r : PatternRecord). wanted_codes (record_want low high r)) c.note_record.ensures in
-    let (v, is, least, most) = wanted_some (record_want low high (note_of (get_or notes turn.k 0)).what) (sym c.in-Codes.is ∙ want) in
+    let (v, is, least, most) =
+    wanted_some (record_want low high (note_of (get_or notes turn.k 0)).what) (sym c.in-Some.is ∙ want) in
     let spot = c.place_number.ensures.0 ∙ ap (λ (p : ℕ). get_or a.numbers.now p 0) c.note_place.ensures in
     let from = c.part-from.ensures ∙ ap (part_at a.rules) spot in (
       subst (λ (x : ℕ). x + 5 + 2 * count_at turn.c x ≤ length turn.c) (sym from)
@@ -70,11 +71,11 @@ loop-k-preserved c =
     let next = notes_next notes a.n within turn.k (omega arith) in
     let note = note_of (get_or notes turn.k 0) in
     let want =
-    c.record_wanted-wanted.ensures
+    c.record_wanted.ensures
     ∙ ap (λ (r : PatternRecord). wanted_codes (record_want low high r)) c.note_record.ensures in
-    elim c.match-wanted.branch [
-      | in-Codes w ↦
-          let (v, is, least, most) = wanted_some (record_want low high note.what) (sym w.in-Codes.is ∙ want) in
+    elim c.match-record_wanted.branch [
+      | in-Some w ↦
+          let (v, is, least, most) = wanted_some (record_want low high note.what) (sym w.in-Some.is ∙ want) in
           let spot = w.place_number.ensures.0 ∙ ap (λ (p : ℕ). get_or a.numbers.now p 0) w.note_place.ensures in
           let from = w.part-from.ensures ∙ ap (part_at a.rules) spot in (
             omega arith,

@@ -1,5 +1,5 @@
 -- A loop over the notes: the rule has turned at what those passed want.
-use Prim.Native.Nat.{◌-◌, ◌≤◌}
+use Prim.Native.Nat.{◌≤◌}
 use lib.ListN.{drop}
 use Rattle.sheet.specs.views.NoteArray.{notes_in}
 use Rattle.compiled.proofs.NoteTurns.{CutsLeft}
@@ -9,6 +9,3 @@ abbrev pub invariant-loop-k : goal.invariant-loop-k
 invariant-loop-k l =
     (l.k ≤ l.n)
     × CutsLeft l.numbers l.rules l.i l.ranges.low l.ranges.high (notes_in l.notes l.n) l.initial.c (drop l.k (notes_in l.notes l.n)) l.c
-
-abbrev pub decreases-loop-k : goal.decreases-loop-k
-decreases-loop-k l = l.n - l.k

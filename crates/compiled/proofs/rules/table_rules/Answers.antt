@@ -21,22 +21,22 @@ loop-i-init c =
       tabling_start a.arity a.b.now a.numbers.now a.s.now a.c.now,
     )
 
-pub read_rule-read-requires : goal.read_rule-read-requires
-read_rule-read-requires c = (c.requires.2.arguments, c.loop-i.invariant.2)
+pub read_rule-requires : goal.read_rule-requires
+read_rule-requires c = (c.requires.2.arguments, c.loop-i.invariant.2)
 
-pub shape_of-c-in-Refused : goal.shape_of-c-in-Refused
-shape_of-c-in-Refused c =
+pub shape_of-c-in_default : goal.shape_of-c-in_default
+shape_of-c-in_default c =
     let (order, all, g) = c.requires in
     (c.loop-i.invariant.3 order all g).filled.long
 
-pub returns-in-Refused : goal.returns-in-Refused
-returns-in-Refused c = λ order all g.
+pub returns-in_default : goal.returns-in_default
+returns-in_default c = λ order all g.
     let turn = c.loop-i in
     let a = c.args in
     let s = c.args.b.now in
-    let read = c.read_rule-read in
-    let notes = c.read_rule-read.new.notes in
-    let none = rule_refused a.arity turn.at s notes read.result read.ensures.result_after c.in-Refused.is in
+    let read = c.read_rule in
+    let notes = c.read_rule.new.notes in
+    let none = rule_refused a.arity turn.at s notes read.result read.ensures.result_after c.in_default.is in
     tabling_refused a.arity s a.numbers.now a.s.now a.c.now turn.i turn.at turn.s turn.c turn.invariant.3 order all g
     (omega (arith, c.loop-i-test.true, c.rules-rules.ensures)) none
 
@@ -45,13 +45,13 @@ table_rule-requires c =
     let turn = c.loop-i in
     let a = c.args in
     let s = c.args.b.now in
-    let read = c.read_rule-read in
-    let notes = c.read_rule-read.new.notes in
+    let read = c.read_rule in
+    let notes = c.read_rule.new.notes in
     let known = c.type_inv.b in
     let bytes = bytes_known s (λ i. omega (arith, known i)) in
     let (order, all, g) = c.requires in
     let rule =
-    rule_read_lem a.arity turn.at s notes read.result read.ensures.result_after g.arguments bytes c.in-Used.is
+    rule_read_lem a.arity turn.at s notes read.result read.ensures.result_after g.arguments bytes c.in-Ok.is
     read.ensures.took_within in
     let inside : turn.i < rules_in a.s.now = omega (arith, c.loop-i-test.true, c.rules-rules.ensures) in
     let filled = (turn.invariant.3 order all g).filled in
@@ -73,31 +73,28 @@ overflow_add-at c =
     let turn = c.loop-i in
     let a = c.args in
     let s = c.args.b.now in
-    let read = c.read_rule-read in
-    let notes = c.read_rule-read.new.notes in
+    let read = c.read_rule in
+    let notes = c.read_rule.new.notes in
     let known = c.type_inv.b in
     let bytes = bytes_known s (λ i. omega (arith, known i)) in
     let (order, all, g) = c.requires in
     let rule =
-    rule_read_lem a.arity turn.at s notes read.result read.ensures.result_after g.arguments bytes c.in-Used.is
+    rule_read_lem a.arity turn.at s notes read.result read.ensures.result_after g.arguments bytes c.in-Ok.is
     read.ensures.took_within in
     omega (arith, rule.used)
-
-pub loop-i-smaller : goal.loop-i-smaller
-loop-i-smaller c = omega (arith, c.loop-i-test.true, c.rules-rules.ensures)
 
 pub loop-i-preserved : goal.loop-i-preserved
 loop-i-preserved c =
     let turn = c.loop-i in
     let a = c.args in
     let s = c.args.b.now in
-    let read = c.read_rule-read in
-    let notes = c.read_rule-read.new.notes in
+    let read = c.read_rule in
+    let notes = c.read_rule.new.notes in
     let known = c.type_inv.b in
     let bytes = bytes_known s (λ i. omega (arith, known i)) in
     let (order, all, g) = c.requires in
     let rule =
-    rule_read_lem a.arity turn.at s notes read.result read.ensures.result_after g.arguments bytes c.in-Used.is
+    rule_read_lem a.arity turn.at s notes read.result read.ensures.result_after g.arguments bytes c.in-Ok.is
     read.ensures.took_within in
     let inside : turn.i < rules_in a.s.now = omega (arith, c.loop-i-test.true, c.rules-rules.ensures) in
     let put = c.table_rule.ensures in (

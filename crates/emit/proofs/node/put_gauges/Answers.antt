@@ -52,16 +52,13 @@ loop-first-preserved c =
     let count = c.args.framed.count in
     let at = c.loop-first in
     let end = c.gauge_end-end in (
-      c.buf-1.given ∙ at.invariant.0,
+      omega arith,
       end.ensures.within,
       left_next c.requires.4 at.invariant.2 (run_bytes s keys a.asked (union_pairs (runs_from runs end.result at.first)))
           (run_bytes s keys a.asked (gauge_pairs (runs_from runs count end.result)))
           (gauges_bytes s keys a.asked runs count at.first end.result end.ensures)
           c.put_pairs-at.ensures,
     )
-
-pub shape_of-buf : goal.shape_of-buf
-shape_of-buf c = c.loop-first.invariant.0
 
 pub returns : goal.returns
 returns c =

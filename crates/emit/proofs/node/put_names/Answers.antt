@@ -19,7 +19,6 @@ loop-k-init c =
     let keys = keys_in a.keys.now in
     let runs = c.args.runs.now in (
       refl,
-      omega arith,
       left_start a.buf.now a.start (run_bytes s keys a.asked (runs_in runs a.count))
           (run_bytes s keys a.asked (runs_from runs a.count 0)) (ap (run_bytes s keys a.asked) (from_first_lem runs a.count)),
     )
@@ -35,21 +34,15 @@ put_case-at-requires c =
     let s = c.args.s.now in
     let keys = keys_in a.keys.now in
     let runs = c.args.runs.now in
-    left_room c.requires.2 at.invariant.2 (case_record_bytes case.result)
+    left_room c.requires.2 at.invariant.1 (case_record_bytes case.result)
     (run_bytes s keys a.asked (runs_from runs a.count (at.k + 1)))
     (case_next s keys a.asked (run_at runs at.k) (from_some runs a.count at.k loop-test.true) case.result
     case.ensures (node_of_lem.ensures ∙ ap (key_number keys) by-run.ensures))
-
-pub loop-k-smaller : goal.loop-k-smaller
-loop-k-smaller c =
-    let loop-test = c.loop-k-test in
-    omega (arith, loop-test.true)
 
 pub loop-k-preserved : goal.loop-k-preserved
 loop-k-preserved c =
     let at = c.loop-k in
     let case = c.case_record in
-    let buf = c.buf-1 in
     let loop-test = c.loop-k-test in
     let node_of_lem = c.node_of-node in
     let by-run = c.by_run in
@@ -58,22 +51,18 @@ loop-k-preserved c =
     let s = c.args.s.now in
     let keys = keys_in a.keys.now in
     let runs = c.args.runs.now in (
-      buf.given ∙ at.invariant.0,
-      omega (arith, loop-test.true),
-      left_next c.requires.2 at.invariant.2 (case_record_bytes case.result)
+      omega arith,
+      left_next c.requires.2 at.invariant.1 (case_record_bytes case.result)
           (run_bytes s keys a.asked (runs_from runs a.count (at.k + 1)))
           (case_next s keys a.asked (run_at runs at.k) (from_some runs a.count at.k loop-test.true) case.result
           case.ensures (node_of_lem.ensures ∙ ap (key_number keys) by-run.ensures)) put-case.ensures,
     )
-
-pub shape_of-buf : goal.shape_of-buf
-shape_of-buf c = c.loop-k.invariant.0
 
 pub returns : goal.returns
 returns c =
     let at = c.loop-k in
     let loop-test = c.loop-k-test in
     let a = c.args in
-    left_end c.requires.2 at.invariant.2
+    left_end c.requires.2 at.invariant.1
     (ap (run_bytes a.s.now (keys_in a.keys.now) a.asked)
     (from_none a.runs.now a.count at.k loop-test.false))

@@ -1,5 +1,4 @@
 -- `node::put_names` meets its contract. The loop's invariant: the cases from case k on are left to be written.
-use Prim.Native.Nat.{◌-◌, ◌≤◌}
 use mathlib.Core.Path.{◌≡◌}
 use lib.ListN.{length}
 use Rattle.cuts.specs.views.Runs.{runs_in}
@@ -11,9 +10,6 @@ use Rattle.emit.proofs.node.put_names.Given as goal
 
 abbrev pub invariant-loop-k : goal.invariant-loop-k
 invariant-loop-k l =
-    (length l.buf ≡ length l.initial.buf) × (l.k ≤ l.count)
+    (length l.buf ≡ length l.initial.buf)
     × Left l.initial.buf l.start (run_bytes l.s (keys_in l.keys) l.asked (runs_in l.runs l.count)) l.buf l.at
     (run_bytes l.s (keys_in l.keys) l.asked (runs_from l.runs l.count l.k))
-
-abbrev pub decreases-loop-k : goal.decreases-loop-k
-decreases-loop-k l = l.count - l.k

@@ -41,9 +41,6 @@ put_pair-requires c =
     let size = pair_length a.s.now (keys_in a.keys.now) ask.result a.c.now past in
     (c.requires.chained.0, past, omega (arith, test, below), omega (arith, c.requires.room, ap length same, size))
 
-pub shape_of-buf-then-place_tests-t : goal.shape_of-buf-then-place_tests-t
-shape_of-buf-then-place_tests-t c = c.buf-then-place_tests-t-1.given
-
 pub returns-then-place_tests-t : goal.returns-then-place_tests-t
 returns-then-place_tests-t c =
     let kind-of = c.kind_of-kind in
@@ -80,9 +77,6 @@ put_switch-requires c =
       room = omega (arith, c.requires.room, ap length same);
     }
 
-pub shape_of-buf-in-End : goal.shape_of-buf-in-End
-shape_of-buf-in-End c = c.buf-1.given
-
 pub returns-in-End : goal.returns-in-End
 returns-in-End c =
     let put-node = c.put_node in
@@ -95,9 +89,6 @@ returns-in-End c =
       wrote = (put.0 ∙ ap (λ l. a.at + length l) same, put.1 ∙ ap (splice a.buf.now a.at) same);
       runs_len = c.requires.chained.2;
     }
-
-pub shape_of-buf-else-place_tests-t : goal.shape_of-buf-else-place_tests-t
-shape_of-buf-else-place_tests-t c = c.buf-in-Ask-1.given
 
 pub returns-else-place_tests-t : goal.returns-else-place_tests-t
 returns-else-place_tests-t c =

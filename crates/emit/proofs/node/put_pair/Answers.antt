@@ -7,9 +7,6 @@ use Rattle.met.specs.views.KeysMet.{keys_in}
 use Rattle.emit.proofs.AskedBytes.{pair_bytes}
 use Rattle.emit.proofs.node.put_pair.Goals as goal
 
-pub shape_of-buf : goal.shape_of-buf
-shape_of-buf c = c.buf-1.given
-
 pub returns : goal.returns
 returns c =
     let put = c.put_node in

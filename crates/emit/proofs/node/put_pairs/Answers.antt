@@ -18,7 +18,7 @@ loop-first-init c =
     let runs = c.args.runs.now in
     let count = c.args.all.count in
     let whole = run_bytes s keys a.asked (union_pairs (runs_from runs count a.all.first)) in
-    (refl, c.requires.1, left_start a.buf.now a.start whole whole refl)
+    (refl, left_start a.buf.now a.start whole whole refl)
 
 pub put_row-at-requires : goal.put_row-at-requires
 put_row-at-requires c =
@@ -32,17 +32,10 @@ put_row-at-requires c =
       c.requires.0,
       test,
       c.requires.2,
-      left_room c.requires.3 at.invariant.2 (run_bytes s keys a.asked (pairs_row runs count at.first))
+      left_room c.requires.3 at.invariant.1 (run_bytes s keys a.asked (pairs_row runs count at.first))
           (run_bytes s keys a.asked (union_pairs (runs_from runs count (at.first + 1))))
           (pairs_bytes s keys a.asked runs count at.first test),
     )
-
-pub overflow_add-first : goal.overflow_add-first
-overflow_add-first c =
-    omega (arith, c.loop-first-test.true, c.requires.2)
-
-pub loop-first-smaller : goal.loop-first-smaller
-loop-first-smaller c = omega (arith, c.loop-first-test.true)
 
 pub loop-first-preserved : goal.loop-first-preserved
 loop-first-preserved c =
@@ -53,15 +46,11 @@ loop-first-preserved c =
     let count = c.args.all.count in
     let at = c.loop-first in
     let test = c.loop-first-test.true in (
-      c.buf-1.given ∙ at.invariant.0,
-      omega (arith, test),
-      left_next c.requires.3 at.invariant.2 (run_bytes s keys a.asked (pairs_row runs count at.first))
+      omega arith,
+      left_next c.requires.3 at.invariant.1 (run_bytes s keys a.asked (pairs_row runs count at.first))
           (run_bytes s keys a.asked (union_pairs (runs_from runs count (at.first + 1))))
           (pairs_bytes s keys a.asked runs count at.first test) c.put_row-at.ensures,
     )
-
-pub shape_of-buf : goal.shape_of-buf
-shape_of-buf c = c.loop-first.invariant.0
 
 pub returns : goal.returns
 returns c =
@@ -71,5 +60,5 @@ returns c =
     let runs = c.args.runs.now in
     let count = c.args.all.count in
     let at = c.loop-first in
-    left_end c.requires.3 at.invariant.2
+    left_end c.requires.3 at.invariant.1
     (ap (run_bytes s keys a.asked) (pairs_none runs count at.first c.loop-first-test.false))

@@ -28,7 +28,6 @@ loop-k-init c =
     let by-run = c.by_run in
     let node_of_lem = c.node_of-node in (
       refl,
-      omega (arith, c.requires.1),
       node_of_lem.ensures ∙ ap (key_number keys) by-run.ensures,
       left_start a.buf.now a.start (run_bytes s keys a.asked (pairs_row runs count a.row.first))
           (run_bytes s keys a.asked (union_row low set (runs_from runs count a.row.first)))
@@ -52,17 +51,14 @@ put_case-at-requires c =
     elim if1.branch [
       | then-more-set w ↦ w.node-is ∙ w.node_of-node-then-more-set.ensures ∙ ap (key_number keys) w.by_run-then-more-set.ensures
       | else-more-set w ↦ w.node-is
-          ∙ at.invariant.2
+          ∙ at.invariant.1
           ∙ ap (λ (set : ℕ). key_number keys (run_behind s a.asked set)) (sym w.if-more-set.false)
     ] in
     let run : Run = record { low = low; high = (run_at runs at.k).high; set = more } in
     let next = case_next s keys a.asked run (row_some runs count low at.set at.k test) case.result
     case.ensures node_is in
-    left_room c.requires.3 at.invariant.3 (case_record_bytes case.result)
+    left_room c.requires.3 at.invariant.2 (case_record_bytes case.result)
     (run_bytes s keys a.asked (union_row low more (runs_from runs count (at.k + 1)))) next
-
-pub loop-k-smaller : goal.loop-k-smaller
-loop-k-smaller c = omega (arith, c.loop-k-test.true)
 
 pub loop-k-preserved : goal.loop-k-preserved
 loop-k-preserved c =
@@ -81,22 +77,18 @@ loop-k-preserved c =
     elim if1.branch [
       | then-more-set w ↦ w.node-is ∙ w.node_of-node-then-more-set.ensures ∙ ap (key_number keys) w.by_run-then-more-set.ensures
       | else-more-set w ↦ w.node-is
-          ∙ at.invariant.2
+          ∙ at.invariant.1
           ∙ ap (λ (set : ℕ). key_number keys (run_behind s a.asked set)) (sym w.if-more-set.false)
     ] in
     let run : Run = record { low = low; high = (run_at runs at.k).high; set = more } in
     let next = case_next s keys a.asked run (row_some runs count low at.set at.k test) case.result
     case.ensures node_is in (
-      c.buf-1.given ∙ at.invariant.0,
-      omega (arith, test),
+      omega arith,
       node_is,
-      left_next c.requires.3 at.invariant.3 (case_record_bytes case.result)
+      left_next c.requires.3 at.invariant.2 (case_record_bytes case.result)
           (run_bytes s keys a.asked (union_row low more (runs_from runs count (at.k + 1)))) next
           c.put_case-at.ensures,
     )
-
-pub shape_of-buf : goal.shape_of-buf
-shape_of-buf c = c.loop-k.invariant.0
 
 pub returns : goal.returns
 returns c =
@@ -107,5 +99,5 @@ returns c =
     let count = c.args.row.count in
     let low = (run_at runs a.row.first).low in
     let at = c.loop-k in
-    left_end c.requires.3 at.invariant.3
+    left_end c.requires.3 at.invariant.2
     (ap (run_bytes s keys a.asked) (row_none runs count low at.set at.k c.loop-k-test.false))

@@ -1,9 +1,6 @@
 -- `row::put_header` meets its contract.
 use Rattle.emit.proofs.row.put_header.Goals as goal
 
-pub shape_of-buf : goal.shape_of-buf
-shape_of-buf c = c.buf-1.given
-
 pub returns : goal.returns
 returns c =
     let high = c.high in

@@ -22,7 +22,7 @@ loop-i-init c =
 
 pub key_at-requires : goal.key_at-requires
 key_at-requires c =
-    let count = c.count in
+    let count = c.count-i-end in
     let if1 = c.loop-i-test in
     omega (arith, count.ensures, if1.true, c.requires.chained.0.few)
 
@@ -30,7 +30,7 @@ pub put_one-at-requires : goal.put_one-at-requires
 put_one-at-requires c =
     let at = c.loop-i in
     let key = c.key_at in
-    let count = c.count in
+    let count = c.count-i-end in
     let if1 = c.loop-i-test in
     let a = c.args in
     let s = c.args.s.now in
@@ -42,45 +42,28 @@ put_one-at-requires c =
           (keys_left s cuts keys (at.i + 1)) next;
     }
 
-pub overflow_add-i : goal.overflow_add-i
-overflow_add-i c =
-    let count = c.count in
-    let if1 = c.loop-i-test in
-    omega (arith, count.ensures, if1.true, c.requires.chained.0.few)
-
-pub loop-i-smaller : goal.loop-i-smaller
-loop-i-smaller c =
-    let count = c.count in
-    let if1 = c.loop-i-test in
-    omega (arith, count.ensures, if1.true)
-
 pub loop-i-preserved : goal.loop-i-preserved
 loop-i-preserved c =
     let at = c.loop-i in
     let key = c.key_at in
-    let put_one = c.put_one-at in
-    let count = c.count in
+    let count = c.count-i-end in
     let if1 = c.loop-i-test in
-    let buf = c.buf-1 in
     let a = c.args in
     let put = c.put_one-at.ensures in
     let s = c.args.s.now in
     let cuts = c.args.c.now in
     let keys = c.args.keys.now in
     let next = keys_next s cuts keys at.i key.ensures (omega (arith, count.ensures, if1.true)) in (
-      buf.given ∙ at.invariant.0,
+      omega arith,
       put.runs_len,
       left_next c.requires.room at.invariant.2 (key_bytes s cuts (keys_in keys) (key_in key.result))
           (keys_left s cuts keys (at.i + 1)) next put.wrote,
     )
 
-pub shape_of-buf : goal.shape_of-buf
-shape_of-buf c = c.loop-i.invariant.0
-
 pub returns : goal.returns
 returns c =
     let at = c.loop-i in
-    let count = c.count in
+    let count = c.count-i-end in
     let if1 = c.loop-i-test in
     let a = c.args in
     left_end c.requires.room at.invariant.2

@@ -15,13 +15,12 @@ pub loop-k-init : goal.loop-k-init
 loop-k-init c =
     let a = c.args in (
       omega arith,
-      omega arith,
       c.requires.0,
       cases_start (ap (map (run_edge a.s.now a.asked)) (from_first_lem a.runs.now a.count)) a.keys.now,
     )
 
 pub meet-requires : goal.meet-requires
-meet-requires c = c.loop-k.invariant.2
+meet-requires c = c.loop-k.invariant.1
 
 pub returns-then-meet-ge1024 : goal.returns-then-meet-ge1024
 returns-then-meet-ge1024 c =
@@ -31,7 +30,7 @@ returns-then-meet-ge1024 c =
     let behind = c.by_run.ensures in
     let met = c.meet.ensures in record {
       cases_met = cases_many (run_edge a.s.now a.asked (run_at a.runs.now at.k))
-          (ap (map (run_edge a.s.now a.asked)) (from_some a.runs.now a.count at.k test)) at.invariant.3
+          (ap (map (run_edge a.s.now a.asked)) (from_some a.runs.now a.count at.k test)) at.invariant.2
           (omega (arith, met.t_after.1 c.if-meet-ge1024.true, ap (λ (key : Key). length (meet (keys_in at.keys) key)) behind));
       chained = (met.chained, tt);
     }
@@ -39,12 +38,7 @@ returns-then-meet-ge1024 c =
 pub overflow_add-bytes : goal.overflow_add-bytes
 overflow_add-bytes c =
     let at = c.loop-k in
-    omega (arith, at.invariant.0, at.invariant.1, c.case_length-bytes.ensures.1)
-
-pub loop-k-smaller : goal.loop-k-smaller
-loop-k-smaller c =
-    let test = c.loop-k-test.true in
-    omega (arith, test)
+    omega (arith, at.invariant.0, c.case_length-bytes.ensures.1)
 
 pub loop-k-preserved : goal.loop-k-preserved
 loop-k-preserved c =
@@ -53,11 +47,10 @@ loop-k-preserved c =
     let a = c.args in
     let behind = c.by_run.ensures in
     let met = c.meet.ensures in (
-      omega (arith, test),
-      omega (arith, at.invariant.1, c.case_length-bytes.ensures.1),
+      omega (arith, at.invariant.0, c.case_length-bytes.ensures.1),
       met.chained,
       cases_next (run_edge a.s.now a.asked (run_at a.runs.now at.k))
-          (ap (map (run_edge a.s.now a.asked)) (from_some a.runs.now a.count at.k test)) at.invariant.3
+          (ap (map (run_edge a.s.now a.asked)) (from_some a.runs.now a.count at.k test)) at.invariant.2
           (met.t_after.0 c.if-meet-ge1024.false ∙ ap (λ (key : Key). meet (keys_in at.keys) key) behind)
           (c.case_length-bytes.ensures.0 _),
     )
@@ -68,6 +61,6 @@ returns c =
     let a = c.args in record {
       cases_met = cases_end
           (ap (map (run_edge a.s.now a.asked)) (from_none a.runs.now a.count at.k c.loop-k-test.false))
-          at.invariant.3;
-      chained = (at.invariant.2, omega (arith, at.invariant.0, at.invariant.1));
+          at.invariant.2;
+      chained = (at.invariant.1, omega (arith, at.invariant.0));
     }

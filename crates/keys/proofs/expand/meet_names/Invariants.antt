@@ -1,5 +1,5 @@
 -- `expand::meet_names` meets its contract. The loop's invariant: the cases from case k on are still to come.
-use Prim.Native.Nat.{◌-◌, ◌*◌, ◌≤◌}
+use Prim.Native.Nat.{◌*◌, ◌≤◌}
 use mathlib.Core.List.{map}
 use Rattle.cuts.specs.views.Runs.{runs_in}
 use Rattle.cuts.specs.views.CaseRuns.{runs_from}
@@ -10,9 +10,6 @@ use Rattle.keys.proofs.expand.meet_names.Given as goal
 
 abbrev pub invariant-loop-k : goal.invariant-loop-k
 invariant-loop-k l =
-    (l.k ≤ l.count) × (l.bytes ≤ 8 * l.k) × Chained l.keys
+    (l.bytes ≤ 8 * l.k) × Chained l.keys
     × CasesLeft (map (run_edge l.s l.asked) (runs_in l.runs l.count)) (map (run_edge l.s l.asked) (runs_from l.runs l.count l.k)) (keys_in l.initial.keys) l.keys
     l.bytes
-
-abbrev pub decreases-loop-k : goal.decreases-loop-k
-decreases-loop-k l = l.count - l.k

@@ -2,7 +2,7 @@
 use Prim.Native.Nat.{◌+◌, ◌-◌, ◌*◌}
 use mathlib.Core.Path.{refl}
 use native.Mathlib.Omega.{arith}
-use Rattle.keys.proofs.EdgesInTurn.{bytes_most, many_most, cases_start, cases_end, part_met, part_many}
+use Rattle.keys.proofs.EdgesInTurn.{bytes_most, cases_start, cases_end, part_met, part_many}
 use Rattle.keys.proofs.RowsInTurn.{row_edges, pairs_left, pairs_next, pairs_end}
 use Rattle.keys.proofs.expand.meet_pairs.Goals as goal
 
@@ -12,43 +12,34 @@ loop-first-init c =
     let s = c.args.s.now in
     let runs = c.args.runs.now in
     let count = c.args.all.count in (
-      omega (arith, c.requires.1),
       omega arith,
       c.requires.0,
       cases_start refl a.keys.now,
     )
 
-pub meet_row-met-requires : goal.meet_row-met-requires
-meet_row-met-requires c = (c.loop-first.invariant.2, c.loop-first-test.true, c.requires.2)
+pub meet_row-requires : goal.meet_row-requires
+meet_row-requires c = (c.loop-first.invariant.1, c.loop-first-test.true, c.requires.2)
 
-pub returns-in_default : goal.returns-in_default
-returns-in_default c =
+pub returns-in_err-bytes-clause-cases_met : goal.returns-in_err-bytes-clause-cases_met
+returns-in_err-bytes-clause-cases_met c =
     let a = c.args in
     let s = c.args.s.now in
     let runs = c.args.runs.now in
     let count = c.args.all.count in
     let at = c.loop-first in
     let test = c.loop-first-test.true in
-    let row = c.meet_row-met in
-    let many = c.in_default.is in record {
-      cases_met = part_many (row_edges s a.asked runs count at.first) (pairs_left s a.asked runs count (at.first + 1))
-          (pairs_next s a.asked runs count at.first test) at.invariant.3
-          row.result row.new.keys many row.ensures.cases_met;
-      chained = (row.ensures.chained.0, many_most (1544 * (count - a.all.first)) many);
-    }
+    let row = c.meet_row in
+    let many = c.in_err-bytes.was in
+    rw c.from_residual.ensures
+    (part_many (row_edges s a.asked runs count at.first) (pairs_left s a.asked runs count (at.first + 1))
+    (pairs_next s a.asked runs count at.first test) at.invariant.2
+    row.result row.new.keys many row.ensures.cases_met)
 
 pub overflow_add-bytes : goal.overflow_add-bytes
 overflow_add-bytes c =
     let at = c.loop-first in
-    let few = bytes_most c.in-Bytes.is c.meet_row-met.ensures.chained.1 in
-    omega (arith, few, at.invariant.0, at.invariant.1, c.requires.2)
-
-pub overflow_add-first : goal.overflow_add-first
-overflow_add-first c =
-    omega (arith, c.loop-first-test.true, c.requires.2)
-
-pub loop-first-smaller : goal.loop-first-smaller
-loop-first-smaller c = omega (arith, c.loop-first-test.true)
+    let few = bytes_most c.in_ok-bytes.was c.meet_row.ensures.chained.1 in
+    omega (arith, few, at.invariant.0, c.requires.2)
 
 pub loop-first-preserved : goal.loop-first-preserved
 loop-first-preserved c =
@@ -58,14 +49,13 @@ loop-first-preserved c =
     let count = c.args.all.count in
     let at = c.loop-first in
     let test = c.loop-first-test.true in
-    let row = c.meet_row-met in
-    let some = c.in-Bytes.is in
+    let row = c.meet_row in
+    let some = c.in_ok-bytes.was in
     let few = bytes_most some row.ensures.chained.1 in (
-      omega (arith, test),
-      omega (arith, few, at.invariant.1),
+      omega (arith, few, at.invariant.0),
       row.ensures.chained.0,
       part_met (row_edges s a.asked runs count at.first) (pairs_left s a.asked runs count (at.first + 1))
-          (pairs_next s a.asked runs count at.first test) at.invariant.3
+          (pairs_next s a.asked runs count at.first test) at.invariant.2
           row.result row.new.keys some row.ensures.cases_met,
     )
 
@@ -76,6 +66,6 @@ returns c =
     let runs = c.args.runs.now in
     let count = c.args.all.count in
     let at = c.loop-first in record {
-      cases_met = cases_end (pairs_end s a.asked runs count at.first c.loop-first-test.false) at.invariant.3;
-      chained = (at.invariant.2, omega (arith, at.invariant.0, at.invariant.1));
+      cases_met = cases_end (pairs_end s a.asked runs count at.first c.loop-first-test.false) at.invariant.2;
+      chained = (at.invariant.1, omega (arith, at.invariant.0));
     }

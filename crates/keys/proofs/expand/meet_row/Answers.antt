@@ -7,7 +7,7 @@ use lib.Bits.{bit_or}
 use Rattle.cuts.specs.views.Runs.{run_at}
 use Rattle.edges.specs.views.KeysBehind.{run_behind}
 use Rattle.met.specs.views.KeysMet.{meet, keys_in}
-use Rattle.keys.specs.declared.Measured.TheVariants.{Bytes, TooMany}
+use Rattle.std.specs.Prelude.{Some, None}
 use Rattle.keys.proofs.RowsInTurn.{met_last, row_many, row_start, row_met, row_next, next_many, row_end}
 use Rattle.keys.proofs.expand.meet_row.Goals as goal
 use Rattle.keys.proofs.expand.meet_row.Goals.{then-more-set+else-meet-ge1024-2, else-more-set}
@@ -39,7 +39,6 @@ loop-k-init c =
     let behind = c.by_run.ensures in
     let met = c.meet in
     let same = met.ensures.t_after.0 c.if-meet-ge1024.false ∙ ap (meet (keys_in a.keys.now)) behind in (
-      omega (arith, c.requires.1),
       omega arith,
       met.ensures.chained,
       met_last (keys_in a.keys.now) (run_behind s a.asked (run_at runs first).set) met.new.t same,
@@ -47,7 +46,7 @@ loop-k-init c =
     )
 
 pub meet-requires-then-more-set : goal.meet-requires-then-more-set
-meet-requires-then-more-set c = c.loop-k.invariant.2
+meet-requires-then-more-set c = c.loop-k.invariant.1
 
 pub returns-then-meet-ge1024-2 : goal.returns-then-meet-ge1024-2
 returns-then-meet-ge1024-2 c =
@@ -63,9 +62,9 @@ returns-then-meet-ge1024-2 c =
     let test = c.loop-k-test.true in
     let behind2 = c.by_run-then-more-set.ensures in
     let next = c.meet-then-more-set in record {
-      cases_met = row_met s a.asked runs count first c.requires.1 a.keys.now met.new.t behind one TooMany
+      cases_met = row_met s a.asked runs count first c.requires.1 a.keys.now met.new.t behind one None
           next.new.t
-          (next_many s a.asked runs count first at.set at.k at.invariant.4 next.new.t test behind2
+          (next_many s a.asked runs count first at.set at.k at.invariant.3 next.new.t test behind2
           (next.ensures.t_after.1 c.if-meet-ge1024-2.true));
       chained = (next.ensures.chained, tt);
     }
@@ -75,10 +74,7 @@ overflow_add-bytes c =
     let size = c.case_length-size.ensures in
     let at = c.loop-k in
     let test = c.loop-k-test.true in
-    omega (arith, at.invariant.0, at.invariant.1, test, size.1, c.requires.2)
-
-pub loop-k-smaller : goal.loop-k-smaller
-loop-k-smaller c = omega (arith, c.loop-k-test.true)
+    omega (arith, at.invariant.0, test, size.1, c.requires.2)
 
 pub loop-k-preserved : goal.loop-k-preserved
 loop-k-preserved c =
@@ -95,20 +91,19 @@ loop-k-preserved c =
       | then-more-set+else-meet-ge1024-2 w ↦
           let same = w.meet-then-more-set.ensures.t_after.0 w.if-meet-ge1024-2.false ∙ ap (meet (keys_in at.keys)) w.by_run-then-more-set.ensures in
           rw w.keys-is (
-            omega (arith, test),
-            omega (arith, at.invariant.1, size.1),
+            omega (arith, at.invariant.0, size.1),
             w.meet-then-more-set.ensures.chained,
             met_last (keys_in at.keys) (run_behind s a.asked more) w.meet-then-more-set.new.t same,
-            row_next s a.asked runs count first at.set at.k at.invariant.4 test same (size.0 _),
+            row_next s a.asked runs count first at.set at.k at.invariant.3 test same (size.0 _),
           )
       | else-more-set w ↦
-          let same = at.invariant.3 ∙ ap (λ (set : ℕ). meet (keys_in at.keys) (run_behind s a.asked set)) (sym w.if-more-set.false) in
+          let same =
+          at.invariant.2 ∙ ap (λ (set : ℕ). meet (keys_in at.keys) (run_behind s a.asked set)) (sym w.if-more-set.false) in
           rw w.keys-is (
-            omega (arith, test),
-            omega (arith, at.invariant.1, size.1),
-            at.invariant.2,
+            omega (arith, at.invariant.0, size.1),
+            at.invariant.1,
             same,
-            row_next s a.asked runs count first at.set at.k at.invariant.4 test same (size.0 _),
+            row_next s a.asked runs count first at.set at.k at.invariant.3 test same (size.0 _),
           )
     ]
 
@@ -124,7 +119,7 @@ returns c =
     let one = met.ensures.t_after.0 c.if-meet-ge1024.false in
     let at = c.loop-k in record {
       cases_met = row_met s a.asked runs count first c.requires.1 a.keys.now met.new.t behind one
-          (Bytes at.bytes) at.keys
-          (row_end s a.asked runs count first at.set at.k at.invariant.4 c.loop-k-test.false);
-      chained = (at.invariant.2, omega (arith, at.invariant.0, at.invariant.1, c.requires.2));
+          (Some at.bytes) at.keys
+          (row_end s a.asked runs count first at.set at.k at.invariant.3 c.loop-k-test.false);
+      chained = (at.invariant.1, omega (arith, at.invariant.0, at.auto.k-end (omega (arith, c.requires.1)), c.requires.2));
     }

@@ -6,8 +6,7 @@ use Rattle.edges.specs.views.VertexKey.{key_in}
 use Rattle.met.specs.views.KeysMet.{count_in}
 use Rattle.met.proofs.Chains.{zeros_chained}
 use Rattle.met.proofs.Meeting.{new_number_lem}
-use Rattle.keys.specs.views.Expanded.{most_length}
-use Rattle.keys.proofs.EdgesInTurn.{bytes_most, many_most}
+use Rattle.keys.proofs.EdgesInTurn.{bytes_most}
 use Rattle.keys.proofs.GrowingKeys.{root_added, growing_start, grown_all, grown_turn, grown_many}
 use Rattle.keys.proofs.grow.grow.Goals as goal
 
@@ -34,33 +33,32 @@ loop-k-init c =
           root.ensures add.ensures.0),
     )
 
-pub expand-met-requires : goal.expand-met-requires
-expand-met-requires c =
+pub expand-requires : goal.expand-requires
+expand-requires c =
     let at = c.loop-k in
     let count = c.count in
     let if1 = c.loop-k-test in
     (at.invariant.0, omega (arith, count.ensures, if1.true), c.requires.1, at.invariant.1)
 
-pub returns-in_default : goal.returns-in_default
-returns-in_default c =
+pub returns-in_err-bytes-clause-grown : goal.returns-in_err-bytes-clause-grown
+returns-in_err-bytes-clause-grown c =
     let at = c.loop-k in
-    let behind = c.expand-met in
+    let behind = c.expand in
     let count = c.count in
     let if1 = c.loop-k-test in
     let a = c.args in
-    let below : at.k < count_in at.keys = omega (arith, count.ensures, if1.true) in record {
-      grown = grown_many a.s.now a.c.now at.keys at.invariant.4 below at.invariant.0.few behind.result behind.new.keys
-          behind.ensures.edges_met c.in_default.is;
-      chained = (behind.ensures.chained.0, many_most (1024 * most_length) c.in_default.is, behind.ensures.chained.2);
-    }
+    let below : at.k < count_in at.keys = omega (arith, count.ensures, if1.true) in
+    rw c.from_residual.ensures
+    (grown_many a.s.now a.c.now at.keys at.invariant.4 below at.invariant.0.few behind.result behind.new.keys
+    behind.ensures.edges_met c.in_err-bytes.was)
 
 pub overflow_add-bytes : goal.overflow_add-bytes
 overflow_add-bytes c =
     let at = c.loop-k in
-    let expand = c.expand-met in
+    let expand = c.expand in
     let count = c.count in
     let if1 = c.loop-k-test in
-    let few = bytes_most c.in-Bytes.is expand.ensures.chained.1 in
+    let few = bytes_most c.in_ok-bytes.was expand.ensures.chained.1 in
     omega (arith, few, at.invariant.3, at.invariant.0.few, count.ensures, if1.true)
 
 pub overflow_add-k : goal.overflow_add-k
@@ -80,15 +78,15 @@ loop-k-smaller c =
 pub loop-k-preserved : goal.loop-k-preserved
 loop-k-preserved c =
     let at = c.loop-k in
-    let behind = c.expand-met in
+    let behind = c.expand in
     let count = c.count in
     let if1 = c.loop-k-test in
     let a = c.args in
-    let few = bytes_most c.in-Bytes.is behind.ensures.chained.1 in
+    let few = bytes_most c.in_ok-bytes.was behind.ensures.chained.1 in
     let below : at.k < count_in at.keys = omega (arith, count.ensures, if1.true) in
     let turn =
     grown_turn a.s.now a.c.now at.keys at.invariant.4 below at.invariant.0.few behind.result behind.new.keys
-    behind.ensures.edges_met c.in-Bytes.is in (
+    behind.ensures.edges_met c.in_ok-bytes.was in (
       behind.ensures.chained.0,
       behind.ensures.chained.2,
       omega (arith, below, turn.1),

@@ -31,8 +31,8 @@ slice_bounds-read_rule-count c = c.loop-i.invariant.2
 pub slice_bounds-read_rule-start : goal.slice_bounds-read_rule-start
 slice_bounds-read_rule-start c = c.loop-i.invariant.2
 
-pub read_rule-read-requires : goal.read_rule-read-requires
-read_rule-read-requires c = (c.requires.0, c.loop-i.invariant.0)
+pub read_rule-requires : goal.read_rule-requires
+read_rule-requires c = (c.requires.0, c.loop-i.invariant.0)
 
 pub returns-in_default : goal.returns-in_default
 returns-in_default c =
@@ -43,11 +43,11 @@ returns-in_default c =
     let begins =
     subst (Begins s a.arity a.count) (sym c.note.ensures.0)
     (begins_noted s a.arity a.count loop.kept loop.i loop.at inv.1 inv.3
-    (inv.4 loop.i (omega arith) c.loop-i-test.true)) in
+    (inv.4 loop.i (omega arith) (omega arith))) in
     let note = c.note in (
       begins,
       tests_stay a.kept.now loop.kept loop.i loop.at inv.5 note.ensures.0 note.ensures.1,
-      c.read_rule-read.ensures.took_within.entries,
+      c.read_rule.ensures.took_within.entries,
     )
 
 pub overflow_add-at : goal.overflow_add-at
@@ -55,10 +55,10 @@ overflow_add-at c =
     let a = c.args in
     let s = c.args.s.now in
     let loop = c.loop-i in
-    let codes = c.read_rule-read.new.notes in
-    let read = c.read_rule-read.ensures in
+    let codes = c.read_rule.new.notes in
+    let read = c.read_rule.ensures in
     let bytes = bytes_known s (λ i. omega (arith, c.type_inv.s i)) in
-    let rule = rule_read_lem a.arity loop.at s codes c.read_rule-read.result read.result_after c.requires.0 bytes c.in-Used.is read.took_within in
+    let rule = rule_read_lem a.arity loop.at s codes c.read_rule.result read.result_after c.requires.0 bytes c.in-Ok.is read.took_within in
     omega (arith, rule.used)
 
 pub loop-i-preserved : goal.loop-i-preserved
@@ -70,11 +70,11 @@ loop-i-preserved c =
     let begins =
     subst (Begins s a.arity a.count) (sym c.note.ensures.0)
     (begins_noted s a.arity a.count loop.kept loop.i loop.at inv.1 inv.3
-    (inv.4 loop.i (omega arith) c.loop-i-test.true)) in
-    let codes = c.read_rule-read.new.notes in
-    let read = c.read_rule-read.ensures in
+    (inv.4 loop.i (omega arith) (omega arith))) in
+    let codes = c.read_rule.new.notes in
+    let read = c.read_rule.ensures in
     let bytes = bytes_known s (λ i. omega (arith, c.type_inv.s i)) in
-    let rule = rule_read_lem a.arity loop.at s codes c.read_rule-read.result read.result_after c.requires.0 bytes c.in-Used.is read.took_within in (
+    let rule = rule_read_lem a.arity loop.at s codes c.read_rule.result read.result_after c.requires.0 bytes c.in-Ok.is read.took_within in (
       read.took_within.entries,
       c.note.ensures.1,
       omega (arith, rule.used),

@@ -1,5 +1,5 @@
 -- `rule_begins` meets its contract: every rule that is left is sought from the current position.
-use Prim.Native.Nat.{ℕ, ◌-◌, ◌≤◌, ◌<◌}
+use Prim.Native.Nat.{ℕ, ◌≤◌, ◌<◌}
 use mathlib.Core.Path.{◌≡◌}
 use lib.ListN.{length}
 use Rattle.terms.specs.Pattern.{pnil}
@@ -12,6 +12,3 @@ abbrev pub invariant-loop-i : goal.invariant-loop-i
 invariant-loop-i l =
     (length l.notes ≡ 680) × (length l.kept ≡ 324) × (l.at ≤ length l.s) × Begins l.s l.arity l.count l.kept
     × ((k : ℕ) → l.i ≤ k → k < l.count → Seeking (read_rule l.arity) pnil l.s l.count k l.at l.i) × TestsStay l.initial.kept l.kept
-
-abbrev pub decreases-loop-i : goal.decreases-loop-i
-decreases-loop-i l = l.count - l.i

@@ -30,27 +30,27 @@ slice_bounds-read_rule-count c = c.loop-i.invariant.1.there
 pub slice_bounds-read_rule-start : goal.slice_bounds-read_rule-start
 slice_bounds-read_rule-start c = c.loop-i.invariant.1.there
 
-pub read_rule-read-requires : goal.read_rule-read-requires
-read_rule-read-requires c = (c.requires.rule_read.0.few_arguments, c.loop-i.invariant.0)
+pub read_rule-requires : goal.read_rule-requires
+read_rule-requires c = (c.requires.rule_read.0.few_arguments, c.loop-i.invariant.0)
 
-pub returns-in_default : goal.returns-in_default
-returns-in_default c =
+pub returns-in_err-read : goal.returns-in_err-read
+returns-in_err-read c =
     let a = c.args in
     let s = c.args.s.now in
-    let codes = c.read_rule-read.new.notes in
+    let codes = c.read_rule.new.notes in
     let at = c.loop-i.at in
-    let read = c.read_rule-read.ensures in
-    absurd (seeking_there (read_rule a.arity) pnil s c.loop-i.invariant.1 (rule_refused a.arity at s codes c.read_rule-read.result read.result_after c.in_default.is))
+    let read = c.read_rule.ensures in
+    absurd (seeking_there (read_rule a.arity) pnil s c.loop-i.invariant.1 (rule_refused a.arity at s codes c.read_rule.result read.result_after c.in_err-read.was))
 
 pub returns-then-i-rule : goal.returns-then-i-rule
 returns-then-i-rule c =
     let a = c.args in
     let s = c.args.s.now in
-    let codes = c.read_rule-read.new.notes in
+    let codes = c.read_rule.new.notes in
     let at = c.loop-i.at in
-    let read = c.read_rule-read.ensures in
+    let read = c.read_rule.ensures in
     let bytes = bytes_known s (λ i. omega (arith, c.type_inv.s i)) in
-    let rule = rule_read_lem a.arity at s codes c.read_rule-read.result read.result_after c.requires.rule_read.0.few_arguments bytes c.in-Used.is read.took_within in record {
+    let rule = rule_read_lem a.arity at s codes c.read_rule.result read.result_after c.requires.rule_read.0.few_arguments bytes c.in_ok-read.was read.took_within in record {
       result_after = ap some (rule.noted ∙ ap rule_notes (seeking_found (read_rule a.arity) pnil s c.loop-i.invariant.1 rule.read (omega (arith, c.if-i-rule.true))));
       result_bound = (rule.made, read.took_within.entries, rule.placed);
     }
@@ -59,22 +59,22 @@ pub overflow_add-at : goal.overflow_add-at
 overflow_add-at c =
     let a = c.args in
     let s = c.args.s.now in
-    let codes = c.read_rule-read.new.notes in
+    let codes = c.read_rule.new.notes in
     let at = c.loop-i.at in
-    let read = c.read_rule-read.ensures in
+    let read = c.read_rule.ensures in
     let bytes = bytes_known s (λ i. omega (arith, c.type_inv.s i)) in
-    let rule = rule_read_lem a.arity at s codes c.read_rule-read.result read.result_after c.requires.rule_read.0.few_arguments bytes c.in-Used.is read.took_within in
+    let rule = rule_read_lem a.arity at s codes c.read_rule.result read.result_after c.requires.rule_read.0.few_arguments bytes c.in_ok-read.was read.took_within in
     omega (arith, rule.used)
 
 pub loop-i-preserved : goal.loop-i-preserved
 loop-i-preserved c =
     let a = c.args in
     let s = c.args.s.now in
-    let codes = c.read_rule-read.new.notes in
+    let codes = c.read_rule.new.notes in
     let at = c.loop-i.at in
-    let read = c.read_rule-read.ensures in
+    let read = c.read_rule.ensures in
     let bytes = bytes_known s (λ i. omega (arith, c.type_inv.s i)) in
-    let rule = rule_read_lem a.arity at s codes c.read_rule-read.result read.result_after c.requires.rule_read.0.few_arguments bytes c.in-Used.is read.took_within in
+    let rule = rule_read_lem a.arity at s codes c.read_rule.result read.result_after c.requires.rule_read.0.few_arguments bytes c.in_ok-read.was read.took_within in
     (read.took_within.entries, seeking_next (read_rule a.arity) pnil s c.loop-i.invariant.1 rule.read (λ e. omega (arith, c.if-i-rule.false, c.requires.rule_read.0.from_one)) (omega (arith, rule.used)))
 
 pub returns : goal.returns

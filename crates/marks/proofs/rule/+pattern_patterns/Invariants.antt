@@ -14,15 +14,12 @@ decreases-pattern l = 2 * l.below
 abbrev pub decreases-patterns : goal.decreases-patterns
 decreases-patterns l = 2 * l.below + 1
 
--- The loop of `patterns`: what is held and the count - i patterns still to come are the whole row, from a place that leaves
+-- The loop of `patterns`: what is held and the count - counter patterns still to come are the whole row, from a place that leaves
 -- them their room and is behind the notes made.
-abbrev pub invariant-patterns-loop-i : goal.invariant-patterns-loop-i
-invariant-patterns-loop-i l =
-    (l.i ≤ l.count) × (l.at ≤ length l.s) × (l.made ≤ l.here)
-    × (l.here + (l.count - l.i) * stride (suc l.below) ≡ l.place + l.count * stride (suc l.below)) × (length l.notes ≡ 680)
+abbrev pub invariant-patterns-loop : goal.invariant-patterns-loop
+invariant-patterns-loop l =
+    (l.at ≤ length l.s) × (l.made ≤ l.here)
+    × (l.here + (l.count - l.counter) * stride (suc l.below) ≡ l.place + l.count * stride (suc l.below)) × (length l.notes ≡ 680)
     × (length l.words ≡ 11)
-    × (row_from (pattern_row marked l.below) l.s l.at (l.count - l.i) l.here (marks_in l.words l.notes l.made)
+    × (row_from (pattern_row marked l.below) l.s l.at (l.count - l.counter) l.here (marks_in l.words l.notes l.made)
     ≡ row_held marked l.below l.count l.place (marks_in l.initial.words l.initial.notes l.n) l.s)
-
-abbrev pub decreases-patterns-loop-i : goal.decreases-patterns-loop-i
-decreases-patterns-loop-i l = l.count - l.i

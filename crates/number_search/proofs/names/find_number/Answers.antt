@@ -23,16 +23,15 @@ returns-in_default c =
     let a = c.args in
     let s = c.args.graph.now in
     absurd
-    (passed_whole s a.low a.high a.neither c.loop-i.invariant c.loop-i-test.true
-    (ap case_head (sym (rest s c.loop-i.at)) ∙ sym c.case_head-head.ensures ∙ c.in_default.is))
+    (passed_whole s a.low a.high a.neither c.loop-i.invariant (omega arith)
+    (ap case_head (sym (rest s c.loop-i.at)) ∙ sym c.case_head.ensures ∙ c.in_default.is))
 
 pub narrowest-requires : goal.narrowest-requires
 narrowest-requires c =
     let a = c.args in
     let s = c.args.graph.now in
-    let next = c.loop-i-test.true in
-    let whole = ap case_head (sym (rest s c.loop-i.at)) ∙ sym c.case_head-head.ensures ∙ c.in-Whole.is in
-    passed_numbers s a.low a.high a.neither c.loop-i.invariant next c.in-Whole.c whole
+    let whole = ap case_head (sym (rest s c.loop-i.at)) ∙ sym c.case_head.ensures ∙ c.in-Ok.is in
+    passed_numbers s a.low a.high a.neither c.loop-i.invariant (omega arith) c.in-Ok.c whole
     c.case_range-range.ensures c.if-range-ge-NUMBERS.true
 
 pub returns-then-range-ge-NUMBERS : goal.returns-then-range-ge-NUMBERS
@@ -45,11 +44,10 @@ pub overflow_add-at : goal.overflow_add-at
 overflow_add-at c =
     let a = c.args in
     let s = c.args.graph.now in
-    let next = c.loop-i-test.true in
-    let whole = ap case_head (sym (rest s c.loop-i.at)) ∙ sym c.case_head-head.ensures ∙ c.in-Whole.is in
+    let whole = ap case_head (sym (rest s c.loop-i.at)) ∙ sym c.case_head.ensures ∙ c.in-Ok.is in
     omega (
       arith,
-      passed_inside s a.low a.high a.neither c.loop-i.invariant next c.in-Whole.c whole
+      passed_inside s a.low a.high a.neither c.loop-i.invariant (omega arith) c.in-Ok.c whole
           c.case_range-range.ensures,
     )
 
@@ -57,12 +55,11 @@ pub loop-i-preserved : goal.loop-i-preserved
 loop-i-preserved c =
     let a = c.args in
     let s = c.args.graph.now in
-    let next = c.loop-i-test.true in
-    let whole = ap case_head (sym (rest s c.loop-i.at)) ∙ sym c.case_head-head.ensures ∙ c.in-Whole.is in
-    passed_on s a.low a.high a.neither c.loop-i.invariant next c.in-Whole.c whole
+    let whole = ap case_head (sym (rest s c.loop-i.at)) ∙ sym c.case_head.ensures ∙ c.in-Ok.is in
+    passed_on s a.low a.high a.neither c.loop-i.invariant (omega arith) c.in-Ok.c whole
     c.case_range-range.ensures c.requires.1 c.if-range-ge-NUMBERS.false
 
 pub returns : goal.returns
 returns c =
     let a = c.args in
-    passed_ends a.graph.now a.low a.high a.neither c.loop-i.invariant c.loop-i-test.false
+    passed_ends a.graph.now a.low a.high a.neither c.loop-i.invariant (omega arith)

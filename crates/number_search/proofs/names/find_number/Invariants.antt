@@ -1,11 +1,7 @@
 -- `number_search::names::find_number` meets its contract: the cases that are left lead where all do.
-use Prim.Native.Nat.{◌-◌}
 use Rattle.number_search.proofs.NamesPassed.{Passed}
 use Rattle.number_search.proofs.names.find_number.Given as goal
 
 abbrev pub invariant-loop-i : goal.invariant-loop-i
 invariant-loop-i l =
     Passed l.graph l.low l.high l.neither l.start l.count l.at l.i
-
-abbrev pub decreases-loop-i : goal.decreases-loop-i
-decreases-loop-i l = l.count - l.i

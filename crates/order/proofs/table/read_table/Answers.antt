@@ -27,9 +27,6 @@ is_late-requires c = (
 pub bounds-down-p : goal.bounds-down-p
 bounds-down-p c = omega (arith, new_inside c.loop-i.down c.wide-place.result (sym c.is_new.ensures ∙ c.if-not-is_new.false))
 
-pub loop-i-smaller : goal.loop-i-smaller
-loop-i-smaller c = omega (arith, c.loop-i-test.true)
-
 pub loop-i-preserved : goal.loop-i-preserved
 loop-i-preserved c = (
   c.loop-i.invariant.0,

@@ -1,5 +1,4 @@
 -- A loop over the notes: what is gathered and what is left make up all equality tests.
-use Prim.Native.Nat.{◌-◌, ◌≤◌}
 use mathlib.Core.Path.{◌≡◌}
 use lib.ListN.{drop}
 use Rattle.terms.specs.Outcome.{◌and◌}
@@ -10,8 +9,4 @@ use Rattle.plain.proofs.rule.pairs_outcome.Given as goal
 
 abbrev pub invariant-loop-i : goal.invariant-loop-i
 invariant-loop-i l =
-    (l.i ≤ l.n)
-    × (◌and◌ (outcome_of l.outcome) (pairs_outcome l.cells (drop l.i (notes_in l.notes l.n))) ≡ pairs_outcome l.cells (notes_in l.notes l.n))
-
-abbrev pub decreases-loop-i : goal.decreases-loop-i
-decreases-loop-i l = l.n - l.i
+    ◌and◌ (outcome_of l.outcome) (pairs_outcome l.cells (drop l.i (notes_in l.notes l.n))) ≡ pairs_outcome l.cells (notes_in l.notes l.n)

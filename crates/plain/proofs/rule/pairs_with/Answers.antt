@@ -16,9 +16,6 @@ use Rattle.plain.proofs.NoteTurns.{named_turn, other_turn, no_pair}
 use Rattle.plain.proofs.rule.pairs_with.Goals as goal
 use Rattle.plain.proofs.rule.pairs_with.Goals.{then-is_named, else-is_named}
 
-pub loop-j-init : goal.loop-j-init
-loop-j-init c = (c.requires.0, refl)
-
 pub pair_outcome-requires : goal.pair_outcome-requires
 pair_outcome-requires c =
     let a = c.args in
@@ -42,17 +39,13 @@ loop-j-preserved c =
     elim c.if-is_named.branch [
       | then-is_named w ↦
           let turn = named_turn codes a.n within i f a.place a.v inside (named ∙ w.if-is_named.true) in
-          let one = w.pair_outcome.ensures ∙ ap (λ (q : ℕ). pair_cells cells a.place q) w.note_place.ensures in (
-            omega arith,
-            ap (λ (x : Outcome). ◌and◌ x rest) (ap outcome_of w.outcome-is ∙ w.both-outcome.ensures ∙ ap (◌and◌ gathered) one)
-                ∙ gathered_more gathered (f (both a.place (code_place (get_or codes i 0)))) rest
-                (sym (ap (◌and◌ gathered) turn) ∙ c.loop-j.invariant.1),
-          )
+          let one = w.pair_outcome.ensures ∙ ap (λ (q : ℕ). pair_cells cells a.place q) w.note_place.ensures in
+          ap (λ (x : Outcome). ◌and◌ x rest) (ap outcome_of w.outcome-is ∙ w.both-outcome.ensures ∙ ap (◌and◌ gathered) one)
+          ∙ gathered_more gathered (f (both a.place (code_place (get_or codes i 0)))) rest
+          (sym (ap (◌and◌ gathered) turn) ∙ c.loop-j.invariant)
       | else-is_named w ↦
-          let turn = other_turn codes a.n within i f a.place a.v inside (named ∙ w.if-is_named.false) in (
-            omega arith,
-            ap (λ o. ◌and◌ (outcome_of o) rest) w.outcome-is ∙ sym (ap (◌and◌ gathered) turn) ∙ c.loop-j.invariant.1,
-          )
+          let turn = other_turn codes a.n within i f a.place a.v inside (named ∙ w.if-is_named.false) in
+          ap (λ o. ◌and◌ (outcome_of o) rest) w.outcome-is ∙ sym (ap (◌and◌ gathered) turn) ∙ c.loop-j.invariant
     ]
 
 pub returns : goal.returns
@@ -64,4 +57,4 @@ returns c =
     let f = pair_test_cells a.cells.now in
     let rest = together f (pairs_with a.place a.v (notes_variables (drop i (notes_in codes a.n)))) in
     let none = no_pair codes a.n within i f a.place a.v c.loop-j-test.false in
-    gathered_all (outcome_of c.loop-j.outcome) rest none c.loop-j.invariant.1
+    gathered_all (outcome_of c.loop-j.outcome) rest none c.loop-j.invariant

@@ -1,5 +1,4 @@
 -- A loop over the later notes: what is gathered and what is left make up all pairs of the place.
-use Prim.Native.Nat.{◌-◌, ◌≤◌}
 use mathlib.Core.Path.{◌≡◌}
 use lib.ListN.{drop}
 use Rattle.terms.specs.RuleTests.{pairs_with}
@@ -12,9 +11,5 @@ use Rattle.plain.proofs.rule.pairs_with.Given as goal
 
 abbrev pub invariant-loop-j : goal.invariant-loop-j
 invariant-loop-j l =
-    (l.j ≤ l.n)
-    × (◌and◌ (outcome_of l.outcome) (together (pair_test_cells l.cells) (pairs_with l.place l.v (notes_variables (drop l.j (notes_in l.notes l.n)))))
-    ≡ together (pair_test_cells l.cells) (pairs_with l.place l.v (notes_variables (drop l.from (notes_in l.notes l.n)))))
-
-abbrev pub decreases-loop-j : goal.decreases-loop-j
-decreases-loop-j l = l.n - l.j
+    ◌and◌ (outcome_of l.outcome) (together (pair_test_cells l.cells) (pairs_with l.place l.v (notes_variables (drop l.j (notes_in l.notes l.n)))))
+    ≡ together (pair_test_cells l.cells) (pairs_with l.place l.v (notes_variables (drop l.from (notes_in l.notes l.n))))

@@ -15,9 +15,6 @@ use Rattle.plain.proofs.Gathering.{gathered_more, gathered_stops, gathered_all}
 use Rattle.plain.proofs.NoteTurns.{note_turn, no_note}
 use Rattle.plain.proofs.rule.places_outcome.Goals as goal
 
-pub loop-i-init : goal.loop-i-init
-loop-i-init c = (omega arith, refl)
-
 pub record_outcome-one-requires : goal.record_outcome-one-requires
 record_outcome-one-requires c =
     let a = c.args in
@@ -39,7 +36,7 @@ returns-in-Contradicted c =
     let gathered = outcome_of c.loop-i.outcome in
     let rest = together f (drop (i + 1) (notes_in codes a.n)) in
     let turn = note_turn codes a.n within i f c.loop-i-test.true in
-    let left = sym (ap (◌and◌ gathered) turn) ∙ c.loop-i.invariant.1 in
+    let left = sym (ap (◌and◌ gathered) turn) ∙ c.loop-i.invariant in
     let one = c.record_outcome-one.ensures
     ∙ (λ j. record_outcome cells a.ranges.low a.ranges.high (c.note_place.ensures j) (c.note_record.ensures j)) in
     one ∙ gathered_stops gathered (f (note_of (get_or codes i 0))) rest left (sym one ∙ ap outcome_of c.in-Contradicted.is)
@@ -55,13 +52,11 @@ loop-i-preserved c =
     let gathered = outcome_of c.loop-i.outcome in
     let rest = together f (drop (i + 1) (notes_in codes a.n)) in
     let turn = note_turn codes a.n within i f c.loop-i-test.true in
-    let left = sym (ap (◌and◌ gathered) turn) ∙ c.loop-i.invariant.1 in
+    let left = sym (ap (◌and◌ gathered) turn) ∙ c.loop-i.invariant in
     let one = c.record_outcome-one.ensures
-    ∙ (λ j. record_outcome cells a.ranges.low a.ranges.high (c.note_place.ensures j) (c.note_record.ensures j)) in (
-      omega arith,
-      ap (λ (x : Outcome). ◌and◌ x rest) (c.both-outcome.ensures ∙ ap (◌and◌ gathered) one)
-          ∙ gathered_more gathered (f (note_of (get_or codes i 0))) rest left,
-    )
+    ∙ (λ j. record_outcome cells a.ranges.low a.ranges.high (c.note_place.ensures j) (c.note_record.ensures j)) in
+    ap (λ (x : Outcome). ◌and◌ x rest) (c.both-outcome.ensures ∙ ap (◌and◌ gathered) one)
+    ∙ gathered_more gathered (f (note_of (get_or codes i 0))) rest left
 
 pub returns : goal.returns
 returns c =
@@ -70,4 +65,4 @@ returns c =
     let within : a.n ≤ length codes = omega (arith, c.requires) in
     let f = note_outcome a.cells.now a.ranges.low a.ranges.high in
     let none = no_note codes a.n within c.loop-i.i f c.loop-i-test.false in
-    gathered_all (outcome_of c.loop-i.outcome) (together f (drop c.loop-i.i (notes_in codes a.n))) none c.loop-i.invariant.1
+    gathered_all (outcome_of c.loop-i.outcome) (together f (drop c.loop-i.i (notes_in codes a.n))) none c.loop-i.invariant

@@ -63,4 +63,4 @@ returns c =
     let first = c.place_tests-count.ensures in
     let past : tests_in s - count ≤ turn.i = omega (arith, first, c.tests.ensures) in
     let end = slot_end code l (tests_in s - count) turn.i within turn.invariant.1 past in
-    λ j. first j + end j
+    omega (arith, first, end, c.tests.ensures)

@@ -11,6 +11,3 @@ use Rattle.rows.proofs.numbers.pair_number.Given as goal
 abbrev pub invariant-loop-i : goal.invariant-loop-i
 invariant-loop-i l =
     (l.i ≤ tests_in l.s - place_tests_in l.s) × (slot (pair_code l.p l.q) (pairs_listed l.s) ≡ l.i + slot (pair_code l.p l.q) (drop l.i (pairs_listed l.s)))
-
-abbrev pub decreases-loop-i : goal.decreases-loop-i
-decreases-loop-i l = tests_in l.s - place_tests_in l.s - l.i

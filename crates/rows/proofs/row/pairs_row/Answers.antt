@@ -9,7 +9,7 @@ use Rattle.tables.specs.views.Planes.{place_tests_in}
 use Rattle.test_list.specs.views.Tests.{pairs_listed}
 use Rattle.rows.proofs.RowTurns.{with_from, pairs_from, pairs_named, pairs_nameless, pairs_end}
 use Rattle.rows.proofs.row.pairs_row.Goals as goal
-use Rattle.rows.proofs.row.pairs_row.Goals.{in-Of, in_default}
+use Rattle.rows.proofs.row.pairs_row.Goals.{in-Some, in_default}
 
 pub loop-i-init : goal.loop-i-init
 loop-i-init c = (omega arith, refl)
@@ -31,15 +31,15 @@ loop-i-preserved c =
     let count = place_tests_in a.s.now in
     let within : a.n ≤ length notes = omega (arith, c.requires) in
     let i = c.loop-i.i in
-    let name = ap name_of (sym c.note_record.ensures) ∙ sym c.name_of-name.ensures in
-    elim c.match-name.branch [
-      | in-Of w ↦
-          let v = w.in-Of.v in
+    let name = ap name_of (sym c.note_record.ensures) ∙ sym c.name_of.ensures in
+    elim c.match-name_of.branch [
+      | in-Some w ↦
+          let v = w.in-Some.v in
           let pairs : ℕ → ℕ = λ p. with_from notes a.n within i count kept p v (i + 1) turn.all in
           let own = w.pairs_with-all.ensures ∙ ap pairs w.note_place-p.ensures in (
             omega arith,
             ap (pairs_from notes a.n within i count kept (i + 1)) (w.all-is ∙ own)
-                ∙ pairs_named notes a.n within i count kept v (omega arith) (name ∙ w.in-Of.is) turn.all
+                ∙ pairs_named notes a.n within i count kept v (omega arith) (name ∙ w.in-Some.is) turn.all
                 ∙ turn.invariant.1,
           )
       | in_default w ↦ (

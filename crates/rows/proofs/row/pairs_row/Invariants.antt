@@ -14,6 +14,3 @@ invariant-loop-i l =
     (l.i ≤ l.n)
     × (with_tests (pair_numbers (place_tests_in l.s) (pairs_listed l.s) (notes_codes (drop l.i (notes_in l.notes l.n)))) l.all
     ≡ with_tests (pair_numbers (place_tests_in l.s) (pairs_listed l.s) (notes_codes (notes_in l.notes l.n))) l.row)
-
-abbrev pub decreases-loop-i : goal.decreases-loop-i
-decreases-loop-i l = l.n - l.i

@@ -14,6 +14,3 @@ invariant-loop-j l =
     (l.j ≤ l.n)
     × (with_tests (pair_numbers (place_tests_in l.s) (pairs_listed l.s) (codes_with l.place l.v (drop l.j (notes_in l.notes l.n)))) l.all
     ≡ with_tests (pair_numbers (place_tests_in l.s) (pairs_listed l.s) (codes_with l.place l.v (drop l.from (notes_in l.notes l.n)))) l.row)
-
-abbrev pub decreases-loop-j : goal.decreases-loop-j
-decreases-loop-j l = l.n - l.j

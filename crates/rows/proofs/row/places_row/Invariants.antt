@@ -12,6 +12,3 @@ invariant-loop-i l =
     (l.i ≤ l.n)
     × (with_tests (place_numbers l.numbers (notes_tests l.ranges.low l.ranges.high (drop l.i (notes_in l.notes l.n)))) l.row
     ≡ with_tests (place_numbers l.numbers (notes_tests l.ranges.low l.ranges.high (notes_in l.notes l.n))) 0)
-
-abbrev pub decreases-loop-i : goal.decreases-loop-i
-decreases-loop-i l = l.n - l.i

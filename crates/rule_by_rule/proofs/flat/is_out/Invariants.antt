@@ -1,5 +1,5 @@
 -- A loop over the arguments: those passed hold or are not known, and the others follow them.
-use Prim.Native.Nat.{ℕ, ◌-◌, ◌≤◌}
+use Prim.Native.Nat.{ℕ, ◌≤◌}
 use mathlib.Core.Path.{◌≡◌}
 use lib.ListN.{length}
 use Rattle.records.specs.Reading.{took}
@@ -10,8 +10,5 @@ use Rattle.rule_by_rule.proofs.flat.is_out.Given as goal
 
 abbrev pub invariant-loop-i : goal.invariant-loop-i
 invariant-loop-i l =
-    (l.i ≤ l.arity) × (l.at ≤ length l.s)
+    (l.at ≤ length l.s)
     × ((b : ℕ) (rule : Patterns) → read_patterns 3 l.arity l.s ≡ took b rule → Left l.arity l.s rule l.i l.at)
-
-abbrev pub decreases-loop-i : goal.decreases-loop-i
-decreases-loop-i l = l.arity - l.i

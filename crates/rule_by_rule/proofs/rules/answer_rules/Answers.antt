@@ -19,7 +19,7 @@ use Rattle.rule_by_rule.proofs.rules.answer_rules.Goals.{After-moved-answer}
 pub loop-i-init : goal.loop-i-init
 loop-i-init c =
     let a = c.args in
-    (omega arith, c.requires.1, turns_start (cells_outcome a.cells.now) a.arity a.count a.s.now fail)
+    (c.requires.1, turns_start (cells_outcome a.cells.now) a.arity a.count a.s.now fail)
 
 pub bounds-starts-i : goal.bounds-starts-i
 bounds-starts-i c = omega (arith, c.requires.3)
@@ -31,7 +31,7 @@ slice_bounds-tried-start c =
 
 pub tried-outcome-requires : goal.tried-outcome-requires
 tried-outcome-requires c =
-    (c.requires.0.few, c.loop-i.invariant.1, c.requires.2)
+    (c.requires.0.few, c.loop-i.invariant.0, c.requires.2)
 
 -- The answer moved by a rule, and those left.
 module _ (c : After-moved-answer) where
@@ -63,7 +63,7 @@ module _ (c : After-moved-answer) where
       let before = answer_of turn.answer in
       let at = rule_start a.arity s turn.i in
       let (b, rule, read) =
-      turn_read outcome a.arity a.count s turn.i at before answered (omega arith) (turn.invariant.2 ∙ all_answered) in
+      turn_read outcome a.arity a.count s turn.i at before answered (omega arith) (turn.invariant.1 ∙ all_answered) in
       let begins = (c.requires.4 turn.i (omega arith)).0 in
       let there =
       ap (read_rule a.arity) (rest s _) ∙ ap (λ (k : ℕ). read_rule a.arity (drop k s)) begins ∙ read in
@@ -71,7 +71,7 @@ module _ (c : After-moved-answer) where
       let next = start_next a.arity s turn.i at refl read in
       (λ j. answer_from outcome a.arity a.count s (turn.i + 1) (sym next j) (answer j))
       ∙ turn_next outcome a.arity a.count s turn.i at before (omega arith) rule read
-      ∙ turn.invariant.2
+      ∙ turn.invariant.1
 
 -- Two rules are open.
 pub returns-in-Suspend : goal.returns-in-Suspend
@@ -86,7 +86,7 @@ returns-in-Suspend c =
     ∙ come
 
 pub loop-i-preserved : goal.loop-i-preserved
-loop-i-preserved c = (omega arith, c.tried-outcome.ensures.notes_len, goes_on (goal.at.loop-i-preserved c).After-moved-answer)
+loop-i-preserved c = (c.tried-outcome.ensures.notes_len, goes_on (goal.at.loop-i-preserved c).After-moved-answer)
 
 pub returns : goal.returns
 returns c =
@@ -95,4 +95,4 @@ returns c =
     turns_end (cells_outcome a.cells.now) a.arity a.count a.s.now turn.i
     (rule_start a.arity a.s.now turn.i)
     (answer_of turn.answer) (omega arith)
-    ∙ turn.invariant.2
+    ∙ turn.invariant.1

@@ -1,5 +1,4 @@
 -- A loop over the rules: what comes of those left, with what is answered so far, is what comes of all.
-use Prim.Native.Nat.{◌-◌, ◌≤◌}
 use mathlib.Core.Path.{◌≡◌}
 use lib.ListN.{length}
 use Rattle.records.specs.Reading.{map_reading}
@@ -14,9 +13,6 @@ use Rattle.rule_by_rule.proofs.rules.answer_rules.Given as goal
 
 abbrev pub invariant-loop-i : goal.invariant-loop-i
 invariant-loop-i l =
-    (l.i ≤ l.count) × (length l.notes ≡ 680)
+    (length l.notes ≡ 680)
     × (answer_from (cells_outcome l.cells) l.arity l.count l.s l.i (rule_start l.arity l.s l.i) (answer_of l.answer)
     ≡ reading_values (map_reading (moved_by (cells_outcome l.cells) 1 fail) (read_rules l.arity l.count l.s)))
-
-abbrev pub decreases-loop-i : goal.decreases-loop-i
-decreases-loop-i l = l.count - l.i

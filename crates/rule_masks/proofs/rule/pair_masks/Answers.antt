@@ -9,10 +9,10 @@ use Rattle.rule_masks.specs.declared.Masks.{Masks}
 use Rattle.rule_masks.specs.views.Kept.{listed_tests}
 use Rattle.rule_masks.proofs.MadeTurns.{with_from, pairs_from, pairs_named, pairs_nameless, pairs_end}
 use Rattle.rule_masks.proofs.rule.pair_masks.Goals as goal
-use Rattle.rule_masks.proofs.rule.pair_masks.Goals.{in-Of, in_default}
+use Rattle.rule_masks.proofs.rule.pair_masks.Goals.{in-Some, in_default}
 
 pub loop-i-init : goal.loop-i-init
-loop-i-init c = (omega arith, refl)
+loop-i-init c = refl
 
 pub pairs_with-all-requires : goal.pairs_with-all-requires
 pairs_with-all-requires c =
@@ -31,23 +31,19 @@ loop-i-preserved c =
     let tests = listed_tests a.kept.now in
     let within : a.n ≤ length notes = omega (arith, c.requires) in
     let i = c.loop-i.i in
-    let name = ap name_of (sym c.note_record.ensures) ∙ sym c.name_of-name.ensures in
-    elim c.match-name.branch [
-      | in-Of w ↦
-          let v = w.in-Of.v in
+    let name = ap name_of (sym c.note_record.ensures) ∙ sym c.name_of.ensures in
+    elim c.match-name_of.branch [
+      | in-Some w ↦
+          let v = w.in-Some.name in
           let pairs : ℕ → Masks = λ p. with_from tests cells notes a.n within i p v (i + 1) turn.all in
-          let own = w.pairs_with-all.ensures ∙ ap pairs w.note_place.ensures in (
-            omega arith,
-            ap (pairs_from tests cells notes a.n within i (i + 1)) (w.all-is ∙ own)
-                ∙ pairs_named tests cells notes a.n within i v (omega arith) (name ∙ w.in-Of.is) turn.all
-                ∙ turn.invariant.1,
-          )
-      | in_default w ↦ (
-        omega arith,
-        ap (pairs_from tests cells notes a.n within i (i + 1)) w.all-is
-            ∙ pairs_nameless tests cells notes a.n within i (omega arith) (name ∙ w.in_default.is) turn.all
-            ∙ turn.invariant.1,
-      )
+          let own = w.pairs_with-all.ensures ∙ ap pairs w.note_place.ensures in
+          ap (pairs_from tests cells notes a.n within i (i + 1)) (w.all-is ∙ own)
+          ∙ pairs_named tests cells notes a.n within i v (omega arith) (name ∙ w.in-Some.is) turn.all
+          ∙ turn.invariant
+      | in_default w ↦
+          ap (pairs_from tests cells notes a.n within i (i + 1)) w.all-is
+          ∙ pairs_nameless tests cells notes a.n within i (omega arith) (name ∙ w.in_default.is) turn.all
+          ∙ turn.invariant
     ]
 
 pub returns : goal.returns
@@ -57,4 +53,4 @@ returns c =
     let within : a.n ≤ length a.notes.now = omega (arith, c.requires) in
     sym
     (pairs_end (listed_tests a.kept.now) a.cells.now a.notes.now a.n within turn.i (omega arith) turn.all)
-    ∙ turn.invariant.1
+    ∙ turn.invariant

@@ -1,5 +1,4 @@
 -- A loop over the notes: the pairs of those passed are made.
-use Prim.Native.Nat.{◌-◌, ◌≤◌}
 use mathlib.Core.Path.{◌≡◌}
 use lib.ListN.{drop}
 use Rattle.sheet.specs.views.NoteArray.{notes_in}
@@ -10,9 +9,5 @@ use Rattle.rule_masks.proofs.rule.pair_masks.Given as goal
 
 abbrev pub invariant-loop-i : goal.invariant-loop-i
 invariant-loop-i l =
-    (l.i ≤ l.n)
-    × (after_pairs (listed_tests l.kept) l.cells (notes_codes (drop l.i (notes_in l.notes l.n))) l.all
-    ≡ after_pairs (listed_tests l.kept) l.cells (notes_codes (notes_in l.notes l.n)) l.initial.all)
-
-abbrev pub decreases-loop-i : goal.decreases-loop-i
-decreases-loop-i l = l.n - l.i
+    after_pairs (listed_tests l.kept) l.cells (notes_codes (drop l.i (notes_in l.notes l.n))) l.all
+    ≡ after_pairs (listed_tests l.kept) l.cells (notes_codes (notes_in l.notes l.n)) l.initial.all

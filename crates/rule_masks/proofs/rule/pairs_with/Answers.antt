@@ -13,7 +13,7 @@ use Rattle.rule_masks.proofs.rule.pairs_with.Goals as goal
 use Rattle.rule_masks.proofs.rule.pairs_with.Goals.{then-is_named, else-is_named}
 
 pub loop-j-init : goal.loop-j-init
-loop-j-init c = (c.requires.0, refl)
+loop-j-init c = refl
 
 pub with_pair-all-requires : goal.with_pair-all-requires
 with_pair-all-requires c =
@@ -36,18 +36,14 @@ loop-j-preserved c =
     let test = ap (names_variable v) (sym c.note_record.ensures) ∙ sym c.is_named.ensures in
     elim c.if-is_named.branch [
       | then-is_named w ↦
-          let put = w.with_pair-all.ensures ∙ ap (λ (q : ℕ). with_made tests turn.all (pair_made cells (pair_code p q))) w.note_place.ensures in (
-            omega arith,
-            ap (with_from tests cells notes a.n within j p v (j + 1)) (w.all-is ∙ put)
-                ∙ with_yes tests cells notes a.n within j p v (omega arith) (test ∙ w.if-is_named.true) turn.all
-                ∙ turn.invariant.1,
-          )
-      | else-is_named w ↦ (
-        omega arith,
-        ap (with_from tests cells notes a.n within j p v (j + 1)) w.all-is
-            ∙ with_no tests cells notes a.n within j p v (omega arith) (test ∙ w.if-is_named.false) turn.all
-            ∙ turn.invariant.1,
-      )
+          let put = w.with_pair-all.ensures ∙ ap (λ (q : ℕ). with_made tests turn.all (pair_made cells (pair_code p q))) w.note_place.ensures in
+          ap (with_from tests cells notes a.n within j p v (j + 1)) (w.all-is ∙ put)
+          ∙ with_yes tests cells notes a.n within j p v (omega arith) (test ∙ w.if-is_named.true) turn.all
+          ∙ turn.invariant
+      | else-is_named w ↦
+          ap (with_from tests cells notes a.n within j p v (j + 1)) w.all-is
+          ∙ with_no tests cells notes a.n within j p v (omega arith) (test ∙ w.if-is_named.false) turn.all
+          ∙ turn.invariant
     ]
 
 pub returns : goal.returns
@@ -59,4 +55,4 @@ returns c =
     sym
     (with_end (listed_tests a.kept.now) a.cells.now notes a.n within turn.j a.spot.place a.spot.name
     (omega arith) turn.all)
-    ∙ turn.invariant.1
+    ∙ turn.invariant

@@ -1,5 +1,4 @@
 -- A loop over the later notes: the pairs with those passed are made.
-use Prim.Native.Nat.{◌-◌, ◌≤◌}
 use mathlib.Core.Path.{◌≡◌}
 use lib.ListN.{drop}
 use Rattle.sheet.specs.views.NoteArray.{notes_in}
@@ -10,9 +9,5 @@ use Rattle.rule_masks.proofs.rule.pairs_with.Given as goal
 
 abbrev pub invariant-loop-j : goal.invariant-loop-j
 invariant-loop-j l =
-    (l.j ≤ l.n)
-    × (after_pairs (listed_tests l.kept) l.cells (codes_with l.spot.place l.spot.name (drop l.j (notes_in l.notes l.n))) l.all
-    ≡ after_pairs (listed_tests l.kept) l.cells (codes_with l.spot.place l.spot.name (drop l.from (notes_in l.notes l.n))) l.initial.all)
-
-abbrev pub decreases-loop-j : goal.decreases-loop-j
-decreases-loop-j l = l.n - l.j
+    after_pairs (listed_tests l.kept) l.cells (codes_with l.spot.place l.spot.name (drop l.j (notes_in l.notes l.n))) l.all
+    ≡ after_pairs (listed_tests l.kept) l.cells (codes_with l.spot.place l.spot.name (drop l.from (notes_in l.notes l.n))) l.initial.all

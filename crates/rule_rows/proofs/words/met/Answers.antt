@@ -3,4 +3,4 @@ use Rattle.rule_rows.proofs.WordLaws.{met_is}
 use Rattle.rule_rows.proofs.words.met.Goals as goal
 
 pub returns : goal.returns
-returns c = met_is c.args.word c.args.low c.args.high c.smaller-uses.ensures c.smaller-most.ensures c.larger-least.ensures
+returns c = met_is c.args.word c.args.low c.args.high c.min-uses.ensures c.min-most.ensures c.max-least.ensures

@@ -1,33 +1,30 @@
 -- Patterns and rows of patterns, which call each other.
 use Rattle.std.proofs.Common.{◌≡◌, ℕ, ◌-◌, suc, drop, sym, ap, refl, ◌∙◌, arith, inl, inr, ⊎_elim}
+use Rattle.std.specs.Prelude.{Ok}
 use Rattle.places.specs.Numbering.{stride}
-use Rattle.patterns.specs.declared.PatternRecord.TheVariants.{Compound}
-use Rattle.patterns.specs.declared.PatternHead.TheVariants.{Whole}
-use Rattle.patterns.specs.views.PatternRecord.{pattern_head, head_refusal}
-use Rattle.records.specs.Reading.{refused}
 use Rattle.records.proofs.Parts.{rest, rest_length}
 use Rattle.records.proofs.RowSoFar.{one_to_come, turn_room, row_ended, row_stops, row_goes_on}
-use Rattle.sheet.specs.views.NoteArray.{notes_in, took_notes, bytes_used, notes_made}
+use Rattle.sheet.specs.views.NoteArray.{notes_in, took_notes}
 use Rattle.sheet.specs.views.NotesBehind.{pattern_held, behind}
 use Rattle.patterns.proofs.Heads.{head_whole}
-use Rattle.sheet.proofs.NoteArrays.{was_used, was_refused, was_after, after_used, after_made}
+use Rattle.sheet.proofs.NoteArrays.{was_used, was_refused, handed_on}
 use Rattle.sheet.proofs.Compounds.{flat_record, head_no, lowest_read, flat_read, arity_no, arguments_yes, arguments_no}
 use Rattle.sheet.proofs.Rows.{arguments_room, part_read, row_step, pattern_row}
 use Rattle.sheet.proofs.rule.+pattern_patterns.Goals as goal
-use Rattle.sheet.proofs.rule.+pattern_patterns.Goals.{patterns-After-pattern-read}
+use Rattle.sheet.proofs.rule.+pattern_patterns.Goals.{patterns-After-pattern}
 
 -- A pattern: its record, then the arguments of a compound.
-pub pattern-returns-in_default-clause-result_after : goal.pattern-returns-in_default-clause-result_after
-pattern-returns-in_default-clause-result_after t c =
+pub pattern-returns-in_err-what-clause-result_after : goal.pattern-returns-in_err-what-clause-result_after
+pattern-returns-in_err-what-clause-result_after t c =
     let a = c.args in
-    ap refused (c.head_refusal.ensures ∙ ap head_refusal c.in_default.is)
-    ∙ head_no behind a.below a.place (notes_in a.notes.now a.n) a.s.now (sym c.in_default.ensures)
+    handed_on _ _ _ c.from_residual.ensures.1
+    (head_no behind a.below a.place (notes_in a.notes.now a.n) a.s.now (sym c.pattern_head.ensures ∙ c.in_err-what.was))
 
-pub pattern-returns-in_default-what : goal.pattern-returns-in_default-what
-pattern-returns-in_default-what t c =
+pub pattern-returns-in_default : goal.pattern-returns-in_default
+pattern-returns-in_default t c =
     let a = c.args in
-    let head = sym c.in-Whole.ensures in
-    let flat = flat_record c.in-Whole.what c.in_default-what.not-Compound in record {
+    let head = sym c.pattern_head.ensures ∙ c.in_ok-what.was in
+    let flat = flat_record c.in_ok-what.what c.in_default.not-Compound in record {
       result_after = c.leaf.ensures.result_after
           ∙ flat_read behind a.below a.place (notes_in a.notes.now a.n) a.s.now head flat;
       took_within = omega (arith, c.leaf.ensures.took_within, head_whole a.s.now head);
@@ -37,49 +34,50 @@ pattern-returns-in_default-what t c =
 pub pattern-returns-then-below-eq0-clause-result_after : goal.pattern-returns-then-below-eq0-clause-result_after
 pattern-returns-then-below-eq0-clause-result_after t c =
     let a = c.args in
-    let head = sym c.in-Whole.ensures ∙ ap Whole c.in-Compound.is in
+    let head = sym c.pattern_head.ensures ∙ c.in_ok-what.was ∙ ap Ok c.in-Compound.is in
     lowest_read behind a.below a.place (notes_in a.notes.now a.n) a.s.now head c.if-below-eq0.true
 
 pub pattern-returns-then-arity-lt1-clause-result_after : goal.pattern-returns-then-arity-lt1-clause-result_after
 pattern-returns-then-arity-lt1-clause-result_after t c =
     let a = c.args in
-    let head = sym c.in-Whole.ensures ∙ ap Whole c.in-Compound.is in
+    let head = sym c.pattern_head.ensures ∙ c.in_ok-what.was ∙ ap Ok c.in-Compound.is in
     let wrong = ⊎_elim (λ w. inl w) (λ w. inr w.1) c.then-arity-lt1.either in
     arity_no behind a.below a.place (notes_in a.notes.now a.n) a.s.now head c.if-below-eq0.false wrong
 
-pub pattern-patterns-arguments-requires : goal.pattern-patterns-arguments-requires
-pattern-patterns-arguments-requires t c =
+pub pattern-patterns-requires : goal.pattern-patterns-requires
+pattern-patterns-requires t c =
     omega (arith, arguments_room c.args.below c.in-Compound.arity c.if-below-eq0.false c.if-arity-gt4.false)
+
+pub pattern-returns-in_err-arguments-clause-result_after : goal.pattern-returns-in_err-arguments-clause-result_after
+pattern-returns-in_err-arguments-clause-result_after t c =
+    let a = c.args in
+    let s = a.s.now in
+    let before = notes_in a.notes.now a.n in
+    let head = sym c.pattern_head.ensures ∙ c.in_ok-what.was ∙ ap Ok c.in-Compound.is in
+    let codes = c.patterns.new.notes in
+    let read = part_read behind (a.below - 1) _ 4 s c.patterns.ensures.result_after c.put.ensures.n_after refl in
+    handed_on _ _ _ c.from_residual-in_err-arguments.ensures.1
+    (arguments_no behind a.below a.place before s head c.if-below-eq0.false c.if-arity-lt1.false c.if-arity-gt4.false
+    (was_refused (notes_in codes) c.in_err-arguments.was read))
 
 pub pattern-returns-clause-result_after : goal.pattern-returns-clause-result_after
 pattern-returns-clause-result_after t c =
     let a = c.args in
     let s = a.s.now in
     let before = notes_in a.notes.now a.n in
-    let head = sym c.in-Whole.ensures ∙ ap Whole c.in-Compound.is in
-    let arity = c.in-Compound.arity in
-    let deep = c.if-below-eq0.false in
-    let enough = c.if-arity-lt1.false in
-    let few = c.if-arity-gt4.false in
-    let codes = c.patterns-arguments.new.notes in
-    let read = part_read behind (a.below - 1) arity 4 s c.patterns-arguments.ensures.result_after c.put.ensures.n_after refl in
-    ap (took_notes codes) c.after.ensures
-    ∙ was_after (notes_in codes) 4 c.patterns-arguments.result read
-    (λ b notes e. arguments_yes behind a.below a.place before s head deep enough few e)
-    (λ q e. arguments_no behind a.below a.place before s head deep enough few e)
+    let head = sym c.pattern_head.ensures ∙ c.in_ok-what.was ∙ ap Ok c.in-Compound.is in
+    let codes = c.patterns.new.notes in
+    let read = part_read behind (a.below - 1) _ 4 s c.patterns.ensures.result_after c.put.ensures.n_after refl in
+    arguments_yes behind a.below a.place before s head c.if-below-eq0.false c.if-arity-lt1.false c.if-arity-gt4.false
+    (was_used (notes_in codes) c.in_ok-arguments.was read)
 
 pub pattern-returns-clause-took_within : goal.pattern-returns-clause-took_within
 pattern-returns-clause-took_within t c =
     let s = c.args.s.now in
-    let head : pattern_head s ≡ Whole (Compound c.in-Compound.field-0 c.in-Compound.arity) =
-    sym c.in-Whole.ensures ∙ ap Whole c.in-Compound.is in
+    let head = sym c.pattern_head.ensures ∙ c.in_ok-what.was ∙ ap Ok c.in-Compound.is in
     omega (
       arith,
-      c.patterns-arguments.ensures.took_within,
-      ap bytes_used c.after.ensures,
-      after_used 4 c.patterns-arguments.result,
-      ap notes_made c.after.ensures,
-      after_made 4 c.patterns-arguments.result,
+      c.in_ok-arguments.ensures.took_within,
       rest_length s 4,
       head_whole s head,
       arguments_room c.args.below c.in-Compound.arity c.if-below-eq0.false c.if-arity-gt4.false,
@@ -87,21 +85,22 @@ pattern-returns-clause-took_within t c =
 
 -- A row of patterns: one pattern a turn. Read or refused, it is the one that the rest of the bytes begins with.
 pattern_tried
-    : (t : ℕ) (c : patterns-After-pattern-read t)
-    → took_notes c.pattern-read.new.notes c.pattern-read.result
-    ≡ pattern_held behind c.args.below c.loop-i.here (notes_in c.loop-i.notes c.loop-i.made) (drop c.loop-i.at c.args.s.now)
-pattern_tried t c = c.pattern-read.ensures.result_after ∙ (rw (rest c.args.s.now c.loop-i.at))
+    : (t : ℕ) (c : patterns-After-pattern t)
+    → took_notes c.pattern.new.notes c.pattern.result
+    ≡ pattern_held behind c.args.below c.loop.here (notes_in c.loop.notes c.loop.made) (drop c.loop.at c.args.s.now)
+pattern_tried t c = c.pattern.ensures.result_after ∙ (rw (rest c.args.s.now c.loop.at))
 
 -- Where it was refused, so is the row;
-pub patterns-returns-in_default-clause-result_after : goal.patterns-returns-in_default-clause-result_after
-patterns-returns-in_default-clause-result_after t c =
+pub patterns-returns-in_err-read-clause-result_after : goal.patterns-returns-in_err-read-clause-result_after
+patterns-returns-in_err-read-clause-result_after t c =
     let a = c.args in
-    let own = c.loop-i in
-    let comes = one_to_come a.count own.i c.loop-i-test.true in
-    was_refused (notes_in c.pattern-read.new.notes) c.in_default.is
-    (pattern_tried t (goal.at.patterns-returns-in_default-clause-result_after t c).After-pattern-read)
-    (row_stops (pattern_row behind a.below) a.s.now own.at _ own.here (notes_in own.notes own.made) _ comes)
-    ∙ own.invariant.5
+    let own = c.loop in
+    let comes = one_to_come a.count own.counter c.loop-test.true in
+    let tried = pattern_tried t (goal.at.patterns-returns-in_err-read-clause-result_after t c).After-pattern in
+    handed_on _ _ _ c.from_residual.ensures.1
+    (row_stops (pattern_row behind a.below) a.s.now own.at _ own.here (notes_in own.notes own.made) _ comes
+    (was_refused (notes_in c.pattern.new.notes) c.in_err-read.was tried)
+    ∙ own.invariant.4)
 
 -- The row has room for this pattern and for those that come after it.
 pub patterns-overflow_add-here : goal.patterns-overflow_add-here
@@ -109,34 +108,33 @@ patterns-overflow_add-here t c =
     let a = c.args in
     omega (
       arith,
-      turn_room a.count c.loop-i.i (stride (suc a.below)) c.loop-i-test.true,
+      turn_room a.count c.loop.counter (stride (suc a.below)) c.loop-test.true,
       c.step-step.ensures ∙ row_step a.below c.requires.0,
     )
 
 -- where it was read, the others are to come after it. Its bytes are there, and its notes are among those that the row has
 -- room for so far.
-pub patterns-loop-i-preserved : goal.patterns-loop-i-preserved
-patterns-loop-i-preserved t c =
+pub patterns-loop-preserved : goal.patterns-loop-preserved
+patterns-loop-preserved t c =
     let a = c.args in
-    let own = c.loop-i in
-    let told = c.in-Used.is in
+    let own = c.loop in
     let step_is = c.step-step.ensures ∙ row_step a.below c.requires.0 in
-    let comes = one_to_come a.count own.i c.loop-i-test.true in (
-      omega arith,
-      omega (arith, c.pattern-read.ensures.took_within, ap bytes_used told, rest_length a.s.now own.at, own.invariant.1),
-      omega (arith, c.pattern-read.ensures.took_within, ap notes_made told, step_is),
-      omega (arith, turn_room a.count own.i (stride (suc a.below)) c.loop-i-test.true, step_is),
-      c.pattern-read.ensures.took_within.entries,
+    let comes = one_to_come a.count own.counter c.loop-test.true in
+    let tried = pattern_tried t (goal.at.patterns-loop-preserved t c).After-pattern in (
+      omega (arith, c.in_ok-read.ensures.took_within, rest_length a.s.now own.at, own.invariant.0),
+      omega (arith, c.in_ok-read.ensures.took_within, step_is),
+      omega (arith, turn_room a.count own.counter (stride (suc a.below)) c.loop-test.true, step_is),
+      c.in_ok-read.ensures.took_within.entries,
       row_goes_on (pattern_row behind a.below) a.s.now own.at _ own.here (notes_in own.notes own.made) _ comes
-          (was_used (notes_in c.pattern-read.new.notes) told
-          (pattern_tried t (goal.at.patterns-loop-i-preserved t c).After-pattern-read))
+          (was_used (notes_in c.pattern.new.notes) c.in_ok-read.was tried)
           step_is
-          ∙ own.invariant.5,
+          ∙ own.invariant.4,
     )
 
 pub patterns-returns-clause-result_after : goal.patterns-returns-clause-result_after
 patterns-returns-clause-result_after t c =
     let a = c.args in
-    let own = c.loop-i in
-    row_ended (pattern_row behind a.below) a.s.now own.at (a.count - own.i) own.here (notes_in own.notes own.made) (omega arith)
-    ∙ own.invariant.5
+    let own = c.loop in
+    row_ended (pattern_row behind a.below) a.s.now own.at (a.count - own.counter) own.here
+    (notes_in own.notes own.made) (omega arith)
+    ∙ own.invariant.4

@@ -1,115 +1,42 @@
 -- The rules are read and their tests gathered; then question 10, and question 11.
-use mathlib.Core.Path.{◌∙◌}
-use native.Mathlib.Omega.{arith}
+use Rattle.std.proofs.Common.{◌∙◌, arith}
+use Rattle.records.specs.Fields.{AreBytes}
 use Rattle.sheet_tests.proofs.Scanning.{bytes_known}
-use Rattle.sheet_tests.proofs.Starting.{starts_done}
-use Rattle.sheet_tests.proofs.Checking.{zeros, at_start, rules_gathered, check_refused, places_few, tests_many, tests_number, check_left, check_many, check_accepted}
+use Rattle.sheet_tests.proofs.Checking.{RulesRead, at_start, rules_gathered, places_few, tests_many, tests_number, check_many, check_accepted}
 use Rattle.sheet_tests.proofs.sheets.read_rules.Goals as goal
+use Rattle.sheet_tests.proofs.sheets.read_rules.Goals.{In_ok-scan}
 
-pub scan_rules-scan-requires : goal.scan_rules-scan-requires
-scan_rules-scan-requires c =
-    let pre = c.requires in
-    (pre.0, pre.4, zeros 11 pre.1, zeros 65 pre.2, pre.3, pre.5)
+-- The rules that were read.
+rules_read
+    : (c : In_ok-scan) → AreBytes c.args.s.now
+    → RulesRead c.args.arity c.args.rules c.args.s.now c.scan_rules.new.words c.scan_rules.new.codes
+    c.in_ok-scan.scan.bytes c.in_ok-scan.scan.pairs
+rules_read c bytes =
+    let a = c.args in
+    rules_gathered a.arity a.rules a.s.now c.scan_rules.new.words c.scan_rules.new.codes (omega arith) bytes c.in_ok-scan.was
+    (c.scan_rules.ensures.result_after ∙ at_start a.arity a.rules a.s.now c.requires.1 c.requires.2)
 
-pub returns-then-bytes-s : goal.returns-then-bytes-s
-returns-then-bytes-s c =
-    let scan = c.scan_rules-scan in
-    let s = c.args.s.now in
-    let words = c.scan_rules-scan.new.words in
-    let codes = c.scan_rules-scan.new.codes in
-    let bytes = bytes_known s (λ i. omega (arith, c.type_inv.s i)) in
-    let none = at_start c.args.arity c.args.rules s c.requires.1 c.requires.2 in
-    let read =
-    rules_gathered c.args.arity c.args.rules s words codes (omega arith) bytes c.in-Done.is
-    (scan.ensures.result_after ∙ none) in
-    record {
-      result_after = check_left read c.if-bytes-s.true;
-      held = record { all_words = scan.ensures.scanned.all_words; all_codes = scan.ensures.scanned.all_codes; counted = tt };
-      tests_starts = (tt, scan.ensures.scan_starts.1);
-    }
-
-pub returns-then-pairs-gt64 : goal.returns-then-pairs-gt64
-returns-then-pairs-gt64 c =
-    let scan = c.scan_rules-scan in
-    let s = c.args.s.now in
-    let words = c.scan_rules-scan.new.words in
-    let codes = c.scan_rules-scan.new.codes in
-    let bytes = bytes_known s (λ i. omega (arith, c.type_inv.s i)) in
-    let none = at_start c.args.arity c.args.rules s c.requires.1 c.requires.2 in
-    let read =
-    rules_gathered c.args.arity c.args.rules s words codes (omega arith) bytes c.in-Done.is
-    (scan.ensures.result_after ∙ none) in
-    record {
-      result_after = check_many read (omega arith) (tests_many read (omega arith));
-      held = record { all_words = scan.ensures.scanned.all_words; all_codes = scan.ensures.scanned.all_codes; counted = tt };
-      tests_starts = (tt, scan.ensures.scan_starts.1);
-    }
-
-pub count_places-places-requires : goal.count_places-places-requires
-count_places-places-requires c = c.scan_rules-scan.ensures.scanned.all_words
+pub returns-then-scan-gt64-clause-result_after : goal.returns-then-scan-gt64-clause-result_after
+returns-then-scan-gt64-clause-result_after c =
+    let bytes = bytes_known c.args.s.now (λ i. omega (arith, c.type_inv.s i)) in
+    let read = rules_read (goal.at.returns-then-scan-gt64-clause-result_after c).In_ok-scan bytes in
+    check_many read (omega arith) (tests_many read (omega arith))
 
 pub overflow_add-places : goal.overflow_add-places
 overflow_add-places c =
-    let scan = c.scan_rules-scan in
-    let words = c.scan_rules-scan.new.words in
-    omega (arith, c.count_places-places.ensures, places_few words, scan.ensures.scanned.all_words)
+    let words = c.scan_rules.new.words in
+    omega (arith, c.count_places-places.ensures, places_few words, c.scan_rules.ensures.scanned.all_words)
 
-pub returns-then-places-pairs-gt64 : goal.returns-then-places-pairs-gt64
-returns-then-places-pairs-gt64 c =
-    let scan = c.scan_rules-scan in
-    let s = c.args.s.now in
-    let words = c.scan_rules-scan.new.words in
-    let codes = c.scan_rules-scan.new.codes in
-    let bytes = bytes_known s (λ i. omega (arith, c.type_inv.s i)) in
-    let none = at_start c.args.arity c.args.rules s c.requires.1 c.requires.2 in
-    let read =
-    rules_gathered c.args.arity c.args.rules s words codes (omega arith) bytes c.in-Done.is
-    (scan.ensures.result_after ∙ none) in
-    let number = tests_number read (omega arith) (omega (arith, scan.ensures.scanned.all_codes)) in
-    record {
-      result_after = check_many read (omega arith) (omega (arith, c.count_places-places.ensures));
-      held = record { all_words = scan.ensures.scanned.all_words; all_codes = scan.ensures.scanned.all_codes; counted = tt };
-      tests_starts = (tt, scan.ensures.scan_starts.1);
-    }
+pub returns-then-places-scan-gt64-clause-result_after : goal.returns-then-places-scan-gt64-clause-result_after
+returns-then-places-scan-gt64-clause-result_after c =
+    let bytes = bytes_known c.args.s.now (λ i. omega (arith, c.type_inv.s i)) in
+    let read = rules_read (goal.at.returns-then-places-scan-gt64-clause-result_after c).In_ok-scan bytes in
+    let many = tests_number read (omega arith) (omega (arith, c.scan_rules.ensures.scanned.all_codes)) in
+    check_many read (omega arith) (omega (arith, c.count_places-places.ensures))
 
-pub returns-in-Refused : goal.returns-in-Refused
-returns-in-Refused c =
-    let scan = c.scan_rules-scan in
-    let s = c.args.s.now in
-    let words = c.scan_rules-scan.new.words in
-    let codes = c.scan_rules-scan.new.codes in
-    let none = at_start c.args.arity c.args.rules s c.requires.1 c.requires.2 in
-    record {
-      result_after = check_refused c.args.arity c.args.rules s words codes c.in-Refused.is
-          (scan.ensures.result_after ∙ none);
-      held = record { all_words = scan.ensures.scanned.all_words; all_codes = scan.ensures.scanned.all_codes; counted = tt };
-      tests_starts = (tt, scan.ensures.scan_starts.1);
-    }
-
-pub returns-else-places-pairs-gt64 : goal.returns-else-places-pairs-gt64
-returns-else-places-pairs-gt64 c =
-    let scan = c.scan_rules-scan in
-    let s = c.args.s.now in
-    let words = c.scan_rules-scan.new.words in
-    let codes = c.scan_rules-scan.new.codes in
-    let bytes = bytes_known s (λ i. omega (arith, c.type_inv.s i)) in
-    let none = at_start c.args.arity c.args.rules s c.requires.1 c.requires.2 in
-    let read =
-    rules_gathered c.args.arity c.args.rules s words codes (omega arith) bytes c.in-Done.is
-    (scan.ensures.result_after ∙ none) in
-    let number = tests_number read (omega arith) (omega (arith, scan.ensures.scanned.all_codes)) in
-    record {
-      result_after = check_accepted read (omega arith) (omega (arith, c.count_places-places.ensures)) (omega arith);
-      held = record {
-        all_words = scan.ensures.scanned.all_words;
-        all_codes = scan.ensures.scanned.all_codes;
-        counted = (c.count_places-places.ensures, omega (arith, c.count_places-places.ensures));
-      };
-      tests_starts = (
-        (
-          c.requires.3,
-          starts_done c.args.arity c.args.rules s scan.new.starts c.in-Done.is scan.ensures.scan_starts.0,
-        ),
-        scan.ensures.scan_starts.1,
-      );
-    }
+pub returns-clause-result_after : goal.returns-clause-result_after
+returns-clause-result_after c =
+    let bytes = bytes_known c.args.s.now (λ i. omega (arith, c.type_inv.s i)) in
+    let read = rules_read (goal.at.returns-clause-result_after c).In_ok-scan bytes in
+    let many = tests_number read (omega arith) (omega (arith, c.scan_rules.ensures.scanned.all_codes)) in
+    check_accepted read (omega arith) (omega (arith, c.count_places-places.ensures)) (omega arith)

@@ -1,5 +1,5 @@
 -- A loop over the rules: what comes of those left, with what is gathered, is what comes of all.
-use Prim.Native.Nat.{◌-◌, ◌≤◌}
+use Prim.Native.Nat.{◌≤◌}
 use mathlib.Core.Path.{◌≡◌}
 use lib.ListN.{length}
 use Rattle.records.specs.Reading.{map_reading}
@@ -11,10 +11,7 @@ use Rattle.sheet_tests.proofs.sheets.scan_rules.Given as goal
 
 abbrev pub invariant-loop-i : goal.invariant-loop-i
 invariant-loop-i l =
-    (l.i ≤ l.rules) × (l.at ≤ length l.s) × (l.count ≤ 65) × (length l.notes ≡ 680) × (length l.words ≡ 11) × (length l.codes ≡ 65)
+    (l.at ≤ length l.s) × (l.count ≤ 65) × (length l.notes ≡ 680) × (length l.words ≡ 11) × (length l.codes ≡ 65)
     × (scan_from l.arity l.rules l.s l.i l.at (held l.words l.codes l.count)
     ≡ map_reading (λ rs. gather rs (held l.initial.words l.initial.codes 0)) (read_rules l.arity l.rules l.s))
     × (length l.starts ≡ 64) × (l.at ≡ rule_start l.arity l.s l.i) × StartsIn l.arity l.s l.starts l.i
-
-abbrev pub decreases-loop-i : goal.decreases-loop-i
-decreases-loop-i l = l.rules - l.i

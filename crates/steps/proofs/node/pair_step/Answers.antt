@@ -34,7 +34,7 @@ returns-in-Holds c =
     ∙ pair_there left right a.differ a.other (pair_code a.p a.q) (pair_cells cells a.p a.q)
     (λ e. c.if-look-eq0.false (c.look.ensures ∙ e))
     (ne_eqb right 0 (λ e. c.if-look-eq0-2.false (c.look-2.ensures ∙ e)))
-    (sym (ap outcome_of c.in-Holds.is) ∙ c.pair_outcome-outcome.ensures)
+    (sym (ap outcome_of c.in-Holds.is) ∙ c.pair_outcome.ensures)
 
 pub returns-in-NotKnown : goal.returns-in-NotKnown
 returns-in-NotKnown c =
@@ -46,7 +46,7 @@ returns-in-NotKnown c =
     ∙ pair_there left right a.differ a.other (pair_code a.p a.q) (pair_cells cells a.p a.q)
     (λ e. c.if-look-eq0.false (c.look.ensures ∙ e))
     (ne_eqb right 0 (λ e. c.if-look-eq0-2.false (c.look-2.ensures ∙ e)))
-    (sym (ap outcome_of c.in-NotKnown.is) ∙ c.pair_outcome-outcome.ensures)
+    (sym (ap outcome_of c.in-NotKnown.is) ∙ c.pair_outcome.ensures)
 
 pub returns-in-Contradicted : goal.returns-in-Contradicted
 returns-in-Contradicted c =
@@ -58,4 +58,4 @@ returns-in-Contradicted c =
     ∙ pair_there left right a.differ a.other (pair_code a.p a.q) (pair_cells cells a.p a.q)
     (λ e. c.if-look-eq0.false (c.look.ensures ∙ e))
     (ne_eqb right 0 (λ e. c.if-look-eq0-2.false (c.look-2.ensures ∙ e)))
-    (sym (ap outcome_of c.in-Contradicted.is) ∙ c.pair_outcome-outcome.ensures)
+    (sym (ap outcome_of c.in-Contradicted.is) ∙ c.pair_outcome.ensures)

@@ -6,7 +6,7 @@ use lib.ListN.{drop}
 use Rattle.outcomes.specs.views.Look.{look}
 use Rattle.records.proofs.Parts.{rest}
 use Rattle.graph.specs.declared.NodeRecord.TheVariants.{Switch, Pair}
-use Rattle.graph.specs.declared.NodeHead.TheVariants.{Whole}
+use Rattle.std.specs.Prelude.{Ok}
 use Rattle.graph.specs.views.Rewriting.{read_or}
 use Rattle.graph.specs.ReadGraph.{read_cases}
 use Rattle.graph.specs.views.NodeRecord.{node_head}
@@ -19,24 +19,24 @@ use Rattle.steps.proofs.StepsMade.{leaf_back}
 use Rattle.steps.proofs.NodeSteps.{leaf_node, pair_node_lem, switch_node, cases_inside_lem, cases_begin, cases_read}
 use Rattle.steps.proofs.node.step_at.Goals as goal
 
-pub returns-in_default : goal.returns-in_default
-returns-in_default c =
+pub returns-in_err-node : goal.returns-in_err-node
+returns-in_err-node c =
     let a = c.args in
     let s = c.args.graph.now in
     let cells = c.args.cells.now in
-    let read = ap node_head (sym (rest s a.at)) ∙ sym c.node_head-head.ensures in
+    let read = ap node_head (sym (rest s a.at)) in
     absurd
     (node_there (drop a.at s) c.requires.0.whole
-    (read ∙ c.in_default.is))
+    (read ∙ sym c.in_err-node.ensures))
 
 pub switch_step-requires : goal.switch_step-requires
 switch_step-requires c =
     let a = c.args in
     let stands = c.requires.0 in
     let s = c.args.graph.now in
-    let read = ap node_head (sym (rest s a.at)) ∙ sym c.node_head-head.ensures in
-    let switching : node_head (drop a.at s) ≡ Whole (Switch c.in-Switch.tested c.in-Switch.count c.in-Switch.neither c.in-Switch.unknown) =
-    read ∙ c.in-Whole.is ∙ ap Whole c.in-Switch.is in
+    let read = ap node_head (sym (rest s a.at)) in
+    let switching : node_head (drop a.at s) ≡ Ok (Switch c.in-Switch.tested c.in-Switch.count c.in-Switch.neither c.in-Switch.unknown) =
+    read ∙ sym c.in_ok-node.ensures ∙ ap Ok c.in-Switch.is in
     let node = sym (switch_node (drop a.at s) switching stands.whole) in (
       record {
         begins = cases_inside_lem s a.at stands.begins switching;
@@ -52,9 +52,9 @@ pair_step-requires c =
     let a = c.args in
     let s = c.args.graph.now in
     let cells = c.args.cells.now in
-    let read = ap node_head (sym (rest s a.at)) ∙ sym c.node_head-head.ensures in
-    let pairing : node_head (drop a.at s) ≡ Whole (Pair c.in-Pair.p c.in-Pair.q c.in-Pair.differ c.in-Pair.other) =
-    read ∙ c.in-Whole.is ∙ ap Whole c.in-Pair.is in
+    let read = ap node_head (sym (rest s a.at)) in
+    let pairing : node_head (drop a.at s) ≡ Ok (Pair c.in-Pair.p c.in-Pair.q c.in-Pair.differ c.in-Pair.other) =
+    read ∙ sym c.in_ok-node.ensures ∙ ap Ok c.in-Pair.is in
     let near = subst NearNode (sym (pair_node_lem (drop a.at s) pairing)) c.requires.0.near in (near.0, near.1, c.requires.1)
 
 pub returns-in-End : goal.returns-in-End
@@ -62,10 +62,10 @@ returns-in-End c =
     let a = c.args in
     let s = c.args.graph.now in
     let cells = c.args.cells.now in
-    let read = ap node_head (sym (rest s a.at)) ∙ sym c.node_head-head.ensures in
-    let ending = read ∙ c.in-Whole.is ∙ ap Whole c.in-End.is in
+    let read = ap node_head (sym (rest s a.at)) in
+    let ending = read ∙ sym c.in_ok-node.ensures ∙ ap Ok c.in-End.is in
     let leaf = leaf_node (drop a.at s) c.in-End.leaf ending in
-    ap Stop (leaf_back c.in-End.leaf) ∙ ap (node_step cells) leaf
+    ap Ok (ap Stop (leaf_back c.in-End.leaf) ∙ ap (node_step cells) leaf)
 
 pub returns-in-Switch : goal.returns-in-Switch
 returns-in-Switch c =
@@ -73,22 +73,22 @@ returns-in-Switch c =
     let stands = c.requires.0 in
     let s = c.args.graph.now in
     let cells = c.args.cells.now in
-    let read = ap node_head (sym (rest s a.at)) ∙ sym c.node_head-head.ensures in
-    let switching : node_head (drop a.at s) ≡ Whole (Switch c.in-Switch.tested c.in-Switch.count c.in-Switch.neither c.in-Switch.unknown) =
-    read ∙ c.in-Whole.is ∙ ap Whole c.in-Switch.is in
+    let read = ap node_head (sym (rest s a.at)) in
+    let switching : node_head (drop a.at s) ≡ Ok (Switch c.in-Switch.tested c.in-Switch.count c.in-Switch.neither c.in-Switch.unknown) =
+    read ∙ sym c.in_ok-node.ensures ∙ ap Ok c.in-Switch.is in
     let node = switch_node (drop a.at s) switching stands.whole in
     let same =
     ap (λ (l : List ℕ). run_step (read_or [] (read_cases c.in-Switch.count l)) c.in-Switch.neither c.in-Switch.unknown (look cells c.in-Switch.tested))
     (sym (cases_begin s a.at stands.begins switching)) in
-    c.switch_step.ensures ∙ ap (step_made (pair_code c.in-Switch.tested c.in-Switch.tested)) same ∙ ap (node_step cells) node
+    c.switch_step.ensures ∙ ap Ok (ap (step_made (pair_code c.in-Switch.tested c.in-Switch.tested)) same ∙ ap (node_step cells) node)
 
 pub returns-in-Pair : goal.returns-in-Pair
 returns-in-Pair c =
     let a = c.args in
     let s = c.args.graph.now in
     let cells = c.args.cells.now in
-    let read = ap node_head (sym (rest s a.at)) ∙ sym c.node_head-head.ensures in
-    let pairing : node_head (drop a.at s) ≡ Whole (Pair c.in-Pair.p c.in-Pair.q c.in-Pair.differ c.in-Pair.other) =
-    read ∙ c.in-Whole.is ∙ ap Whole c.in-Pair.is in
+    let read = ap node_head (sym (rest s a.at)) in
+    let pairing : node_head (drop a.at s) ≡ Ok (Pair c.in-Pair.p c.in-Pair.q c.in-Pair.differ c.in-Pair.other) =
+    read ∙ sym c.in_ok-node.ensures ∙ ap Ok c.in-Pair.is in
     let node = pair_node_lem (drop a.at s) pairing in
-    c.pair_step.ensures ∙ ap (node_step cells) node
+    ap Ok (c.pair_step.ensures ∙ ap (node_step cells) node)

@@ -9,7 +9,7 @@ use Rattle.test_list.proofs.numbers.number_places.Goals as goal
 use Rattle.test_list.proofs.numbers.number_places.Goals.{then-place-lt680, else-place-lt680}
 
 pub loop-t-init : goal.loop-t-init
-loop-t-init c = (omega arith, c.requires.2, refl)
+loop-t-init c = (c.requires.2, refl)
 
 pub loop-t-preserved : goal.loop-t-preserved
 loop-t-preserved c =
@@ -18,21 +18,18 @@ loop-t-preserved c =
     let count = c.args.count in
     let t = c.loop-t.t in
     let numbers = c.loop-t.numbers in
-    let is = c.wide-place.ensures in
     elim c.if-place-lt680.branch [
       | then-place-lt680 w ↦ (
-        omega arith,
-        ap length w.numbers-is ∙ length-set numbers _ t ∙ turn.invariant.1,
-        ap (number_all (drop (t + 1) (take count places)) (t + 1)) (w.numbers-is ∙ ap (λ (p : ℕ). set numbers p t) is)
+        ap length w.numbers-is ∙ length-set numbers _ t ∙ turn.invariant.0,
+        ap (number_all (drop (t + 1) (take count places)) (t + 1)) w.numbers-is
             ∙ number_turn places count t (omega arith) (omega arith) numbers
-            ∙ turn.invariant.2,
+            ∙ turn.invariant.1,
       )
       | else-place-lt680 w ↦ (
-        omega arith,
-        ap length w.numbers-is ∙ turn.invariant.1,
+        ap length w.numbers-is ∙ turn.invariant.0,
         ap (number_all (drop (t + 1) (take count places)) (t + 1)) w.numbers-is
-            ∙ number_skip places count t (omega arith) (omega arith) numbers (omega (arith, w.if-place-lt680.false, is, turn.invariant.1))
-            ∙ turn.invariant.2,
+            ∙ number_skip places count t (omega arith) (omega arith) numbers (omega (arith, w.if-place-lt680.false, turn.invariant.0))
+            ∙ turn.invariant.1,
       )
     ]
 
@@ -40,4 +37,4 @@ pub returns : goal.returns
 returns c =
     let turn = c.loop-t in
     sym (number_end c.args.places.now c.args.count turn.t (omega arith) (omega arith) turn.numbers)
-    ∙ turn.invariant.2
+    ∙ turn.invariant.1

@@ -20,7 +20,7 @@ loop-t-preserved c =
     let many : length (take a.pairs a.codes.now) ≡ a.pairs =
     length-take-le a.pairs a.codes.now (omega (arith, c.requires)) in
     putting_turn (4 + a.count) (take a.pairs a.codes.now) _ turn.s turn.t turn.invariant _ refl (omega arith)
-    (c.wide.ensures ∙ sym (get_or-take a.pairs a.codes.now turn.t 0 (omega arith)))
+    (sym (get_or-take a.pairs a.codes.now turn.t 0 (omega arith)))
 
 pub returns : goal.returns
 returns c =

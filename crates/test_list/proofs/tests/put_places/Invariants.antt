@@ -1,5 +1,4 @@
 -- A loop over the listed places: those passed are written down.
-use Prim.Native.Nat.{◌-◌}
 use mathlib.Core.List.{map}
 use lib.ListN.{take}
 use Rattle.test_list.specs.views.Tests.{spot_code}
@@ -8,6 +7,3 @@ use Rattle.test_list.proofs.tests.put_places.Given as goal
 
 abbrev pub invariant-loop-t : goal.invariant-loop-t
 invariant-loop-t l = Putting 4 (map spot_code (take l.count l.places)) l.initial.s l.s l.t
-
-abbrev pub decreases-loop-t : goal.decreases-loop-t
-decreases-loop-t l = l.count - l.t

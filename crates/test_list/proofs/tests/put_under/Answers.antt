@@ -41,9 +41,6 @@ bounds-s-t c =
     let pre = c.requires in
     omega (arith, c.place_tests-count.ensures, pre.places, pre.few, c.loop-t.invariant.entries, pre.entries)
 
-pub loop-t-smaller : goal.loop-t-smaller
-loop-t-smaller c = omega (arith, c.place_tests-count.ensures)
-
 pub loop-t-preserved : goal.loop-t-preserved
 loop-t-preserved c =
     let turn = c.loop-t in

@@ -1,5 +1,5 @@
 -- A loop over the place tests: what an unknown at those passed settles is written down.
-use Prim.Native.Nat.{ℕ, ◌-◌}
+use Prim.Native.Nat.{ℕ}
 use mathlib.Core.List.{List, map}
 use Rattle.basics.specs.Lists.{count_from}
 use Rattle.tables.specs.views.Planes.{place_tests_in}
@@ -12,6 +12,3 @@ sets s = map (settled_below s) (count_from 0 (place_tests_in s))
 
 abbrev pub invariant-loop-t : goal.invariant-loop-t
 invariant-loop-t l = Putting 196 (sets l.initial.s) l.initial.s l.s l.t
-
-abbrev pub decreases-loop-t : goal.decreases-loop-t
-decreases-loop-t l = place_tests_in l.initial.s - l.t

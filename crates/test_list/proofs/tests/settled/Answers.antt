@@ -25,9 +25,6 @@ overflow_shl-all c =
     let pre = c.requires.0 in
     omega (arith, c.place_tests-count.ensures, pre.few, pre.places)
 
-pub loop-u-smaller : goal.loop-u-smaller
-loop-u-smaller c = omega (arith, c.place_tests-count.ensures)
-
 pub loop-u-preserved : goal.loop-u-preserved
 loop-u-preserved c =
     let turn = c.loop-u in

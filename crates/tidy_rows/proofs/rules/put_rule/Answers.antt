@@ -14,25 +14,25 @@ use Rattle.rule_rows.proofs.NextRecords.{goes, ends, behind_it}
 use Rattle.tidy_rows.proofs.RowSteps.{ends_here, nothing_onward, ends_same, onward_next, Written-next}
 use Rattle.tidy_rows.proofs.rules.put_rule.Goals as goal
 
-pub loop-what-init : goal.loop-what-init
-loop-what-init c = (c.requires.0, omega (arith, c.requires.1), c.requires.2, refl, refl, refl, refl)
+pub loop-next-init : goal.loop-next-init
+loop-next-init c = (c.requires.0, omega (arith, c.requires.1), c.requires.2, refl, refl, refl, refl)
 
-pub next_record-next-requires : goal.next_record-next-requires
-next_record-next-requires c = c.loop-what.invariant.0
+pub next_record-requires : goal.next_record-requires
+next_record-requires c = c.loop-next.invariant.0
 
-pub shape_of-buf-in_default : goal.shape_of-buf-in_default
-shape_of-buf-in_default c = c.loop-what.invariant.3
+pub shape_of-buf : goal.shape_of-buf
+shape_of-buf c = c.loop-next.invariant.3
 
-pub returns-in_default : goal.returns-in_default
-returns-in_default c =
-    let turn = c.loop-what in
+pub returns : goal.returns
+returns c =
+    let turn = c.loop-next in
     let s = c.args.s.now in
-    let row = c.loop-what.row in
-    let inv = c.loop-what.invariant in
-    let read = c.next_record-next.ensures in
+    let row = c.loop-next.row in
+    let inv = c.loop-next.invariant in
+    let read = c.next_record.ensures in
     let x : Numbering = record { words = turn.words; count = turn.count } in
-    let buf = c.loop-what.buf in
-    let end = c.loop-what.end in
+    let buf = c.loop-next.buf in
+    let end = c.loop-next.end in
     let x₀ : Numbering = record { words = c.args.words.now; count = 0 } in
     let none = ends s row read.row_value c.in_default.is in
     let from = ends_here s row none ∙ inv.4 in
@@ -45,25 +45,25 @@ returns-in_default c =
     }
 
 pub number_record-count-requires : goal.number_record-count-requires
-number_record-count-requires c = (c.loop-what.invariant.2, omega (arith, c.loop-what.invariant.1))
+number_record-count-requires c = (c.loop-next.invariant.2, omega (arith, c.loop-next.invariant.1))
 
 pub tidy_record-requires : goal.tidy_record-requires
 tidy_record-requires c = c.number_record-count.ensures.words_len.0
 
 pub put_record-end-requires : goal.put_record-end-requires
 put_record-end-requires c =
-    let turn = c.loop-what in
+    let turn = c.loop-next in
     let s = c.args.s.now in
-    let row = c.loop-what.row in
-    let inv = c.loop-what.invariant in
-    let read = c.next_record-next.ensures in
+    let row = c.loop-next.row in
+    let inv = c.loop-next.invariant in
+    let read = c.next_record.ensures in
     let x : Numbering = record { words = turn.words; count = turn.count } in
-    let buf = c.loop-what.buf in
-    let end = c.loop-what.end in
-    let what = c.in-Record.what in
-    let more = c.in-Record.more in
-    let whole = goes s row read.row_value c.in-Record.is in
-    let on = behind_it s row read.row_value read.goes_on c.in-Record.is in
+    let buf = c.loop-next.buf in
+    let end = c.loop-next.end in
+    let what = c.in-Some.next.what in
+    let more = c.in-Some.next.rest in
+    let whole = goes s row read.row_value c.in-Some.is in
+    let on = behind_it s row read.row_value read.goes_on c.in-Some.is in
     let numbered = c.number_record-count.ensures in
     let y : Numbering = record { words = c.number_record-count.new.words; count = c.number_record-count.result } in
     let part = record_spelling (tidy_in y.words what) in
@@ -73,29 +73,29 @@ put_record-end-requires c =
     let room : end + length part ≤ length buf = omega (arith, size, inv.3, inv.5, c.requires.3) in
     omega (arith, room, ap (λ (r : PatternRecord). length (record_spelling r)) c.tidy_record.ensures)
 
-pub loop-what-smaller : goal.loop-what-smaller
-loop-what-smaller c =
-    let turn = c.loop-what in
+pub loop-next-smaller : goal.loop-next-smaller
+loop-next-smaller c =
+    let turn = c.loop-next in
     let s = c.args.s.now in
-    let row = c.loop-what.row in
-    let inv = c.loop-what.invariant in
-    let read = c.next_record-next.ensures in
-    omega (arith, (behind_it s row read.row_value read.goes_on c.in-Record.is).1)
+    let row = c.loop-next.row in
+    let inv = c.loop-next.invariant in
+    let read = c.next_record.ensures in
+    omega (arith, (behind_it s row read.row_value read.goes_on c.in-Some.is).1)
 
-pub loop-what-preserved : goal.loop-what-preserved
-loop-what-preserved c =
-    let turn = c.loop-what in
+pub loop-next-preserved : goal.loop-next-preserved
+loop-next-preserved c =
+    let turn = c.loop-next in
     let s = c.args.s.now in
-    let row = c.loop-what.row in
-    let inv = c.loop-what.invariant in
-    let read = c.next_record-next.ensures in
+    let row = c.loop-next.row in
+    let inv = c.loop-next.invariant in
+    let read = c.next_record.ensures in
     let x : Numbering = record { words = turn.words; count = turn.count } in
-    let buf = c.loop-what.buf in
-    let end = c.loop-what.end in
-    let what = c.in-Record.what in
-    let more = c.in-Record.more in
-    let whole = goes s row read.row_value c.in-Record.is in
-    let on = behind_it s row read.row_value read.goes_on c.in-Record.is in
+    let buf = c.loop-next.buf in
+    let end = c.loop-next.end in
+    let what = c.in-Some.next.what in
+    let more = c.in-Some.next.rest in
+    let whole = goes s row read.row_value c.in-Some.is in
+    let on = behind_it s row read.row_value read.goes_on c.in-Some.is in
     let numbered = c.number_record-count.ensures in
     let y : Numbering = record { words = c.number_record-count.new.words; count = c.number_record-count.result } in
     let part = record_spelling (tidy_in y.words what) in

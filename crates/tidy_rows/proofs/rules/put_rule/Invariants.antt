@@ -8,8 +8,8 @@ use Rattle.tidy_rows.specs.views.TidyRow.{tidy_onward}
 use Rattle.tidy_rows.proofs.RowSteps.{end_from}
 use Rattle.tidy_rows.proofs.rules.put_rule.Given as goal
 
-abbrev pub invariant-loop-what : goal.invariant-loop-what
-invariant-loop-what l =
+abbrev pub invariant-loop-next : goal.invariant-loop-next
+invariant-loop-next l =
     Going l.s l.row × (l.count + l.row.most ≤ 680) × (length l.words ≡ 16) × (length l.buf ≡ length l.initial.buf)
     × (end_from l.s l.row ≡ end_from l.s l.initial.row)
     × (l.end + length (tidy_onward (record { words = l.words; count = l.count }) (records_from l.s l.row))
@@ -17,6 +17,6 @@ invariant-loop-what l =
     × (splice l.buf l.end (tidy_onward (record { words = l.words; count = l.count }) (records_from l.s l.row))
     ≡ splice l.initial.buf l.to (tidy_onward (record { words = l.initial.words; count = 0 }) (records_from l.s l.initial.row)))
 
-abbrev pub decreases-loop-what : goal.decreases-loop-what
-decreases-loop-what l =
+abbrev pub decreases-loop-next : goal.decreases-loop-next
+decreases-loop-next l =
     l.row.most

@@ -1,7 +1,7 @@
 -- The refusal's number, and the cells that the feed leaves.
 use mathlib.Core.Path.{ap, ◌∙◌}
 use Rattle.window.specs.LastThousand.{given}
-use Rattle.window.specs.Handed.{refusal_in}
+use Rattle.records.specs.Refusals.{refusal_in}
 use Rattle.window.proofs.Steps.{fed_refusal}
 use Rattle.voltunnis.proofs.window_calls.vt_window_feed.Goals as goal
 

@@ -14,7 +14,7 @@ loop-i-init c =
     let pre = c.requires in
     let cells = c.args.cells.now in
     let met = c.args.met.now in
-    (omega arith, met_none (listed_tests a.kept.now) cells)
+    (met_none (listed_tests a.kept.now) cells)
 
 pub with_open-set-requires : goal.with_open-set-requires
 with_open-set-requires c =
@@ -22,7 +22,7 @@ with_open-set-requires c =
     let pre = c.requires in
     let cells = c.args.cells.now in
     let met = c.args.met.now in
-    (pre.listed.0, met_at_lem a.kept.now pre.listed.0 cells met a.edges c.loop-i.i pre.all c.loop-i-test.true (omega (arith, pre.listed.1, pre.listed.2)), pre.listed.3)
+    (pre.listed.0, met_at_lem a.kept.now pre.listed.0 cells met a.edges c.loop-i.i pre.all (omega arith) (omega (arith, pre.listed.1, pre.listed.2)), pre.listed.3)
 
 pub loop-i-preserved : goal.loop-i-preserved
 loop-i-preserved c =
@@ -30,7 +30,7 @@ loop-i-preserved c =
     let pre = c.requires in
     let cells = c.args.cells.now in
     let met = c.args.met.now in
-    (omega arith, c.with_open-set.ensures ∙ met_turn a.kept.now pre.listed.0 cells met a.edges c.loop-i.i pre.all c.loop-i-test.true (omega (arith, pre.listed.1, pre.listed.2)) c.loop-i.invariant.1)
+    (c.with_open-set.ensures ∙ met_turn a.kept.now pre.listed.0 cells met a.edges c.loop-i.i pre.all (omega arith) (omega (arith, pre.listed.1, pre.listed.2)) c.loop-i.invariant)
 
 pub returns : goal.returns
 returns c =
@@ -39,4 +39,4 @@ returns c =
     let cells = c.args.cells.now in
     let met = c.args.met.now in
     let done : c.loop-i.i ≡ a.edges = omega arith in
-    c.loop-i.invariant.1 ∙ ap (λ (n : ℕ). met_waits (listed_tests a.kept.now) cells (take n met)) done
+    c.loop-i.invariant ∙ ap (λ (n : ℕ). met_waits (listed_tests a.kept.now) cells (take n met)) done

@@ -1,5 +1,4 @@
 -- `waiting::open::open_waits` meets its contract: a loop over the tests met that builds the set.
-use Prim.Native.Nat.{◌-◌, ◌≤◌}
 use mathlib.Core.Path.{◌≡◌}
 use lib.ListN.{take}
 use Rattle.rule_masks.specs.views.Kept.{listed_tests}
@@ -8,7 +7,4 @@ use Rattle.waiting.proofs.open.open_waits.Given as goal
 
 abbrev pub invariant-loop-i : goal.invariant-loop-i
 invariant-loop-i l =
-    (l.i ≤ l.edges) × (l.set ≡ met_waits (listed_tests l.kept) l.cells (take l.i l.met))
-
-abbrev pub decreases-loop-i : goal.decreases-loop-i
-decreases-loop-i l = l.edges - l.i
+    (l.set ≡ met_waits (listed_tests l.kept) l.cells (take l.i l.met))

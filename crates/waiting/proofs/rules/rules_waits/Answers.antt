@@ -11,53 +11,52 @@ use Rattle.waiting.specs.views.SpanTests.{with_rule}
 use Rattle.waiting.proofs.RulesAdded.{adding_starts, adding_done, adding_there, adding_more}
 use Rattle.waiting.proofs.rules.rules_waits.Goals as goal
 
-pub loop-i-init : goal.loop-i-init
-loop-i-init c =
+pub loop-init : goal.loop-init
+loop-init c =
     let a = c.args in
     let tests = listed_tests a.kept.now in
     let front = take a.edges a.numbers.now in (
-      omega arith,
       c.requires.arity_bound.2,
       adding_starts tests a.cells.now front a.s.now a.shape.arity a.shape.rules c.requires.arity_bound.1,
     )
 
 pub slice_bounds-read_rule-count : goal.slice_bounds-read_rule-count
 slice_bounds-read_rule-count c =
-    c.loop-i.invariant.2.there
+    c.loop.invariant.1.there
 
 pub slice_bounds-read_rule-start : goal.slice_bounds-read_rule-start
 slice_bounds-read_rule-start c =
-    c.loop-i.invariant.2.there
+    c.loop.invariant.1.there
 
-pub read_rule-read-requires : goal.read_rule-read-requires
-read_rule-read-requires c =
-    (c.requires.arity_bound.0, c.loop-i.invariant.1)
+pub read_rule-requires : goal.read_rule-requires
+read_rule-requires c =
+    (c.requires.arity_bound.0, c.loop.invariant.0)
 
 pub returns-in_default : goal.returns-in_default
 returns-in_default c =
     let a = c.args in
     let tests = listed_tests a.kept.now in
     let front = take a.edges a.numbers.now in
-    let loop = c.loop-i in
-    let call = c.read_rule-read in
+    let loop = c.loop in
+    let call = c.read_rule in
     let refused =
     rule_refused a.shape.arity loop.at a.s.now call.new.notes call.result call.ensures.result_after
     c.in_default.is in
     absurd
-    (adding_there tests a.cells.now front a.s.now a.shape.arity a.shape.rules loop.invariant.2
-    c.loop-i-test.true refused)
+    (adding_there tests a.cells.now front a.s.now a.shape.arity a.shape.rules loop.invariant.1
+    (omega arith) refused)
 
-pub rule_masks-requires : goal.rule_masks-requires
-rule_masks-requires c =
+pub rule_masks-masks-requires : goal.rule_masks-masks-requires
+rule_masks-masks-requires c =
     let a = c.args in
     let s = c.args.s.now in
-    let loop = c.loop-i in
-    let call = c.read_rule-read in
+    let loop = c.loop in
+    let call = c.read_rule in
     let bytes =
     bytes_known s (λ k. omega (arith, c.type_inv.s k)) in
     let rule =
     rule_read_lem a.shape.arity loop.at s call.new.notes call.result call.ensures.result_after c.requires.arity_bound.0 bytes
-    c.in-Used.is call.ensures.took_within in
+    c.in-Ok.is call.ensures.took_within in
     (rule.made, call.ensures.took_within.entries, rule.placed, c.requires.arity_bound.3, c.requires.arity_bound.4)
 
 pub with_rule-set-requires : goal.with_rule-set-requires
@@ -68,36 +67,35 @@ pub overflow_add-at : goal.overflow_add-at
 overflow_add-at c =
     let a = c.args in
     let s = c.args.s.now in
-    let loop = c.loop-i in
-    let call = c.read_rule-read in
+    let loop = c.loop in
+    let call = c.read_rule in
     let bytes =
     bytes_known s (λ k. omega (arith, c.type_inv.s k)) in
     let rule =
     rule_read_lem a.shape.arity loop.at s call.new.notes call.result call.ensures.result_after c.requires.arity_bound.0 bytes
-    c.in-Used.is call.ensures.took_within in
-    omega (arith, rule.used, loop.invariant.2.there)
+    c.in-Ok.is call.ensures.took_within in
+    omega (arith, rule.used, loop.invariant.1.there)
 
-pub loop-i-preserved : goal.loop-i-preserved
-loop-i-preserved c =
+pub loop-preserved : goal.loop-preserved
+loop-preserved c =
     let a = c.args in
     let s = c.args.s.now in
-    let loop = c.loop-i in
-    let call = c.read_rule-read in
+    let loop = c.loop in
+    let call = c.read_rule in
     let bytes =
     bytes_known s (λ k. omega (arith, c.type_inv.s k)) in
     let rule =
     rule_read_lem a.shape.arity loop.at s call.new.notes call.result call.ensures.result_after c.requires.arity_bound.0 bytes
-    c.in-Used.is call.ensures.took_within in
+    c.in-Ok.is call.ensures.took_within in
     let tests = listed_tests a.kept.now in
     let cells = c.args.cells.now in
     let front = take a.edges a.numbers.now in
-    let masks = c.rule_masks.ensures ∙ ap (notes_masks tests cells) rule.noted in
-    let inside : loop.at + c.in-Used.bytes ≤ length s =
-    omega (arith, rule.used, loop.invariant.2.there) in (
-      omega (arith, c.loop-i-test.true),
+    let masks = c.rule_masks-masks.ensures ∙ ap (notes_masks tests cells) rule.noted in
+    let inside : loop.at + c.in-Ok.read.bytes ≤ length s =
+    omega (arith, rule.used, loop.invariant.1.there) in (
       call.ensures.took_within.entries,
-      adding_more tests cells front s a.shape.arity a.shape.rules loop.invariant.2
-          c.loop-i-test.true rule.read inside
+      adding_more tests cells front s a.shape.arity a.shape.rules loop.invariant.1
+          (omega arith) rule.read inside
           (c.with_rule-set.ensures ∙ ap (λ (m : Masks). with_rule m front loop.set) masks),
     )
 
@@ -106,7 +104,7 @@ returns c =
     let a = c.args in
     let tests = listed_tests a.kept.now in
     let front = take a.edges a.numbers.now in record {
-      value = adding_done tests a.cells.now front a.s.now a.shape.arity a.shape.rules c.loop-i.invariant.2
-          c.loop-i-test.false;
-      notes_len = c.loop-i.invariant.1;
+      value = adding_done tests a.cells.now front a.s.now a.shape.arity a.shape.rules c.loop.invariant.1
+          (omega arith);
+      notes_len = c.loop.invariant.0;
     }

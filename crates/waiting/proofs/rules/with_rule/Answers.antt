@@ -2,7 +2,7 @@
 use Prim.Native.Nat.{ℕ, ◌≤◌, ◌<◌}
 use mathlib.Core.Bool.{true, false}
 use mathlib.Core.List.{List}
-use mathlib.Core.Path.{sym, ap, ◌∙◌}
+use mathlib.Core.Path.{refl, sym, ap, ◌∙◌}
 use native.Mathlib.Omega.{arith}
 use lib.ListN.{length}
 use Rattle.waiting.specs.views.SpanTests.{with_rule}
@@ -17,17 +17,17 @@ has-requires c =
     let room : a.edges ≤ length a.numbers.now = omega (arith, c.requires.0, c.requires.1) in
     let few =
     front_at_lem a.numbers.now a.edges room loop.i
-    c.loop-i-test.true (λ (t : ℕ). t < 64) c.requires.2 in
-    omega (arith, c.wide-t.ensures, few)
+    (omega arith) (λ (t : ℕ). t < 64) c.requires.2 in
+    omega (arith, few)
 
 pub returns-then-has : goal.returns-then-has
 returns-then-has c =
     let a = c.args in
     let loop = c.loop-i in
     let room : a.edges ≤ length a.numbers.now = omega (arith, c.requires.0, c.requires.1) in
-    rule_out a.numbers.now a.edges room loop.i c.loop-i-test.true a.masks
-    loop.all c.wide-t.ensures (sym c.has.ensures ∙ c.if-has.true)
-    ∙ loop.invariant.1
+    rule_out a.numbers.now a.edges room loop.i (omega arith) a.masks
+    loop.all refl (sym c.has.ensures ∙ c.if-has.true)
+    ∙ loop.invariant
 
 pub has-requires-in-loop-i : goal.has-requires-in-loop-i
 has-requires-in-loop-i c =
@@ -36,8 +36,8 @@ has-requires-in-loop-i c =
     let room : a.edges ≤ length a.numbers.now = omega (arith, c.requires.0, c.requires.1) in
     let few =
     front_at_lem a.numbers.now a.edges room loop.i
-    c.loop-i-test.true (λ (t : ℕ). t < 64) c.requires.2 in
-    omega (arith, c.wide-t.ensures, few)
+    (omega arith) (λ (t : ℕ). t < 64) c.requires.2 in
+    omega (arith, few)
 
 pub insert-all-requires : goal.insert-all-requires
 insert-all-requires c =
@@ -46,8 +46,8 @@ insert-all-requires c =
     let room : a.edges ≤ length a.numbers.now = omega (arith, c.requires.0, c.requires.1) in
     let few =
     front_at_lem a.numbers.now a.edges room loop.i
-    c.loop-i-test.true (λ (t : ℕ). t < 64) c.requires.2 in
-    omega (arith, c.wide-t.ensures, few)
+    (omega arith) (λ (t : ℕ). t < 64) c.requires.2 in
+    omega (arith, few)
 
 pub loop-i-preserved : goal.loop-i-preserved
 loop-i-preserved c =
@@ -56,12 +56,12 @@ loop-i-preserved c =
     let room : a.edges ≤ length a.numbers.now = omega (arith, c.requires.0, c.requires.1) in
     let on =
     rule_on a.numbers.now a.edges room loop.i
-    c.loop-i-test.true a.masks loop.all
-    c.wide-t.ensures
+    (omega arith) a.masks loop.all
+    refl
     (sym c.has.ensures ∙ c.if-has.false) in
     elim c.if-has-2.branch [
-      | then-has-2 w ↦ (omega arith, on true (sym c.has-in-loop-i.ensures ∙ w.if-has-2.true) _ (w.all-is ∙ w.insert-all.ensures) ∙ loop.invariant.1)
-      | else-has-2 w ↦ (omega arith, on false (sym c.has-in-loop-i.ensures ∙ w.if-has-2.false) _ w.all-is ∙ loop.invariant.1)
+      | then-has-2 w ↦ (on true (sym c.has-in-loop-i.ensures ∙ w.if-has-2.true) _ (w.all-is ∙ w.insert-all.ensures) ∙ loop.invariant)
+      | else-has-2 w ↦ (on false (sym c.has-in-loop-i.ensures ∙ w.if-has-2.false) _ w.all-is ∙ loop.invariant)
     ]
 
 pub returns : goal.returns
@@ -70,4 +70,4 @@ returns c =
     let loop = c.loop-i in
     let room : a.edges ≤ length a.numbers.now = omega (arith, c.requires.0, c.requires.1) in
     let none = front_done a.numbers.now a.edges room loop.i (omega arith) in
-    sym (ap (λ (l : List ℕ). with_rule a.masks l loop.all) none) ∙ loop.invariant.1
+    sym (ap (λ (l : List ℕ). with_rule a.masks l loop.all) none) ∙ loop.invariant

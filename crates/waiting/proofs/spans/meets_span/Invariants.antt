@@ -1,5 +1,4 @@
 -- `waiting::spans::meets_span` meets its contract: a span is met among the tests that are left, or nowhere.
-use Prim.Native.Nat.{◌-◌, ◌≤◌}
 use mathlib.Core.Path.{◌≡◌}
 use lib.ListN.{take, drop}
 use Rattle.basics.specs.Lists.{any_of}
@@ -8,7 +7,4 @@ use Rattle.waiting.proofs.spans.meets_span.Given as goal
 
 abbrev pub invariant-loop-i : goal.invariant-loop-i
 invariant-loop-i l =
-    (l.i ≤ l.edges) × (any_of (span_at l.cells) (drop l.i (take l.edges l.met)) ≡ any_of (span_at l.cells) (take l.edges l.met))
-
-abbrev pub decreases-loop-i : goal.decreases-loop-i
-decreases-loop-i l = l.edges - l.i
+    (any_of (span_at l.cells) (drop l.i (take l.edges l.met)) ≡ any_of (span_at l.cells) (take l.edges l.met))

@@ -3,7 +3,7 @@ use Prim.Native.Nat.{ℕ, ◌<◌}
 use mathlib.Core.List.{map}
 use mathlib.Core.Path.{◌≡◌, sym, ap, ◌∙◌}
 use native.Mathlib.Omega.{arith}
-use lib.ListN.{length, take}
+use lib.ListN.{length, take, get_or}
 use Rattle.rule_masks.proofs.CodeNumbers.{listed_few}
 use Rattle.rule_masks.specs.views.TestNumbers.{test_number, code_test}
 use Rattle.rule_masks.specs.views.Kept.{listed_tests}
@@ -12,16 +12,16 @@ use Rattle.waiting.proofs.spans.number_tests.Goals as goal
 
 pub loop-i-init : goal.loop-i-init
 loop-i-init c =
-    (omega arith, changed_none _ c.args.met.now)
+    changed_none _ c.args.met.now
 
 pub test_number-requires : goal.test_number-requires
 test_number-requires c =
     c.requires.0
 
-pub overflow_cast-met : goal.overflow_cast-met
-overflow_cast-met c =
+pub overflow_cast-met-in-loop-i : goal.overflow_cast-met-in-loop-i
+overflow_cast-met-in-loop-i c =
     let kept = c.args.kept.now in
-    let inside = number_most (listed_tests kept) (code_test c.wide.result) in
+    let inside = number_most (listed_tests kept) (code_test (get_or c.loop-i.met c.loop-i.i 0)) in
     omega (arith, c.test_number.ensures, inside, listed_few kept c.requires.0)
 
 pub loop-i-preserved : goal.loop-i-preserved
@@ -30,11 +30,8 @@ loop-i-preserved c =
     let loop = c.loop-i in
     let f : ℕ → ℕ = λ k. test_number (listed_tests a.kept.now) (code_test k) in
     let inside : loop.i < length a.met.now =
-    omega (arith, c.requires.1, c.requires.2, c.loop-i-test.true) in (
-      omega arith,
-      changed_more f a.met.now loop.i loop.met loop.invariant.1 inside c.test_number.result
-          (c.test_number.ensures ∙ ap f c.wide.ensures),
-    )
+    omega (arith, c.requires.1, c.requires.2) in
+    changed_more f a.met.now loop.i loop.met loop.invariant inside c.test_number.result c.test_number.ensures
 
 pub returns : goal.returns
 returns c =
@@ -42,6 +39,6 @@ returns c =
     let inv = c.loop-i.invariant in
     let done : c.loop-i.i ≡ a.edges = omega arith in
     let f : ℕ → ℕ = λ k. test_number (listed_tests a.kept.now) (code_test k) in (
-      (λ j. take (sym done j) c.loop-i.met) ∙ inv.1.changed ∙ (λ j. map f (take (done j) a.met.now)),
-      omega (arith, inv.1.entries, c.requires.1),
+      (λ j. take (sym done j) c.loop-i.met) ∙ inv.changed ∙ (λ j. map f (take (done j) a.met.now)),
+      omega (arith, inv.entries, c.requires.1),
     )

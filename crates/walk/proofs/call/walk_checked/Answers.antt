@@ -33,8 +33,8 @@ walk_nodes-requires c =
     let starts = c.args.starts.now in
     let pre = c.requires.starts_len in
     let checked = c.requires.checked in
-    let s-bytes = bytes_all s (λ i. omega (arith, c.shared_slice_known-1.given i)) in
-    let g-bytes = bytes_all g (λ i. omega (arith, c.shared_slice_known-2-1.given i)) in record {
+    let s-bytes = bytes_all s (λ i. omega (arith, c.type_inv.sheet i)) in
+    let g-bytes = bytes_all g (λ i. omega (arith, c.type_inv.graph i)) in record {
       starts_len = (
         pre.0,
         read_narrow pre.1.read_as,
@@ -54,8 +54,8 @@ returns c =
     let starts = c.args.starts.now in
     let cells = c.args.cells.now in
     let checked = c.requires.checked in
-    let s-bytes = bytes_all s (λ i. omega (arith, c.shared_slice_known-1.given i)) in
-    let g-bytes = bytes_all g (λ i. omega (arith, c.shared_slice_known-2-1.given i)) in record {
+    let s-bytes = bytes_all s (λ i. omega (arith, c.type_inv.sheet i)) in
+    let g-bytes = bytes_all g (λ i. omega (arith, c.type_inv.graph i)) in record {
       result_value = (λ t p k.
           c.walk_nodes.ensures.result_value
           ∙ ap (λ (l : List ℕ). end_walk (read_or [] (read_rules a.sizes.arity a.sizes.rules l)) (listed_tests kept) cells (cells_end (nodes_at g starts a.sizes.nodes) cells)) (rest s 3)

@@ -13,11 +13,12 @@ use Rattle.graph.specs.views.Rewriting.{read_or}
 use Rattle.path.specs.views.Following.{reached, nodes_at, ended_of, edges_of}
 use Rattle.rule_masks.specs.views.Kept.{listed_tests}
 use Rattle.walk.specs.views.LeafWalks.{LeafIn, end_walk}
+use Rattle.std.proofs.lemmas.Result.{err_from_is_err_and}
 use Rattle.walk.proofs.LeafRules.{reached_leaf, reached_kept}
 use Rattle.walk.proofs.call.walk_nodes.Goals as goal
 
-pub follow_path-followed-requires : goal.follow_path-followed-requires
-follow_path-followed-requires c =
+pub follow_path-requires : goal.follow_path-requires
+follow_path-requires c =
     let pre = c.requires.starts_len in record {
       narrow = (pre.1, pre.0, length-replicate {A = ℕ} 64 0);
       index = c.requires.ready.index;
@@ -31,12 +32,12 @@ suspend_waits-requires c =
     let tests = listed_tests a.kept.now in
     let cells = c.args.cells.now in
     let sizes = c.args.sizes in
-    let call = c.follow_path-followed in
-    let ends = sym (ap (ended_of c.follow_path-followed.new.met) c.in-Reached.is) ∙ c.follow_path-followed.ensures.result_after in record {
+    let call = c.follow_path in
+    let ends = sym (ap (ended_of c.follow_path.new.met) c.in_ok-end.was) ∙ c.follow_path.ensures.result_after in record {
       arity_bound = (ready.few_arguments, ready.rules_read, pre.3, ready.listed, pre.1);
       met_len = (
         call.ensures.met_len.0,
-        omega (arith, call.ensures.met_len.1, ap edges_of c.in-Reached.is),
+        omega (arith, call.ensures.met_len.1, ap edges_of c.in_ok-end.was),
         reached_kept tests (nodes_at a.graph.now a.starts.now sizes.nodes) ready.asked cells ends,
       );
     }
@@ -49,7 +50,7 @@ at_execute-requires c =
     let tests = listed_tests a.kept.now in
     let cells = c.args.cells.now in
     let sizes = c.args.sizes in
-    let ends = sym (ap (ended_of c.follow_path-followed.new.met) c.in-Reached.is) ∙ c.follow_path-followed.ensures.result_after in
+    let ends = sym (ap (ended_of c.follow_path.new.met) c.in_ok-end.was) ∙ c.follow_path.ensures.result_after in
     let inside =
     subst (λ (l : Leaf). LeafIn sizes.rules (leaf_of l)) c.in-Execute.is
     (reached_leaf sizes.rules (nodes_at a.graph.now a.starts.now sizes.nodes) cells ready.leaves ends) in (
@@ -60,16 +61,17 @@ at_execute-requires c =
       pre.3,
     )
 
-pub returns-in-Refused : goal.returns-in-Refused
-returns-in-Refused c =
+pub returns-in_err-end : goal.returns-in_err-end
+returns-in_err-end c =
     let a = c.args in
-    let pre = c.requires.starts_len in
-    let ready = c.requires.ready in
-    let tests = listed_tests a.kept.now in
-    let cells = c.args.cells.now in
-    let sizes = c.args.sizes in record {
-      result_value = ap (end_walk (read_or [] (read_rules sizes.arity sizes.rules a.s.now)) tests cells) (sym (ap (ended_of c.follow_path-followed.new.met) c.in-Refused.is) ∙ c.follow_path-followed.ensures.result_after);
-      notes_len = pre.3;
+    let sizes = c.args.sizes in
+    let no = err_from_is_err_and c.from_residual.result c.from_residual.ensures.1 in
+    record {
+      result_value =
+          rw (no.1, no.2)
+          (ap (end_walk (read_or [] (read_rules sizes.arity sizes.rules a.s.now)) (listed_tests a.kept.now) a.cells.now)
+          (sym (ap (ended_of c.follow_path.new.met) c.in_err-end.was) ∙ c.follow_path.ensures.result_after));
+      notes_len = c.requires.starts_len.3;
     }
 
 pub returns-in-Fail : goal.returns-in-Fail
@@ -80,8 +82,8 @@ returns-in-Fail c =
     let tests = listed_tests a.kept.now in
     let cells = c.args.cells.now in
     let sizes = c.args.sizes in
-    let ends = sym (ap (ended_of c.follow_path-followed.new.met) c.in-Reached.is) ∙ c.follow_path-followed.ensures.result_after in record {
-      result_value = ap (end_walk (read_or [] (read_rules sizes.arity sizes.rules a.s.now)) tests cells) (ap (λ (l : Leaf). reached (leaf_of l) c.in-Reached.edges (take c.in-Reached.edges c.follow_path-followed.new.met)) (sym c.in-Fail.is) ∙ ends);
+    let ends = sym (ap (ended_of c.follow_path.new.met) c.in_ok-end.was) ∙ c.follow_path.ensures.result_after in record {
+      result_value = ap (end_walk (read_or [] (read_rules sizes.arity sizes.rules a.s.now)) tests cells) (ap (λ (l : Leaf). reached (leaf_of l) c.in_ok-end.end.edges (take c.in_ok-end.end.edges c.follow_path.new.met)) (sym c.in-Fail.is) ∙ ends);
       notes_len = pre.3;
     }
 
@@ -93,9 +95,9 @@ returns-in-Suspend c =
     let tests = listed_tests a.kept.now in
     let cells = c.args.cells.now in
     let sizes = c.args.sizes in
-    let ends = sym (ap (ended_of c.follow_path-followed.new.met) c.in-Reached.is) ∙ c.follow_path-followed.ensures.result_after in record {
-      result_value = ap (λ (w : ℕ). took 0 (record { answer = answers.suspend; edges = c.in-Reached.edges; waits = w })) c.suspend_waits.ensures.value
-          ∙ ap (end_walk (read_or [] (read_rules sizes.arity sizes.rules a.s.now)) tests cells) (ap (λ (l : Leaf). reached (leaf_of l) c.in-Reached.edges (take c.in-Reached.edges c.follow_path-followed.new.met)) (sym c.in-Suspend.is) ∙ ends);
+    let ends = sym (ap (ended_of c.follow_path.new.met) c.in_ok-end.was) ∙ c.follow_path.ensures.result_after in record {
+      result_value = ap (λ (w : ℕ). took 0 (record { answer = answers.suspend; edges = c.in_ok-end.end.edges; waits = w })) c.suspend_waits.ensures.value
+          ∙ ap (end_walk (read_or [] (read_rules sizes.arity sizes.rules a.s.now)) tests cells) (ap (λ (l : Leaf). reached (leaf_of l) c.in_ok-end.end.edges (take c.in_ok-end.end.edges c.follow_path.new.met)) (sym c.in-Suspend.is) ∙ ends);
       notes_len = c.suspend_waits.ensures.notes_len;
     }
 
@@ -107,8 +109,8 @@ returns-in-Execute c =
     let tests = listed_tests a.kept.now in
     let cells = c.args.cells.now in
     let sizes = c.args.sizes in
-    let ends = sym (ap (ended_of c.follow_path-followed.new.met) c.in-Reached.is) ∙ c.follow_path-followed.ensures.result_after in record {
+    let ends = sym (ap (ended_of c.follow_path.new.met) c.in_ok-end.was) ∙ c.follow_path.ensures.result_after in record {
       result_value = c.at_execute.ensures.result_value
-          ∙ ap (end_walk (read_or [] (read_rules sizes.arity sizes.rules a.s.now)) tests cells) (ap (λ (l : Leaf). reached (leaf_of l) c.in-Reached.edges (take c.in-Reached.edges c.follow_path-followed.new.met)) (sym c.in-Execute.is) ∙ ends);
+          ∙ ap (end_walk (read_or [] (read_rules sizes.arity sizes.rules a.s.now)) tests cells) (ap (λ (l : Leaf). reached (leaf_of l) c.in_ok-end.end.edges (take c.in_ok-end.end.edges c.follow_path.new.met)) (sym c.in-Execute.is) ∙ ends);
       notes_len = c.at_execute.ensures.notes_len;
     }

@@ -6,13 +6,14 @@ use native.Mathlib.Omega.{arith}
 use lib.ListN.{length, take, drop, length-replicate}
 use Rattle.basics.specs.Lists.{All}
 use Rattle.records.specs.Fields.{IsByte}
+use Rattle.std.proofs.lemmas.Result.{err_from_is_err_and}
 use Rattle.records.proofs.Parts.{rest}
 use Rattle.records.proofs.ByteLists.{bytes_all}
 use Rattle.sheet.specs.ReadSheet.{read_rules}
 use Rattle.sheet_tests.specs.views.TestedPlaces.{places_in}
 use Rattle.sheet_tests.specs.CheckSheet.{accept_sheet, most_tests}
-use Rattle.sheet_tests.specs.views.TestsRead.{Held}
-use Rattle.sheet_tests.proofs.Checking.{read_counted, check_no}
+use Rattle.sheet_tests.specs.views.TestsRead.{Held, tests_found, found_values}
+use Rattle.sheet_tests.proofs.Checking.{read_counted, values_found}
 use Rattle.accepted.specs.views.AcceptedAs.{AcceptedTests}
 use Rattle.accepted.proofs.CheckedSheets.{check_refuses}
 use Rattle.accepted.proofs.FoundTests.{found_accepts}
@@ -25,39 +26,39 @@ use Rattle.leaves.proofs.RuleBegins.{none_noted}
 use Rattle.walk.proofs.Replies.{kept_stays, checked_kept}
 use Rattle.walk_all.proofs.Opening.{sheet_unread, sheet_read_lem}
 use Rattle.walk_all.proofs.open.open_graph.Goals as goal
-use Rattle.walk_all.proofs.open.open_graph.Goals.{In-Accepted}
+use Rattle.walk_all.proofs.open.open_graph.Goals.{In_ok-tests}
 
 -- Where the sheet's tests were read.
-module _ (c : In-Accepted) where
+module _ (c : In_ok-tests) where
   abbrev sheet : List ℕ
   sheet = c.args.sheet.now
 
   abbrev words : List ℕ
-  words = c.read_tests-read.new.words
+  words = c.read_tests.new.words
 
   abbrev codes : List ℕ
-  codes = c.read_tests-read.new.codes
+  codes = c.read_tests.new.codes
 
   abbrev arity : ℕ
-  arity = c.in-Accepted.arity
+  arity = c.in_ok-tests.tests.arity
 
   abbrev rules : ℕ
-  rules = c.in-Accepted.rules
+  rules = c.in_ok-tests.tests.rules
 
   abbrev places : ℕ
-  places = c.in-Accepted.field-2
+  places = c.in_ok-tests.tests.places
 
   abbrev pairs : ℕ
-  pairs = c.in-Accepted.pairs
+  pairs = c.in_ok-tests.tests.pairs
 
-  held : Held words codes c.read_tests-read.result
-  held = c.read_tests-read.ensures.held
+  held : Held words codes c.read_tests.result
+  held = c.read_tests.ensures.held
 
   few : (places ≡ length (places_in words)) × (places + pairs ≤ most_tests)
-  few = read_counted words codes c.in-Accepted.is held
+  few = read_counted words codes c.in_ok-tests.was held
 
   read : AcceptedTests sheet words codes arity rules pairs
-  read = found_accepts sheet words codes c.read_tests-read.ensures.result_after c.in-Accepted.is
+  read = found_accepts sheet words codes c.read_tests.ensures.result_after c.in_ok-tests.was
 
   arrays : Arrays words codes pairs
   arrays = record { all_words = held.all_words; all_codes = held.all_codes; few_tests = omega (arith, few.0, few.1) }
@@ -80,70 +81,76 @@ module _ (c : In-Accepted) where
   bytes : All IsByte sheet
   bytes = bytes_all sheet (λ i. omega (arith, c.shared_slice_known-1.given i))
 
-pub index_graph-index-requires : goal.index_graph-index-requires
-index_graph-index-requires c =
-    ((held (goal.at.index_graph-index-requires c).In-Accepted).all_words, omega (arith, (few (goal.at.index_graph-index-requires c).In-Accepted).1), (held (goal.at.index_graph-index-requires c).In-Accepted).all_codes, c.requires.0)
+pub index_graph-requires : goal.index_graph-requires
+index_graph-requires c =
+    ((held (goal.at.index_graph-requires c).In_ok-tests).all_words, omega (arith, (few (goal.at.index_graph-requires c).In_ok-tests).1), (held (goal.at.index_graph-requires c).In_ok-tests).all_codes, c.requires.0)
 
 pub keep_tests-requires : goal.keep_tests-requires
-keep_tests-requires c = (arrays (goal.at.keep_tests-requires c).In-Accepted, entries (goal.at.keep_tests-requires c).In-Accepted)
+keep_tests-requires c = (arrays (goal.at.keep_tests-requires c).In_ok-tests, entries (goal.at.keep_tests-requires c).In_ok-tests)
 
 pub slice_bounds-rule_begins-count : goal.slice_bounds-rule_begins-count
-slice_bounds-rule_begins-count c = (read (goal.at.slice_bounds-rule_begins-count c).In-Accepted).read.whole
+slice_bounds-rule_begins-count c = (read (goal.at.slice_bounds-rule_begins-count c).In_ok-tests).read.whole
 
 pub slice_bounds-rule_begins-start : goal.slice_bounds-rule_begins-start
-slice_bounds-rule_begins-start c = (read (goal.at.slice_bounds-rule_begins-start c).In-Accepted).read.whole
+slice_bounds-rule_begins-start c = (read (goal.at.slice_bounds-rule_begins-start c).In_ok-tests).read.whole
 
 pub rule_begins-requires : goal.rule_begins-requires
 rule_begins-requires c =
-    let t = read (goal.at.rule_begins-requires c).In-Accepted in
-    let s = sheet (goal.at.rule_begins-requires c).In-Accepted in
+    let t = read (goal.at.rule_begins-requires c).In_ok-tests in
+    let s = sheet (goal.at.rule_begins-requires c).In_ok-tests in
     let put = c.keep_tests.ensures in
-    let stay = kept_stays s (words (goal.at.rule_begins-requires c).In-Accepted) (codes (goal.at.rule_begins-requires c).In-Accepted) t (bytes (goal.at.rule_begins-requires c).In-Accepted) (arrays (goal.at.rule_begins-requires c).In-Accepted) (blank (goal.at.rule_begins-requires c).In-Accepted) (entries (goal.at.rule_begins-requires c).In-Accepted) put in
+    let stay = kept_stays s (words (goal.at.rule_begins-requires c).In_ok-tests) (codes (goal.at.rule_begins-requires c).In_ok-tests) t (bytes (goal.at.rule_begins-requires c).In_ok-tests) (arrays (goal.at.rule_begins-requires c).In_ok-tests) (blank (goal.at.rule_begins-requires c).In_ok-tests) (entries (goal.at.rule_begins-requires c).In_ok-tests) put in
     let took = subst IsTook (sym t.read.rules_read) tt in (
       t.read.few,
-      subst (λ (l : List ℕ). IsTook (read_rules (arity (goal.at.rule_begins-requires c).In-Accepted) (rules (goal.at.rule_begins-requires c).In-Accepted) l)) (sym (rest s 3)) took,
+      subst (λ (l : List ℕ). IsTook (read_rules (arity (goal.at.rule_begins-requires c).In_ok-tests) (rules (goal.at.rule_begins-requires c).In_ok-tests) l)) (sym (rest s 3)) took,
       c.requires.1,
       stay.entries,
-      subst (λ (l : List ℕ). Begins l (arity (goal.at.rule_begins-requires c).In-Accepted) (rules (goal.at.rule_begins-requires c).In-Accepted) c.keep_tests.new.kept) (sym (rest s 3))
-          (subst (Begins (drop 3 s) (arity (goal.at.rule_begins-requires c).In-Accepted) (rules (goal.at.rule_begins-requires c).In-Accepted)) (sym put) (unnoted (goal.at.rule_begins-requires c).In-Accepted)),
+      subst (λ (l : List ℕ). Begins l (arity (goal.at.rule_begins-requires c).In_ok-tests) (rules (goal.at.rule_begins-requires c).In_ok-tests) c.keep_tests.new.kept) (sym (rest s 3))
+          (subst (Begins (drop 3 s) (arity (goal.at.rule_begins-requires c).In_ok-tests) (rules (goal.at.rule_begins-requires c).In_ok-tests)) (sym put) (unnoted (goal.at.rule_begins-requires c).In_ok-tests)),
     )
 
-pub returns-in-Refused : goal.returns-in-Refused
-returns-in-Refused c =
+pub returns-in_err-tests : goal.returns-in_err-tests
+returns-in_err-tests c =
     let a = c.args in
-    let call = c.read_tests-read in
-    let told = check_no call.new.words call.new.codes (accept_sheet a.sheet.now) c.in-Refused.is call.ensures.result_after in
-    (sheet_unread a.sheet.now a.graph.now (check_refuses a.sheet.now told), c.requires.1)
+    let call = c.read_tests in
+    let p = err_from_is_err_and c.from_residual.result c.from_residual.ensures.1 in
+    let told = ap found_values (sym (ap (tests_found call.new.words call.new.codes) c.in_err-tests.was) ∙ call.ensures.result_after)
+    ∙ values_found (accept_sheet a.sheet.now) in
+    rw (p.1, p.2) (sheet_unread a.sheet.now a.graph.now (check_refuses a.sheet.now _ told), c.requires.1)
 
-pub returns-in-Refused-index : goal.returns-in-Refused-index
-returns-in-Refused-index c =
+pub returns-in_err-nodes : goal.returns-in_err-nodes
+returns-in_err-nodes c =
+    let own = (goal.at.returns-in_err-nodes c).In_ok-tests in
     let graph = c.args.graph.now in
-    let call = c.index_graph-index in
-    let starts = c.index_graph-index.new.starts in (
-      sheet_read_lem (sheet (goal.at.returns-in-Refused-index c).In-Accepted) graph (read (goal.at.returns-in-Refused-index c).In-Accepted).read.accepted
-          ∙ index_refuses (sheet (goal.at.returns-in-Refused-index c).In-Accepted) graph (words (goal.at.returns-in-Refused-index c).In-Accepted) (codes (goal.at.returns-in-Refused-index c).In-Accepted) starts (read (goal.at.returns-in-Refused-index c).In-Accepted) call.result call.ensures.result_after c.in-Refused-index.is,
+    let call = c.index_graph in
+    let out = c.from_residual-in_err-nodes in
+    let p = err_from_is_err_and out.result out.ensures.1 in
+    rw (p.1, p.2) (
+      sheet_read_lem (sheet own) graph (read own).read.accepted
+          ∙ index_refuses (sheet own) graph (words own) (codes own) call.new.starts (read own) call.result call.ensures.result_after
+          c.in_err-nodes.was,
       c.requires.1,
     )
 
-pub returns-in-Accepted-index : goal.returns-in-Accepted-index
-returns-in-Accepted-index c =
-    let s = sheet (goal.at.returns-in-Accepted-index c).In-Accepted in
+pub returns : goal.returns
+returns c =
+    let s = sheet (goal.at.returns c).In_ok-tests in
     let graph = c.args.graph.now in
-    let call = c.index_graph-index in
-    let starts = c.index_graph-index.new.starts in
+    let call = c.index_graph in
+    let starts = c.index_graph.new.starts in
     let noted = c.rule_begins.ensures in
     let kept = c.rule_begins.new.kept in
     let stay = subst (λ (l : List ℕ). TestsStay l kept) c.keep_tests.ensures noted.1 in
-    let made = index_accepts s graph (words (goal.at.returns-in-Accepted-index c).In-Accepted) (codes (goal.at.returns-in-Accepted-index c).In-Accepted) starts (read (goal.at.returns-in-Accepted-index c).In-Accepted) call.result call.ensures.result_after c.in-Accepted-index.is in (
+    let made = index_accepts s graph (words (goal.at.returns c).In_ok-tests) (codes (goal.at.returns c).In_ok-tests) starts (read (goal.at.returns c).In_ok-tests) call.result call.ensures.result_after c.in_ok-nodes.was in (
       record {
         nodes = made.nodes;
-        read = sheet_read_lem s graph (read (goal.at.returns-in-Accepted-index c).In-Accepted).read.accepted ∙ made.read;
+        read = sheet_read_lem s graph (read (goal.at.returns c).In_ok-tests).read.accepted ∙ made.read;
         known = record {
           all_starts = call.ensures.starts_len;
           checked =
-              checked_kept s (words (goal.at.returns-in-Accepted-index c).In-Accepted) (codes (goal.at.returns-in-Accepted-index c).In-Accepted) (read (goal.at.returns-in-Accepted-index c).In-Accepted) (bytes (goal.at.returns-in-Accepted-index c).In-Accepted) (arrays (goal.at.returns-in-Accepted-index c).In-Accepted) (blank (goal.at.returns-in-Accepted-index c).In-Accepted) (entries (goal.at.returns-in-Accepted-index c).In-Accepted) graph starts
+              checked_kept s (words (goal.at.returns c).In_ok-tests) (codes (goal.at.returns c).In_ok-tests) (read (goal.at.returns c).In_ok-tests) (bytes (goal.at.returns c).In_ok-tests) (arrays (goal.at.returns c).In_ok-tests) (blank (goal.at.returns c).In_ok-tests) (entries (goal.at.returns c).In_ok-tests) graph starts
               stay made;
-          begins = subst (λ (l : List ℕ). Begins l (arity (goal.at.returns-in-Accepted-index c).In-Accepted) (rules (goal.at.returns-in-Accepted-index c).In-Accepted) kept) (rest s 3) noted.0;
+          begins = subst (λ (l : List ℕ). Begins l (arity (goal.at.returns c).In_ok-tests) (rules (goal.at.returns c).In_ok-tests) kept) (rest s 3) noted.0;
         };
       },
       noted.2,
