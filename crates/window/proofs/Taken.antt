@@ -25,7 +25,7 @@ ruleless (suc (suc (suc (suc zero)))) i low high = refl
 ruleless (suc (suc (suc (suc (suc n))))) i low high = absurd (omega arith)
 
 -- A word that is none of the four.
-no_word : (w i : ℕ) → (w < 1) ⊎ (4 < w) → is_taken (given w i) ≡ false
+pub no_word : (w i : ℕ) → (w < 1) ⊎ (4 < w) → is_taken (given w i) ≡ false
 unfolding is_taken
 no_word w i (inl h) =
     simp (
