@@ -24,7 +24,7 @@ pub enum Turn {
 
 // The line of a piece with a number, at a position. Not a line for a piece whose walk is refused, nor a refusal that lets the run
 // go on.
-fn put_first(first: Result<First, Refusal>, number: u32, out: &mut [u8], at: usize) -> Turn
+fn put_first(first: Result<First<Refusal>, Refusal>, number: u32, out: &mut [u8], at: usize) -> Turn
     requires { at + 44 ≤ length out.old }
     ensures out_after { record { turn = result; buffer = out.new }
         ≡ turned out.old at number (answered (first_of first)) }

@@ -15,6 +15,6 @@ returns-in-Err c =
     let a = c.args in
     let call = c.put_refused in record {
       out_after = turned_last a.out.now a.at a.number call.ensures.value
-          (ap (λ (x : Result First Refusal). answered (first_of x)) c.in-Err.is ∙ ap refused (sym c.number.ensures));
+          (ap (λ (x : Result (First Refusal) Refusal). answered (first_of x)) c.in-Err.is ∙ ap refused (sym c.number.ensures));
       by_index = λ bytes w. omega (arith, call.ensures.upper_bound);
     }
