@@ -3,14 +3,12 @@
 
 ghost use Rattle.std.specs.Prelude.{◌+◌, ◌≤◌, ◌≡◌, [], ◌∷◌, ◌++◌, length};
 ghost use Rattle.records.specs.Writing.{splice};
-ghost use Rattle.records.specs.Refusals.{number};
 ghost use Rattle.plain.specs.Plain.{answer_of};
 ghost use Rattle.terms.specs.Answer.{rule_of};
 ghost use Rattle.lines.specs.Lines.{hex_digits, hex16, answer_word, sheet_line, piece_line, refused_line};
 
 use digits::{digit, put_number};
 use plain::Answer;
-use records::Refusal;
 
 // The last so many hexadecimal digits of a number, and the position behind them.
 fn put_hex(buf: &mut [u8], at: usize, count: usize, x: u64) -> usize
@@ -108,12 +106,12 @@ pub fn put_piece_line(
 
 // The line of a refusal, at most 12 bytes, and the position behind it. Not one with two spaces, nor one that changes the byte
 // after it.
-pub fn put_refused(buf: &mut [u8], at: usize, refusal: Refusal) -> usize
+pub fn put_refused(buf: &mut [u8], at: usize, question: u8) -> usize
     requires { at + 12 ≤ length buf.old }
-    ensures value { (result ≡ at + length (refused_line (number refusal)))
-        × (buf.new ≡ splice buf.old at (refused_line (number refusal))) }
+    ensures value { (result ≡ at + length (refused_line question))
+        × (buf.new ≡ splice buf.old at (refused_line question)) }
     ensures upper_bound { result ≤ at + 12 }
 {
     let word = records::put(buf, at, b"refused ");
-    put_number(buf, word, refusal.number() as u64, b'\n')
+    put_number(buf, word, question as u64, b'\n')
 }

@@ -34,7 +34,7 @@ pub fn listing(sheet: &[u8], input: &[u8], out: &mut [u8]) -> usize
     let mut graph = [0u8; 65536];
     let built = building::build(&sheet[..sheet_end], &mut graph);
     match built {
-        Err(refusal) => lines::put_refused(out, 0, refusal),
+        Err(refusal) => lines::put_refused(out, 0, refusal.number()),
         Ok(built) => {
             let graph_end = built.bytes as usize;
             put_built(

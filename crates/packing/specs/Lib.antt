@@ -2,3 +2,4 @@
 pub mod Packed
 pub mod PackedWords
 pub mod PackedWalks
+pub mod views

@@ -1,4 +1,5 @@
-// How each result of the library is packed into one number, the refusal's number in its lowest byte.
+// How each result of the library is packed into one number, the refusal's number in its lowest byte. A result comes with its
+// refusal's number, and any number of a byte is packed as it is.
 #![tactic(auto)]
 
 pub mod answers; // plain answers, and walks of one piece and of many
@@ -7,10 +8,20 @@ pub mod windows; // what the calls of a window hand back
 pub mod writers; // graphs, sheets and reading orders written into a lent buffer
 
 ghost use Rattle.std.specs.Prelude.{◌≡◌, ◌<◌, [], ◌∷◌};
-ghost use Rattle.records.specs.Refusals.{number};
 ghost use Rattle.packing.specs.Packed.{Packs, bits8, bits16, bits32};
+ghost use Rattle.packing.specs.views.Numbered.{numbered};
 
 use records::Refusal;
+
+// A result with the number in its refusal's place. Not another question's number, nor a number where nothing was refused.
+pub fn numbered<T: Copy>(answered: Result<T, Refusal>) -> Result<T, u8>
+    ensures { result ≡ numbered answered }
+{
+    match answered {
+        Ok(value) => Ok(value),
+        Err(refusal) => Err(refusal.number()),
+    }
+}
 
 // A refusal's number and three values as one number.
 fn pack(refusal: u8, first: u8, second: u8, third: u8) -> u64
@@ -37,8 +48,8 @@ fn pack_two(refusal: u8, first: u16, second: u32) -> u64
 }
 
 // A refusal's number alone: every other field is 0.
-fn refused(refusal: Refusal) -> u64
-    ensures { (result ≡ number refusal) × (result < 0x100) }
+fn refused(question: u8) -> u64
+    ensures { (result ≡ question) × (result < 0x100) }
 {
-    refusal.number() as u64
+    question as u64
 }

@@ -1,19 +1,18 @@
 // What the calls of a window hand back.
 ghost use Rattle.std.specs.Prelude.{◌≡◌};
-ghost use Rattle.records.specs.Refusals.{refusal_in};
 ghost use Rattle.packing.specs.PackedWords.{packed_words};
+ghost use Rattle.packing.specs.views.Numbered.{refusal_in};
 
 use crate::refused;
-use records::Refusal;
 use window::WordCounts;
 
 // The refusal of an answer that was fed, 0 where it was taken. Not 36 for a taken one, nor 0 for every answer.
-pub fn fed_refusal(fed: Result<(), Refusal>) -> u64
+pub fn fed_refusal(fed: Result<(), u8>) -> u64
     ensures { result ≡ refusal_in fed }
 {
     match fed {
         Ok(()) => 0,
-        Err(refusal) => refused(refusal),
+        Err(question) => refused(question),
     }
 }
 

@@ -24,16 +24,16 @@ pub enum Turn {
 
 // The line of a piece with a number, at a position. Not a line for a piece whose walk is refused, nor a refusal that lets the run
 // go on.
-fn put_first(first: Result<First, Refusal>, number: u32, out: &mut [u8], at: usize) -> Turn
+fn put_first(first: Result<First<Refusal>, Refusal>, number: u32, out: &mut [u8], at: usize) -> Turn
     requires { at + 44 ≤ length out.old }
     ensures out_after { record { turn = result; buffer = out.new }
         ≡ turned out.old at number (answered (first_of first)) }
     ensures by_index { (bytes : ℕ) → PieceWithin bytes first → Within bytes at result }
 {
     match first {
-        Err(refusal) => Turn::Last(lines::put_refused(out, at, refusal)),
+        Err(refusal) => Turn::Last(lines::put_refused(out, at, refusal.number())),
         Ok(piece) => match piece.walk {
-            Err(refusal) => Turn::Last(lines::put_refused(out, at, refusal)),
+            Err(refusal) => Turn::Last(lines::put_refused(out, at, refusal.number())),
             Ok(w) => {
                 let end = lines::put_piece_line(out, at, number, w.answer, w.edges, w.waits);
                 Turn::More(piece.bytes, end)
@@ -56,7 +56,7 @@ pub fn put_built(sheet: &[u8], graph: &[u8], nodes: u16, input: &[u8], out: &mut
     let mut kept = [0u64; 324];
     let opened = open_graph(sheet, graph, &mut starts, &mut notes, &mut kept);
     match opened {
-        Err(refusal) => lines::put_refused(out, 0, refusal),
+        Err(refusal) => lines::put_refused(out, 0, refusal.number()),
         Ok(sizes) => {
             let tests = tables::tests(&kept) as u8;
             let mut end = lines::put_sheet_line(out, 0, sizes.arity, sizes.rules, tests, nodes);

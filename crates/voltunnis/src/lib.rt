@@ -20,6 +20,7 @@ ghost use Rattle.packing.specs.Packed.{written_fields, built_fields, walk_fields
 
 use packing::answers::{pack_plain, pack_walked, waits};
 use packing::checks::{pack_graph_check, pack_piece_check, pack_sheet_check};
+use packing::numbered;
 use packing::writers::{pack_built, pack_written};
 
 // Checks a sheet: arity, rules and tests. Not the arity of a sheet that is refused, nor the rules in the place of the tests.
@@ -27,7 +28,7 @@ use packing::writers::{pack_built, pack_written};
 pub extern "C" fn vt_check_sheet(sheet: &[u8]) -> u64
     ensures { Packs result (sheet_fields (sheet_values (accept_sheet sheet.now))) }
 {
-    pack_sheet_check(sheet_tests::check_sheet(sheet))
+    pack_sheet_check(numbered(sheet_tests::check_sheet(sheet)))
 }
 
 // Checks a piece: its arity. Not an arity beside a refusal's number, nor 0 for a piece that is accepted.
@@ -35,7 +36,7 @@ pub extern "C" fn vt_check_sheet(sheet: &[u8]) -> u64
 pub extern "C" fn vt_check_piece(piece: &[u8]) -> u64
     ensures { Packs result (piece_fields (piece_values (read_piece piece.now))) }
 {
-    pack_piece_check(piece::check_piece(piece))
+    pack_piece_check(numbered(piece::check_piece(piece)))
 }
 
 // The plain answer: its word and rule. Not the rule before the word, nor suspend for every piece with an unknown.
@@ -43,7 +44,7 @@ pub extern "C" fn vt_check_piece(piece: &[u8]) -> u64
 pub extern "C" fn vt_plain(sheet: &[u8], piece: &[u8]) -> u64
     ensures { Packs result (plain_fields (reading_values (plain_reading sheet.now piece.now))) }
 {
-    pack_plain(answering::plain(sheet, piece))
+    pack_plain(numbered(answering::plain(sheet, piece)))
 }
 
 // Checks a graph for a sheet: its nodes. Not the nodes of a graph that is refused, nor a graph accepted by itself where the sheet
@@ -52,7 +53,7 @@ pub extern "C" fn vt_plain(sheet: &[u8], piece: &[u8]) -> u64
 pub extern "C" fn vt_check_graph(sheet: &[u8], graph: &[u8]) -> u64
     ensures { Packs result (graph_fields (graph_values (graph_reading sheet.now graph.now))) }
 {
-    pack_graph_check(graph_check::check_graph(sheet, graph))
+    pack_graph_check(numbered(graph_check::check_graph(sheet, graph)))
 }
 
 // Writes the nodes of a graph again, at the front of a buffer: the bytes written. Not the buffer's length for them, nor a byte
@@ -62,7 +63,7 @@ pub extern "C" fn vt_rewrite(sheet: &[u8], graph: &[u8], buffer: &mut [u8]) -> u
     ensures packs { Packs result (written_fields (rewritten sheet.now graph.now buffer.old)) }
     ensures buffer_after { buffer.new ≡ (rewritten sheet.now graph.now buffer.old).buffer }
 {
-    pack_written(rewriting::rewrite(sheet, graph, buffer))
+    pack_written(numbered(rewriting::rewrite(sheet, graph, buffer)))
 }
 
 // Writes the tidy form of a sheet, at the front of a buffer: the bytes written. Not the buffer's length for them, nor a byte
@@ -72,7 +73,7 @@ pub extern "C" fn vt_tidy(sheet: &[u8], buffer: &mut [u8]) -> u64
     ensures packs { Packs result (written_fields (tidied sheet.now buffer.old)) }
     ensures buffer_after { buffer.new ≡ (tidied sheet.now buffer.old).buffer }
 {
-    pack_written(tidying::tidy(sheet, buffer))
+    pack_written(numbered(tidying::tidy(sheet, buffer)))
 }
 
 // Builds a sheet's graph: its nodes and the bytes written. Not a byte changed behind the graph or on a refusal, nor the bytes in
@@ -82,7 +83,7 @@ pub extern "C" fn vt_build(sheet: &[u8], buffer: &mut [u8]) -> u64
     ensures packs { Packs result (built_fields (build_outcome sheet.now buffer.old).values) }
     ensures buffer_after { buffer.new ≡ (build_outcome sheet.now buffer.old).buffer }
 {
-    pack_built(building::build(sheet, buffer))
+    pack_built(numbered(building::build(sheet, buffer)))
 }
 
 // Walks a piece over a graph: the answer's word, its rule and the edges walked. Not suspend for every piece with an unknown, nor an
@@ -92,7 +93,7 @@ pub extern "C" fn vt_walk(sheet: &[u8], graph: &[u8], piece: &[u8]) -> u64
     ensures { Packs result
         (walk_fields (reply_values (walk_reply sheet.now graph.now piece.now))) }
 {
-    pack_walked(walk::call::walk(sheet, graph, piece))
+    pack_walked(numbered(walk::call::walk(sheet, graph, piece)))
 }
 
 // The wait list of a walk, test t being bit t; 0 on a refusal. Not the tests of every rule, nor the list of another answer.
@@ -100,5 +101,5 @@ pub extern "C" fn vt_walk(sheet: &[u8], graph: &[u8], piece: &[u8]) -> u64
 pub extern "C" fn vt_wait(sheet: &[u8], graph: &[u8], piece: &[u8]) -> u64
     ensures { result ≡ (reply_values (walk_reply sheet.now graph.now piece.now)).waits }
 {
-    waits(walk::call::walk(sheet, graph, piece))
+    waits(numbered(walk::call::walk(sheet, graph, piece)))
 }

@@ -6,6 +6,7 @@ ghost use Rattle.build.specs.BuildOutcome.{ordered_outcome};
 ghost use Rattle.packing.specs.Packed.{Packs, written_fields, built_fields};
 
 use packing::checks::table_refusal;
+use packing::numbered;
 use packing::writers::{pack_built, pack_ordered};
 
 // Checks a reading order: the number of the question that got a no, 0 where it is accepted. Not 30 for a table that also has a
@@ -14,7 +15,7 @@ use packing::writers::{pack_built, pack_ordered};
 pub extern "C" fn vt_check_order(table: &[u8]) -> u64
     ensures { result ≡ table_refusal (read_table table.now) }
 {
-    table_refusal(order::check_order(table))
+    table_refusal(numbered(order::check_order(table)))
 }
 
 // Builds a sheet's graph in a reading order: its nodes and the bytes written. Not document 01's graph under every table, nor a byte
@@ -26,7 +27,7 @@ pub extern "C" fn vt_build_ordered(sheet: &[u8], table: &[u8], buffer: &mut [u8]
     ensures buffer_after { buffer.new
         ≡ (ordered_outcome sheet.now table.now buffer.old).buffer }
 {
-    pack_built(building::build_ordered(sheet, table, buffer))
+    pack_built(numbered(building::build_ordered(sheet, table, buffer)))
 }
 
 // Writes the reading order of a track drawing as a table, at the front of a buffer: the bytes written. Not the table of other
@@ -36,5 +37,5 @@ pub extern "C" fn vt_order(positions: &[u8], buffer: &mut [u8]) -> u64
     ensures packs { Packs result (written_fields (ordered positions.now buffer.old)) }
     ensures buffer_after { buffer.new ≡ (ordered positions.now buffer.old).buffer }
 {
-    pack_ordered(track::order(positions, buffer))
+    pack_ordered(numbered(track::order(positions, buffer)))
 }

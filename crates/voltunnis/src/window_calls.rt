@@ -6,6 +6,7 @@ ghost use Rattle.window.specs.Cells.{fresh_cells, fed_cells, commits_in};
 ghost use Rattle.window.specs.Handed.{words_in};
 ghost use Rattle.packing.specs.PackedWords.{packed_words};
 
+use packing::numbered;
 use packing::windows::{fed_refusal, pack_words};
 use window::Window;
 
@@ -25,7 +26,7 @@ pub extern "C" fn vt_window_feed(window: &mut Window, word: u8, rule: u8) -> u64
     ensures value { result ≡ refusal_of (given word rule) }
     ensures window_after { window.new ≡ fed_cells (given word rule) window.old }
 {
-    fed_refusal(window::feed(window, word, rule))
+    fed_refusal(numbered(window::feed(window, word, rule)))
 }
 
 // The counts of the four words: commit in the lowest 16 bits, then execute, suspend and fail.

@@ -23,8 +23,14 @@ use Rattle.walk.specs.views.Ready.{SomePiece}
 use Rattle.walk.specs.Walking.{graph_reply, walk_reply, walked_reading}
 use Rattle.walk_all.specs.views.Known.{Known}
 use Rattle.walk_all.specs.views.FirstPiece.{first_reply, first_of, has_arity, first_made, PieceWithin}
+use Rattle.walk_all.specs.views.FirstPiece as first
 use Rattle.walk_all.proofs.LeastPiece.{least_piece}
 use Rattle.walk_all.proofs.FirstWalks.{prefix_refused, prefix_accepted, other_arity, same_arity_lem, first_unread, first_read}
+
+-- The cells are used as the reader's view says.
+pub used_same : (r : Result Prefix Refusal) → first.used_by r ≡ used_by r
+used_same (Ok x) = refl
+used_same (Err q) = refl
 
 module _ (input cells : List ℕ) (bytes : (i : ℕ) → IsByte (get_or input i 0)) where
   -- The reader says so of the input.
@@ -43,7 +49,7 @@ module _ (input cells : List ℕ) (bytes : (i : ℕ) → IsByte (get_or input i 
       )
 
   -- One of so many arguments that was read is an accepted piece.
-  read_as_lem : (x : Prefix) (arity : ℕ) → Told (Ok x) → has_arity (Ok x) arity ≡ true → ReadAs (take x.bytes input) cells arity
+  read_as_lem : (x : Prefix) (arity : ℕ) → Told (Ok x) → has_arity {E = Refusal} (Ok x) arity ≡ true → ReadAs (take x.bytes input) cells arity
   read_as_lem x arity told same =
       subst (ReadAs (take x.bytes input) cells) (eqb-true x.arity arity same)
       (prefix_accepted input cells (Ok x) told refl bytes).0

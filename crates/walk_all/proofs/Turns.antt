@@ -140,7 +140,7 @@ module _ (ys : List ℕ) (at left : ℕ) {zs : List ℕ} {k bytes : ℕ} where
       let z : ◌≡◌ {A = ℕ} 0 1 = cc in absurd (omega arith)
 
   pub within_more
-      : (f : Result First Refusal) → PieceWithin bytes f → told (More k) zs ≡ turned ys at left (first_of f) → k ≤ bytes
+      : (f : Result (First Refusal) Refusal) → PieceWithin bytes f → told (More k) zs ≡ turned ys at left (first_of f) → k ≤ bytes
   within_more (Ok x) h e =
       within_fits x.bytes (splice ys at (result_bytes (reply_values (walked_reading x.walk)))) (leb x.bytes left) h e
   within_more (Err q) h e =

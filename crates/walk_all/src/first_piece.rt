@@ -1,15 +1,13 @@
-// What came of the piece that the input begins with, by how it was read and how its walk ended.
+// What came of the piece that the input begins with, by how it was read and how its walk ended, whatever says what was refused.
 ghost use Rattle.std.specs.Prelude.{◌≡◌};
-ghost use Rattle.piece.specs.views.LaidOut.{used_by};
-ghost use Rattle.walk_all.specs.views.FirstPiece.{has_arity, first_made};
+ghost use Rattle.walk_all.specs.views.FirstPiece.{has_arity, used_by, first_made};
 
 use crate::First;
 use piece::Prefix;
-use records::Refusal;
 use walk::Walk;
 
 // Whether a piece was read that has so many arguments. Not where it was refused.
-pub fn has_arity(prefix: Result<Prefix, Refusal>, arity: u8) -> bool
+pub fn has_arity<E: Copy>(prefix: Result<Prefix, E>, arity: u8) -> bool
     ensures { result ≡ has_arity prefix arity }
 {
     match prefix {
@@ -19,7 +17,7 @@ pub fn has_arity(prefix: Result<Prefix, Refusal>, arity: u8) -> bool
 }
 
 // The place from which on the cells of a piece are empty. Not one within its last argument.
-pub fn used_by(prefix: Result<Prefix, Refusal>) -> usize
+pub fn used_by<E: Copy>(prefix: Result<Prefix, E>) -> usize
     ensures { result ≡ used_by prefix }
 {
     match prefix {
@@ -29,10 +27,7 @@ pub fn used_by(prefix: Result<Prefix, Refusal>) -> usize
 }
 
 // What came of a piece. Not a refusal of its walk where the piece itself could not be read.
-pub fn first_of(
-    prefix: Result<Prefix, Refusal>,
-    walk: Result<Walk, Refusal>,
-) -> Result<First, Refusal>
+pub fn first_of<E: Copy>(prefix: Result<Prefix, E>, walk: Result<Walk, E>) -> Result<First<E>, E>
     ensures { result ≡ first_made prefix walk }
 {
     let piece = prefix?;

@@ -20,9 +20,9 @@ use walk::call::walk_checked;
 
 // The piece that the input begins with: its bytes, and how its walk ended.
 #[derive(Clone, Copy)]
-pub struct First {
+pub struct First<E> {
     pub bytes: usize,
-    pub walk: Result<Walk, Refusal>,
+    pub walk: Result<Walk, E>,
 }
 
 // How many results were written, and how many bytes of the input the pieces took that were read.
@@ -54,7 +54,7 @@ fn room_for(bytes: usize) -> usize
 
 // The result of a piece at a position, where so many bytes may still be taken. Not the answer beside a refusal, nor a result for a
 // piece of more bytes.
-fn put_first(out: &mut [u8], at: usize, left: usize, first: Result<First, Refusal>) -> Turn
+fn put_first(out: &mut [u8], at: usize, left: usize, first: Result<First<Refusal>, Refusal>) -> Turn
     requires { at + 16 ≤ length out.old }
     ensures { record { turn = result; buffer = out.new } ≡ turned out.old at left (first_of first) }
 {

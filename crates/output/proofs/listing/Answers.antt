@@ -7,6 +7,7 @@ use lib.ListN.{length, take, length-replicate}
 use lib.Seq.{length-take-le}
 use Rattle.records.specs.Writing.{splice}
 use Rattle.output.specs.Listing.{most_bytes, listing_bytes}
+use Rattle.lines.specs.Lines.{refused_line}
 use Rattle.lines.proofs.Wrote.{wrote_as}
 use Rattle.records.proofs.ByteLists.{bytes_all}
 use Rattle.std.specs.Prelude.{Ok}
@@ -47,7 +48,8 @@ returns-in-Err c =
     let sheet = take c.cut-sheet_end.result a.sheet.now in
     let input = take c.cut-input_end.result a.input.now in
     let is =
-    built_refused sheet input c.in-Err.refusal c.in-Err.ensures
+    ap refused_line c.number.ensures
+    ∙ built_refused sheet input c.in-Err.refusal c.in-Err.ensures
     ∙ cut_both a.sheet.now a.input.now c.cut-sheet_end.ensures c.cut-input_end.ensures in
     let all =
     from_start a.out.now (listing_bytes a.sheet.now a.input.now)

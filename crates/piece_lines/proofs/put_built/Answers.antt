@@ -18,7 +18,7 @@ use Rattle.decision.specs.Walk.{Walk}
 use Rattle.walk.specs.Walking.{walk_reply, walked_reading}
 use Rattle.walk_all.specs.declared.First.{First}
 use Rattle.walk_all.specs.views.FirstPiece.{first_reply, first_of, first_made, PieceWithin}
-use Rattle.walk_all.proofs.FirstMade.{used_read, some_piece, walked_right, other_right}
+use Rattle.walk_all.proofs.FirstMade.{used_same, used_read, some_piece, walked_right, other_right}
 use Rattle.piece_lines.specs.BuiltLines.{first_walk}
 use Rattle.piece_lines.specs.declared.Turn.{Turn}
 use Rattle.piece_lines.specs.declared.Turn.TheVariants.{More, Last}
@@ -40,7 +40,7 @@ module _ (c : goal.After-put_first-turn) where
   abbrev cells : List ℕ
   cells = c.read_prefix-prefix.new.cells
 
-  abbrev first : Result First Refusal
+  abbrev first : Result (First Refusal) Refusal
   first = first_made c.read_prefix-prefix.result c.if-has_arity.walk
 
   prefix_told : prefix_read cells c.read_prefix-prefix.result ≡ map_reading lay_out (read_prefix pieces)
@@ -60,7 +60,7 @@ module _ (c : goal.After-put_first-turn) where
   put_told : (t : Turn) → Said t (answered (first_of c.first_of.result)) → Said t (answered (first_of first))
   put_told t =
       told_as c.loop-from.n c.loop-from.out c.loop-from.end refl
-      (ap (λ (f : Result First Refusal). answered (first_of f)) c.first_of.ensures)
+      (ap (λ (f : Result (First Refusal) Refusal). answered (first_of f)) c.first_of.ensures)
 
 module _ (c : goal.After-put_first-turn) (bytes : (i : ℕ) → IsByte (get_or c.args.input.now i 0)) where
   piece_bytes_lem : (i : ℕ) → IsByte (get_or (pieces c) i 0)
@@ -161,7 +161,7 @@ loop-from-preserved c =
     let (x, e) =
     more_read loop.out loop.end loop.n prefix c.if-has_arity.walk (put_told step turn c.in-More.ensures.out_after) in
     let next = used_read (pieces step) (cells step) (piece_bytes_lem step bytes) prefix (prefix_told step) e in
-    let used = sym c.used_by-used.ensures in (
+    let used = sym (c.used_by-used.ensures ∙ used_same prefix) in (
       omega (arith, inside.1),
       omega arith,
       omega (arith, inside.0),

@@ -2,12 +2,14 @@
 use mathlib.Core.Path.{ap, subst, ◌∙◌}
 use Rattle.records.specs.Written.{Result}
 use Rattle.packing.specs.Packed.{Packs, written_fields}
+use Rattle.packing.proofs.ByNumber.{rewritten_numbered}
 use Rattle.voltunnis.proofs.LeftBuffers.{rewrote_buffer}
 use Rattle.voltunnis.proofs.vt_rewrite.Goals as goal
 
 pub returns : goal.returns
 returns c =
     let r = c.rewrite in record {
-      packs = subst (λ (x : Result). Packs c.pack_written.result (written_fields x)) r.ensures (c.pack_written.ensures.rewrote _);
+      packs = subst (λ (x : Result). Packs c.pack_written.result (written_fields x))
+          (rewritten_numbered _ r.result c.numbered.ensures ∙ r.ensures) (c.pack_written.ensures _);
       buffer_after = rewrote_buffer r.result _ ∙ ap (λ (x : Result). x.buffer) r.ensures;
     }

@@ -22,7 +22,7 @@ use Rattle.walk_all.specs.declared.WalkedAll.{WalkedAll}
 use Rattle.walk_all.specs.views.Known.{OpenedAs, ReadyAs}
 use Rattle.walk_all.specs.views.FirstPiece.{first_reply, first_of, first_made}
 use Rattle.walk_all.specs.views.Turns.{turned, left_by}
-use Rattle.walk_all.proofs.FirstMade.{Right, some_piece, used_read, walked_right, other_right}
+use Rattle.walk_all.proofs.FirstMade.{Right, used_same, some_piece, used_read, walked_right, other_right}
 use Rattle.walk_all.proofs.Pieces.{pieces_roomless, pieces_none, pieces_turn}
 use Rattle.walk_all.proofs.Progress.{at_start, at_last, at_piece, all_refused}
 use Rattle.walk_all.proofs.Turns.{told, told_full, told_last, Told-more, within_more, more_read}
@@ -110,7 +110,7 @@ module _ (c : After-put_first-turn) where
   put_told e =
       sym (ap (λ (t : Turn). told t c.put_first-turn.new.out) e)
       ∙ c.put_first-turn.ensures
-      ∙ ap (λ (f : Result First Refusal). turned c.loop-n.results (16 * n) left (first_of f)) c.first_of.ensures
+      ∙ ap (λ (f : Result (First Refusal) Refusal). turned c.loop-n.results (16 * n) left (first_of f)) c.first_of.ensures
 
   turn_told
       : {t : Turn} → c.put_first-turn.result ≡ t
@@ -220,7 +220,7 @@ loop-n-preserved c =
     let l = c.loop-n in
     let (next, may, wrote) = Told-more (reply now) (input now) l.results (16 * l.n) (left now) (more now)
     (turn_told now c.in-More.is) in
-    let used = sym c.used_by-used.ensures in (
+    let used = sym (c.used_by-used.ensures ∙ used_same (prefix now)) in (
       (inside now c.in-More.is).0,
       (inside now c.in-More.is).1,
       c.put_first-turn.auto.out ∙ c.loop-n.invariant.2,

@@ -1,0 +1,2 @@
+-- How results leave the library.
+pub mod Numbered
