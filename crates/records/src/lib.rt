@@ -13,21 +13,21 @@ pub use refusal::Refusal;
 pub fn wide(high: u8, low: u8) -> u16
     ensures { result ≡ wide_of high low }
 {
-    u16::from_be_bytes([high, low])
+    u16::from(high) * 256 + u16::from(low)
 }
 
 // The high byte of a wide field.
 pub fn high(x: u16) -> u8
     ensures { result ≡ high_byte x }
 {
-    x.to_be_bytes()[0]
+    (x >> 8) as u8
 }
 
 // The low byte of a wide field.
 pub fn low(x: u16) -> u8
     ensures { result ≡ low_byte x }
 {
-    x.to_be_bytes()[1]
+    (x & 0xff) as u8
 }
 
 // A record in the part of a buffer that begins at a position, and the position behind it. No other byte changes: a writer that

@@ -1,9 +1,10 @@
--- What a taken answer has.
-use Rattle.std.proofs.Common.{◌≡◌, ℕ, zero, suc, ◌<◌, ◌≤◌, Bool, true, false, ◌&&◌, eqb}
-use Rattle.std.proofs.Common.{leb, ◌⊎◌, sym, refl, ◌∙◌, inl, inr, arith, ne_eqb, eqb-true, leb-true}
+-- Which answers are taken.
+use Rattle.std.proofs.Common.{◌≡◌, ℕ, zero, suc, ◌*◌, ◌<◌, ◌≤◌, Bool, true, false, cond, ◌&&◌, eqb}
+use Rattle.std.proofs.Common.{leb, ◌⊎◌, sym, refl, ◌∙◌, inl, inr, arith, ne_eqb, eqb-true, le-leb, leb-true}
 use mathlib.Core.Logic.{by_cases}
-use mathlib.Core.Bool.{or-false, false≢true}
+use mathlib.Core.Bool.{or-false, and-false, false≢true}
 use native.Mathlib.Decide.{dec_lt}
+use borrow.Author.Tests.{lt-leb}
 use Rattle.window.specs.LastThousand.{given, is_taken}
 
 -- Commit and execute, by their rule.
@@ -66,3 +67,16 @@ answer w i t =
     (λ m.
     let z = eqb-true i 0 (sym (ruleless w i (omega arith) (omega arith)) ∙ t) in
     record { some = omega arith; four = omega arith; few = omega arith; from = λ p. absurd (omega arith) })))
+
+-- By the least rule of the word.
+pub by_least
+    : (w i l : ℕ) → 1 ≤ w → w ≤ 4 → l ≡ cond (leb w 2) 1 0 → is_taken (given w i) ≡ (leb l i && leb i (64 * l))
+by_least w i l low high e =
+    by_cases (dec_lt w 3) (λ few. rw (e, le-leb w 2 (omega arith)) (ruled w i low (omega arith)))
+    (λ many. rw (e, lt-leb w 2 (omega arith)) (ruleless w i (omega arith) high ∙ none i))
+  where
+    none : (j : ℕ) → eqb j 0 ≡ (leb 0 j && leb j 0)
+    none zero = refl
+    none (suc n) =
+        rw (ne_eqb (suc n) 0 (λ (p : suc n ≡ 0). omega arith), lt-leb (suc n) 0 (omega arith))
+        (sym (and-false (leb 0 (suc n))))

@@ -30,16 +30,16 @@ pub fn fresh(window: &mut Window)
     *window = [0; 1070];
 }
 
-// Commit and execute with a rule 1 to 64, suspend and fail with rule 0. Not rule 65, nor a fifth word.
-#[tactic(auto, unfolding(crate::specs::LastThousand::is_taken))]
+// Commit and execute with a rule 1 to 64, suspend and fail with rule 0, by the least rule of the word, so that no word takes longer
+// than another. Not rule 65, nor a fifth word.
 fn is_taken(word: u8, rule: u8) -> bool
     ensures { result ≡ is_taken (given word rule) }
 {
-    match word {
-        1 | 2 => 1 <= rule && rule <= 64,
-        3 | 4 => rule == 0,
-        _ => false,
+    if word < 1 || 4 < word {
+        return false;
     }
+    let least = (word <= 2) as u8;
+    least <= rule && rule <= 64 * least
 }
 
 // A cell of the ring: the word in the high byte, the rule in the low. Not the rule above the word.
